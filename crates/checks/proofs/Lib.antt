@@ -1,0 +1,4 @@
+pub mod Parts
+pub mod Rows
+pub mod Scanning
+pub mod Striking

@@ -1,0 +1,4 @@
+pub mod Source
+pub mod Directives
+pub mod Findings
+pub mod Result

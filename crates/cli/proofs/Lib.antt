@@ -1,0 +1,2 @@
+pub mod PluralLemmas
+pub mod Ends

@@ -1,0 +1,86 @@
+//! The program `office`.
+#![tactic(auto)]
+
+mod deliver;
+mod lines;
+mod plural;
+mod streams;
+#[cfg(test)]
+mod testing;
+mod words;
+
+use deliver::{FAILED, deliver_lines};
+use office::{Desk, Lost};
+use plural::plural_lines;
+use std::alloc::Global;
+use std::io::{self, BufWriter};
+use std::process::ExitCode;
+use streams::{Input, Output};
+use units::ByteSink;
+use words::{Asked, Deliver, Plural, read_words};
+
+fn main(rt: HostRuntime) -> ExitCode {
+    match run(&rt) {
+        Ok(status) => ExitCode::from(status),
+        Err(_) => ExitCode::from(FAILED),
+    }
+}
+
+fn run(rt: &HostRuntime) -> io::Result<u8> {
+    let alloc = rt.alloc();
+    let words: Vec<String> = std::env::args(rt)?.collect(alloc)?;
+    match read_words(alloc, words.as_slice()) {
+        Ok(Asked::Deliver(options)) => deliver_standard(rt, &options),
+        Ok(Asked::Plural(options)) => plural_standard(rt, &options),
+        Err(error) => {
+            error.print(rt)?;
+            Ok(error.exit_code() as u8)
+        }
+    }
+}
+
+fn open(alloc: Global, options: &Deliver) -> Result<Desk, Lost> {
+    if options.demo {
+        Desk::demo(alloc)
+    } else {
+        Desk::opening(alloc, &options.manager)
+    }
+}
+
+fn deliver_standard(rt: &HostRuntime, options: &Deliver) -> io::Result<u8> {
+    let alloc = rt.alloc();
+    let mut source = Input::new(rt.stdin());
+    let mut replies = Output::new(BufWriter::new(alloc, rt.stdout())?);
+    let mut faults = Output::new(rt.stderr());
+    match open(alloc, options) {
+        Ok(mut desk) => Ok(deliver_lines(
+            alloc,
+            &mut desk,
+            &mut source,
+            &mut replies,
+            &mut faults,
+            options.export.as_ref(),
+        )),
+        Err(lost) => {
+            eprintln!(rt; "store fault {}", lost.number())?;
+            Ok(FAILED)
+        }
+    }
+}
+
+fn plural_standard(rt: &HostRuntime, options: &Plural<'_>) -> io::Result<u8> {
+    let alloc = rt.alloc();
+    let mut lines = Output::new(BufWriter::new(alloc, rt.stdout())?);
+    let mut faults = Output::new(rt.stderr());
+    let status = plural_lines(
+        alloc,
+        options.value,
+        options.numbers.as_slice(),
+        &mut lines,
+        &mut faults,
+    );
+    match lines.flush() {
+        Ok(()) => Ok(status),
+        Err(_) => Ok(FAILED),
+    }
+}

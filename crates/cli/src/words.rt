@@ -1,0 +1,147 @@
+//! The words of the command line.
+
+use clap::error::ErrorKind;
+use clap::{Arg, ArgAction, ArgMatches, Command, Error, value_parser};
+use std::alloc::{AllocError, Global};
+use units::{Lang, Name};
+
+/// What the words ask for.
+#[derive(Drop)]
+pub(crate) enum Asked<'a> {
+    Deliver(Deliver),
+    Plural(Plural<'a>),
+}
+
+/// The options of `deliver`.
+#[derive(Drop)]
+pub(crate) struct Deliver {
+    /// Who manages an office that opens empty.
+    pub(crate) manager: Name,
+    /// Whether the demo office opens in its place.
+    pub(crate) demo: bool,
+    /// The language to export at the end.
+    pub(crate) export: Option<Lang>,
+}
+
+/// The words of `plural`: the value of a `Plural-Forms` field, and the numbers to tell the forms of.
+#[derive(Drop)]
+pub(crate) struct Plural<'a> {
+    pub(crate) value: &'a str,
+    pub(crate) numbers: Vec<u32>,
+}
+
+fn deliver_command<'a>(alloc: Global) -> Result<Command<'a>, AllocError> {
+    let manager = Arg::new(alloc, "manager")
+        .long("manager")
+        .value_name("NAME")
+        .action(ArgAction::Set)
+        .default_value("root")
+        .help("Who manages the office that opens empty");
+    let demo = Arg::new(alloc, "demo")
+        .long("demo")
+        .action(ArgAction::SetTrue)
+        .help("Opens the demo office: a template with `Hello`, and the language de");
+    let export = Arg::new(alloc, "export")
+        .long("export")
+        .value_name("LANG")
+        .action(ArgAction::Set)
+        .help("Prints the language's PO text behind the replies");
+    Command::new(alloc, "deliver")
+        .about("Reads a JSON request a line, and prints STATUS BODY for each")
+        .version(VERSION)
+        .arg(manager)?
+        .arg(demo)?
+        .arg(export)
+}
+
+fn plural_command<'a>(alloc: Global) -> Result<Command<'a>, AllocError> {
+    let value = Arg::new(alloc, "value")
+        .value_name("VALUE")
+        .required(true)
+        .help("The value of a header's Plural-Forms field");
+    let numbers = Arg::new(alloc, "n")
+        .value_name("N")
+        .required(true)
+        .num_args(1..)
+        .value_parser(value_parser!(u32))
+        .help("Numbers from 0 to 4294967295");
+    Command::new(alloc, "plural")
+        .about("Prints N INDEX a line: the number of the form that the rule gives at N")
+        .version(VERSION)
+        .arg(value)?
+        .arg(numbers)
+}
+
+const VERSION: &str = "0.1.0";
+
+fn office_command<'a>(alloc: Global) -> Result<Command<'a>, AllocError> {
+    Command::new(alloc, "office")
+        .bin_name("office")?
+        .about("A translation office in which a request that comes again acts once")
+        .version(VERSION)
+        .subcommand_required(true)
+        .arg_required_else_help(true)
+        .subcommand(deliver_command(alloc)?)?
+        .subcommand(plural_command(alloc)?)
+}
+
+/// What the words ask for; or what to tell of them: help, the version, or what is wrong with them.
+pub(crate) fn read_words<'a>(alloc: Global, words: &'a [String]) -> Result<Asked<'a>, Error> {
+    let matches = office_command(alloc)?.try_get_matches_from(words)?;
+    match matches.subcommand() {
+        Some(("deliver", found)) => Ok(Asked::Deliver(deliver_options(alloc, found)?)),
+        Some(("plural", found)) => Ok(Asked::Plural(plural_options(alloc, found)?)),
+        _ => {
+            let kind = ErrorKind::MissingSubcommand;
+            Err(office_command(alloc)?.error(kind, "a subcommand is wanted")?)
+        }
+    }
+}
+
+fn plural_options<'a>(alloc: Global, found: &ArgMatches<'a>) -> Result<Plural<'a>, Error> {
+    let mut numbers = Vec::new(alloc);
+    for text in found.get_strs("n").unwrap_or(&[]) {
+        // clap has read each of them
+        if let Ok(number) = text.parse::<u32>() {
+            numbers.push(number)?;
+        }
+    }
+    Ok(Plural {
+        value: found.get_str("value").unwrap_or(""),
+        numbers,
+    })
+}
+
+const NO_NAME: &str =
+    "a NAME is 1 to 32 bytes of a-z, 0-9, `.`, `-` and `_`, the first of them a letter";
+
+const NO_LANG: &str =
+    "a LANG is 2 to 16 ASCII letters, digits, `_`, `-` and `@`, the first of them a letter";
+
+/// What is wrong with a value of `deliver`.
+fn wrong_value<T>(alloc: Global, text: &str) -> Result<T, Error> {
+    let mut command = deliver_command(alloc)?.bin_name("office deliver")?;
+    Err(command.error(ErrorKind::ValueValidation, text)?)
+}
+
+fn deliver_options(alloc: Global, found: &ArgMatches<'_>) -> Result<Deliver, Error> {
+    let name = found.get_str("manager").unwrap_or("root");
+    let Some(manager) = Name::try_new(alloc, name)? else {
+        return wrong_value(alloc, NO_NAME);
+    };
+    Ok(Deliver {
+        manager,
+        demo: found.get_flag("demo"),
+        export: lang_option(alloc, found.get_str("export"))?,
+    })
+}
+
+fn lang_option(alloc: Global, value: Option<&str>) -> Result<Option<Lang>, Error> {
+    let Some(text) = value else {
+        return Ok(None);
+    };
+    match Lang::try_new(alloc, text)? {
+        Some(lang) => Ok(Some(lang)),
+        None => wrong_value(alloc, NO_LANG),
+    }
+}

@@ -1,0 +1,104 @@
+-- The text of a language's catalogue, cut into the pieces that are sent.
+use Rattle.std.proofs.Common.{◌≡◌, Bool, true, false, cond, not, ◌&&◌, List, [], ◌∷◌, ◌++◌, map, filter, refl, sym, ap, ◌∙◌}
+use Rattle.std.specs.Prelude.{flat_map, T}
+use Rattle.std.proofs.lemmas.List.{append-nil}
+use Rattle.std.proofs.lemmas.Grind.{flat_map-append}
+use Rattle.std.specs.List.Sorted.{IsStrictlySortedBy}
+use Rattle.std.specs.List.{AllByRecursion}
+use Rattle.std.specs.Map.{keys_of}
+use Rattle.std.specs.BTreeMap.{BTreeMap, keys}
+use Rattle.std.specs.Ordering.{is_lt}
+use Rattle.std.specs.declared.cmp.Ordering.{Ordering}
+use Rattle.std.specs.declared.cmp.Ordering.TheVariants.{Less}
+use Rattle.std.specs.Cmp.{IsTotalOrder}
+use Rattle.std.specs.FinMap.{IsAntisymmetric, entries, from_entries, from_sorted, get-from_entries, get-from_sorted, entries-from_sorted, same_map}
+use Rattle.std.specs.FinMap.Entries.{is_sorted, below_all}
+use Rattle.po_read.specs.declared.entry.Entry.{Entry}
+use Rattle.po_read.specs.Texts.{Text, text_eq}
+use Rattle.po_write.specs.Text.{entry_text, text_of}
+use Rattle.units.specs.Units.{all_empty}
+use Rattle.units.specs.Office.{Office, Place as OfficePlace, place_cmp, units_of}
+use Rattle.units.specs.declared.unit.Unit.{Unit}
+use Rattle.units.proofs.Orders.{place_total, place_IsAntisymmetric}
+use Rattle.office.specs.Entries.{catalogue_of, obsolete_entry}
+use Rattle.office.specs.Pieces.{behind, with_its_unit, unit_piece}
+use Rattle.office.specs.Viewed.{viewed}
+use Rattle.office.specs.declared.tables.Tables.{Tables}
+use Rattle.office.specs.Tables.{meaning, place_of}
+
+text_of-cons : (e : Entry) (es : List Entry) → text_of (e ∷ es) ≡ entry_text e ++ flat_map behind es
+unfolding text_of
+text_of-cons e [] = sym (append-nil (entry_text e))
+text_of-cons e (f ∷ es) = ap (λ xs. entry_text e ++ (10 ∷ xs)) (text_of-cons f es)
+
+flat_map-map : {X Y A : Type 0} (f : Y → List A) (g : X → Y) (xs : List X) → flat_map f (map g xs) ≡ flat_map (λ x. f (g x)) xs
+flat_map-map f g [] = refl
+flat_map-map f g (x ∷ xs) = ap (λ ys. f (g x) ++ ys) (flat_map-map f g xs)
+
+-- the units that are put away, piece by piece
+pieces_of : (lang : Text) (es : List (OfficePlace × Unit))
+    → flat_map behind (map obsolete_entry (filter (λ unit. unit.obsolete && not (all_empty unit.forms)) (map (λ e. e.1) (filter (λ e. text_eq lang e.0.0) es))))
+    ≡ flat_map (λ e. unit_piece lang e.0.0 e.1) es
+pieces_of lang [] = refl
+pieces_of lang (e ∷ es) =
+    let kept : Unit → Bool = λ unit. unit.obsolete && not (all_empty unit.forms) in
+    let others = map (λ x. x.1) (filter (λ x. text_eq lang x.0.0) es) in
+    elim (text_eq lang e.0.0) as (λ b.
+    flat_map behind (map obsolete_entry (filter kept (map (λ x. x.1) (cond b (e ∷ filter (λ x. text_eq lang x.0.0) es) (filter (λ x. text_eq lang x.0.0) es)))))
+    ≡ cond (b && kept e.1) (behind (obsolete_entry e.1)) [] ++ flat_map (λ x. unit_piece lang x.0.0 x.1) es) [
+      | true ↦ elim (kept e.1) as (λ b. flat_map behind (map obsolete_entry (cond b (e.1 ∷ filter kept others) (filter kept others)))
+          ≡ cond b (behind (obsolete_entry e.1)) [] ++ flat_map (λ x. unit_piece lang x.0.0 x.1) es) [
+            | true ↦ ap (λ xs. behind (obsolete_entry e.1) ++ xs) (pieces_of lang es)
+            | false ↦ pieces_of lang es
+          ]
+      | false ↦ pieces_of lang es
+    ]
+
+-- the text of a language: its header, its template's entries and what is put away
+pub text_cut : (office : Office) (lang : Text) (header : Entry)
+    → text_of (catalogue_of office lang header)
+    ≡ entry_text header ++ (flat_map (λ entry. behind (with_its_unit office lang entry)) office.template ++ flat_map (λ e. unit_piece lang e.0.0 e.1) (entries office.units))
+unfolding catalogue_of
+text_cut office lang header =
+    let template = map (with_its_unit office lang) office.template in
+    let away = map obsolete_entry (filter (λ unit. unit.obsolete && not (all_empty unit.forms)) (units_of office lang)) in
+    text_of-cons header (template ++ away)
+    ∙ ap (λ xs. entry_text header ++ xs)
+    (flat_map-append behind template away
+    ∙ (λ i. flat_map-map behind (with_its_unit office lang) office.template i ++ pieces_of lang (entries office.units) i))
+
+-- ---- the rows of a map in order
+
+both : (a b : Bool) → a ≡ true → b ≡ true → (a && b) ≡ true
+both true b p q = q
+both false b p q = p
+
+all_below : {K X B Y : Type 0} (R : B → B → Ordering) (f : K → B) (g : X → Y) (k : K) (es : List (K × X))
+    → AllByRecursion (λ x. R (f k) (f x) ≡ Less) (keys_of es) → below_all R (f k) (viewed f g es) ≡ true
+all_below R f g k [] h = refl
+all_below R f g k (e ∷ es) h = both (is_lt (R (f k) (f e.0))) (below_all R (f k) (viewed f g es)) (ap is_lt h.0) (all_below R f g k es h.1)
+
+sorted-viewed : {K X B Y : Type 0} (R : B → B → Ordering) (f : K → B) (g : X → Y) (es : List (K × X))
+    → IsStrictlySortedBy (λ x y. R (f x) (f y)) (keys_of es) → is_sorted R (viewed f g es) ≡ true
+unfolding IsStrictlySortedBy
+sorted-viewed R f g [] h = refl
+sorted-viewed R f g (e ∷ es) h = both (below_all R (f e.0) (viewed f g es)) (is_sorted R (viewed f g es)) (all_below R f g e.0 es h.0) (sorted-viewed R f g es h.1)
+
+passes : (b : Bool) → b ≡ true → T b
+passes true e = tt
+passes false e = cc
+
+pub entries-viewed : {K X B Y : Type 0} {R : B → B → Ordering} (o : IsTotalOrder R) → IsAntisymmetric R → (f : K → B) (g : X → Y) (m : BTreeMap K X)
+    → IsStrictlySortedBy (λ x y. R (f x) (f y)) (keys m) → entries (from_entries {R = R} (viewed f g m.entries)) ≡ viewed f g m.entries
+entries-viewed {R = R} o same f g m h =
+    let sorted : is_sorted R (viewed f g m.entries) ≡ true = sorted-viewed R f g m.entries h in
+    ap entries (same_map o same (from_entries (viewed f g m.entries)) (from_sorted (viewed f g m.entries)) (λ q.
+    get-from_entries o (viewed f g m.entries) q ∙ sym (get-from_sorted R (viewed f g m.entries) q (passes (is_sorted R (viewed f g m.entries)) sorted))))
+    ∙ entries-from_sorted R (viewed f g m.entries) (passes (is_sorted R (viewed f g m.entries)) sorted)
+
+-- the rows of the units, as the definitions see them
+pub unit_rows : (t : Tables) (lang : Text) → IsStrictlySortedBy (λ x y. place_cmp (place_of x) (place_of y)) (keys t.units)
+    → flat_map (λ e. unit_piece lang e.0.0 e.1) (entries (meaning t).office.units) ≡ flat_map (λ e. unit_piece lang e.0.lang e.1) t.units.entries
+unit_rows t lang h =
+    ap (flat_map (λ e. unit_piece lang e.0.0 e.1)) (entries-viewed place_total place_IsAntisymmetric place_of (λ unit. unit) t.units h)
+    ∙ flat_map-map (λ e. unit_piece lang e.0.0 e.1) (λ e. (place_of e.0, e.1)) t.units.entries

@@ -1,0 +1,99 @@
+-- A unit act reads what is found for it and nothing else, and changes its unit and nothing else.
+use Rattle.std.proofs.Common.{◌≡◌, Bool, true, false, cond, refl, sym, ◌∙◌, ap, Option, Some, None}
+use Rattle.std.specs.Prelude.{not, is_some, option_map, ◌≢◌}
+use Rattle.std.specs.Option.{option_map_or}
+use Rattle.std.specs.FinMap as maps
+use Rattle.po_read.specs.Texts.{Text}
+use Rattle.po_read.specs.declared.entry.Entry.{Entry}
+use Rattle.units.specs.Office.{Office, role_of, view_of}
+use Rattle.units.specs.Rules.{rule_at}
+use Rattle.units.specs.declared.unit.Key.{Key}
+use Rattle.units.specs.declared.unit.UnitAct.{UnitAct}
+use Rattle.units.specs.declared.unit.UnitView.{UnitView}
+use Rattle.units.specs.declared.unit.Refusal.TheVariants.{NoLanguage, NoUnit}
+use Rattle.review.specs.declared.decision.Decision.{Decision}
+use Rattle.review.specs.declared.decision.Decision.TheVariants.{Done, Refused}
+use Rattle.review.specs.UnitStep.{unit_step}
+use Rattle.request_book.specs.declared.act.Act.TheVariants.{OnUnit}
+use Rattle.request_book.specs.declared.act.Request.{Request}
+use Rattle.request_book.specs.Replies.{Reply}
+use Rattle.request_book.specs.Acts.{content_text}
+use Rattle.request_book.specs.Book.{Meaning, with_record}
+use Rattle.office.specs.declared.found.Found.{Found}
+use Rattle.office.specs.declared.outcome.Outcome.{Outcome}
+use Rattle.office.specs.Found.{found_of, written}
+use Rattle.office.specs.Outcomes.{outcome_of, outcome_of_decision}
+use Rattle.office.specs.Step.{Stepped, step, act_step, unit_act_step, decided, refuse}
+use Rattle.office.specs.Deliveries.{first_delivered}
+
+-- the office with an outcome's view, and its reply
+abbrev pub settled : Office → Text → Key → Outcome → Stepped
+settled office lang key outcome = (written office lang key outcome.view, outcome.reply)
+
+pub unit_act_step-is : (office : Office) (caller number lang : Text) (key : Key) (act : UnitAct) →
+    unit_act_step office caller number (lang, key) act ≡ settled office lang key (outcome_of (found_of office lang key caller) caller number act)
+unit_act_step-is office caller number lang key act = by_header (maps.get office.headers lang) (view_of office (lang, key))
+  where
+    by_decision : (d : Decision) → decided office (lang, key) d ≡ settled office lang key (outcome_of_decision d)
+    by_decision (Done view values) = refl
+    by_decision (Refused refusal) = refl
+
+    by_header : (header : Option Entry) (view : Option UnitView) →
+        cond (not (is_some header)) (refuse office NoLanguage)
+        (option_map_or (λ v. decided office (lang, key) (unit_step office.policy (rule_at office lang) (role_of office caller) caller number v act)) view (refuse office NoUnit))
+        ≡ settled office lang key
+        (outcome_of (option_map (λ h. record { rule = rule_at office lang; policy = office.policy; role = role_of office caller; view = view }) header) caller number act)
+    by_header None view = refl
+    by_header (Some h) None = refl
+    by_header (Some h) (Some v) = by_decision (unit_step office.policy (rule_at office lang) (role_of office caller) caller number v act)
+
+-- ---- what isn't answered with 200 changes nothing
+
+still : (office : Office) (caller number lang : Text) (key : Key) (act : UnitAct) →
+    (unit_act_step office caller number (lang, key) act).1.status ≢ 200 → (unit_act_step office caller number (lang, key) act).0 ≡ office
+still office caller number lang key act = by_header (maps.get office.headers lang) (view_of office (lang, key))
+  where
+    by_decision : (d : Decision) → (decided office (lang, key) d).1.status ≢ 200 → (decided office (lang, key) d).0 ≡ office
+    by_decision (Done view values) h = absurd (h refl)
+    by_decision (Refused refusal) h = refl
+
+    by_view : (view : Option UnitView) →
+        let s : Stepped = option_map_or (λ v. decided office (lang, key) (unit_step office.policy (rule_at office lang) (role_of office caller) caller number v act)) view (refuse office NoUnit) in
+        s.1.status ≢ 200 → s.0 ≡ office
+    by_view None h = refl
+    by_view (Some v) h = by_decision (unit_step office.policy (rule_at office lang) (role_of office caller) caller number v act) h
+
+    by_header : (header : Option Entry) (view : Option UnitView) →
+        let s : Stepped = cond (not (is_some header)) (refuse office NoLanguage)
+        (option_map_or (λ v. decided office (lang, key) (unit_step office.policy (rule_at office lang) (role_of office caller) caller number v act)) view (refuse office NoUnit)) in
+        s.1.status ≢ 200 → s.0 ≡ office
+    by_header None view h = refl
+    by_header (Some e) view h = by_view view h
+
+pub step_still : (office : Office) (x : Request) → (step office x).1.status ≢ 200 → (step office x).0 ≡ office
+unfolding act_step
+step_still office x h = by_act x.act h
+  where
+    by_act : (act : _) → (act_step office x.caller x.number act).1.status ≢ 200 → (act_step office x.caller x.number act).0 ≡ office
+    by_act (OnUnit lang key act) h = still office x.caller x.number lang key act h
+
+-- ---- a unit act whose number is new: what was found, decided and committed is the step with its record
+
+pub recorded_unit_act : (old mid new : Meaning) (request : Request) (lang : Text) (key : Key) (act : UnitAct) (found : Option Found) (view : Option UnitView) (reply kept : Reply) (content : Text) →
+    request.act ≡ OnUnit lang key act → mid ≡ old → found ≡ found_of old.office lang key request.caller →
+    record { view = view; reply = reply } ≡ outcome_of found request.caller request.number act →
+    kept ≡ reply → content ≡ content_text request →
+    new ≡ record { office = written mid.office lang key view; book = with_record mid.book (record { number = request.number; content = content; reply = kept }) } →
+    ◌≡◌ {A = Meaning × Reply} (new, reply) (first_delivered old request)
+unfolding act_step
+recorded_unit_act old mid new request lang key act found view reply kept content is same answer decides copy text commits =
+    let outcome : Outcome = record { view = view; reply = reply } in
+    let stepped : settled old.office lang key outcome ≡ step old.office request =
+    ap (settled old.office lang key) (decides ∙ ap (λ f. outcome_of f request.caller request.number act) answer)
+    ∙ (sym (unit_act_step-is old.office request.caller request.number lang key act) ∙ sym (ap (act_step old.office request.caller request.number) is)) in
+    let now : new ≡ record { office = (step old.office request).0; book = with_record old.book (record { number = request.number; content = content_text request; reply = (step old.office request).1 }) } =
+    commits ∙ (λ i. record {
+      office = (ap (λ (m : Meaning). written m.office lang key view) same ∙ ap (λ (s : Stepped). s.0) stepped) i;
+      book = with_record (same i).book (record { number = request.number; content = text i; reply = (copy ∙ ap (λ (s : Stepped). s.1) stepped) i });
+    }) in
+    λ i. (now i, (ap (λ (s : Stepped). s.1) stepped) i)

@@ -1,0 +1,17 @@
+pub mod Faults
+pub mod Viewed
+pub mod Sets
+pub mod Index
+pub mod Tables
+pub mod Found
+pub mod Bodies
+pub mod Step
+pub mod Outcomes
+pub mod Deliveries
+pub mod Entries
+pub mod Export
+pub mod Starts
+pub mod Desk
+pub mod Pieces
+pub mod Exports
+pub mod Promises

@@ -1,0 +1,21 @@
+//! The desk: requests, each decided once, over the tables of one office.
+#![tactic(auto)]
+
+mod desk;
+mod entries;
+mod export;
+mod faults;
+mod found;
+mod lost;
+mod openings;
+mod outcome;
+mod place;
+mod replies;
+mod sent;
+mod tables;
+mod template;
+
+pub use desk::Desk;
+pub use export::ExportReceipt;
+pub use faults::ExportFault;
+pub use lost::Lost;

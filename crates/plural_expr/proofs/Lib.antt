@@ -1,0 +1,7 @@
+pub mod Rows
+pub mod Grammar
+pub mod Tested
+pub mod Lexed
+pub mod Counted
+pub mod Headed
+pub mod Readings

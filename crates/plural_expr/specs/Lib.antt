@@ -1,0 +1,9 @@
+pub mod Tokens
+pub mod Trees
+pub mod Values
+pub mod Plain
+pub mod Faults
+pub mod Kept
+pub mod Views
+pub mod Codes
+pub mod FrameViews

@@ -1,0 +1,4 @@
+pub mod Rows
+pub mod PieceLemmas
+pub mod EscapeLemmas
+pub mod SliceLemmas

@@ -1,0 +1,5 @@
+pub mod Kinds
+pub mod Reading
+pub mod Escapes
+pub mod Lines
+pub mod Views

@@ -1,0 +1,14 @@
+//! Lines of PO text.
+#![tactic(auto)]
+
+mod fault;
+mod forms;
+mod line;
+mod lines;
+mod pieces;
+#[cfg(test)]
+mod tests;
+
+pub use fault::{FaultKind, PoFault};
+pub use line::{Keyword, Line, Part, Token};
+pub use lines::{Lines, lex};

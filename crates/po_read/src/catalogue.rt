@@ -1,0 +1,43 @@
+//! Catalogues, which are valid.
+
+ghost use Rattle.std.specs.Prelude.{◌≡◌, List};
+ghost use Rattle.po_read.specs.declared.entry.Entry.{Entry};
+ghost use Rattle.po_read.specs.Valid.{IsValid};
+
+use crate::entry::Entry;
+use crate::items::Items;
+use std::marker::Model;
+
+/// A valid catalogue: no key twice, only the first entry may have an empty msgid and no context and is then a header, and each
+/// entry has 1 to 8 forms, one without a msgid_plural.
+#[derive(Drop)]
+pub struct Catalogue {
+    entries: Items<Entry>,
+}
+
+impl Model for Catalogue {
+    ghost Value = { List Entry };
+
+    ghost view = { λ c. c.entries };
+
+    ghost invariant = { λ c. IsValid c.entries };
+}
+
+impl Catalogue {
+    /// The entries in order.
+    pub fn entries(&self) -> &[Entry]
+        ensures value { result.now ≡ self.now }
+        ensures valid { IsValid self.now }
+    {
+        self.entries.as_slice()
+    }
+
+    /// The entries, taken out.
+    pub fn into_entries(self) -> Items<Entry>
+        ensures value { result ≡ self }
+        ensures valid { IsValid self }
+    {
+        let Catalogue { entries } = self;
+        entries
+    }
+}

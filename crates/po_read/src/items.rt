@@ -1,0 +1,65 @@
+//! A list, which contracts see as the list of its elements' values.
+ghost use Rattle.std.specs.Prelude.{◌≡◌, List, [], ◌++◌, ◌∷◌, ℕ, IfOk, OnOk, OnErr, length};
+ghost use Rattle.std.specs.Coded.{coded_list};
+
+use std::alloc::{AllocError, AllocFailed, Global};
+use std::marker::Model;
+
+/// A list of values that keeps its allocator.
+#[derive(Debug, Drop, Clone)]
+pub struct Items<T> {
+    inner: Vec<T>,
+}
+
+impl<T> Model for Items<T> {
+    ghost Value = { List T };
+
+    ghost coded = { coded_list T.code };
+
+    ghost view = { λ t. t.inner.items };
+}
+
+impl<T> Items<T> {
+    /// The elements of the vector.
+    pub fn from_vec(inner: Vec<T>) -> Items<T>
+        ensures { result ≡ inner.items }
+    {
+        Items { inner }
+    }
+
+    /// The elements as a vector.
+    pub fn into_vec(self) -> Vec<T>
+        ensures { result.items ≡ self }
+    {
+        let Items { inner } = self;
+        inner
+    }
+
+    /// No elements. It takes no memory.
+    pub fn new(alloc: Global) -> Items<T>
+        ensures { result ≡ [] }
+    {
+        Items {
+            inner: Vec::new(alloc),
+        }
+    }
+
+    pub(crate) fn allocator(&self) -> Global {
+        *self.inner.allocator()
+    }
+
+    /// The elements as a slice.
+    pub fn as_slice(&self) -> &[T]
+        ensures { result.now ≡ self.now }
+    {
+        self.inner.as_slice()
+    }
+
+    /// Adds an element at the end. A refused growth leaves the list as it was.
+    pub fn push(&mut self, x: T) -> Result<(), AllocFailed<T>>
+        ensures ok { OnOk result (self.new ≡ self.old ++ x ∷ []) }
+        ensures err { OnErr result (self.new ≡ self.old) }
+    {
+        self.inner.push(x)
+    }
+}

@@ -1,0 +1,134 @@
+//! The strings of a catalogue, and the forms of an entry. A value exists only within its limits.
+ghost use Rattle.std.specs.Prelude.{◌≡◌, List, ℕ, IfOk, string_bytes, Some, None, true, nat_eq, if◌then◌else◌};
+ghost use Rattle.std.specs.List.{list_all};
+ghost use Rattle.std.specs.Cmp.{partial_equiv_from_equiv};
+ghost use Rattle.std.specs.Cmp.Lexicographic.{pointwise, nat_list_eq_equiv};
+ghost use Rattle.po_read.specs.Strings.{is_string_byte, is_string, is_forms};
+
+use crate::duplicate::Duplicate;
+use crate::items::Items;
+use std::alloc::{AllocError, Global};
+use std::marker::Model;
+
+/// A string of a catalogue: Unicode text without U+0000 to U+0006 and U+000E to U+001F, of at most 65,536 bytes. The other
+/// control characters have escapes of their own.
+#[derive(Debug, Drop)]
+pub struct PoString {
+    inner: String,
+}
+
+impl Model for PoString {
+    ghost Value = { List ℕ };
+
+    ghost view = { λ s. string_bytes s.inner };
+
+    ghost invariant = { λ s. is_string (string_bytes s.inner) ≡ true };
+}
+
+impl PoString {
+    /// The text as a string, where it is one.
+    pub fn try_new(alloc: Global, text: &str) -> Result<Option<PoString>, AllocError>
+        ensures { IfOk result (λ o. o ≡ (if is_string text.now then Some text.now else None)) }
+    {
+        if !holds_string(text) {
+            return Ok(None);
+        }
+        Ok(Some(PoString {
+            inner: String::from_str(alloc, text)?,
+        }))
+    }
+
+    /// The string as a slice.
+    pub fn as_str(&self) -> &str
+        ensures value { result.now ≡ self.now }
+        ensures fits { is_string self.now ≡ true }
+    {
+        &self.inner
+    }
+}
+
+impl Duplicate for PoString {
+    fn duplicate(&self) -> Result<PoString, AllocError> {
+        Ok(PoString {
+            inner: self.inner.clone()?,
+        })
+    }
+}
+
+impl PartialEq for PoString {
+    ghost eq = { pointwise nat_eq };
+
+    ghost laws = { partial_equiv_from_equiv nat_list_eq_equiv };
+
+    fn eq(&self, other: &PoString) -> bool {
+        self.inner.as_str() == other.inner.as_str()
+    }
+}
+
+impl Eq for PoString {
+    ghost laws = { nat_list_eq_equiv };
+}
+
+/// The forms of an entry's translation, 1 to 8 strings.
+#[derive(Debug, Drop)]
+pub struct Forms {
+    strings: Items<PoString>,
+}
+
+impl Model for Forms {
+    ghost Value = { List (List ℕ) };
+
+    ghost view = { λ f. f.strings };
+
+    ghost invariant = { λ f. is_forms f.strings ≡ true };
+}
+
+impl Forms {
+    /// These strings as forms, where they are 1 to 8.
+    pub fn try_new(strings: Vec<PoString>) -> Option<Forms>
+        requires { list_all is_string strings.items ≡ true }
+        ensures { result ≡ (if is_forms strings.items then Some strings.items else None) }
+    {
+        if 1 <= strings.len() && strings.len() <= 8 {
+            Some(Forms {
+                strings: Items::from_vec(strings),
+            })
+        } else {
+            None
+        }
+    }
+
+    /// The forms in order, form 0 first.
+    pub fn as_slice(&self) -> &[PoString]
+        ensures value { result.now ≡ self.now }
+        ensures fits { is_forms self.now ≡ true }
+    {
+        self.strings.as_slice()
+    }
+}
+
+impl Duplicate for Forms {
+    fn duplicate(&self) -> Result<Forms, AllocError> {
+        Ok(Forms {
+            strings: self.strings.duplicate()?,
+        })
+    }
+}
+
+fn holds_string(text: &str) -> bool
+    ensures { result ≡ is_string text.now }
+{
+    text.len() <= 65_536 && holds_string_bytes(text.as_bytes())
+}
+
+fn holds_string_bytes(bytes: &[u8]) -> bool
+    ensures { result ≡ list_all is_string_byte bytes.now }
+{
+    bytes.iter().all(|b| holds_string_byte(*b))
+}
+
+fn holds_string_byte(byte: u8) -> bool
+    ensures { result ≡ is_string_byte byte }
+{
+    (7 <= byte && byte <= 13) || 32 <= byte
+}

@@ -1,0 +1,4 @@
+pub mod Pieces
+pub mod Pushes
+mod Rows
+pub mod Sent

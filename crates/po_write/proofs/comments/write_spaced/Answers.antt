@@ -1,0 +1,10 @@
+use Rattle.std.proofs.Common.{refl, sym}
+use Rattle.po_write.proofs.Sent.{begin, more, stopped, outcome}
+use Rattle.po_write.proofs.Pieces.{spaced_some}
+use Rattle.po_write.proofs.comments.write_spaced.Goals as goal
+
+pub returns-in_err-send : goal.returns-in_err-send
+returns-in_err-send g c = stopped _ _ c.from_residual.ensures.0 (begin _ _ (spaced_some c.args.text.now c.if-is_empty.ensures)) refl c.in_err-send.ensures
+
+pub returns : goal.returns
+returns g c = outcome _ _ _ (more (begin _ _ (spaced_some c.args.text.now c.if-is_empty.ensures)) refl c.in_ok-send.ensures) (sym c.as_bytes.ensures.value) c.send-2.ensures

@@ -1,0 +1,17 @@
+//! Catalogue to canonical text, in the order of the GNU gettext manual, "The Format of PO Files". Nothing here takes
+//! memory, and no line is wrapped.
+#![tactic(auto)]
+
+mod comments;
+mod fault;
+mod sending;
+mod strings;
+#[cfg(test)]
+mod tests;
+mod writer;
+mod writing;
+
+pub use fault::WriteFault;
+pub use sending::send;
+pub use writer::CatalogueWriter;
+pub use writing::write_entry;

@@ -1,0 +1,16 @@
+//! Whole pieces, sent to a sink.
+
+ghost use Rattle.po_write.specs.Sending.{Sends};
+
+use units::{ByteSink, SinkFault};
+
+/// Writes all of the bytes, or a beginning of them where a write of the sink fails.
+pub fn send<W: ByteSink>(w: &mut W, bytes: &[u8]) -> Result<(), SinkFault>
+    ensures { Sends W.taken W.failed w.old w.new bytes.now result }
+{
+    let mut sent = 0;
+    while sent < bytes.len() {
+        sent += w.write(&bytes[sent..])?;
+    }
+    Ok(())
+}

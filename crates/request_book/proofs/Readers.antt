@@ -1,0 +1,194 @@
+-- Each reader of a field answers exactly what the field was written from.
+use Rattle.std.proofs.Common.{◌≡◌, ℕ, ◌&&◌, List, [], ◌∷◌, Bool, true, false, Option, Some, None, option_map, option_and_then, true≢false, inl, refl, sym, ap, ap₂, ◌∙◌, subst}
+use Rattle.std.specs.Prelude.{⊤, if◌then◌else◌}
+use Rattle.std.specs.List.{list_all}
+use Rattle.std.specs.Str.{bytes_eq}
+use Rattle.std.proofs.lemmas.Slice.Eq.{bytes_eq-Decides}
+use Rattle.serde_json.specs.Data.{Num, unsigned, negative, float, Data, null, boolean, number, string, array, object, Items, no_items, item, Members, no_members, member}
+use Rattle.serde_json.specs.Find.{as_str, as_number, as_array, as_u64}
+use Rattle.po_read.specs.Strings.{is_string, is_forms}
+use Rattle.units.specs.Limits.{is_revision}
+use Rattle.uuid.specs.Text.{parsed, lower}
+use Rattle.uuid.proofs.RoundTrips.{parses_hyphenated}
+use Rattle.request_book.specs.Acts.{IsNumber}
+use Rattle.request_book.specs.Words.{natural, with_member, string_items, strings, number_text}
+use Rattle.request_book.specs.Fields.{only, text_of, revision_of, texts_of, forms_of, take, take_optional, number_of}
+
+-- ---- options
+
+pub and_then_some : {A B : Type 0} (f : A → Option B) (o : Option A) (y : B) → option_and_then f o ≡ Some y
+    → (x : A) × (o ≡ Some x) × (f x ≡ Some y)
+and_then_some f None y e = absurd cc
+and_then_some f (Some x) y e = (x, refl, e)
+
+pub and_then_at : {A B : Type 0} (f : A → Option B) (o : Option A) (x : A) (r : Option B) → o ≡ Some x → f x ≡ r → option_and_then f o ≡ r
+and_then_at f o x r here next = rw here next
+
+pub map_some : {A B : Type 0} (f : A → B) (o : Option A) (y : B) → option_map f o ≡ Some y → (x : A) × (o ≡ Some x) × (f x ≡ y)
+map_some f None y e = absurd cc
+map_some f (Some x) y e = (x, refl, cc)
+
+only_at : {A : Type 0} (b : Bool) (x y : A) → (if b then Some x else None) ≡ Some y → (x ≡ y) × (b ≡ true)
+only_at true x y e = (cc, refl)
+only_at false x y e = absurd cc
+
+pub only_some : {A : Type 0} (p : A → Bool) (x y : A) → only p x ≡ Some y → (x ≡ y) × (p y ≡ true)
+only_some p x y e = let h = only_at (p x) x y e in (h.0, subst (λ z. p z ≡ true) h.0 h.1)
+
+pub only_fit : {A : Type 0} (p : A → Bool) (x : A) → p x ≡ true → only p x ≡ Some x
+only_fit p x fit = rw fit refl
+
+-- ---- what a reader f and a writer w of values that are fit have in common
+
+abbrev pub Sound : {A : Type 0} → (Data → Option A) → (A → Data) → (A → Type 0) → Type 0
+Sound {A} f w Fit = (d : Data) (x : A) → f d ≡ Some x → (d ≡ w x) × Fit x
+
+abbrev pub Complete : {A : Type 0} → (Data → Option A) → (A → Data) → (A → Type 0) → Type 0
+Complete {A} f w Fit = (x : A) → Fit x → f (w x) ≡ Some x
+
+pub as_str_is : (d : Data) (s : List ℕ) → as_str d ≡ Some s → d ≡ string s
+as_str_is null s e = absurd cc
+as_str_is (boolean b) s e = absurd cc
+as_str_is (number n) s e = absurd cc
+as_str_is (string t) s e = cc
+as_str_is (array ds) s e = absurd cc
+as_str_is (object ms) s e = absurd cc
+
+as_number_is : (d : Data) (n : Num) → as_number d ≡ Some n → d ≡ number n
+as_number_is null n e = absurd cc
+as_number_is (boolean b) n e = absurd cc
+as_number_is (number m) n e = cc
+as_number_is (string t) n e = absurd cc
+as_number_is (array ds) n e = absurd cc
+as_number_is (object ms) n e = absurd cc
+
+as_array_is : (d : Data) (ds : Items) → as_array d ≡ Some ds → d ≡ array ds
+as_array_is null ds e = absurd cc
+as_array_is (boolean b) ds e = absurd cc
+as_array_is (number m) ds e = absurd cc
+as_array_is (string t) ds e = absurd cc
+as_array_is (array es) ds e = cc
+as_array_is (object ms) ds e = absurd cc
+
+as_u64_is : (n : Num) (k : ℕ) → as_u64 n ≡ Some k → n ≡ unsigned k
+as_u64_is (unsigned m) k e = cc
+as_u64_is (negative z) k e = absurd cc
+as_u64_is (float x) k e = absurd cc
+
+-- a string that passes a test
+pub text_sound : (p : List ℕ → Bool) → Sound (λ d. option_and_then (only p) (as_str d)) string (λ s. p s ≡ true)
+text_sound p d x e =
+    let h = and_then_some (only p) (as_str d) x e in
+    let k = only_some p h.0 x h.2 in
+    (as_str_is d h.0 h.1 ∙ ap string k.0, k.1)
+
+pub text_complete : (p : List ℕ → Bool) → Complete (λ d. option_and_then (only p) (as_str d)) string (λ s. p s ≡ true)
+text_complete p x fit = rw fit refl
+
+pub revision_sound : Sound revision_of natural (λ n. is_revision n ≡ true)
+revision_sound d x e =
+    let h = and_then_some (only is_revision) (option_and_then as_u64 (as_number d)) x e in
+    let k = only_some is_revision h.0 x h.2 in
+    let m = and_then_some as_u64 (as_number d) h.0 h.1 in
+    (as_number_is d m.0 m.1 ∙ ap number (as_u64_is m.0 h.0 m.2 ∙ ap unsigned k.0), k.1)
+
+pub revision_complete : Complete revision_of natural (λ n. is_revision n ≡ true)
+revision_complete x fit = rw fit refl
+
+texts_of_is : (ds : Items) (ts : List (List ℕ)) → texts_of ds ≡ Some ts → ds ≡ string_items ts
+texts_of_is no_items ts e = let h : ts ≡ [] = cc in rw h refl
+texts_of_is (item d ds) ts e =
+    let h = and_then_some (λ t. option_map (λ us. t ∷ us) (texts_of ds)) (text_of d) ts e in
+    let m = map_some (λ us. h.0 ∷ us) (texts_of ds) ts h.2 in
+    let first = (text_sound is_string d h.0 h.1).0 in
+    let rest = texts_of_is ds m.0 m.1 in
+    ap₂ item first rest ∙ ap string_items m.2
+
+pub both : (a b : Bool) → (a && b) ≡ true → (a ≡ true) × (b ≡ true)
+both true b e = (refl, e)
+both false b e = absurd (true≢false (sym e))
+
+texts_of_strings : (ts : List (List ℕ)) → list_all is_string ts ≡ true → texts_of (string_items ts) ≡ Some ts
+texts_of_strings [] fit = refl
+texts_of_strings (t ∷ ts) fit =
+    let h = both (is_string t) (list_all is_string ts) fit in
+    rw (text_complete is_string t h.0, texts_of_strings ts h.1) refl
+
+pub forms_sound : Sound forms_of strings (λ ts. is_forms ts ≡ true)
+forms_sound d x e =
+    let h = and_then_some (only is_forms) (option_and_then texts_of (as_array d)) x e in
+    let k = only_some is_forms h.0 x h.2 in
+    let m = and_then_some texts_of (as_array d) h.0 h.1 in
+    (as_array_is d m.0 m.1 ∙ ap array (texts_of_is m.0 h.0 m.2 ∙ ap string_items k.0), k.1)
+
+pub forms_complete : Complete forms_of strings (λ ts. is_forms ts ≡ true)
+forms_complete x fit = and_then_at (only is_forms) (texts_of (string_items x)) x (Some x) (texts_of_strings x (both _ _ fit).1) (only_fit is_forms x fit)
+
+-- ---- numbers
+
+pub same_bytes : (xs ys : List ℕ) → bytes_eq xs ys ≡ true → xs ≡ ys
+same_bytes xs ys e = (bytes_eq-Decides xs ys).0 e
+
+pub number_sound : Sound number_of (λ u. string (number_text u)) (λ _. ⊤)
+number_sound d u e =
+    let h = and_then_some (λ s. option_and_then (only (λ v. bytes_eq (number_text v) s)) (parsed s)) (as_str d) u e in
+    let m = and_then_some (only (λ v. bytes_eq (number_text v) h.0)) (parsed h.0) u h.2 in
+    let k = only_some (λ v. bytes_eq (number_text v) h.0) m.0 u m.2 in
+    (as_str_is d h.0 h.1 ∙ ap string (sym (same_bytes _ _ k.1)), tt)
+
+only_same : (xs : List ℕ) → bytes_eq xs xs ≡ true
+only_same xs = (bytes_eq-Decides xs xs).1 refl
+
+pub number_complete : Complete number_of (λ u. string (number_text u)) IsNumber
+number_complete u fit = rw (sym (parses_hyphenated lower u (inl refl) fit.0 fit.1), only_same (number_text u)) refl
+
+-- ---- members
+
+take_at : (b : Bool) (l k : List ℕ) (d : Data) (ms : Members) (p : Data × Members) → bytes_eq l k ≡ b → (if b then Some (d, ms) else None) ≡ Some p
+    → member l d ms ≡ member k p.0 p.1
+take_at true l k d ms p same e =
+    let h : (d, ms) ≡ p = cc in
+    rw (same_bytes l k same, ← h) refl
+take_at false l k d ms p same e = absurd cc
+
+pub take_is : (k : List ℕ) (ms : Members) (p : Data × Members) → take k ms ≡ Some p → ms ≡ member k p.0 p.1
+take_is k no_members p e = absurd cc
+take_is k (member l d ms) p e = take_at (bytes_eq l k) l k d ms p refl e
+
+pub take_here : (k : List ℕ) (d : Data) (ms : Members) → take k (member k d ms) ≡ Some (d, ms)
+take_here k d ms = rw (only_same k) refl
+
+optional_at : (b : Bool) (l k : List ℕ) (d : Data) (ms : Members) → bytes_eq l k ≡ b
+    → member l d ms ≡ with_member k (if b then Some d else None) (if b then ms else member l d ms)
+optional_at true l k d ms same = rw (same_bytes l k same) refl
+optional_at false l k d ms same = refl
+
+abbrev Taken : Type 0
+Taken = Option Data × Members
+
+split_if : (b : Bool) (k : List ℕ) (d : Data) (ms other : Members) (p : Taken) → (let hit : Taken = (Some d, ms) in let miss : Taken = (None, other) in if b then hit else miss) ≡ p
+    → with_member k (if b then Some d else None) (if b then ms else other) ≡ with_member k p.0 p.1
+split_if true k d ms other p e = let h : (let hit : Taken = (Some d, ms) in hit) ≡ p = e in rw (← h) refl
+split_if false k d ms other p e = let h : (let miss : Taken = (None, other) in miss) ≡ p = e in rw (← h) refl
+
+pub take_optional_is : (k : List ℕ) (ms : Members) (p : Taken) → take_optional k ms ≡ p → ms ≡ with_member k p.0 p.1
+take_optional_is k no_members p e = let h : (let miss : Taken = (None, no_members) in miss) ≡ p = e in rw (← h) refl
+take_optional_is k (member l d ms) p e = optional_at (bytes_eq l k) l k d ms refl ∙ split_if (bytes_eq l k) k d ms (member l d ms) p e
+
+other_at : (b : Bool) (d : Data) (ms other : Members) (p : Taken) → (let found : Data × Members = (d, ms) in if b then Some found else None) ≡ None → (let miss : Taken = (None, other) in p ≡ miss)
+    → (let hit : Taken = (Some d, ms) in if b then hit else p) ≡ p
+other_at true d ms other p e q = absurd cc
+other_at false d ms other p e q = refl
+
+-- the first member has another name
+pub take_optional_other : (k : List ℕ) (ms : Members) (p : Taken) → take k ms ≡ None → (let miss : Taken = (None, ms) in p ≡ miss) → take_optional k ms ≡ p
+take_optional_other k no_members p e q = sym q
+take_optional_other k (member l d ms) p e q = rw (← q) (other_at (bytes_eq l k) d ms (member l d ms) p e q)
+
+hit_at : (b : Bool) (d : Data) (ms other : Members) (p : Taken) → b ≡ true → (let hit : Taken = (Some d, ms) in p ≡ hit)
+    → (let hit : Taken = (Some d, ms) in let miss : Taken = (None, other) in if b then hit else miss) ≡ p
+hit_at true d ms other p e q = sym q
+hit_at false d ms other p e q = absurd (true≢false (sym e))
+
+pub take_optional_here : (k : List ℕ) (d : Data) (ms : Members) (p : Taken) → (let hit : Taken = (Some d, ms) in p ≡ hit) → take_optional k (member k d ms) ≡ p
+take_optional_here k d ms p q = hit_at (bytes_eq k k) d ms (member k d ms) p (only_same k) q

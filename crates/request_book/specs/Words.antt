@@ -1,0 +1,63 @@
+-- Parts of JSON objects, and the words of states in them. This project's own rule; the states are those of Weblate's "Translation
+-- workflows".
+use Rattle.std.specs.Prelude.{ℕ, List, [], ◌∷◌, Option, Some, None, map, codes}
+use Rattle.uuid.specs.Text.{hyphenated_text, lower}
+use Rattle.serde_json.specs.Data.{Data, number, unsigned, string, array, object, Items, Members, no_members, member, put}
+use Rattle.serde_json.specs.View.{items_of}
+use Rattle.po_read.specs.Texts.{Text}
+use Rattle.units.specs.declared.unit.ShownState.{ShownState}
+use Rattle.units.specs.declared.unit.ShownState.TheVariants.{Untranslated, NeedsEditing, Translated, Approved, ReadOnly}
+
+abbrev pub natural : ℕ → Data
+natural n = number (unsigned n)
+
+abbrev pub string_items : List Text → Items
+string_items texts = items_of (map string texts)
+
+abbrev pub strings : List Text → Data
+strings texts = array (string_items texts)
+
+-- a number's text: hyphenated, lower case, 36 characters
+abbrev pub number_text : Text → Text
+number_text = hyphenated_text lower
+
+abbrev pub state_text : ShownState → Text
+state_text Untranslated = codes "untranslated"
+state_text NeedsEditing = codes "needs-editing"
+state_text Translated = codes "translated"
+state_text Approved = codes "approved"
+state_text ReadOnly = codes "read-only"
+
+-- ---- objects given by their fields in the byte order of their keys
+
+-- a key, and its value where it is there
+abbrev pub Field : Type 0
+Field = Text × Option Data
+
+abbrev pub given : Text → Data → Field
+given k d = (k, Some d)
+
+abbrev pub optional : Text → Option Data → Field
+optional k o = (k, o)
+
+-- a member in front of others, where it has a value
+abbrev pub with_member : Text → Option Data → Members → Members
+with_member k None ms = ms
+with_member k (Some d) ms = member k d ms
+
+abbrev pub members : List Field → Members
+members [] = no_members
+members (f ∷ fs) = with_member f.0 f.1 (members fs)
+
+-- ---- objects given by their fields in any order
+
+abbrev pub Fields : Type 0
+Fields = List (Text × Data)
+
+abbrev with_fields : Fields → Members → Members
+with_fields [] ms = ms
+with_fields (f ∷ fs) ms = put f.0 f.1 (with_fields fs ms)
+
+-- the object with these fields, in the byte order of their keys; of fields with one key the first counts
+abbrev pub object_of : Fields → Data
+object_of fields = object (with_fields fields no_members)

@@ -1,0 +1,229 @@
+//! Readers of single fields, and of the first member of an object in the order of its keys.
+ghost use Rattle.std.specs.Prelude.{◌≡◌, ◌++◌, List, ℕ, true, Err, IfOk, Some, None, option_map, MatchOption, ⊤};
+ghost use Rattle.std.specs.List.{list_all};
+ghost use Rattle.uuid.specs.Text.{parsed};
+ghost use Rattle.po_read.specs.Strings.{is_string};
+ghost use Rattle.request_book.specs.Acts.{IsNumber};
+ghost use Rattle.serde_json.specs.Find.{as_str};
+ghost use Rattle.serde_json.specs.View.{view, items_view, members_view};
+ghost use Rattle.request_book.specs.Fields.{text_of, name_of, lang_of, revision_of, texts_of, forms_of, number_of, take, take_optional, optional_as, is_over};
+ghost use Rattle.request_book.specs.declared.fault.RequestFault.TheVariants.{Malformed};
+
+use crate::fault::RequestFault;
+use po_read::{Forms, PoString};
+use serde_json::Value;
+use std::alloc::Global;
+use units::{Lang, Name, Revision};
+use uuid::Uuid;
+
+pub(crate) fn text_from(alloc: Global, value: &Value) -> Result<PoString, RequestFault>
+    ensures ok { IfOk result (λ t. text_of (view value.now) ≡ Some t) }
+    ensures malformed { result ≡ Err Malformed → text_of (view value.now) ≡ None }
+{
+    let Some(text) = value.as_str() else {
+        return Err(RequestFault::Malformed);
+    };
+    match PoString::try_new(alloc, text)? {
+        Some(text) => Ok(text),
+        None => Err(RequestFault::Malformed),
+    }
+}
+
+fn name_from(alloc: Global, value: &Value) -> Result<Name, RequestFault>
+    ensures ok { IfOk result (λ t. name_of (view value.now) ≡ Some t) }
+    ensures malformed { result ≡ Err Malformed → name_of (view value.now) ≡ None }
+{
+    let Some(text) = value.as_str() else {
+        return Err(RequestFault::Malformed);
+    };
+    match Name::try_new(alloc, text)? {
+        Some(name) => Ok(name),
+        None => Err(RequestFault::Malformed),
+    }
+}
+
+pub(crate) fn lang_from(alloc: Global, value: &Value) -> Result<Lang, RequestFault>
+    ensures ok { IfOk result (λ t. lang_of (view value.now) ≡ Some t) }
+    ensures malformed { result ≡ Err Malformed → lang_of (view value.now) ≡ None }
+{
+    let Some(text) = value.as_str() else {
+        return Err(RequestFault::Malformed);
+    };
+    match Lang::try_new(alloc, text)? {
+        Some(lang) => Ok(lang),
+        None => Err(RequestFault::Malformed),
+    }
+}
+
+pub(crate) fn revision_from(value: &Value) -> Result<Revision, RequestFault>
+    ensures ok { IfOk result (λ n. revision_of (view value.now) ≡ Some n) }
+    ensures malformed { result ≡ Err Malformed → revision_of (view value.now) ≡ None }
+{
+    let Some(number) = value.as_u64() else {
+        return Err(RequestFault::Malformed);
+    };
+    match Revision::try_new(number) {
+        Some(revision) => Ok(revision),
+        None => Err(RequestFault::Malformed),
+    }
+}
+
+pub(crate) fn take_member<'v>(
+    fields: &'v [(String, Value)],
+    name: &str,
+) -> Result<(&'v Value, &'v [(String, Value)]), RequestFault>
+    ensures ok { IfOk result
+        (λ p. take name.now (members_view fields.now) ≡ Some (view p.0.now, members_view p.1.now)) }
+    ensures malformed { result ≡ Err Malformed → take name.now (members_view fields.now) ≡ None }
+{
+    match fields.split_first() {
+        Some((first, rest)) if first.0.as_str() == name => Ok((&first.1, rest)),
+        _ => Err(RequestFault::Malformed),
+    }
+}
+
+fn texts_from(alloc: Global, values: &[Value]) -> Result<Vec<PoString>, RequestFault>
+    ensures ok { IfOk result (λ v. texts_of (items_view values.now) ≡ Some v.items) }
+    ensures fit { IfOk result (λ v. list_all is_string v.items ≡ true) }
+    ensures malformed { result ≡ Err Malformed → texts_of (items_view values.now) ≡ None }
+{
+    let mut texts = Vec::new(alloc);
+    for value in values {
+        let text = text_from(alloc, value)?;
+        texts.push(text)?;
+    }
+    Ok(texts)
+}
+
+fn forms_from(alloc: Global, value: &Value) -> Result<Forms, RequestFault>
+    ensures ok { IfOk result (λ ts. forms_of (view value.now) ≡ Some ts) }
+    ensures malformed { result ≡ Err Malformed → forms_of (view value.now) ≡ None }
+{
+    let Some(list) = value.as_array() else {
+        return Err(RequestFault::Malformed);
+    };
+    match Forms::try_new(texts_from(alloc, list.as_slice())?) {
+        Some(forms) => Ok(forms),
+        None => Err(RequestFault::Malformed),
+    }
+}
+
+pub(crate) fn is_over(fields: &[(String, Value)]) -> bool
+    ensures { result ≡ is_over (members_view fields.now) }
+{
+    match fields.split_first() {
+        Some(_) => false,
+        None => true,
+    }
+}
+
+pub(crate) fn take_optional<'v>(
+    fields: &'v [(String, Value)],
+    name: &str,
+) -> (Option<&'v Value>, &'v [(String, Value)])
+    ensures { (option_map (λ v. view v.now) result.0, members_view result.1.now)
+        ≡ take_optional name.now (members_view fields.now) }
+{
+    match fields.split_first() {
+        Some((first, rest)) if first.0.as_str() == name => (Some(&first.1), rest),
+        _ => (None, fields),
+    }
+}
+
+pub(crate) fn optional_text(
+    alloc: Global,
+    value: Option<&Value>,
+) -> Result<Option<PoString>, RequestFault>
+    ensures ok { IfOk result
+        (λ o. optional_as text_of (option_map (λ v. view v.now) value.entry) ≡ Some o) }
+    ensures malformed { result ≡ Err Malformed
+        → optional_as text_of (option_map (λ v. view v.now) value.entry) ≡ None }
+{
+    match value {
+        Some(value) => Ok(Some(text_from(alloc, value)?)),
+        None => Ok(None),
+    }
+}
+
+pub(crate) fn optional_name(
+    alloc: Global,
+    value: Option<&Value>,
+) -> Result<Option<Name>, RequestFault>
+    ensures ok { IfOk result
+        (λ o. optional_as name_of (option_map (λ v. view v.now) value.entry) ≡ Some o) }
+    ensures malformed { result ≡ Err Malformed
+        → optional_as name_of (option_map (λ v. view v.now) value.entry) ≡ None }
+{
+    match value {
+        Some(value) => Ok(Some(name_from(alloc, value)?)),
+        None => Ok(None),
+    }
+}
+
+pub(crate) fn optional_forms(
+    alloc: Global,
+    value: Option<&Value>,
+) -> Result<Option<Forms>, RequestFault>
+    ensures ok { IfOk result
+        (λ o. optional_as forms_of (option_map (λ v. view v.now) value.entry) ≡ Some o) }
+    ensures malformed { result ≡ Err Malformed
+        → optional_as forms_of (option_map (λ v. view v.now) value.entry) ≡ None }
+{
+    match value {
+        Some(value) => Ok(Some(forms_from(alloc, value)?)),
+        None => Ok(None),
+    }
+}
+
+pub(crate) fn optional_number(value: Option<&Value>) -> Result<Option<Uuid>, RequestFault>
+    ensures fits { IfOk result (λ o. MatchOption o ⊤ IsNumber) }
+    ensures ok { IfOk result
+        (λ o. optional_as number_of (option_map (λ v. view v.now) value.entry) ≡ Some o) }
+    ensures malformed { result ≡ Err Malformed
+        → optional_as number_of (option_map (λ v. view v.now) value.entry) ≡ None }
+{
+    match value {
+        Some(value) => Ok(Some(number_from(value)?)),
+        None => Ok(None),
+    }
+}
+
+// The text has to be the one that the number is written with.
+fn number_from(value: &Value) -> Result<Uuid, RequestFault>
+    ensures fits { IfOk result IsNumber }
+    ensures ok { IfOk result (λ u. number_of (view value.now) ≡ Some u) }
+    ensures malformed { result ≡ Err Malformed → number_of (view value.now) ≡ None }
+{
+    let Some(text) = value.as_str() else {
+        return Err(RequestFault::Malformed);
+    };
+    let Some(number) = parsed_number(text) else {
+        return Err(RequestFault::Malformed);
+    };
+    let mut buffer = Uuid::encode_buffer();
+    let written: &str = number.hyphenated().encode_lower(&mut buffer);
+    if written == text {
+        bytes_fit(number.as_bytes());
+        Ok(number)
+    } else {
+        Err(RequestFault::Malformed)
+    }
+}
+
+fn parsed_number(text: &str) -> Option<Uuid>
+    ensures { result ≡ parsed text.now }
+{
+    match Uuid::parse_str(text) {
+        Ok(number) => Some(number),
+        Err(_) => None,
+    }
+}
+
+// Each byte fits, which a clause cannot say of an array: this walk reads them, and is compiled away.
+pub(crate) fn bytes_fit(bytes: &[u8; 16])
+    ensures { IsNumber bytes.now }
+{
+    'bytes: for i in 0..16 {
+        let _ = bytes[i];
+    }
+}

@@ -1,0 +1,152 @@
+//! Reads the members of one object.
+ghost use Rattle.std.specs.Prelude.{◌≡◌, ◌≢◌, Err, IfOk, Some, None, MatchOption, option_map, ⊤};
+ghost use Rattle.serde_json.specs.Data.{Members, object};
+ghost use Rattle.serde_json.specs.Read.{read};
+ghost use Rattle.request_book.specs.Acts.{IsNumber};
+ghost use Rattle.serde_json.specs.View.{view, members_view};
+ghost use Rattle.request_book.specs.Fields.{unit_members_of, action_of, unit_parts, parts_of, IsPartsText};
+ghost use Rattle.request_book.specs.declared.fault.RequestFault.TheVariants.{Malformed};
+
+use crate::act::Act;
+use crate::fault::RequestFault;
+use crate::fields::{
+    is_over, lang_from, optional_forms, optional_name, optional_number, optional_text,
+    revision_from, take_member, take_optional, text_from,
+};
+use po_read::{Forms, PoString};
+use serde_json::Value;
+use std::alloc::Global;
+use units::{Key, Lang, Name, Revision, UnitAct, UnitAction};
+use uuid::Uuid;
+
+/// What an object says, `caller` and `number` each where it is there.
+#[derive(Drop)]
+pub(crate) struct Parts {
+    pub(crate) caller: Option<Name>,
+    pub(crate) number: Option<Uuid>,
+    pub(crate) act: Act,
+}
+
+/// The members of the object of an act on a unit, besides `act`. Those that some such act lacks are optional.
+#[derive(Drop)]
+pub(crate) struct UnitMembers {
+    pub(crate) caller: Option<Name>,
+    pub(crate) ctx: Option<PoString>,
+    pub(crate) forms: Option<Forms>,
+    pub(crate) id: PoString,
+    pub(crate) lang: Lang,
+    pub(crate) number: Option<Uuid>,
+    pub(crate) seen: Revision,
+}
+
+#[tactic(auto, using(crate::proofs::PartsLemmas::parts_of_object, crate::proofs::PartsLemmas::no_object, crate::proofs::PartsLemmas::no_parts))]
+pub(crate) fn parts_from_text(alloc: Global, text: &str) -> Result<Parts, RequestFault>
+    ensures ok { IfOk result (IsPartsText text.now) }
+    ensures malformed { result ≡ Err Malformed → (p : _) → ¬ IsPartsText text.now p }
+{
+    let fields = object_from(alloc, text)?;
+    parts_from(alloc, fields.as_slice())
+}
+
+fn object_from(alloc: Global, text: &str) -> Result<Vec<(String, Value)>, RequestFault>
+    ensures ok { IfOk result (λ v. read text.now ≡ Some (object (members_view v.items))) }
+    ensures malformed { result ≡ Err Malformed → (ms : Members) → read text.now ≢ Some (object ms) }
+{
+    match value_from(alloc, text)? {
+        Value::Object(map) => Ok(map.into_iter().collect(alloc)?),
+        _other => Err(RequestFault::Malformed),
+    }
+}
+
+fn value_from(alloc: Global, text: &str) -> Result<Value, RequestFault>
+    ensures ok { IfOk result (λ v. read text.now ≡ Some (view v)) }
+    ensures malformed { result ≡ Err Malformed → read text.now ≡ None }
+{
+    match Value::from_str(alloc, text) {
+        Ok(value) => Ok(value),
+        Err(e) => if e.is_memory() {
+            Err(RequestFault::Memory)
+        } else {
+            Err(RequestFault::Malformed)
+        },
+    }
+}
+
+fn parts_from(alloc: Global, fields: &[(String, Value)]) -> Result<Parts, RequestFault>
+    ensures number { IfOk result (λ p. MatchOption p.number ⊤ IsNumber) }
+    ensures ok { IfOk result (λ p. parts_of (members_view fields.now) ≡ Some p) }
+    ensures malformed { result ≡ Err Malformed → parts_of (members_view fields.now) ≡ None }
+{
+    let (word, rest) = take_member(fields, "act")?;
+    let Some(word) = word.as_str() else {
+        return Err(RequestFault::Malformed);
+    };
+    let members = unit_members_from(alloc, rest)?;
+    match parts_of_unit(word, members) {
+        Some(parts) => Ok(parts),
+        None => Err(RequestFault::Malformed),
+    }
+}
+
+fn parts_of_unit(word: &str, members: UnitMembers) -> Option<Parts>
+    ensures { result ≡ option_map (unit_parts members) (action_of word.now members.forms) }
+{
+    let action = action_from(word, members.forms)?;
+    Some(Parts {
+        caller: members.caller,
+        number: members.number,
+        act: Act::OnUnit(
+            members.lang,
+            Key {
+                ctx: members.ctx,
+                id: members.id,
+            },
+            UnitAct {
+                seen: members.seen,
+                action,
+            },
+        ),
+    })
+}
+
+fn action_from(word: &str, forms: Option<Forms>) -> Option<UnitAction>
+    ensures { result ≡ action_of word.now forms }
+{
+    match (word, forms) {
+        ("translate", Some(forms)) => Some(UnitAction::Translate(forms)),
+        (_, _) => None,
+    }
+}
+
+fn unit_members_from(alloc: Global, fields: &[(String, Value)]) -> Result<UnitMembers, RequestFault>
+    ensures number { IfOk result (λ m. MatchOption m.number ⊤ IsNumber) }
+    ensures ok { IfOk result (λ m. unit_members_of (members_view fields.now) ≡ Some m) }
+    ensures malformed { result ≡ Err Malformed → unit_members_of (members_view fields.now) ≡ None }
+{
+    let (caller, rest) = take_optional(fields, "caller");
+    let caller = optional_name(alloc, caller)?;
+    let (ctx, rest) = take_optional(rest, "ctx");
+    let ctx = optional_text(alloc, ctx)?;
+    let (forms, rest) = take_optional(rest, "forms");
+    let forms = optional_forms(alloc, forms)?;
+    let (id, rest) = take_member(rest, "id")?;
+    let id = text_from(alloc, id)?;
+    let (lang, rest) = take_member(rest, "lang")?;
+    let lang = lang_from(alloc, lang)?;
+    let (number, rest) = take_optional(rest, "number");
+    let number = optional_number(number)?;
+    let (seen, rest) = take_member(rest, "seen")?;
+    let seen = revision_from(seen)?;
+    if !is_over(rest) {
+        return Err(RequestFault::Malformed);
+    }
+    Ok(UnitMembers {
+        caller,
+        ctx,
+        forms,
+        id,
+        lang,
+        number,
+        seen,
+    })
+}

@@ -1,0 +1,75 @@
+//! Requests as JSON texts.
+ghost use Rattle.std.specs.Prelude.{◌≡◌, true, false, Err, IfOk, string_bytes};
+ghost use Rattle.request_book.specs.Acts.{IsRequest, IsRequestText, content_text};
+ghost use Rattle.request_book.specs.Fields.{to_request};
+ghost use Rattle.serde_json.specs.Written.{compact_text, has_float};
+ghost use Rattle.serde_json.specs.Data.{object};
+ghost use Rattle.serde_json.specs.View.{members_view};
+ghost use Rattle.request_book.specs.declared.fault.RequestFault.TheVariants.{Malformed};
+
+use crate::act::Request;
+use crate::fault::RequestFault;
+use crate::fields::bytes_fit;
+use crate::parts::{Parts, parts_from_text};
+use crate::written::members_map;
+use po_read::Text;
+use serde_json::{Map, Value};
+use std::alloc::{AllocError, Global};
+use units::Memory;
+
+impl Request {
+    /// The request that a text stands for: one JSON object (RFC 8259) with exactly the request's members, each
+    /// within its limits. Of a key that stands twice the last value counts, as `serde_json` reads it.
+    ///
+    /// `Malformed` where no request has this text; `Memory` where a growth was refused.
+    #[tactic(auto, using(crate::proofs::PartsLemmas::request_of_parts, crate::proofs::PartsLemmas::no_request, crate::proofs::PartsLemmas::unsigned))]
+    pub fn from_json(alloc: Global, text: &str) -> Result<Request, RequestFault>
+        ensures ok { IfOk result (IsRequestText text.now) }
+        ensures one { IfOk result
+            (λ r. (other : Request) → IsRequestText text.now other → other ≡ r) }
+        ensures malformed { result ≡ Err Malformed
+            → (request : Request) → ¬ IsRequestText text.now request }
+    {
+        let parts = parts_from_text(alloc, text)?;
+        match signed(parts) {
+            Some(request) => Ok(request),
+            None => Err(RequestFault::Malformed),
+        }
+    }
+}
+
+fn signed(parts: Parts) -> Option<Request>
+    ensures { result ≡ to_request parts.caller parts.number parts.act }
+{
+    match (parts.caller, parts.number) {
+        (Some(caller), Some(number)) => Some(Request {
+            number,
+            caller,
+            act: parts.act,
+        }),
+        (_, _) => None,
+    }
+}
+
+/// The canonical text of a request's content: its caller and act as compact JSON, keys in byte order. Requests
+/// with one canonical text have one caller and one act.
+#[tactic(auto, using(crate::proofs::CanonLemmas::no_floats, crate::proofs::CanonLemmas::one_content), unfolding(crate::specs::Acts::content_text))]
+pub fn canon(alloc: Global, request: &Request) -> Result<Text, Memory>
+    ensures value { IfOk result (λ s. s ≡ content_text request.now) }
+    ensures alone { IfOk result
+        (λ s. (other : Request) → IsRequest other → content_text other ≡ s
+        → (other.caller ≡ request.now.caller) × (other.act ≡ request.now.act)) }
+    ensures limits { IfOk result (λ _. IsRequest request.now) }
+{
+    bytes_fit(request.number.as_bytes());
+    let map = members_map(alloc, Some(&request.caller), None, &request.act)?;
+    Ok(Text::from_string(object_text(alloc, map)?))
+}
+
+fn object_text(alloc: Global, map: Map<String, Value>) -> Result<String, AllocError>
+    requires { has_float (object (members_view map.entries)) ≡ false }
+    ensures { IfOk result
+        (λ s. string_bytes s ≡ compact_text (object (members_view map.entries))) }
+{
+    Value::Object(map).to_string(alloc)
+}

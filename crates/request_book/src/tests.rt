@@ -1,0 +1,201 @@
+//! The first line of the office and texts beside it, a table of texts that are no request, and the book's cases.
+use crate::{Class, Record, Reply, Request, RequestFault, canon, classify};
+use po_read::{Duplicate, Text};
+use std::alloc::Global;
+use std::test::Fail;
+
+const LINE: &str =
+    "{\"act\":\"translate\",\"caller\":\"ann\",\"forms\":[\"Hallo\"],\"id\":\"Hello\",\"lang\":\"de\",\"number\":\"00000000-0000-4000-8000-000000000001\",\"seen\":1}";
+
+const CANON: &str =
+    "{\"act\":\"translate\",\"caller\":\"ann\",\"forms\":[\"Hallo\"],\"id\":\"Hello\",\"lang\":\"de\",\"seen\":1}";
+
+// None where the text is malformed. Want of memory ends the test.
+fn request_of(alloc: Global, text: &str) -> Result<Option<Request>, Fail> {
+    match Request::from_json(alloc, text) {
+        Ok(request) => Ok(Some(request)),
+        Err(RequestFault::Malformed) => Ok(None),
+        Err(RequestFault::Memory) => Err(Fail::new("out of memory")),
+    }
+}
+
+// The line with another text in the place of one of its own.
+fn changed_line(alloc: Global, old: &str, new: &str) -> Result<Option<Request>, Fail> {
+    let text = LINE.replace(alloc, old, new)?;
+    request_of(alloc, text.as_str())
+}
+
+#[test]
+fn texts_and_their_canonical_texts(rt: HostRuntime) -> Result<(), Fail> {
+    let alloc = rt.alloc();
+    let rows = [
+        (LINE, CANON),
+        // Spaces, the order of the members and escapes don't matter.
+        (
+            " {\"seen\" : 1,\n\"number\":\"00000000-0000-4000-8000-000000000001\",\"lang\":\"de\",\"id\":\"\\u0048ello\",\"forms\":[ \"Hallo\" ],\"caller\":\"ann\",\"act\":\"translate\"} ",
+            CANON,
+        ),
+        // Of a key that stands twice the last value counts.
+        (
+            "{\"seen\":0,\"act\":\"vote\",\"act\":\"translate\",\"caller\":\"ann\",\"forms\":[\"Hallo\"],\"id\":\"Hello\",\"lang\":\"de\",\"number\":\"00000000-0000-4000-8000-000000000001\",\"seen\":1}",
+            CANON,
+        ),
+        // An empty context is a context.
+        (
+            "{\"act\":\"translate\",\"caller\":\"ann\",\"ctx\":\"\",\"forms\":[\"Hallo\"],\"id\":\"Hello\",\"lang\":\"de\",\"number\":\"00000000-0000-4000-8000-000000000002\",\"seen\":1}",
+            "{\"act\":\"translate\",\"caller\":\"ann\",\"ctx\":\"\",\"forms\":[\"Hallo\"],\"id\":\"Hello\",\"lang\":\"de\",\"seen\":1}",
+        ),
+        (
+            "{\"act\":\"translate\",\"caller\":\"r2-d2\",\"ctx\":\"menu\",\"forms\":[\"1\",\"\",\"3\",\"4\",\"5\",\"6\",\"7\",\"8\"],\"id\":\"say \\\"\\u00fc\\\"\\n\",\"lang\":\"sr@latin\",\"number\":\"0f8fad5b-d9cb-469f-a165-70867728950e\",\"seen\":9000000000000000}",
+            "{\"act\":\"translate\",\"caller\":\"r2-d2\",\"ctx\":\"menu\",\"forms\":[\"1\",\"\",\"3\",\"4\",\"5\",\"6\",\"7\",\"8\"],\"id\":\"say \\\"ü\\\"\\n\",\"lang\":\"sr@latin\",\"seen\":9000000000000000}",
+        ),
+    ];
+    for (text, want) in rows {
+        let Some(request) = request_of(alloc, text)? else {
+            return Err(Fail::new("malformed"));
+        };
+        let content = canon(alloc, &request)?;
+        assert!(rt; content.as_str() == want, "{text}");
+    }
+    Ok(())
+}
+
+#[test]
+fn changed_lines_are_malformed(rt: HostRuntime) -> Result<(), Fail> {
+    let alloc = rt.alloc();
+    let deep = "[".repeat(alloc, 200)?;
+    let deep_end = "]".repeat(alloc, 200)?;
+    let mut nested = deep;
+    nested.push_str(deep_end.as_str())?;
+    let long = "a".repeat(alloc, 65_537)?;
+    let longest = "a".repeat(alloc, 65_536)?;
+    let rows = [
+        // missing, further and wrong fields
+        ("\"act\":\"translate\",", ""),
+        ("\"caller\":\"ann\",", ""),
+        ("\"forms\":[\"Hallo\"],", ""),
+        ("\"id\":\"Hello\",", ""),
+        ("\"lang\":\"de\",", ""),
+        ("\"number\":\"00000000-0000-4000-8000-000000000001\",", ""),
+        (",\"seen\":1", ""),
+        ("\"seen\":1", "\"seen\":1,\"x\":1"),
+        (
+            "\"seen\":1",
+            "\"seen\":1,\"suggestion\":\"00000000-0000-4000-8000-000000000001\"",
+        ),
+        ("\"act\"", "\"aaa\":1,\"act\""),
+        ("\"act\"", "\"ctx\":null,\"act\""),
+        ("\"act\"", "\"lines\":[],\"act\""),
+        ("\"translate\"", "\"translates\""),
+        ("\"translate\"", "\"Translate\""),
+        ("\"translate\"", "1"),
+        ("\"forms\"", "\"form\""),
+        ("\"Hello\"", "null"),
+        // whole numbers
+        ("\"seen\":1", "\"seen\":0"),
+        ("\"seen\":1", "\"seen\":9000000000000001"),
+        ("\"seen\":1", "\"seen\":18446744073709551617"),
+        ("\"seen\":1", "\"seen\":1.0"),
+        ("\"seen\":1", "\"seen\":1e0"),
+        ("\"seen\":1", "\"seen\":-0"),
+        ("\"seen\":1", "\"seen\":-1"),
+        ("\"seen\":1", "\"seen\":01"),
+        ("\"seen\":1", "\"seen\":\"1\""),
+        // numbers of requests
+        ("8000", "ABCD"),
+        (
+            "00000000-0000-4000-8000-000000000001",
+            "00000000000040008000000000000001",
+        ),
+        (
+            "00000000-0000-4000-8000-000000000001",
+            "{00000000-0000-4000-8000-000000000001}",
+        ),
+        ("000000000001", "00000000001"),
+        ("8000", "800g"),
+        // forms
+        ("[\"Hallo\"]", "[]"),
+        (
+            "[\"Hallo\"]",
+            "[\"1\",\"2\",\"3\",\"4\",\"5\",\"6\",\"7\",\"8\",\"9\"]",
+        ),
+        ("[\"Hallo\"]", "[\"\\u0000\"]"),
+        ("[\"Hallo\"]", "[\"\\u001f\"]"),
+        ("[\"Hallo\"]", "[1]"),
+        ("[\"Hallo\"]", "\"Hallo\""),
+        ("Hallo", long.as_str()),
+        ("[\"Hallo\"]", nested.as_str()),
+        ("Hello", "\\u0001"),
+        ("Hello", long.as_str()),
+        // names and languages
+        ("\"ann\"", "\"\""),
+        ("\"ann\"", "\"Ann\""),
+        ("\"ann\"", "\"1ann\""),
+        ("\"ann\"", "\"ann smith\""),
+        ("\"ann\"", "\"abcdefghijklmnopqrstuvwxyz0123456\""),
+        ("\"de\"", "\"d\""),
+        ("\"de\"", "\"de/at\""),
+        ("\"de\"", "\"abcdefghijklmnopq\""),
+        // the whole text
+        ("\"seen\":1}", "\"seen\":1"),
+        ("\"seen\":1}", "\"seen\":1}}"),
+        ("\"seen\":1}", "\"seen\":1} x"),
+        ("{\"act\"", "[{\"act\""),
+        ("{\"act\"", "\u{feff}{\"act\""),
+    ];
+    for (old, new) in rows.iter() {
+        assert!(rt;
+            changed_line(alloc, *old, *new)?.is_none(),
+            "{old} as {new}"
+        );
+    }
+    assert!(rt; changed_line(alloc, "Hallo", longest.as_str())?.is_some());
+    Ok(())
+}
+
+#[test]
+fn cut_lines_are_malformed(rt: HostRuntime) -> Result<(), Fail> {
+    let alloc = rt.alloc();
+    let bytes = LINE.as_bytes();
+    for end in 0..bytes.len() {
+        let text = str::from_utf8(&bytes[..end])?;
+        assert!(rt; request_of(alloc, text)?.is_none(), "{end} bytes");
+    }
+    Ok(())
+}
+
+#[test]
+fn records_tell_repeats(rt: HostRuntime) -> Result<(), Fail> {
+    let alloc = rt.alloc();
+    let Some(request) = request_of(alloc, LINE)? else {
+        return Err(Fail::new("malformed"));
+    };
+    let body = Text::from_text(alloc, "{\"revision\":2,\"state\":\"translated\"}")?;
+    let record = Record {
+        number: request.number,
+        content: canon(alloc, &request)?,
+        reply: Reply::new(200, body),
+    };
+    let known = record.duplicate()?;
+    assert!(rt; matches!(classify(CANON, None), Class::First));
+    let Class::Repeat(reply) = classify(CANON, Some(&known)) else {
+        return Err(Fail::new("no repeat"));
+    };
+    assert_eq!(rt; reply.status(), 200);
+    assert_eq!(rt; reply.body(), "{\"revision\":2,\"state\":\"translated\"}");
+    let other = CANON.replace(alloc, "ann", "bob")?;
+    assert!(rt; matches!(classify(other.as_str(), Some(&known)), Class::NumberUsed));
+    Ok(())
+}
+
+#[test]
+fn faults_have_numbers_and_texts(rt: HostRuntime) -> Result<(), Fail> {
+    let alloc = rt.alloc();
+    let malformed = RequestFault::Malformed.to_string(alloc)?;
+    let memory = RequestFault::Memory.to_string(alloc)?;
+    assert_eq!(rt; malformed.as_str(), "not a request");
+    assert_eq!(rt; memory.as_str(), "out of memory");
+    assert_eq!(rt; RequestFault::Malformed.number(), 1);
+    assert_eq!(rt; RequestFault::Memory.number(), 2);
+    Ok(())
+}

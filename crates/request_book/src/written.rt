@@ -1,0 +1,157 @@
+//! Writes acts as the members of objects.
+ghost use Rattle.std.specs.Prelude.{◌≡◌, codes, true, IfOk, OnOk, MatchOption, option_map, ⊤};
+ghost use Rattle.serde_json.specs.Data.{put as with, string, array};
+ghost use Rattle.serde_json.specs.View.{view, items_view, members_view};
+ghost use Rattle.request_book.specs.declared.act.Act.TheVariants.{OnUnit};
+ghost use Rattle.request_book.specs.Acts.{action_text, forms_in, fields_of, IsAct};
+ghost use Rattle.request_book.specs.Words.{strings, number_text, members};
+ghost use Rattle.units.specs.Limits.{is_name};
+ghost use Rattle.po_read.specs.Strings.{is_string, is_forms};
+ghost use Rattle.request_book.specs.Puts.{put_optional};
+
+use crate::act::Act;
+use po_read::{Forms, PoString};
+use serde_json::{Map, Value, put};
+use std::alloc::{AllocError, Global};
+use units::{Key, Lang, Name, UnitAct, UnitAction};
+use uuid::Uuid;
+
+/// The members of an act's object, with the caller and the number where they are given.
+pub(crate) fn members_map(
+    alloc: Global,
+    caller: Option<&Name>,
+    number: Option<Uuid>,
+    act: &Act,
+) -> Result<Map<String, Value>, AllocError>
+    ensures value { IfOk result (λ m. members_view m.entries
+        ≡ members (fields_of (option_map (λ c. c.now) caller.entry) number act.now)) }
+    ensures fits { IfOk result (λ _. IsAct act.now) }
+    ensures caller { IfOk result (λ _. MatchOption caller.entry ⊤ (λ c. is_name c.now ≡ true)) }
+{
+    match act {
+        Act::OnUnit(lang, key, act) => unit_map(alloc, caller, number, lang, key, act),
+    }
+}
+
+#[tactic(auto, using(crate::proofs::PutLemmas::puts_unit))]
+fn unit_map(
+    alloc: Global,
+    caller: Option<&Name>,
+    number: Option<Uuid>,
+    lang: &Lang,
+    key: &Key,
+    act: &UnitAct,
+) -> Result<Map<String, Value>, AllocError>
+    ensures value { IfOk result (λ m. members_view m.entries
+        ≡ members (fields_of (option_map (λ c. c.now) caller.entry) number
+        (OnUnit lang.now key.now act.now))) }
+    ensures fits { IfOk result (λ _. IsAct (OnUnit lang.now key.now act.now)) }
+    ensures caller { IfOk result (λ _. MatchOption caller.entry ⊤ (λ c. is_name c.now ≡ true)) }
+{
+    let mut map = Map::new(alloc);
+    put_text(&mut map, alloc, "act", action_word(&act.action))?;
+    put_caller(&mut map, alloc, caller)?;
+    put_context(&mut map, alloc, &key.ctx)?;
+    put_forms(&mut map, alloc, &act.action)?;
+    put_text(&mut map, alloc, "id", key.id.as_str())?;
+    put_text(&mut map, alloc, "lang", lang.as_str())?;
+    put_number(&mut map, alloc, number)?;
+    put(&mut map, alloc, "seen", Value::from(act.seen.number()))?;
+    Ok(map)
+}
+
+fn action_word(action: &UnitAction) -> &'static str
+    ensures { result.now ≡ action_text action.now }
+{
+    match action {
+        UnitAction::Translate(_) => "translate",
+    }
+}
+
+fn put_text(
+    map: &mut Map<String, Value>,
+    alloc: Global,
+    key: &str,
+    text: &str,
+) -> Result<(), AllocError>
+    ensures { OnOk result (members_view map.new.entries
+        ≡ with key.now (string text.now) (members_view map.old.entries)) }
+{
+    put(map, alloc, key, Value::try_from_str(alloc, text)?)
+}
+
+fn put_caller(
+    map: &mut Map<String, Value>,
+    alloc: Global,
+    caller: Option<&Name>,
+) -> Result<(), AllocError>
+    ensures value { OnOk result (members_view map.new.entries
+        ≡ put_optional (codes "caller") (option_map string (option_map (λ c. c.now) caller.entry))
+        (members_view map.old.entries)) }
+    ensures fits { OnOk result (MatchOption caller.entry ⊤ (λ c. is_name c.now ≡ true)) }
+{
+    match caller {
+        Some(caller) => put_text(map, alloc, "caller", caller.as_str()),
+        None => Ok(()),
+    }
+}
+
+fn put_context(
+    map: &mut Map<String, Value>,
+    alloc: Global,
+    ctx: &Option<PoString>,
+) -> Result<(), AllocError>
+    ensures value { OnOk result (members_view map.new.entries
+        ≡ put_optional (codes "ctx") (option_map string ctx.now) (members_view map.old.entries)) }
+    ensures fits { OnOk result (MatchOption ctx.now ⊤ (λ c. is_string c ≡ true)) }
+{
+    match ctx {
+        Some(ctx) => put_text(map, alloc, "ctx", ctx.as_str()),
+        None => Ok(()),
+    }
+}
+
+fn put_forms(
+    map: &mut Map<String, Value>,
+    alloc: Global,
+    action: &UnitAction,
+) -> Result<(), AllocError>
+    ensures value { OnOk result (members_view map.new.entries
+        ≡ put_optional (codes "forms") (option_map strings (forms_in action.now))
+        (members_view map.old.entries)) }
+    ensures fits { OnOk result (MatchOption (forms_in action.now) ⊤ (λ forms. is_forms forms ≡ true)) }
+{
+    match action {
+        UnitAction::Translate(forms) => put(map, alloc, "forms", forms_value(alloc, forms)?),
+    }
+}
+
+fn put_number(
+    map: &mut Map<String, Value>,
+    alloc: Global,
+    number: Option<Uuid>,
+) -> Result<(), AllocError>
+    ensures { OnOk result (members_view map.new.entries
+        ≡ put_optional (codes "number") (option_map (λ u. string (number_text u)) number)
+        (members_view map.old.entries)) }
+{
+    match number {
+        Some(number) => {
+            let mut buffer = Uuid::encode_buffer();
+            let written: &str = number.hyphenated().encode_lower(&mut buffer);
+            put_text(map, alloc, "number", written)
+        },
+        None => Ok(()),
+    }
+}
+
+fn forms_value(alloc: Global, forms: &Forms) -> Result<Value, AllocError>
+    ensures value { IfOk result (λ v. view v ≡ strings forms.now) }
+    ensures fits { is_forms forms.now ≡ true }
+{
+    let mut list = Vec::new(alloc);
+    for text in forms.as_slice() {
+        list.push(Value::try_from_str(alloc, text.as_str())?)?;
+    }
+    Ok(Value::Array(list))
+}

@@ -1,0 +1,97 @@
+//! The refusals of an act, in their order.
+ghost use Rattle.std.specs.Prelude.{◌≡◌, ◌==◌, not, List, ℕ, MatchOption, false, length};
+ghost use Rattle.std.specs.Option.{option_copied, option_map_or};
+ghost use Rattle.plural_expr.specs.Values.{Rule};
+ghost use Rattle.units.specs.declared.unit.Policy.{Policy as PolicyValue};
+ghost use Rattle.units.specs.Units.{needed};
+ghost use Rattle.review.specs.UnitStep as spec;
+
+use plural_expr::PluralForms;
+use po_read::Forms;
+use units::{Policy, Refusal, Role, UnitAct, UnitAction, UnitState, UnitView, needed};
+
+/// The least role that may do an act.
+fn least_role(policy: &Policy, action: &UnitAction) -> Role
+    ensures { result ≡ spec.least_role policy.now action.now }
+{
+    match action {
+        UnitAction::Translate(_) => Role::Translator,
+    }
+}
+
+/// Whether nobody below reviewer does the act to an approved unit.
+fn edits(action: &UnitAction) -> bool
+    ensures { result ≡ spec.edits action.now }
+{
+    match action {
+        UnitAction::Translate(_) => true,
+    }
+}
+
+/// The forms that an act brings.
+fn forms_of(action: &UnitAction) -> Option<&Forms>
+    ensures { option_copied result ≡ spec.forms_of action.now }
+{
+    match action {
+        UnitAction::Translate(forms) => Some(forms),
+    }
+}
+
+/// Whether an act brings more or fewer forms than its unit needs.
+fn has_wrong_count(rule: &PluralForms, view: &UnitView, action: &UnitAction) -> bool
+    ensures { result ≡ option_map_or (λ forms. not (length forms == needed rule.now view.now.unit.plural)) (spec.forms_of action.now) false }
+{
+    match forms_of(action) {
+        Some(forms) => forms.as_slice().len() as u32 != needed(rule, &view.unit.plural),
+        None => false,
+    }
+}
+
+/// The first refusal that applies, of those that need no look at what the act would make of the unit.
+#[tactic(auto, unfolding(crate::specs::UnitStep::refusals))]
+pub(crate) fn first_refusal(
+    policy: &Policy,
+    rule: &PluralForms,
+    role: Role,
+    view: &UnitView,
+    act: &UnitAct,
+) -> Option<Refusal>
+    ensures { (caller number : List ℕ) →
+        let wanted = spec.first_refusal (spec.refusals policy.now rule.now role caller number view.now act.now) in
+        MatchOption result
+        (wanted ≡ spec.first_refusal (spec.refusals_by_effect policy.now rule.now caller number view.now act.now.action))
+        (λ refusal. wanted ≡ Some refusal) }
+{
+    let unit = &view.unit;
+    if unit.obsolete {
+        return Some(Refusal::NoUnit);
+    }
+    if role.is_below(least_role(policy, &act.action)) {
+        return Some(Refusal::BelowRole);
+    }
+    if view.is_read_only() {
+        return Some(Refusal::IsReadOnly);
+    }
+    if act.seen != unit.revision {
+        return Some(Refusal::IsStale);
+    }
+    if edits(&act.action) && unit.state == UnitState::Approved && role.is_below(Role::Reviewer) {
+        return Some(Refusal::IsApproved);
+    }
+    if has_wrong_count(rule, view, &act.action) {
+        return Some(Refusal::PluralCount);
+    }
+    None
+}
+
+/// Whether an act would change nothing, by the state that its forms give.
+pub(crate) fn is_same(state: Option<UnitState>, view: &UnitView, action: &UnitAction) -> bool
+    ensures { (policy : PolicyValue) (rule : Rule) (caller : List ℕ) → state ≡ spec.given_state policy rule view.now action.now →
+        result ≡ spec.is_same policy rule caller view.now action.now }
+{
+    match action {
+        UnitAction::Translate(forms) => {
+            forms.as_slice() == view.unit.forms.as_slice() && state == Some(view.unit.state)
+        }
+    }
+}

@@ -1,0 +1,22 @@
+//! Data of the office, and streams of bytes.
+#![tactic(auto)]
+
+mod copies;
+mod memory;
+mod names;
+mod states;
+mod streams;
+#[cfg(test)]
+mod tests;
+mod unit;
+mod votes;
+
+pub use memory::Memory;
+pub use names::{AcceptAt, Lang, Name, Revision};
+pub use states::{all_empty, has_flag, is_read_only, needed, some_empty};
+pub use streams::{ByteSink, ByteSource, SinkFault, SourceFault};
+pub use unit::{
+    Key, Policy, Refusal, Role, ShownState, Suggestion, Unit, UnitAct, UnitAction, UnitState,
+    UnitView,
+};
+pub use votes::{VoteValue, Votes};

@@ -1,0 +1,26 @@
+//! Want of memory.
+use std::alloc::{AllocError, AllocFailed};
+
+/// Want of memory: a growth was refused.
+#[derive(Debug, Drop, Clone, Copy, PartialEq, Eq)]
+pub struct Memory;
+
+impl From<AllocError> for Memory {
+    ghost use Rattle.std.specs.Prelude.{⊤};
+
+    ghost from_gives = { λ _ e. ⊤ };
+
+    fn from(_refused: AllocError) -> Memory {
+        Memory
+    }
+}
+
+impl<T: Drop> From<AllocFailed<T>> for Memory {
+    ghost use Rattle.std.specs.Prelude.{⊤};
+
+    ghost from_gives = { λ _ e. ⊤ };
+
+    fn from(_refused: AllocFailed<T>) -> Memory {
+        Memory
+    }
+}
