@@ -10,7 +10,6 @@ use Rattle.units.specs.declared.unit.Unit.{Unit}
 use Rattle.units.specs.declared.unit.UnitAct.{UnitAct}
 use Rattle.units.specs.declared.unit.UnitView.{UnitView}
 use Rattle.units.proofs.Orders.{place_total, place_IsAntisymmetric}
-use Rattle.request_book.specs.Replies.{Reply}
 use Rattle.office.specs.declared.found.Found.{Found}
 use Rattle.office.specs.declared.outcome.Outcome.{Outcome}
 use Rattle.office.specs.Found.{found_of, written}

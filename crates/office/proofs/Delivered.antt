@@ -1,5 +1,5 @@
 -- One delivery, by one look into the book, is what a list of one leaves and answers.
-use Rattle.std.proofs.Common.{◌≡◌, [], ◌∷◌, refl, sym, ◌∙◌, ap, Option, Some, None}
+use Rattle.std.proofs.Common.{◌≡◌, [], ◌∷◌, ◌∙◌, ap, Option, Some, None}
 use Rattle.std.specs.Prelude.{option_map, ◌≢◌, Result, Ok, Err, IfOk}
 use Rattle.std.specs.Option.{option_map_or}
 use Rattle.std.specs.FinMap as maps

@@ -1,5 +1,5 @@
 -- The export of the demo office after its first line: the 138 bytes.
-use Rattle.std.specs.Prelude.{◌≡◌, List, [], ◌∷◌, length, Option, Some, None, codes, flat_map, refl, option_map, map, filter, not, ◌&&◌}
+use Rattle.std.specs.Prelude.{◌≡◌, List, [], ◌∷◌, length, Option, Some, codes, flat_map, refl, option_map, map, filter, not, ◌&&◌}
 use Rattle.std.specs.Option.{option_map_or}
 use Rattle.std.proofs.Common.{◌∙◌, ap, sym}
 use Rattle.std.specs.FinMap as maps

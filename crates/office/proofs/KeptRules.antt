@@ -1,6 +1,6 @@
 -- The rules of an office and its book are kept by each request.
-use Rattle.std.proofs.Common.{◌≡◌, ◌≤◌, ℕ, ◌+◌, List, [], ◌∷◌, Bool, true, false, cond, not, IsTrue, Option, Some, None, refl, sym, ◌∙◌, ap, subst, length, map, inl, inr, ⊎_elim, arith, All}
-use Rattle.std.specs.Prelude.{◌⊎◌, IsSome, option_map, filter, nat_lt, is_some, ◌==◌, ◌++◌, nat_eq, flat_map}
+use Rattle.std.proofs.Common.{◌≡◌, ◌≤◌, ℕ, List, [], ◌∷◌, Bool, true, false, cond, not, IsTrue, Option, Some, None, refl, sym, ◌∙◌, ap, subst, length, map, inl, inr, ⊎_elim, arith, All}
+use Rattle.std.specs.Prelude.{◌⊎◌, IsSome, option_map, filter, ◌++◌, nat_eq, flat_map}
 use Rattle.std.specs.Option.{option_map_or}
 use Rattle.std.specs.List.{list_any, IsDistinct}
 use Rattle.std.specs.Ordering.{eq_by_cmp}
@@ -11,14 +11,14 @@ use Rattle.po_read.specs.Texts.{Text, text_cmp, text_eq, is_empty}
 use Rattle.po_read.specs.declared.entry.Entry.{Entry}
 use Rattle.plural_expr.specs.Values.{Rule}
 use Rattle.units.specs.Limits.{suggestion_limit, vote_limit}
-use Rattle.units.specs.Units.{needed, is_approved, is_needs_editing, no_previous, in_state}
+use Rattle.units.specs.Units.{needed, is_approved, no_previous}
 use Rattle.units.specs.Office.{Office, Place, place_cmp, place_eq, entry_of, role_of, units_of, view_of, with_unit}
 use Rattle.units.specs.Offices.{IsOffice, IsUnit}
 use Rattle.units.specs.Rules.{rule_at}
 use Rattle.units.specs.declared.unit.Key.{Key}
 use Rattle.units.specs.declared.unit.Unit.{Unit}
 use Rattle.units.specs.declared.unit.UnitState.{UnitState}
-use Rattle.units.specs.declared.unit.UnitState.TheVariants.{Untranslated, NeedsEditing, Translated, Approved}
+use Rattle.units.specs.declared.unit.UnitState.TheVariants.{Untranslated, NeedsEditing, Translated}
 use Rattle.units.specs.declared.unit.UnitView.{UnitView}
 use Rattle.units.specs.declared.unit.UnitAct.{UnitAct}
 use Rattle.units.specs.declared.unit.UnitAction.{UnitAction}

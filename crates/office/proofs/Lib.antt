@@ -11,6 +11,7 @@ pub mod Swaps
 pub mod Told
 pub mod Replaced
 pub mod KeptRules
+pub mod StartLemmas
 pub mod Running
 pub mod DemoRequests
 pub mod Rows

@@ -1,5 +1,5 @@
 -- Worked rows from the demo office, by the definitions alone.
-use Rattle.std.specs.Prelude.{◌≡◌, ℕ, [], ◌∷◌, Some, None, codes, refl}
+use Rattle.std.specs.Prelude.{◌≡◌, ℕ, [], ◌∷◌, None, codes, refl}
 use Rattle.std.proofs.Common.{ap, ◌∙◌}
 use Rattle.std.specs.Fmt.{digits}
 use Rattle.std.specs.FinMap as maps
@@ -9,13 +9,12 @@ use Rattle.units.specs.declared.unit.UnitAction.TheVariants.{Translate}
 use Rattle.request_book.specs.Replies.{Reply}
 use Rattle.request_book.specs.declared.act.Request.{Request}
 use Rattle.request_book.specs.Acts.{content_text}
-use Rattle.request_book.specs.Book.{Recorded}
 use Rattle.serde_json.proofs.OnLiterals.{serde_json_on_literals}
 use Rattle.checks.specs.Result.{result_state}
 use Rattle.review.specs.UnitStep.{unit_step, refusals, unit_after}
 use Rattle.office.specs.Bodies.{number_used}
 use Rattle.office.specs.Step.{Stepped, step, act_step}
-use Rattle.office.specs.Deliveries.{reply_at, answers_of, first_of, left_by}
+use Rattle.office.specs.Deliveries.{reply_at, answers_of, first_of}
 use Rattle.office.proofs.DemoRequests.{begun, first_line, header_de, unit_hello, role_ann, role_zed, act_on, hello, ann, root}
 
 abbrev pub told : ℕ → Text → Reply

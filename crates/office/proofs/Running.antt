@@ -82,7 +82,8 @@ take-whole (suc n) [] h = refl
 take-whole zero (x ∷ xs) h = absurd (omega arith)
 take-whole (suc n) (x ∷ xs) h = ap (λ ys. x ∷ ys) (take-whole n xs (omega arith))
 
-one_all : {X : Type 0} (P : X → Type 0) (x : X) → P x → All P (x ∷ [])
+-- a fact of a list of one
+pub one_all : {X : Type 0} (P : X → Type 0) (x : X) → P x → All P (x ∷ [])
 one_all P x h zero d lt = h
 one_all P x h (suc k) d lt = absurd (omega arith)
 

@@ -1,5 +1,5 @@
 -- Lists that are alike are joined by a chain of swaps of neighbours that don't clash, and no swap changes the office that is left.
-use Rattle.std.proofs.Common.{◌≡◌, List, [], ◌∷◌, ◌++◌, Bool, true, false, cond, ◌||◌, refl, sym, ◌∙◌, ap, subst, Option, Some, None, inl, inr, ⊎_elim}
+use Rattle.std.proofs.Common.{◌≡◌, List, [], ◌∷◌, ◌++◌, Bool, true, false, cond, ◌||◌, refl, sym, ◌∙◌, ap, subst, Option, Some, inr, ⊎_elim}
 use Rattle.std.specs.Prelude.{unwrap_or, ◌⊎◌}
 use Rattle.std.proofs.lemmas.List.Elements.{filter-append}
 use Rattle.std.specs.declared.cmp.Ordering.{Ordering}

@@ -12,7 +12,7 @@ use Rattle.request_book.specs.declared.act.Request.{Request}
 use Rattle.request_book.specs.Replies.{Reply}
 use Rattle.request_book.specs.Book.{Book, Meaning, Recorded, recorded_as}
 use Rattle.request_book.specs.Clash.{clash, Alike}
-use Rattle.office.specs.Step.{Stepped, step}
+use Rattle.office.specs.Step.{step}
 use Rattle.office.specs.Deliveries.{after, first_of, left_by, IsRecordedIn, record_of}
 use Rattle.office.proofs.Once.{from_end, left_by-last, first_of-last, first_with, is_known, is_known-is, one_of, has_firsts, same_number}
 use Rattle.office.proofs.Swaps.{Swaps, same, swap, alike_swaps, alike_after, either}

@@ -1,5 +1,5 @@
 -- A unit act reads what is found for it and nothing else, and changes its unit and nothing else.
-use Rattle.std.proofs.Common.{◌≡◌, Bool, true, false, cond, refl, sym, ◌∙◌, ap, Option, Some, None}
+use Rattle.std.proofs.Common.{◌≡◌, cond, refl, sym, ◌∙◌, ap, Option, Some, None}
 use Rattle.std.specs.Prelude.{not, is_some, option_map, ◌≢◌}
 use Rattle.std.specs.Option.{option_map_or}
 use Rattle.std.specs.FinMap as maps

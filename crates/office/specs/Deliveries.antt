@@ -1,7 +1,7 @@
 -- Deliveries: requests that come again, are lost, or come in another order. What a list of them leaves, and what each is answered.
 -- This project's own rule: a request acts once, at the first arrival of its number, and each repeat gets the reply of that arrival.
 -- A refusal is recorded like a success.
-use Rattle.std.specs.Prelude.{◌≡◌, List, [], ◌∷◌, ◌++◌, Bool, true, false, not, if◌then◌else◌, Option, Some, unwrap_or, Result, Ok, Err, map, filter}
+use Rattle.std.specs.Prelude.{◌≡◌, List, [], ◌∷◌, ◌++◌, Bool, true, false, not, if◌then◌else◌, Some, unwrap_or, Result, Ok, Err, map, filter}
 use Rattle.std.specs.Option.{option_map_or}
 use Rattle.std.specs.FinMap as maps
 use Rattle.po_read.specs.Texts.{Text, text_eq}

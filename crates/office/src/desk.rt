@@ -43,6 +43,7 @@ impl Desk {
     /// `Memory` where a growth was refused.
     pub fn demo(alloc: Global) -> Result<Desk, Lost>
         ensures ok { IfOk result (λ desk. meaning_of desk ≡ record { office = demo; book = maps.empty }) }
+        ensures rules { IfOk result (λ desk. IsStart (meaning_of desk)) }
         ensures memory { IfErr result (λ e. e ≡ Refused) }
     {
         let tables = Tables::demo(alloc)?;
@@ -54,6 +55,7 @@ impl Desk {
     /// `Memory` where a growth was refused.
     pub fn opening(alloc: Global, manager: &Name) -> Result<Desk, Lost>
         ensures ok { IfOk result (λ desk. meaning_of desk ≡ record { office = opening manager.now; book = maps.empty }) }
+        ensures rules { IfOk result (λ desk. IsStart (meaning_of desk)) }
         ensures memory { IfErr result (λ e. e ≡ Refused) }
     {
         let tables = Tables::opening(alloc, manager)?;

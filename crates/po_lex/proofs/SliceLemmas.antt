@@ -1,5 +1,5 @@
 -- Slices of slices, and what is found at the front of a text.
-use Rattle.std.proofs.Common.{◌≡◌, ◌≢◌, ℕ, ◌<◌, List, [], ◌∷◌, ◌++◌, Bool, true, false, not, length, take, drop, get_or, refl, sym, ◌∙◌, ap, subst, eq-eqb, append_assoc, arith, Option, Some, None, MatchOption, nat_lt, map, suc, Decides, Result, Ok, Err, IfOk, Bor, ◌⊎◌, inl, inr}
+use Rattle.std.proofs.Common.{◌≡◌, ◌≢◌, ℕ, ◌<◌, List, [], ◌∷◌, ◌++◌, Bool, true, false, not, length, take, drop, get_or, refl, sym, ◌∙◌, ap, subst, eq-eqb, append_assoc, arith, Option, Some, None, MatchOption, nat_lt, map, suc, Decides, Result, Ok, Err, IfOk, Bor, ◌⊎◌, inl, inr, ◌&&◌, ◌==◌, cond}
 use Rattle.std.proofs.lemmas.Bool.Decides.{nat_tests}
 use Rattle.std.specs.Str.{IsCharBoundary}
 use Rattle.std.proofs.lemmas.Str.{IsCharBoundary-end, IsCharBoundary-before_ascii}
@@ -154,3 +154,57 @@ first_tested mark [] true above h = absurd (omega (arith, h.0 refl))
 first_tested mark [] false above h = refl
 first_tested mark (b ∷ text) true above h = sym (eq-eqb b mark (h.0 refl))
 first_tested mark (b ∷ text) false above h = sym (ne_eqb b mark (λ e. absurd (false≢true (h.1 e))))
+
+-- ---- white at the end
+
+and_true : (b : Bool) → (b && true) ≡ b
+and_true true = refl
+and_true false = refl
+
+white_pushed : (front : List ℕ) (w : ℕ) → is_white w ≡ true → is_all_white (front ++ w ∷ []) ≡ is_all_white front
+white_pushed [] w h = ap (λ b. b && true) h
+white_pushed (b ∷ front) w h = ap (λ t. is_white b && t) (white_pushed front w h)
+
+pub end_white : (front : List ℕ) (w : ℕ) → is_white w ≡ true → drop_white_end (front ++ w ∷ []) ≡ drop_white_end front
+end_white [] w h = ap (λ b. cond (b && true) [] (w ∷ [])) h
+end_white (b ∷ front) w h =
+    ap (λ t. cond (is_white b && t) [] (b ∷ drop_white_end (front ++ w ∷ []))) (white_pushed front w h)
+    ∙ ap (λ t. cond (is_white b && is_all_white front) [] (b ∷ t)) (end_white front w h)
+
+-- a text that doesn't end in white
+abbrev pub EndsBlack : List ℕ → Type 0
+EndsBlack text = (front : List ℕ) (w : ℕ) → is_white w ≡ true → text ≢ front ++ w ∷ []
+
+cut_white : (b : ℕ) (c : ℕ) (text : List ℕ) (t : Bool) → is_all_white (b ∷ c ∷ text) ≡ t → drop_white_end (c ∷ text) ≡ c ∷ text → cond t [] (b ∷ drop_white_end (c ∷ text)) ≡ b ∷ c ∷ text
+cut_white b c text false e h = ap (λ t. b ∷ t) h
+cut_white b c text true e h =
+    let rest : is_all_white (c ∷ text) ≡ true = second (is_white b) (is_all_white (c ∷ text)) e in
+    let none : drop_white_end (c ∷ text) ≡ [] = ap (λ t. cond t [] (c ∷ drop_white_end text)) rest in
+    let no : [] ≡ c ∷ text = sym none ∙ h in
+    cc
+  where
+    second : (a b : Bool) → (a && b) ≡ true → b ≡ true
+    second true b h = h
+    second false b h = cc
+
+pub end_black : (text : List ℕ) → EndsBlack text → drop_white_end text ≡ text
+end_black [] h = refl
+end_black (b ∷ []) h = by (is_white b) refl
+  where
+    by : (t : Bool) → is_white b ≡ t → drop_white_end (b ∷ []) ≡ b ∷ []
+    by true e = absurd (h [] b e refl)
+    by false e = ap (λ t. cond (t && true) [] (b ∷ [])) e
+end_black (b ∷ c ∷ text) h = cut_white b c text (is_all_white (b ∷ c ∷ text)) refl (end_black (c ∷ text) (λ front w e same. h (b ∷ front) w e (ap (λ t. b ∷ t) same)))
+
+-- white is a space or a tab
+pub ends_black : (text : List ℕ) → ((front : List ℕ) → text ≢ front ++ 32 ∷ []) → ((front : List ℕ) → text ≢ front ++ 9 ∷ []) → EndsBlack text
+ends_black text space tab front w e same = by (w == 32) refl
+  where
+    by : (t : Bool) → (w == 32) ≡ t → ⊥
+    by true k = let is : w ≡ 32 = grind (arith, nat_tests) in space front (same ∙ ap (λ b. front ++ b ∷ []) is)
+    by false k = let is : w ≡ 9 = grind (arith, nat_tests) in tab front (same ∙ ap (λ b. front ++ b ∷ []) is)
+
+pub tab_before : (text : List ℕ) (found : Option (Bor (List ℕ))) → ((front : List ℕ) → text ≢ front ++ 32 ∷ []) → MatchOption found ((front : List ℕ) → text ≢ front ++ 9 ∷ []) (λ front. text ≡ front.now ++ 9 ∷ [])
+    → MatchOption found (drop_white_end text ≡ text) (λ front. drop_white_end text ≡ drop_white_end front.now)
+tab_before text None space tab = end_black text (ends_black text space tab)
+tab_before text (Some front) space tab = ap drop_white_end tab ∙ end_white front.now 9 refl

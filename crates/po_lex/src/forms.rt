@@ -40,7 +40,7 @@ fn behind_white(text: &str) -> Option<&str>
 }
 
 #[tactic(auto, using(crate::proofs::SliceLemmas::all_slice, crate::proofs::SliceLemmas::slice_behind, crate::proofs::SliceLemmas::slice_within, crate::proofs::SliceLemmas::front_slice))]
-fn skip_white(text: &str) -> &str
+pub(crate) fn skip_white(text: &str) -> &str
     ensures value { result.now ≡ skip_white text.now }
     ensures slice { IsSliceOf text.now result.now }
 {

@@ -8,7 +8,9 @@ mod lines;
 mod pieces;
 #[cfg(test)]
 mod tests;
+mod white;
 
 pub use fault::{FaultKind, PoFault};
 pub use line::{Keyword, Line, Part, Token};
-pub use lines::{Lines, lex};
+pub use lines::{Lines, first_line, lex};
+pub use white::trim;

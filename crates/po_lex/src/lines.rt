@@ -52,7 +52,7 @@ impl<'a> Lines<'a> {
 }
 
 /// The first line, and what stands behind its LF.
-fn first_line(text: &str) -> Option<(&str, &str)>
+pub fn first_line(text: &str) -> Option<(&str, &str)>
     ensures cut { MatchOption result (lines_of text.now ≡ []) (λ cut. lines_of text.now ≡ cut.0.now ∷ lines_of cut.1.now) }
     ensures shorter { IfSome result (λ cut. length cut.1.now < length text.now) }
 {

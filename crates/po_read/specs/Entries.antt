@@ -1,4 +1,4 @@
--- The key of an entry, and the strings of its message lines.
+-- The key of an entry, and the strings of its message lines: the GNU gettext manual, "The Format of PO Files".
 use Rattle.std.specs.Prelude.{ℕ, ◌+◌, List, [], ◌∷◌, ◌++◌, Bool, map, Option, Some, None, is_none, ◌&&◌, not}
 use Rattle.po_read.specs.Texts.{Text, is_empty}
 use Rattle.po_read.specs.declared.entry.Entry.{Entry}

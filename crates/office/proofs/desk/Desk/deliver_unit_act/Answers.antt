@@ -1,4 +1,4 @@
-use Rattle.std.proofs.Common.{◌≡◌, string_bytes}
+use Rattle.std.proofs.Common.{string_bytes}
 use Rattle.office.specs.Tables.{meaning}
 use Rattle.office.proofs.UnitActs.{recorded_unit_act}
 use Rattle.office.proofs.desk.Desk.deliver_unit_act.Goals as goal

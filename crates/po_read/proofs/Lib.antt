@@ -1,0 +1,14 @@
+pub mod GroupLemmas
+pub mod EntryLemmas
+pub mod OneCatalogue
+pub mod Drafts
+pub mod Partials
+pub mod Sound
+pub mod Keeping
+pub mod Leaves
+pub mod Growing
+pub mod Accepts
+pub mod Passing
+pub mod Least
+pub mod Rows
+pub mod HeaderLemmas
