@@ -1,0 +1,81 @@
+#!/usr/bin/env python3
+"""Runs the program with each of its growths refused in turn, and compares what it answers.
+
+`office deliver`, over three times the same line: either all is as with ample memory; or one line is answered
+`503 {"error":"memory"}`, the others and the export as ever; or the export ends in fault 3 behind a beginning of its text;
+or the office can't be opened; or the words can't be read. `office plural` likewise, with `plural fault 6`.
+
+Usage: tests/growths/run.py        (from the top of the repository, after ./office --version has built the program; wants cc)
+"""
+import collections
+import os
+import subprocess
+import tempfile
+
+PROGRAM = os.path.join("crates", "cli", "out", "cli")
+REPLY = '200 {"revision":2,"state":"translated"}\n'
+MEMORY = '503 {"error":"memory"}\n'
+RULE = (
+    "nplurals=3; plural=n%10==1 && n%100!=11 ? 0 : "
+    "n%10>=2 && n%10<=4 && (n%100<10 || n%100>=20) ? 1 : 2;"
+)
+
+
+def run(library, words, lines, number):
+    environment = dict(os.environ, LD_PRELOAD=library, FAIL_N=str(number))
+    done = subprocess.run([PROGRAM] + words, input=lines, capture_output=True, env=environment)
+    return done.returncode, done.stdout.decode(), done.stderr.decode()
+
+
+def not_begun(status, out, faults):
+    if out == "" and status in (1, 2) and faults in ("", "error: out of memory\n", "store fault 1\n"):
+        return "not begun"
+    return None
+
+
+def delivered(export, status, out, faults):
+    if (status, out, faults) == (0, REPLY * 3 + export, ""):
+        return "as with ample memory"
+    for place in range(3):
+        replies = REPLY * place + MEMORY + REPLY * (2 - place)
+        if (status, out, faults) == (0, replies + export, ""):
+            return "one line lost, the others as ever"
+    rest = out[len(REPLY * 3):]
+    if out.startswith(REPLY * 3) and export.startswith(rest) and rest != export:
+        if (status, faults) == (1, "export fault 3\n"):
+            return "export fault 3"
+    return not_begun(status, out, faults)
+
+
+def indexed(status, out, faults):
+    if (status, out, faults) == (0, "1 0\n5 2\n22 1\n", ""):
+        return "as with ample memory"
+    if (status, out, faults) == (1, "", "plural fault 6\n"):
+        return "plural fault 6"
+    return not_begun(status, out, faults)
+
+
+def sweep(name, library, words, lines, judge):
+    found = collections.Counter()
+    number, quiet = 0, 0
+    # Behind the last growth nothing is refused: fifty runs in a row are as with ample memory.
+    while quiet < 50:
+        number += 1
+        outcome = run(library, words, lines, number)
+        kind = judge(*outcome)
+        if kind is None:
+            raise SystemExit("%s, growth %d refused: %r" % (name, number, outcome))
+        found[kind] += 1
+        quiet = quiet + 1 if kind == "as with ample memory" else 0
+    print("%s: %s" % (name, ", ".join("%d %s" % (n, kind) for kind, n in sorted(found.items()))))
+
+
+with tempfile.TemporaryDirectory() as folder:
+    library = os.path.join(folder, "refuse.so")
+    source = os.path.join("tests", "growths", "refuse.c")
+    subprocess.run(["cc", "-O1", "-shared", "-fPIC", "-o", library, source, "-ldl"], check=True)
+    line = open(os.path.join("crates", "cli", "stdin")).readline()
+    export = open(os.path.join("crates", "cli", "stdout")).read().replace(REPLY, "")
+    words = ["deliver", "--demo", "--export", "de"]
+    sweep("deliver", library, words, (line * 3).encode(), lambda *outcome: delivered(export, *outcome))
+    sweep("plural", library, ["plural", RULE, "1", "5", "22"], b"", indexed)
