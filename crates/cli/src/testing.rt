@@ -22,12 +22,12 @@ impl<'a> ByteSource for Given<'a> {
             self.failures = self.failures.saturating_add(1);
             return Err(SourceFault);
         }
+        self.before_fault -= 1;
         match self.left {
             [] => Ok(0),
             [first, rest @ ..] => {
                 room[0] = *first;
                 self.left = rest;
-                self.before_fault -= 1;
                 Ok(1)
             }
         }
@@ -64,7 +64,7 @@ impl ByteSink for Kept {
     }
 }
 
-pub(crate) fn kept(alloc: Global, before_fault: usize) -> Kept {
+pub(crate) fn sink_with(alloc: Global, before_fault: usize) -> Kept {
     Kept {
         bytes: Vec::new(alloc),
         before_fault,
@@ -72,7 +72,7 @@ pub(crate) fn kept(alloc: Global, before_fault: usize) -> Kept {
     }
 }
 
-pub(crate) fn given(left: &[u8], before_fault: usize) -> Given<'_> {
+pub(crate) fn source_with(left: &[u8], before_fault: usize) -> Given<'_> {
     Given {
         left,
         before_fault,

@@ -1,6 +1,6 @@
 //! `deliver_lines` over streams in memory.
 use crate::deliver::deliver_lines;
-use crate::testing::{given, kept};
+use crate::testing::{sink_with, source_with};
 use office::Desk;
 use std::alloc::Global;
 use std::test::Fail;
@@ -15,7 +15,7 @@ struct Run {
 }
 
 /// Runs from the demo office over a source and a sink that fail after so many bytes.
-fn run(
+fn run_over(
     alloc: Global,
     input: &[u8],
     source_bytes: usize,
@@ -23,9 +23,9 @@ fn run(
     lang: Option<&str>,
 ) -> Result<Run, Fail> {
     let mut desk = Desk::demo(alloc)?;
-    let mut source = given(input, source_bytes);
-    let mut replies = kept(alloc, sink_bytes);
-    let mut faults = kept(alloc, usize::MAX);
+    let mut source = source_with(input, source_bytes);
+    let mut replies = sink_with(alloc, sink_bytes);
+    let mut faults = sink_with(alloc, usize::MAX);
     let lang = match lang {
         None => None,
         Some(text) => Lang::try_new(alloc, text)?,
@@ -47,7 +47,7 @@ fn run(
 
 /// Runs over streams that don't fail.
 fn answered(alloc: Global, input: &[u8], lang: Option<&str>) -> Result<Run, Fail> {
-    run(alloc, input, usize::MAX, usize::MAX, lang)
+    run_over(alloc, input, usize::MAX, usize::MAX, lang)
 }
 
 const FIRST: &str =
@@ -188,7 +188,7 @@ fn a_source_that_fails(rt: HostRuntime) -> Result<(), Fail> {
     let alloc = rt.alloc();
     let input = format!(in alloc; "{FIRST}{FIRST}")?;
     for bytes in [0, 1, 100, FIRST.len(), FIRST.len() + 1, 2 * FIRST.len()] {
-        let run = run(alloc, input.as_bytes(), bytes, usize::MAX, Some("de"))?;
+        let run = run_over(alloc, input.as_bytes(), bytes, usize::MAX, Some("de"))?;
         let lines = bytes / FIRST.len();
         assert_eq!(rt;
             run.replies.len(),
@@ -205,7 +205,7 @@ fn a_sink_that_fails(rt: HostRuntime) -> Result<(), Fail> {
     let alloc = rt.alloc();
     let whole = format!(in alloc; "{FIRST_REPLY}{EXPORT}")?;
     for bytes in 0..whole.len() {
-        let run = run(alloc, FIRST.as_bytes(), usize::MAX, bytes, Some("de"))?;
+        let run = run_over(alloc, FIRST.as_bytes(), usize::MAX, bytes, Some("de"))?;
         assert_eq!(rt; run.replies.as_slice(), &whole.as_bytes()[..bytes]);
         assert_eq!(rt; run.status, 1);
     }

@@ -1,6 +1,6 @@
 //! The rows of the programs, over sinks in memory.
 use crate::plural::plural_lines;
-use crate::testing::kept;
+use crate::testing::sink_with;
 use std::alloc::Global;
 use std::test::Fail;
 
@@ -86,8 +86,8 @@ fn plural_rows(rt: HostRuntime) -> Result<(), Fail> {
         ("nplurals=1; plural=0;", &[], b"", b"", 0),
     ];
     for (value, ns, out, faults, status) in &rows {
-        let mut w = kept(rt.alloc(), 1000);
-        let mut e = kept(rt.alloc(), 1000);
+        let mut w = sink_with(rt.alloc(), 1000);
+        let mut e = sink_with(rt.alloc(), 1000);
         let answer = plural_lines(rt.alloc(), value, ns, &mut w, &mut e);
         assert_eq!(rt; w.bytes.as_slice(), *out, "{value}");
         assert_eq!(rt; e.bytes.as_slice(), *faults, "{value}");
@@ -99,14 +99,14 @@ fn plural_rows(rt: HostRuntime) -> Result<(), Fail> {
 /// A stream that fails gives status 1, and no line of the second output for it.
 #[test]
 fn plural_streams_fail(rt: HostRuntime) -> Result<(), Fail> {
-    let mut w = kept(rt.alloc(), 5);
-    let mut e = kept(rt.alloc(), 1000);
+    let mut w = sink_with(rt.alloc(), 5);
+    let mut e = sink_with(rt.alloc(), 1000);
     let status = plural_lines(rt.alloc(), "nplurals=1; plural=0;", &[7, 8], &mut w, &mut e);
     assert_eq!(rt; status, 1);
     assert_eq!(rt; w.bytes.as_slice(), b"7 0\n8".as_slice());
     assert_eq!(rt; e.bytes.len(), 0);
 
-    let mut e = kept(rt.alloc(), 3);
+    let mut e = sink_with(rt.alloc(), 3);
     let status = plural_lines(rt.alloc(), "nplurals=9; plural=0;", &[7], &mut w, &mut e);
     assert_eq!(rt; status, 1);
     assert_eq!(rt; e.bytes.as_slice(), b"plu".as_slice());
