@@ -1,4 +1,5 @@
 pub mod Rows
 pub mod PieceLemmas
 pub mod EscapeLemmas
+pub mod QuotedLemmas
 pub mod SliceLemmas

@@ -1,4 +1,8 @@
+pub mod EntryAgain
+pub mod LinesAgain
 pub mod Pieces
 pub mod Pushes
 mod Rows
 pub mod Sent
+pub mod Spelled
+pub mod Written

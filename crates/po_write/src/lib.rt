@@ -4,6 +4,7 @@
 
 mod comments;
 mod fault;
+mod laws;
 mod sending;
 mod strings;
 #[cfg(test)]
@@ -12,6 +13,7 @@ mod writer;
 mod writing;
 
 pub use fault::WriteFault;
+pub use laws::one_spelled;
 pub use sending::send;
 pub use writer::CatalogueWriter;
 pub use writing::write_entry;
