@@ -20,3 +20,5 @@ pub mod Sendings
 pub mod Catalogues
 pub mod Finish
 pub mod ExportedAlike
+pub mod PlainRows
+pub mod PlainRuns

@@ -15,3 +15,4 @@ pub mod Desk
 pub mod Pieces
 pub mod Exports
 pub mod Promises
+pub mod Plain

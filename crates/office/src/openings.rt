@@ -28,7 +28,7 @@ const DEMO_HEADER: &str =
 const DEMO_RULE: &str = "nplurals=2; plural=n != 1;";
 
 /// A policy that allows nothing but translations.
-fn closed_policy() -> Policy
+pub(crate) fn closed_policy() -> Policy
     ensures { result ≡ opens.closed_policy }
 {
     Policy {
@@ -74,7 +74,7 @@ fn one_form(alloc: Global, text: &str) -> Result<Forms, AllocError>
 }
 
 /// An entry with a msgid and one form.
-fn plain_entry(alloc: Global, id: &str, form: &str) -> Result<Entry, AllocError>
+pub(crate) fn plain_entry(alloc: Global, id: &str, form: &str) -> Result<Entry, AllocError>
     requires id { is_string id.now ≡ true }
     requires form { is_string form.now ≡ true }
     ensures { IfOk result (λ entry. entry ≡ opens.plain_entry id.now form.now) }
@@ -93,7 +93,7 @@ fn plain_entry(alloc: Global, id: &str, form: &str) -> Result<Entry, AllocError>
     })
 }
 
-fn demo_lang(alloc: Global) -> Result<Lang, AllocError>
+pub(crate) fn demo_lang(alloc: Global) -> Result<Lang, AllocError>
     ensures { IfOk result (λ lang. lang ≡ codes "de") }
 {
     match Lang::try_new(alloc, "de")? {
@@ -112,7 +112,7 @@ fn demo_key(alloc: Global) -> Result<Key, AllocError>
     })
 }
 
-fn demo_place(alloc: Global) -> Result<Place, AllocError>
+pub(crate) fn demo_place(alloc: Global) -> Result<Place, AllocError>
     ensures lang { IfOk result (λ place. place.lang ≡ codes "de") }
     ensures key { IfOk result (λ place. place.key.key ≡ opens.demo_unit.key) }
 {
@@ -124,7 +124,7 @@ fn demo_place(alloc: Global) -> Result<Place, AllocError>
     })
 }
 
-fn demo_unit(alloc: Global) -> Result<Unit, AllocError>
+pub(crate) fn demo_unit(alloc: Global) -> Result<Unit, AllocError>
     ensures { IfOk result (λ unit. unit ≡ opens.demo_unit) }
 {
     Ok(Unit {
@@ -153,7 +153,7 @@ fn demo_rule(alloc: Global) -> Result<PluralForms, Lost>
     }
 }
 
-fn demo_language(alloc: Global) -> Result<Language, Lost>
+pub(crate) fn demo_language(alloc: Global) -> Result<Language, Lost>
     ensures header { IfOk result (λ language. language.header ≡ opens.plain_entry [] opens.demo_header) }
     ensures memory { IfErr result (λ e. e ≡ Memory) }
 {

@@ -1,0 +1,7 @@
+use Rattle.std.proofs.Common.{take}
+use Rattle.office.specs.Plain.{plain_meaning}
+use Rattle.office.proofs.PlainRuns.{HasRun}
+use Rattle.office.proofs.plain.deliver_plainly.Given as goal
+
+abbrev pub invariant-loop-delivery : goal.invariant-loop-delivery
+invariant-loop-delivery l = HasRun (plain_meaning l.fn.start) (plain_meaning l.office) (take l.delivery-index l.deliveries) l.replies.items
