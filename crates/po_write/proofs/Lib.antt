@@ -2,6 +2,7 @@ pub mod EntryAgain
 pub mod LinesAgain
 pub mod Pieces
 pub mod Pushes
+mod ReadRows
 mod Rows
 pub mod Sent
 pub mod Spelled

@@ -1,11 +1,13 @@
 -- What a caller that pushes a list of entries concludes: the sink takes the text of the list, or a beginning of it.
-use Rattle.std.proofs.Common.{◌≡◌, List, [], ◌∷◌, ◌++◌, ℕ, Bool, not, Option, refl, sym, ◌∙◌, ap, append_assoc, subst}
+use Rattle.std.proofs.Common.{◌≡◌, List, [], ◌∷◌, ◌++◌, ℕ, ◌+◌, ◌<◌, ◌≤◌, Bool, true, false, not, Option, refl, sym, ◌∙◌, ap, append_assoc, subst, length, drop, get_or, nat_lt, arith}
+use Rattle.std.specs.Prelude.{flat_map}
 use Rattle.std.proofs.lemmas.List.{append-nil}
 use Rattle.units.specs.Streams.{Took, TookBeginning}
 use Rattle.units.proofs.Taking.{took_both, took_then_beginning, beginning_of_longer}
 use Rattle.po_read.specs.declared.entry.Entry.{Entry}
 use Rattle.po_read.specs.Texts.{is_empty}
 use Rattle.po_write.specs.Text.{entry_text, text_of, separated}
+use Rattle.po_write.proofs.Pieces.{next_left, all_gone}
 
 -- The text of a list with one more entry is the text, a blank line where there was an entry, and the entry.
 pub text_of-snoc : (es : List Entry) (e : Entry) → text_of (es ++ e ∷ []) ≡ text_of es ++ separated (not (is_empty es)) (entry_text e)
@@ -25,6 +27,37 @@ text_of-append (e ∷ []) (f ∷ fs) = (10 ∷ text_of (f ∷ fs), refl)
 text_of-append (e ∷ f ∷ es) fs =
     let longer = text_of-append (f ∷ es) fs in
     (longer.0, ap (λ text. entry_text e ++ 10 ∷ text) longer.1 ∙ sym (append_assoc (entry_text e) (10 ∷ text_of (f ∷ es)) longer.0))
+
+-- The text of a list is that of its first entry, and each other one behind a blank line.
+abbrev pub behind_others : List Entry → List ℕ
+behind_others es = flat_map (λ e. separated true (entry_text e)) es
+
+pub text_of-cons : (e : Entry) (es : List Entry) → text_of (e ∷ es) ≡ entry_text e ++ behind_others es
+unfolding text_of
+text_of-cons e [] = sym (append-nil (entry_text e))
+text_of-cons e (f ∷ es) = ap (λ text. entry_text e ++ 10 ∷ text) (text_of-cons f es)
+
+-- what is left to write of a list, behind others or not
+abbrev pub left_of : Bool → List Entry → List ℕ
+left_of true es = behind_others es
+left_of false es = text_of es
+
+next_of : (begun : Bool) (e : Entry) (es : List Entry) → left_of begun (e ∷ es) ≡ separated begun (entry_text e) ++ left_of true es
+next_of true e es = refl
+next_of false e es = text_of-cons e es
+
+pub entry_left : (es : List Entry) (i : ℕ) (e : Entry) → i < length es → e ≡ get_or es i e → left_of (nat_lt 0 i) (drop i es) ≡ separated (nat_lt 0 i) (entry_text e) ++ left_of (nat_lt 0 (i + 1)) (drop (i + 1) es)
+entry_left es i e within is =
+    ap (left_of (nat_lt 0 i)) (next_left es i e e within is refl) ∙ next_of (nat_lt 0 i) e (drop (i + 1) es)
+    ∙ ap (λ begun. separated (nat_lt 0 i) (entry_text e) ++ left_of begun (drop (i + 1) es)) (let more : true ≡ nat_lt 0 (i + 1) = grind arith in more)
+
+pub no_entry_left : (es : List Entry) (i : ℕ) → length es ≤ i → left_of (nat_lt 0 i) (drop i es) ≡ []
+unfolding text_of
+no_entry_left es i past = ap (left_of (nat_lt 0 i)) (all_gone es i past) ∙ nothing (nat_lt 0 i)
+  where
+    nothing : (begun : Bool) → left_of begun [] ≡ []
+    nothing true = refl
+    nothing false = refl
 
 -- One more entry was pushed.
 pub pushed_one_more : (start now new : Option (List ℕ)) (begun : Bool) (es : List Entry) (e : Entry) → begun ≡ not (is_empty es)

@@ -2,6 +2,7 @@
 //! memory, and no line is wrapped.
 #![tactic(auto)]
 
+mod catalogue;
 mod comments;
 mod fault;
 mod laws;
@@ -12,6 +13,7 @@ mod tests;
 mod writer;
 mod writing;
 
+pub use catalogue::write_catalogue;
 pub use fault::WriteFault;
 pub use laws::one_spelled;
 pub use sending::send;
