@@ -1,5 +1,5 @@
 -- Offices that alike lists lead to export equal bytes.
-use Rattle.std.proofs.Common.{◌≡◌, ℕ, List, Option, sym, ◌∙◌, subst, Result, Ok, Err}
+use Rattle.std.proofs.Common.{ℕ, List, Option, sym, ◌∙◌, subst, Result, Ok, Err}
 use Rattle.std.specs.Prelude.{IfOk, OnOk, IsSomeAnd}
 use Rattle.po_read.specs.Texts.{Text}
 use Rattle.units.specs.Office.{Office}

@@ -22,3 +22,5 @@ pub mod Finish
 pub mod ExportedAlike
 pub mod PlainRows
 pub mod PlainRuns
+pub mod ExportedValid
+pub mod ExportedSpelled

@@ -16,3 +16,4 @@ pub mod Pieces
 pub mod Exports
 pub mod Promises
 pub mod Plain
+pub mod Spelled

@@ -10,6 +10,8 @@ ghost use Rattle.office.specs.Starts.{IsStart};
 ghost use Rattle.office.specs.Export.{export_text};
 ghost use Rattle.office.specs.Exports.{WasExported, WasCut};
 ghost use Rattle.office.specs.Promises.{IsLeftInAnyOrder, ExportsTheSame};
+ghost use Rattle.units.specs.Offices.{IsOffice};
+ghost use Rattle.office.specs.Spelled.{HaveTexts, TookCatalogue};
 ghost use Rattle.office.specs.declared.lost.Lost.TheVariants.{Memory as Refused};
 
 use crate::export::{ExportReceipt, export};
@@ -190,6 +192,10 @@ impl Desk {
         ensures err { IfErr result
             (WasCut (export_text (meaning_of self.old).office lang.now) (W.taken w.old) (W.taken w.new) (W.failed w.old) (W.failed w.new)) }
         ensures same { meaning_of self.new ≡ meaning_of self.old }
+        // The text spells the language's catalogue and no other.
+        ensures spelled { OnOk result
+            (IsOffice (meaning_of self.old).office → HaveTexts (meaning_of self.old).office lang.now →
+            TookCatalogue (meaning_of self.old).office lang.now (W.taken w.old) (W.taken w.new)) }
         // Offices that alike lists lead to export equal bytes.
         ensures commuting { OnOk result
             (ExportsTheSame (meaning_of self.old).office lang.now (W.taken w.old) (W.taken w.new)) }
