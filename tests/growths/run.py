@@ -3,12 +3,14 @@
 
 `office deliver`, over three times the same line: either all is as with ample memory; or one line is answered
 `503 {"error":"memory"}`, the others and the export as ever; or the export ends in fault 3 behind a beginning of its text;
-or the office can't be opened; or the words can't be read. `office plural` likewise, with `plural fault 6`.
+or the office can't be opened; or the words can't be read. `office plural` likewise, with `plural fault 6`, and `office
+canon`, with `po line L kind 10`.
 
 Usage: tests/growths/run.py        (from the top of the repository, after ./office --version has built the program; wants cc)
 """
 import collections
 import os
+import re
 import subprocess
 import tempfile
 
@@ -18,6 +20,12 @@ MEMORY = '503 {"error":"memory"}\n'
 RULE = (
     "nplurals=3; plural=n%10==1 && n%100!=11 ? 0 : "
     "n%10>=2 && n%10<=4 && (n%100<10 || n%100>=20) ? 1 : 2;"
+)
+
+SOURCE = '#, c-format, fuzzy\n#: a.c:1\n# note\nmsgctxt ""\nmsgid "a"\n"b"\nmsgstr "c\\nd"\n#~ msgid "x"\n#~ msgstr "y"\n'
+CANONICAL = (
+    '# note\n#: a.c:1\n#, fuzzy, c-format\nmsgctxt ""\nmsgid "ab"\nmsgstr ""\n"c\\n"\n"d"\n\n'
+    '#~ msgid "x"\n#~ msgstr "y"\n'
 )
 
 
@@ -55,6 +63,14 @@ def indexed(status, out, faults):
     return not_begun(status, out, faults)
 
 
+def printed(status, out, faults):
+    if (status, out, faults) == (0, CANONICAL, ""):
+        return "as with ample memory"
+    if (status, out) == (1, "") and re.fullmatch(r"po line [0-9]+ kind 10\n", faults):
+        return "po kind 10"
+    return not_begun(status, out, faults)
+
+
 def sweep(name, library, words, lines, judge):
     found = collections.Counter()
     number, quiet = 0, 0
@@ -79,3 +95,4 @@ with tempfile.TemporaryDirectory() as folder:
     words = ["deliver", "--demo", "--export", "de"]
     sweep("deliver", library, words, (line * 3).encode(), lambda *outcome: delivered(export, *outcome))
     sweep("plural", library, ["plural", RULE, "1", "5", "22"], b"", indexed)
+    sweep("canon", library, ["canon"], SOURCE.encode(), printed)

@@ -1,2 +1,3 @@
 pub mod PluralLemmas
 pub mod Ends
+pub mod CanonLemmas

@@ -1,1 +1,2 @@
 pub mod PluralLines
+pub mod CanonText

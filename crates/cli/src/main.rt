@@ -1,14 +1,17 @@
 //! The program `office`.
 #![tactic(auto)]
 
+mod canon;
 mod deliver;
 mod lines;
+mod numbers;
 mod plural;
 mod streams;
 #[cfg(test)]
 mod testing;
 mod words;
 
+use canon::canon_text;
 use deliver::{FAILED, deliver_lines};
 use office::{Desk, Lost};
 use plural::plural_lines;
@@ -17,7 +20,7 @@ use std::io::{self, BufWriter};
 use std::process::ExitCode;
 use streams::{Input, Output};
 use units::ByteSink;
-use words::{Asked, Deliver, Plural, read_words, words_status};
+use words::{Asked, Deliver, Plural, read_words};
 
 fn main(rt: HostRuntime) -> ExitCode {
     match run(&rt) {
@@ -32,9 +35,10 @@ fn run(rt: &HostRuntime) -> io::Result<u8> {
     match read_words(alloc, words.as_slice()) {
         Ok(Asked::Deliver(options)) => deliver_standard(rt, &options),
         Ok(Asked::Plural(options)) => plural_standard(rt, &options),
+        Ok(Asked::Canon) => canon_standard(rt),
         Err(error) => {
             error.print(rt)?;
-            Ok(words_status(&error))
+            Ok(error.exit_code() as u8)
         }
     }
 }
@@ -80,6 +84,18 @@ fn plural_standard(rt: &HostRuntime, options: &Plural<'_>) -> io::Result<u8> {
         &mut faults,
     );
     match lines.flush() {
+        Ok(()) => Ok(status),
+        Err(_) => Ok(FAILED),
+    }
+}
+
+fn canon_standard(rt: &HostRuntime) -> io::Result<u8> {
+    let alloc = rt.alloc();
+    let mut source = Input::new(rt.stdin());
+    let mut text = Output::new(BufWriter::new(alloc, rt.stdout())?);
+    let mut faults = Output::new(rt.stderr());
+    let status = canon_text(alloc, &mut source, &mut text, &mut faults);
+    match text.flush() {
         Ok(()) => Ok(status),
         Err(_) => Ok(FAILED),
     }

@@ -6,7 +6,7 @@ ghost use Rattle.units.specs.Streams.{RoseOrStands};
 ghost use Rattle.po_write.specs.Sending.{Sends, TookAll};
 ghost use Rattle.cli.specs.PluralLines.{index_line, place, plural_fault_line, index_fault_line, lines_of, fault_of, printed, refused};
 
-use itoa::Buffer;
+use crate::numbers::send_number;
 use plural_expr::{EvalFault, PluralFault, PluralForms};
 use po_write::send;
 use std::alloc::Global;
@@ -14,15 +14,6 @@ use units::{ByteSink, SinkFault};
 
 #[cfg(test)]
 mod tests;
-
-/// Writes a number in decimal digits.
-fn send_number<W: ByteSink>(w: &mut W, number: u32) -> Result<(), SinkFault>
-    ensures { Sends W.taken W.failed w.old w.new (decimal number) result }
-{
-    let mut buffer = Buffer::new();
-    let digits = buffer.format(number);
-    send(w, digits.as_bytes())
-}
 
 /// Writes the line of the form's number at n.
 fn send_line<W: ByteSink>(w: &mut W, n: u32, form: u32) -> Result<(), SinkFault>

@@ -7,7 +7,7 @@ use units::{ByteSink, ByteSource, SinkFault, SourceFault};
 /// A source over memory that gives one byte a read, and fails once it has given so many.
 #[derive(Drop)]
 pub(crate) struct Given<'a> {
-    left: &'a [u8],
+    pub(crate) left: &'a [u8],
     before_fault: usize,
     failures: u64,
 }

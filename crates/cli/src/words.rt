@@ -1,6 +1,5 @@
 //! The words of the command line.
 
-use crate::deliver::FAILED;
 use clap::error::ErrorKind;
 use clap::{Arg, ArgAction, ArgMatches, Command, Error, value_parser};
 use std::alloc::{AllocError, Global};
@@ -11,6 +10,7 @@ use units::{Lang, Name};
 pub(crate) enum Asked<'a> {
     Deliver(Deliver),
     Plural(Plural<'a>),
+    Canon,
 }
 
 /// The options of `deliver`.
@@ -73,6 +73,14 @@ fn plural_command<'a>(alloc: Global) -> Result<Command<'a>, AllocError> {
         .arg(numbers)
 }
 
+fn canon_command<'a>(alloc: Global) -> Result<Command<'a>, AllocError> {
+    Ok(
+        Command::new(alloc, "canon")
+            .about("Reads a PO text, and prints it in canonical form, or only po line L kind K")
+            .version(VERSION),
+    )
+}
+
 const VERSION: &str = "0.1.0";
 
 fn office_command<'a>(alloc: Global) -> Result<Command<'a>, AllocError> {
@@ -83,7 +91,8 @@ fn office_command<'a>(alloc: Global) -> Result<Command<'a>, AllocError> {
         .subcommand_required(true)
         .arg_required_else_help(true)
         .subcommand(deliver_command(alloc)?)?
-        .subcommand(plural_command(alloc)?)
+        .subcommand(plural_command(alloc)?)?
+        .subcommand(canon_command(alloc)?)
 }
 
 /// What the words ask for; or what to tell of them: help, the version, or what is wrong with them.
@@ -92,18 +101,11 @@ pub(crate) fn read_words<'a>(alloc: Global, words: &'a [String]) -> Result<Asked
     match matches.subcommand() {
         Some(("deliver", found)) => Ok(Asked::Deliver(deliver_options(alloc, found)?)),
         Some(("plural", found)) => Ok(Asked::Plural(plural_options(alloc, found)?)),
+        Some(("canon", _)) => Ok(Asked::Canon),
         _ => {
             let kind = ErrorKind::MissingSubcommand;
             Err(office_command(alloc)?.error(kind, "a subcommand is wanted")?)
         }
-    }
-}
-
-/// The exit status where the words ask for nothing to do: 0 for help and the version, 1 where memory ran out, 2 for wrong words.
-pub(crate) fn words_status(error: &Error) -> u8 {
-    match error.kind() {
-        ErrorKind::OutOfMemory => FAILED,
-        _ => error.exit_code() as u8,
     }
 }
 

@@ -1,7 +1,6 @@
 -- The text of a language's catalogue, cut into the pieces that are sent.
 use Rattle.std.proofs.Common.{◌≡◌, Bool, true, false, cond, not, ◌&&◌, List, [], ◌∷◌, ◌++◌, map, filter, refl, sym, ap, ◌∙◌}
 use Rattle.std.specs.Prelude.{flat_map, T}
-use Rattle.std.proofs.lemmas.List.{append-nil}
 use Rattle.std.proofs.lemmas.Grind.{flat_map-append}
 use Rattle.std.specs.List.Sorted.{IsStrictlySortedBy}
 use Rattle.std.specs.List.{AllByRecursion}
@@ -16,6 +15,7 @@ use Rattle.std.specs.FinMap.Entries.{is_sorted, below_all}
 use Rattle.po_read.specs.declared.entry.Entry.{Entry}
 use Rattle.po_read.specs.Texts.{Text, text_eq}
 use Rattle.po_write.specs.Text.{entry_text, text_of}
+use Rattle.po_write.proofs.Pushes.{text_of-cons}
 use Rattle.units.specs.Units.{all_empty}
 use Rattle.units.specs.Office.{Office, Place as OfficePlace, place_cmp, units_of}
 use Rattle.units.specs.declared.unit.Unit.{Unit}
@@ -25,11 +25,6 @@ use Rattle.office.specs.Pieces.{behind, with_its_unit, unit_piece}
 use Rattle.office.specs.Viewed.{viewed}
 use Rattle.office.specs.declared.tables.Tables.{Tables}
 use Rattle.office.specs.Tables.{meaning, place_of}
-
-text_of-cons : (e : Entry) (es : List Entry) → text_of (e ∷ es) ≡ entry_text e ++ flat_map behind es
-unfolding text_of
-text_of-cons e [] = sym (append-nil (entry_text e))
-text_of-cons e (f ∷ es) = ap (λ xs. entry_text e ++ (10 ∷ xs)) (text_of-cons f es)
 
 flat_map-map : {X Y A : Type 0} (f : Y → List A) (g : X → Y) (xs : List X) → flat_map f (map g xs) ≡ flat_map (λ x. f (g x)) xs
 flat_map-map f g [] = refl

@@ -1,6 +1,6 @@
 -- The catalogue that a language is exported as is valid, where the office keeps its rules and its units' texts can stand in a PO text.
-use Rattle.std.proofs.Common.{◌≡◌, ◌≢◌, ◌≤◌, ℕ, ◌+◌, List, [], ◌∷◌, ◌++◌, Bool, true, false, cond, not, ◌&&◌, ◌||◌, Option, Some, None, Result, Ok, Err, refl, sym, ◌∙◌, ap, subst, length, map, drop, arith, lit<, lit≤, All, is_some, is_none, suc}
-use Rattle.std.specs.Prelude.{filter, codes, IsOk, T}
+use Rattle.std.proofs.Common.{◌≡◌, ◌≢◌, ◌≤◌, ℕ, ◌+◌, List, [], ◌∷◌, ◌++◌, Bool, true, false, cond, not, ◌&&◌, ◌||◌, Option, Some, None, Result, Ok, Err, refl, sym, ◌∙◌, ap, subst, length, map, drop, arith, lit<, lit≤, All, is_some, is_none, suc, IsTrue}
+use Rattle.std.specs.Prelude.{IsUtf8, filter, codes, IsOk, T}
 use Rattle.std.specs.Option.{option_map_or}
 use Rattle.std.specs.List.{list_any, AllByRecursion}
 use Rattle.std.specs.Str.{is_utf8, chars}
@@ -14,10 +14,11 @@ use Rattle.std.proofs.lemmas.Str.{IsUtf8-from_is_utf8}
 use Rattle.std.proofs.lemmas.Slice.Eq.{bytes_eq-Decides}
 use Rattle.std.proofs.lemmas.Bool.{false≢true}
 use Rattle.po_lex.specs.declared.line.Keyword.TheVariants.{Msgctxt, Msgid, MsgidPlural, Msgstr}
+use Rattle.po_lex.specs.Lines.{is_comment_text}
 use Rattle.po_read.specs.Entries.{Key as EntryKey, key_of as entry_key, optional, numbered, keyed_forms, is_header}
 use Rattle.po_read.specs.Texts.{Text, text_eq, is_empty}
 use Rattle.po_read.specs.declared.entry.Entry.{Entry}
-use Rattle.po_read.specs.Valid.{IsString, IsFlag, AreFlags, AreDistinct, AllStrings, IsValid, IsValidEntry, HasHeaderKey, IsHeader, HasHeaderFirst, HasUniqueKeys, fuzzy}
+use Rattle.po_read.specs.Valid.{IsString, IsCommentLine, IsFlag, AreFlags, AreDistinct, AllStrings, IsValid, IsValidEntry, HasHeaderKey, IsHeader, HasHeaderFirst, HasUniqueKeys, fuzzy}
 use Rattle.po_read.proofs.Sound.{all_both}
 use Rattle.plural_expr.specs.Trees.{number}
 use Rattle.plural_expr.specs.Values.{Rule}
@@ -33,7 +34,15 @@ use Rattle.units.specs.declared.unit.Unit.{Unit}
 use Rattle.units.proofs.Orders.{key_total, place_total, place_IsAntisymmetric}
 use Rattle.office.specs.Entries.{flags_of, translated, obsolete_entry, catalogue_of}
 use Rattle.office.specs.Pieces.{with_its_unit}
-use Rattle.office.specs.Spelled.{HasTexts, HaveTexts}
+use Rattle.office.specs.Spelled.{HasStrings}
+
+-- what is needed of the texts of a unit
+record HasTexts (unit : Unit) : Type 0 where
+  comment : AllByRecursion IsCommentLine unit.comment
+  strings : HasStrings unit
+
+abbrev HaveTexts : Office → Text → Type 0
+HaveTexts office lang = (key : Key) (unit : Unit) → maps.get office.units (lang, key) ≡ Some unit → HasTexts unit
 
 -- ---- lists
 
@@ -179,8 +188,8 @@ translated_valid office lang entry unit valid plain texts counted forms plural =
       extracted = valid.extracted;
       references = valid.references;
       flags = flags_valid unit entry.flags valid.flags.each valid.flags.distinct (no_fuzzy entry.flags plain.unmarked);
-      strings = with_forms IsString entry.ctx entry.plural entry.id unit.forms (without_forms IsString entry.ctx entry.plural entry.id entry.forms valid.strings) texts.forms;
-      previous = texts.previous;
+      strings = with_forms IsString entry.ctx entry.plural entry.id unit.forms (without_forms IsString entry.ctx entry.plural entry.id entry.forms valid.strings) texts.strings.forms;
+      previous = texts.strings.previous;
       some = omega (arith, count.0);
       most = omega (arith, count.1);
       single = λ none. forms ∙ ap (needed (rule_at office lang)) (plural ∙ none);
@@ -194,8 +203,8 @@ obsolete_valid unit rule is texts obsolete =
       extracted = tt;
       references = tt;
       flags = flags_valid unit [] tt tt tt;
-      strings = with_forms IsString unit.key.ctx unit.plural unit.key.id unit.forms texts.key texts.forms;
-      previous = texts.previous;
+      strings = with_forms IsString unit.key.ctx unit.plural unit.key.id unit.forms texts.strings.key texts.strings.forms;
+      previous = texts.strings.previous;
       some = omega (arith, away.1);
       most = away.2;
       single = away.3;
@@ -396,9 +405,9 @@ header_key header h = by header.ctx header.id (first (is_none header.ctx) (is_em
     by None (b ∷ id) c i = cc
     by (Some ctx) id c i = cc
 
-pub exported_valid : (office : Office) (lang : Text) (header : Entry) → IsOffice office → HaveTexts office lang → maps.get office.headers lang ≡ Some header → IsValid (catalogue_of office lang header)
+exported_with : (office : Office) (lang : Text) (header : Entry) → IsOffice office → HaveTexts office lang → maps.get office.headers lang ≡ Some header → IsValid (catalogue_of office lang header)
 unfolding catalogue_of
-exported_valid office lang header rules texts there =
+exported_with office lang header rules texts there =
     let ruled = rules.ruled lang header there in
     let counted = rule_counted office lang header there ruled.2 in
     let made = with_its_unit office lang in
@@ -436,3 +445,21 @@ exported_valid office lang header rules texts there =
         let value : Some unit ≡ Some current.0 = sym at ∙ ap (λ k. maps.get office.units (lang, k)) keys ∙ current.1 in
         let one : unit ≡ current.0 = cc in
         clash unit.obsolete (ap (λ (u : Unit). u.obsolete) one ∙ current.2) obsolete
+
+-- what a language has, of what each row has
+have_texts : (office : Office) (lang : Text) → IsOffice office → AllByRecursion (λ (e : Place × Unit). HasStrings e.1) (maps.entries office.units) → HaveTexts office lang
+have_texts office lang rules strings key unit there =
+    let kept = found_in (maps.entries office.units) strings (lang, key) unit (sym (maps.get-entries office.units (lang, key)) ∙ there) in
+    record { comment = all_from (λ line. IsUtf8 line) (λ line. IsTrue (is_comment_text line)) IsCommentLine (λ line u h. (u, h)) unit.comment kept.comment (rules.each (lang, key) unit there).commented; strings = kept }
+  where
+    found_in : (es : List (Place × Unit)) → AllByRecursion (λ (e : Place × Unit). HasStrings e.1) es → (place : Place) (unit : Unit) → maps.find place_cmp place es ≡ Some unit → HasStrings unit
+    found_in [] h place unit e = cc
+    found_in (e ∷ es) h place unit is = by (eq_by_cmp place_cmp place e.0) is (found_in es h.1 place unit)
+      where
+        by : (t : Bool) → cond t (Some e.1) (maps.find place_cmp place es) ≡ Some unit → (maps.find place_cmp place es ≡ Some unit → HasStrings unit) → HasStrings unit
+        by true is rest = let same : e.1 ≡ unit = cc in subst HasStrings same h.0
+        by false is rest = rest is
+
+pub exported_valid : (office : Office) (lang : Text) (header : Entry) → IsOffice office → AllByRecursion (λ (e : Place × Unit). HasStrings e.1) (maps.entries office.units)
+    → maps.get office.headers lang ≡ Some header → IsValid (catalogue_of office lang header)
+exported_valid office lang header rules strings there = exported_with office lang header rules (have_texts office lang rules strings) there

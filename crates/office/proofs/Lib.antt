@@ -1,6 +1,7 @@
 pub mod Compared
 pub mod Views
 pub mod Places
+pub mod FoundLemmas
 pub mod Meanings
 pub mod Demo
 pub mod Once
@@ -10,11 +11,15 @@ pub mod Apart
 pub mod Swaps
 pub mod Told
 pub mod Replaced
+pub mod Numbers
+pub mod UnitRules
+pub mod Flat
 pub mod KeptRules
 pub mod StartLemmas
 pub mod Running
 pub mod DemoRequests
 pub mod Rows
+pub mod ActRows
 pub mod ExportRows
 pub mod Sendings
 pub mod Catalogues

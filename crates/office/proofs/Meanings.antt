@@ -14,9 +14,7 @@ use Rattle.units.specs.declared.unit.Unit.{Unit}
 use Rattle.units.specs.declared.unit.Key.{Key}
 use Rattle.units.specs.declared.unit.UnitView.{UnitView}
 use Rattle.units.proofs.Orders.{text_total, place_total, text_IsAntisymmetric, place_IsAntisymmetric}
-use Rattle.units.specs.Rules.{rule_at, rule_in, by_result}
 use Rattle.plural_expr.specs.Values.{Rule}
-use Rattle.plural_expr.specs.Trees as trees
 use Rattle.request_book.specs.Book.{row_of, with_record}
 use Rattle.office.specs.declared.found.Found.{Found}
 use Rattle.office.specs.Found.{found_of}
@@ -28,6 +26,7 @@ use Rattle.office.specs.declared.tables.Kept.{Kept}
 use Rattle.office.specs.declared.tables.Language.{Language}
 use Rattle.office.specs.Tables.{meaning, place_of, recorded_of}
 use Rattle.office.proofs.Views.{get-viewed, insert-viewed}
+use Rattle.office.proofs.FoundLemmas as lemmas
 
 map_self : {X : Type 0} (o : Option X) → option_map (λ x. x) o ≡ o
 map_self None = refl
@@ -67,25 +66,14 @@ pub units-put : (t : Tables) (units : BTreeMap Place Unit) (place : Place) (unit
     → (meaning (record t { units = units })).office ≡ with_unit (meaning t).office (place_of place) unit
 units-put t units place unit e i = record (meaning t).office { units = insert-viewed place_cmp place_of (λ unit. unit) place_total place_IsAntisymmetric t.units units place unit e i }
 
--- the rule of a language that is there
-rule_there : (t : Tables) (lang : Text) (language : Language) → Some language ≡ get_by (λ k. text_cmp lang (string_bytes k)) t.languages → rule_at (meaning t).office lang ≡ language.rule
-unfolding rule_at
-rule_there t lang language e =
-    ap (λ header. by_result (λ fault. record { count = 1; tree = trees.number 0 }) (λ rule. rule) (rule_in header)) (header_at t lang ∙ sym (ap (option_map (λ l. l.header)) e))
-    ∙ ap (by_result (λ fault. record { count = 1; tree = trees.number 0 }) (λ rule. rule)) language.ruled
-
+-- what is found where the language is there, and where it isn't
 pub found_there : (t : Tables) (lang : Text) (key : Key) (name : Text) (language : Language) → Some language ≡ get_by (λ k. text_cmp lang (string_bytes k)) t.languages
     → (rule : Rule) (role : Role) (view : Option UnitView) → rule ≡ language.rule → role ≡ role_of (meaning t).office name → view ≡ view_of (meaning t).office (lang, key)
     → ◌≡◌ {A = Option Found} (Some (record { rule = rule; policy = t.policy; role = role; view = view })) (found_of (meaning t).office lang key name)
-found_there t lang key name language e rule role view rule_is role_is view_is =
-    (λ i. Some (record { rule = (rule_is ∙ sym (rule_there t lang language e)) i; policy = t.policy; role = role_is i; view = view_is i }))
-    ∙ ap (option_map (λ header. record { rule = rule_at (meaning t).office lang; policy = t.policy; role = role_of (meaning t).office name; view = view_of (meaning t).office (lang, key) }))
-    (ap (option_map (λ l. l.header)) e ∙ sym (header_at t lang))
+found_there t lang key name language e = lemmas.found_there (meaning t).office lang key name language (ap (option_map (λ l. l.header)) e ∙ sym (header_at t lang))
 
 pub nothing_found : (t : Tables) (lang : Text) (key : Key) (name : Text) → None ≡ get_by (λ k. text_cmp lang (string_bytes k)) t.languages → None ≡ found_of (meaning t).office lang key name
-nothing_found t lang key name e =
-    ap (option_map (λ header. record { rule = rule_at (meaning t).office lang; policy = t.policy; role = role_of (meaning t).office name; view = view_of (meaning t).office (lang, key) }))
-    (ap (option_map (λ l. l.header)) e ∙ sym (header_at t lang))
+nothing_found t lang key name e = lemmas.nothing_found (meaning t).office lang key name (ap (option_map (λ l. l.header)) e ∙ sym (header_at t lang))
 
 -- both put in
 pub both-put : (t : Tables) (units : BTreeMap Place Unit) (records : BTreeMap Text Kept) (place : Place) (unit : Unit) (kept : Kept) (row : Record)

@@ -6,6 +6,7 @@ use Rattle.std.proofs.lemmas.List.Elements.{All-append}
 use Rattle.request_book.specs.declared.act.Request.{Request}
 use Rattle.request_book.specs.Replies.{Reply}
 use Rattle.request_book.specs.Book.{Meaning}
+use Rattle.office.specs.Starts.{IsStart}
 use Rattle.office.specs.Deliveries.{left_by, answers_of, told, kept, lost_marks, is_lost}
 use Rattle.office.proofs.Once.{joined}
 
@@ -62,6 +63,11 @@ module _ {E : Type 0} where
     left = lost ∙ (ran.left ∙ sym (ap (left_by m) (kept-err xs rs x e len)));
     answers = told-err rs e ∙ (ran.answers ∙ sym (ap (answers_of m) (kept-err xs rs x e len)));
   }
+
+-- a delivery, lost or not, keeps the rules where it does so if it isn't lost
+pub still_start : {T F : Type 0} (r : Result T F) (old new : Meaning) → OnOk r (IsStart old → IsStart new) → OnErr r (new ≡ old) → IsStart old → IsStart new
+still_start (Ok t) old new kept same start = kept start
+still_start (Err f) old new kept same start = subst IsStart (sym same) start
 
 -- a push that succeeds
 pub pushed : {X T F : Type 0} (r : Result T F) (new old : List X) (x : X) → IsOk r → new ≡ cond (is_ok r) (old ++ x ∷ []) old → new ≡ old ++ x ∷ []

@@ -179,6 +179,7 @@ hello_unit rule = record {
   named = λ _. refl;
   previous = λ _. refl;
   revised = (omega arith, omega arith);
+  commented = tt;
   suggested = omega arith;
   voted = All-nil _;
 }

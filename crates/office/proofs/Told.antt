@@ -60,7 +60,8 @@ nothing_found (Some r) f h e = cc
 nothing_found None (Some y) h e = cc
 nothing_found None None h e = refl
 
-fresh_number : (m : Meaning) (ys : List Request) (x : Request) → is_known m.book ys x ≡ false → maps.get (left_by m ys).book x.number ≡ None
+-- a request with a number that isn't known finds no record
+pub fresh_number : (m : Meaning) (ys : List Request) (x : Request) → is_known m.book ys x ≡ false → maps.get (left_by m ys).book x.number ≡ None
 fresh_number m ys x e =
     has_firsts m ys x.number ∙ nothing_found (maps.get m.book x.number) (first_with x.number ys) (record_of m)
     (sym (is_known-is m ys x (maps.get m.book x.number) (first_with x.number ys) refl refl) ∙ e)

@@ -11,7 +11,7 @@ ghost use Rattle.office.specs.Export.{export_text};
 ghost use Rattle.office.specs.Exports.{WasExported, WasCut};
 ghost use Rattle.office.specs.Promises.{IsLeftInAnyOrder, ExportsTheSame};
 ghost use Rattle.units.specs.Offices.{IsOffice};
-ghost use Rattle.office.specs.Spelled.{HaveTexts, TookCatalogue};
+ghost use Rattle.office.specs.Spelled.{TookCatalogue};
 ghost use Rattle.office.specs.declared.lost.Lost.TheVariants.{Memory as Refused};
 
 use crate::export::{ExportReceipt, export};
@@ -194,7 +194,7 @@ impl Desk {
         ensures same { meaning_of self.new ≡ meaning_of self.old }
         // The text spells the language's catalogue and no other.
         ensures spelled { OnOk result
-            (IsOffice (meaning_of self.old).office → HaveTexts (meaning_of self.old).office lang.now →
+            (IsOffice (meaning_of self.old).office →
             TookCatalogue (meaning_of self.old).office lang.now (W.taken w.old) (W.taken w.new)) }
         // Offices that alike lists lead to export equal bytes.
         ensures commuting { OnOk result

@@ -1,12 +1,15 @@
 //! A language's text, entry by entry.
 
-ghost use Rattle.std.specs.Prelude.{◌≡◌, IfOk, IfErr, flat_map};
+ghost use Rattle.std.specs.Prelude.{◌≡◌, IfOk, IfErr, OnOk, flat_map};
+ghost use Rattle.std.specs.List.{AllByRecursion};
 ghost use Rattle.std.specs.BTreeMap.{IsOrdered};
 ghost use Rattle.units.specs.Office.{place_cmp};
 ghost use Rattle.office.specs.Tables.{meaning, place_of};
 ghost use Rattle.office.specs.Export.{export_text};
 ghost use Rattle.office.specs.Pieces.{behind, with_its_unit, is_put_away, unit_piece};
 ghost use Rattle.office.specs.Exports.{Exports, WasExported, WasCut};
+ghost use Rattle.units.specs.Offices.{IsOffice};
+ghost use Rattle.office.specs.Spelled.{HasStrings, TookCatalogue};
 
 use crate::entries::{obsolete_entry, translated};
 use crate::faults::ExportFault;
@@ -14,6 +17,7 @@ use crate::place::Place;
 use crate::sent::{Sent, put};
 use crate::tables::Tables;
 use crate::template::key_of;
+use crate::texts::has_strings;
 use po_read::{Duplicate, Entry};
 use sha2::Digest;
 use std::alloc::{AllocError, Global};
@@ -39,6 +43,9 @@ pub(crate) fn export<W: ByteSink>(
     ensures text { IfOk result (WasExported (export_text (meaning tables.now).office lang.now) (W.taken w.old) (W.taken w.new)) }
     ensures err { IfErr result
         (WasCut (export_text (meaning tables.now).office lang.now) (W.taken w.old) (W.taken w.new) (W.failed w.old) (W.failed w.new)) }
+    ensures spelled { OnOk result
+        (IsOffice (meaning tables.now).office →
+        TookCatalogue (meaning tables.now).office lang.now (W.taken w.old) (W.taken w.new)) }
 {
     let Some(language) = tables.languages.get(lang.as_str()) else {
         return Err(ExportFault::NoLanguage);
@@ -122,6 +129,7 @@ fn put_away<W: ByteSink>(
     ensures sent { Exports W.taken W.failed w.old w.new sent.old sent.new
         (flat_map (λ e. unit_piece lang.now e.0.lang e.1) tables.now.units.entries) result }
     ensures ordered { IsOrdered (λ x y. place_cmp (place_of x) (place_of y)) tables.now.units }
+    ensures strings { OnOk result (AllByRecursion (λ e. HasStrings e.1) tables.now.units.entries) }
 {
     for (place, unit) in tables.units.iter() {
         put_unit(alloc, lang, w, sent, place, unit)?;
@@ -137,8 +145,10 @@ fn put_unit<W: ByteSink>(
     place: &Place,
     unit: &Unit,
 ) -> Result<(), ExportFault>
-    ensures { Exports W.taken W.failed w.old w.new sent.old sent.new (unit_piece lang.now place.now.lang unit.now) result }
+    ensures sent { Exports W.taken W.failed w.old w.new sent.old sent.new (unit_piece lang.now place.now.lang unit.now) result }
+    ensures strings { HasStrings unit.now }
 {
+    has_strings(unit);
     if !is_put_away(lang, place, unit) {
         return Ok(());
     }

@@ -15,6 +15,7 @@ mod replies;
 mod sent;
 mod tables;
 mod template;
+mod texts;
 
 pub use desk::Desk;
 pub use export::ExportReceipt;

@@ -391,6 +391,7 @@ impl PlainOffice {
     /// Delivers one request.
     fn deliver(&mut self, alloc: Global, request: &Request) -> Result<Reply, Memory>
         ensures office { OnOk result (plain_meaning self.new ≡ left_by (plain_meaning self.old) (request.now ∷ [])) }
+        ensures rules { OnOk result (IsStart (plain_meaning self.old) → IsStart (plain_meaning self.new)) }
         ensures reply { IfOk result (λ reply. reply ∷ [] ≡ answers_of (plain_meaning self.old) (request.now ∷ [])) }
     {
         let content = canon(alloc, request)?;
@@ -408,6 +409,7 @@ impl PlainOffice {
         replies: &mut Vec<Reply>,
     ) -> Result<(), Memory>
         ensures office { OnOk result (plain_meaning self.new ≡ left_by (plain_meaning self.old) (kept_of (delivery.now ∷ []))) }
+        ensures rules { OnOk result (IsStart (plain_meaning self.old) → IsStart (plain_meaning self.new)) }
         ensures replies { OnOk result
             (replies.new.items ≡ replies.old.items ++ answers_of (plain_meaning self.old) (kept_of (delivery.now ∷ []))) }
     {

@@ -1,5 +1,6 @@
 //! Why a text spells no catalogue.
 
+use std::alloc::{AllocError, AllocFailed};
 use thiserror::Error;
 
 /// What is wrong with a text.
@@ -57,6 +58,28 @@ impl FaultKind {
             FaultKind::Limit => 9,
             FaultKind::Memory => 10,
         }
+    }
+}
+
+impl From<AllocError> for FaultKind {
+    ghost use Rattle.std.specs.Prelude.{◌≡◌};
+    ghost use Rattle.po_lex.specs.declared.fault.FaultKind.TheVariants.{Memory};
+
+    ghost from_gives = { λ _ kind. kind ≡ Memory };
+
+    fn from(_refused: AllocError) -> FaultKind {
+        FaultKind::Memory
+    }
+}
+
+impl<T: Drop> From<AllocFailed<T>> for FaultKind {
+    ghost use Rattle.std.specs.Prelude.{◌≡◌};
+    ghost use Rattle.po_lex.specs.declared.fault.FaultKind.TheVariants.{Memory};
+
+    ghost from_gives = { λ _ kind. kind ≡ Memory };
+
+    fn from(_refused: AllocFailed<T>) -> FaultKind {
+        FaultKind::Memory
     }
 }
 

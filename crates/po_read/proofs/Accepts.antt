@@ -94,7 +94,7 @@ pub and_no : (a b : Bool) → (a && false && b) ≡ false
 and_no true b = refl
 and_no false b = refl
 
-goes_not : (ls : List Line) (line : Line) → has_form ls ≡ true → begins_entry line ≡ true → goes_on ls line ≡ false
+pub goes_not : (ls : List Line) (line : Line) → has_form ls ≡ true → begins_entry line ≡ true → goes_on ls line ≡ false
 goes_not ls blank f b = refl
 goes_not ls (translator text) f b = refl
 goes_not ls (extracted text) f b = refl

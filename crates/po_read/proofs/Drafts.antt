@@ -2,7 +2,6 @@
 use Rattle.std.proofs.Common.{◌≡◌, ℕ, ◌+◌, ◌≤◌, List, [], ◌∷◌, ◌++◌, Bool, true, false, not, length, refl, ◌∙◌, ap, Option, Some, None, suc, arith, ◌==◌}
 use Rattle.std.proofs.lemmas.Bool.Decides.{nat_tests}
 use Rattle.std.specs.List.{AllByRecursion}
-use Rattle.po_lex.specs.declared.line.Keyword.{Keyword}
 use Rattle.po_lex.specs.declared.line.Keyword.TheVariants.{Msgctxt, Msgid, MsgidPlural, Msgstr, MsgstrAt}
 use Rattle.po_lex.specs.declared.fault.FaultKind.TheVariants as kinds
 use Rattle.po_lex.specs.Lines.{Part, begins, continues}
@@ -10,38 +9,14 @@ use Rattle.po_read.specs.Entries.{Keyed, optional, numbered, previous_strings}
 use Rattle.po_read.specs.Texts.{Text}
 use Rattle.po_read.specs.declared.entry.Previous.{Previous}
 use Rattle.po_read.specs.Valid.{AllStrings}
+pub use Rattle.po_read.specs.Drafts.{Draft, nothing, context, named, counted, single, draft_strings, counted_last, draft_last, last_more, with_more, with_keyword, draft_with, IsPreviousPart}
 use Rattle.po_read.specs.Spells.{go_on, add_part}
 use Rattle.po_read.specs.Faults.{last_keyword, last_with, part_fault, previous_fault, numbered_fault, when}
-
-pub data Draft : Type 0 where
-  nothing : Draft
-  context : Text → Draft
-  named : Option Text → Text → Draft
-  counted : Option Text → Text → Text → List Text → Draft
-  single : Option Text → Text → Text → Draft
-
-abbrev pub draft_strings : Draft → List Keyed
-draft_strings nothing = []
-draft_strings (context ctx) = (Msgctxt, ctx) ∷ []
-draft_strings (named ctx id) = optional Msgctxt ctx ++ (Msgid, id) ∷ []
-draft_strings (counted ctx id plural forms) = optional Msgctxt ctx ++ ((Msgid, id) ∷ (MsgidPlural, plural) ∷ numbered 0 forms)
-draft_strings (single ctx id form) = optional Msgctxt ctx ++ ((Msgid, id) ∷ (Msgstr, form) ∷ [])
 
 abbrev pub draft_forms : Draft → List Text
 draft_forms (counted ctx id plural forms) = forms
 draft_forms (single ctx id form) = form ∷ []
 draft_forms _ = []
-
-abbrev pub counted_last : List Text → Keyword
-counted_last [] = MsgidPlural
-counted_last (form ∷ forms) = MsgstrAt (length forms)
-
-abbrev pub draft_last : Draft → Option Keyword
-draft_last nothing = None
-draft_last (context ctx) = Some Msgctxt
-draft_last (named ctx id) = Some Msgid
-draft_last (counted ctx id plural forms) = Some (counted_last forms)
-draft_last (single ctx id form) = Some Msgstr
 
 last_numbered : (n : ℕ) (form : Text) (forms : List Text) → last_keyword (numbered n (form ∷ forms)) ≡ Some (MsgstrAt (n + length forms))
 last_numbered n form [] = ap (λ k. Some (MsgstrAt k)) (let e : n ≡ n + 0 = omega arith in e)
@@ -60,31 +35,6 @@ draft_last_is (counted None id plural forms) = last_counted forms plural
 draft_last_is (counted (Some ctx) id plural forms) = last_counted forms plural
 draft_last_is (single None id form) = refl
 draft_last_is (single (Some ctx) id form) = refl
-
-abbrev pub last_more : List Text → Text → List Text
-last_more [] more = []
-last_more (form ∷ []) more = (form ++ more) ∷ []
-last_more (form ∷ other ∷ forms) more = form ∷ last_more (other ∷ forms) more
-
-abbrev pub with_more : Draft → Text → Draft
-with_more nothing more = nothing
-with_more (context ctx) more = context (ctx ++ more)
-with_more (named ctx id) more = named ctx (id ++ more)
-with_more (counted ctx id plural []) more = counted ctx id (plural ++ more) []
-with_more (counted ctx id plural (form ∷ forms)) more = counted ctx id plural (last_more (form ∷ forms) more)
-with_more (single ctx id form) more = single ctx id (form ++ more)
-
-abbrev pub with_keyword : Draft → Keyword → Text → Draft
-with_keyword nothing Msgid text = named None text
-with_keyword (context ctx) Msgid text = named (Some ctx) text
-with_keyword (named ctx id) MsgidPlural text = counted ctx id text []
-with_keyword (named ctx id) Msgstr text = single ctx id text
-with_keyword (counted ctx id plural forms) (MsgstrAt d) text = counted ctx id plural (forms ++ text ∷ [])
-with_keyword _ _ text = context text
-
-abbrev pub draft_with : Draft → Part → Draft
-draft_with d (begins keyword text) = with_keyword d keyword text
-draft_with d (continues text) = with_more d text
 
 numbered_more : (n : ℕ) (form : Text) (forms : List Text) (more : Text) → numbered n (last_more (form ∷ forms) more) ≡ go_on (numbered n (form ∷ forms)) more
 numbered_more n form [] more = refl
@@ -154,12 +104,6 @@ draft_step (counted (Some ctx) id plural forms) header (begins (MsgstrAt d) text
 draft_step (single ctx id form) header (begins (MsgstrAt d) text) h = cc
 
 -- ---- previous strings
-
--- no form
-abbrev pub IsPreviousPart : Part → Type 0
-IsPreviousPart (begins Msgstr text) = ⊥
-IsPreviousPart (begins (MsgstrAt d) text) = ⊥
-IsPreviousPart _ = Unit {0}
 
 abbrev three : Option Text → Option Text → Option Text → List Keyed
 three ctx id plural = optional Msgctxt ctx ++ (optional Msgid id ++ optional MsgidPlural plural)

@@ -12,17 +12,12 @@ use Rattle.po_read.specs.declared.entry.Entry.{Entry}
 use Rattle.po_read.specs.Valid.{IsValid}
 use Rattle.po_read.specs.Spells.{SpellsEntry, strings_of, Limits, is_header_key, besides_header}
 use Rattle.po_read.specs.Faults.{Lines, key_in, key_at, has_header_key, same_key, key_fault, part_fault, count_of}
+pub use Rattle.po_read.specs.Drafts.{draft_key}
 use Rattle.po_read.proofs.Drafts.{Draft, nothing, context, named, counted, single, draft_strings, draft_last, draft_with, AreShort}
 use Rattle.po_read.proofs.Partials.{Partial, strings_are, when_none, or_false, same_obsolete}
 use Rattle.po_read.proofs.Sound.{IsSoundLine}
 
 -- ---- keys
-
-abbrev pub draft_key : Draft → Key
-draft_key (named ctx id) = (ctx, id)
-draft_key (counted ctx id plural forms) = (ctx, id)
-draft_key (single ctx id form) = (ctx, id)
-draft_key _ = (None, [])
 
 pub draft_key_is : (d : Draft) → key_in (draft_strings d) ≡ draft_key d
 draft_key_is nothing = refl

@@ -1,38 +1,20 @@
 -- What the texts of a line keep: a string or a comment line of Unicode, a flag, a digit up to 7.
-use Rattle.std.proofs.Common.{◌≡◌, ◌≢◌, ℕ, ◌≤◌, List, [], ◌∷◌, ◌++◌, Bool, true, false, not, ◌&&◌, cond, map, drop, refl, sym, ◌∙◌, Option, Some, None, lit<, IsTrue}
+use Rattle.std.proofs.Common.{◌≡◌, ◌≢◌, ℕ, List, [], ◌∷◌, ◌++◌, Bool, true, false, not, ◌&&◌, cond, map, drop, refl, sym, ◌∙◌, Option, Some, None, lit<, IsTrue}
 use Rattle.std.specs.Prelude.{flat_map, filter}
 use Rattle.std.specs.List.{fold, filter_map, cons_option, list_all, AllByRecursion}
 use Rattle.std.proofs.lemmas.Str.{IsUtf8-append, IsUtf8-from_is_utf8}
 use Rattle.std.proofs.lemmas.Slice.Eq.{bytes_eq-Decides}
 use Rattle.std.proofs.lemmas.Bool.{false≢true}
 use Rattle.std.specs.Str.{bytes_eq, is_utf8, chars}
-use Rattle.po_lex.specs.declared.line.Keyword.{Keyword}
-use Rattle.po_lex.specs.declared.line.Keyword.TheVariants.{MsgstrAt}
 use Rattle.po_lex.specs.Lines.{Part, begins, continues, Line, blank, translator, extracted, reference, flags, previous, message}
 use Rattle.po_read.specs.Entries.{Keyed}
 use Rattle.po_read.specs.Texts.{Text}
 use Rattle.po_read.specs.Strings.{is_string_byte}
 use Rattle.po_read.specs.Valid.{IsString, IsCommentLine, IsFlag, AreFlags, AreDistinct, AllStrings, fuzzy}
 use Rattle.po_read.specs.Spells.{go_on, add_part, strings_of, translator_text, extracted_text, reference_text, flag_items, previous_part, has_text, add_once, flags_kept}
-use Rattle.po_read.proofs.Drafts.{IsPreviousPart, IfText, all_push}
+pub use Rattle.po_read.specs.Drafts.{IsDigitKey, IsSoundPart, IsSoundLine}
+use Rattle.po_read.proofs.Drafts.{IfText, all_push}
 use Rattle.po_read.proofs.Partials.{or_false}
-
-abbrev pub IsDigitKey : Keyword → Type 0
-IsDigitKey (MsgstrAt d) = d ≤ 7
-IsDigitKey _ = Unit {0}
-
-abbrev pub IsSoundPart : Part → Type 0
-IsSoundPart (begins keyword text) = IsDigitKey keyword × IsString text
-IsSoundPart (continues text) = IsString text
-
-abbrev pub IsSoundLine : Line → Type 0
-IsSoundLine blank = Unit {0}
-IsSoundLine (translator text) = IsCommentLine text
-IsSoundLine (extracted text) = IsCommentLine text
-IsSoundLine (reference text) = IsCommentLine text
-IsSoundLine (flags items) = AllByRecursion IsFlag items
-IsSoundLine (previous obsolete part) = IsPreviousPart part × IsSoundPart part
-IsSoundLine (message obsolete part) = IsSoundPart part
 
 -- ---- lists
 

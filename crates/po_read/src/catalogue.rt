@@ -24,6 +24,16 @@ impl Model for Catalogue {
 }
 
 impl Catalogue {
+    /// These entries as a catalogue.
+    pub(crate) fn new(entries: Vec<Entry>) -> Catalogue
+        requires { IsValid entries.items }
+        ensures { result ≡ entries.items }
+    {
+        Catalogue {
+            entries: Items::from_vec(entries),
+        }
+    }
+
     /// The entries in order.
     pub fn entries(&self) -> &[Entry]
         ensures value { result.now ≡ self.now }

@@ -1,8 +1,9 @@
 //! The fields of a header's string.
 
-ghost use Rattle.std.specs.Prelude.{◌≡◌};
+ghost use Rattle.std.specs.Prelude.{◌≡◌, codes};
 ghost use Rattle.std.specs.Option.{option_copied};
-ghost use Rattle.po_read.specs.Header.{value_in, field_value};
+ghost use Rattle.po_read.specs.Header.{value_in, field_value, all_of, after_word, up_to_semicolon, is_charset, has_charset};
+ghost use Rattle.po_lex.specs.Reading.{trim};
 
 use po_lex::{first_line, trim};
 
@@ -34,4 +35,39 @@ fn value_in<'a>(line: &'a str, name: &str) -> Option<&'a str>
         }
         None => None,
     }
+}
+
+/// Whether the charset of a header's `Content-Type`, if it names one, is UTF-8 or still to be filled in.
+pub(crate) fn has_charset(header: &str) -> bool
+    ensures { result ≡ has_charset header.now }
+{
+    match field_value(header, "Content-Type") {
+        Some(value) => names_charset(value),
+        None => true,
+    }
+}
+
+/// Whether the charset that a `Content-Type` names, if it does, is UTF-8 or still to be filled in.
+fn names_charset(value: &str) -> bool
+    ensures { result ≡ all_of (λ rest. is_charset (trim (up_to_semicolon rest))) (after_word (codes "charset=") value.now) }
+{
+    match value.split_once("charset=") {
+        Some((_, rest)) => is_charset(trim(up_to_semicolon(rest))),
+        None => true,
+    }
+}
+
+fn up_to_semicolon(text: &str) -> &str
+    ensures { result.now ≡ up_to_semicolon text.now }
+{
+    match text.split_once(';') {
+        Some((front, _)) => front,
+        None => text,
+    }
+}
+
+fn is_charset(name: &str) -> bool
+    ensures { result ≡ is_charset name.now }
+{
+    name.eq_ignore_ascii_case("UTF-8") || name == "CHARSET"
 }

@@ -4,11 +4,20 @@
 mod catalogue;
 mod duplicate;
 mod entry;
+mod flags;
 mod header;
 mod items;
+mod key;
 mod laws;
+mod message;
+mod pieces;
+mod reading;
 mod string;
+#[cfg(test)]
+mod tests;
 mod text;
+mod unfinished;
+mod was;
 
 pub use catalogue::Catalogue;
 pub use duplicate::Duplicate;
@@ -16,5 +25,6 @@ pub use entry::{Entry, Previous};
 pub use header::field_value;
 pub use items::Items;
 pub use laws::{least_fault, one_catalogue, one_fault_or_catalogue};
+pub use reading::read;
 pub use string::{Forms, PoString};
 pub use text::Text;

@@ -1,12 +1,15 @@
 //! The strings of a catalogue, and the forms of an entry. A value exists only within its limits.
-ghost use Rattle.std.specs.Prelude.{◌≡◌, List, ℕ, IfOk, string_bytes, Some, None, true, nat_eq, if◌then◌else◌};
+ghost use Rattle.std.specs.Prelude.{◌≡◌, ◌<◌, ◌≤◌, ◌+◌, ◌++◌, ◌∷◌, [], length, List, ℕ, IfOk, string_bytes, Some, None, true, nat_eq, if◌then◌else◌};
 ghost use Rattle.std.specs.List.{list_all};
 ghost use Rattle.std.specs.Cmp.{partial_equiv_from_equiv};
 ghost use Rattle.std.specs.Cmp.Lexicographic.{pointwise, nat_list_eq_equiv};
+ghost use Rattle.po_lex.specs.Escapes.{unescaped};
 ghost use Rattle.po_read.specs.Strings.{is_string_byte, is_string, is_forms};
+ghost use Rattle.po_read.specs.Texts.{Text, last_text, last_more};
 
 use crate::duplicate::Duplicate;
 use crate::items::Items;
+use crate::pieces::push_unescaped;
 use std::alloc::{AllocError, Global};
 use std::marker::Model;
 
@@ -36,6 +39,28 @@ impl PoString {
         Ok(Some(PoString {
             inner: String::from_str(alloc, text)?,
         }))
+    }
+
+    /// The string that a piece stands for.
+    pub(crate) fn from_piece(alloc: Global, raw: &str) -> Result<PoString, AllocError>
+        requires short { length (unescaped raw.now) ≤ 65536 }
+        requires bytes { list_all is_string_byte (unescaped raw.now) ≡ true }
+        ensures { IfOk result (λ string. string ≡ unescaped raw.now) }
+    {
+        let mut inner = String::new(alloc);
+        push_unescaped(&mut inner, raw)?;
+        Ok(PoString { inner })
+    }
+
+    /// The string with that of a piece at its end.
+    pub(crate) fn with_piece(self, raw: &str) -> Result<PoString, AllocError>
+        requires short { length self + length (unescaped raw.now) ≤ 65536 }
+        requires bytes { list_all is_string_byte (unescaped raw.now) ≡ true }
+        ensures { IfOk result (λ string. string ≡ self ++ unescaped raw.now) }
+    {
+        let PoString { mut inner } = self;
+        push_unescaped(&mut inner, raw)?;
+        Ok(PoString { inner })
     }
 
     /// The string as a slice.
@@ -96,6 +121,51 @@ impl Forms {
         } else {
             None
         }
+    }
+
+    /// This string as the only form.
+    pub(crate) fn one(alloc: Global, form: PoString) -> Result<Forms, AllocError>
+        ensures { IfOk result (λ forms. forms ≡ form ∷ []) }
+    {
+        let _ = form.as_str();
+        let mut strings = Items::new(alloc);
+        strings.push(form)?;
+        Ok(Forms { strings })
+    }
+
+    /// The forms with one more.
+    pub(crate) fn with(self, form: PoString) -> Result<Forms, AllocError>
+        requires { length self < 8 }
+        ensures { IfOk result (λ forms. forms ≡ self ++ form ∷ []) }
+    {
+        let _ = form.as_str();
+        let Forms { mut strings } = self;
+        strings.push(form)?;
+        Ok(Forms { strings })
+    }
+
+    /// The last form.
+    pub(crate) fn last(&self) -> &PoString
+        ensures { (first : Text) → result.now ≡ last_text first self.now }
+    {
+        let strings = self.strings.as_slice();
+        &strings[strings.len() - 1]
+    }
+
+    /// The forms, the last with the string of a piece at its end.
+    pub(crate) fn with_piece(self, raw: &str) -> Result<Forms, AllocError>
+        requires short { (first : Text) × (length (last_text first self) + length (unescaped raw.now) ≤ 65536) }
+        requires bytes { list_all is_string_byte (unescaped raw.now) ≡ true }
+        ensures { IfOk result (λ forms. forms ≡ last_more self (unescaped raw.now)) }
+    {
+        let Forms { strings } = self;
+        let mut strings = strings.into_vec();
+        if let Some(form) = strings.pop() {
+            strings.push(form.with_piece(raw)?)?;
+        }
+        Ok(Forms {
+            strings: Items::from_vec(strings),
+        })
     }
 
     /// The forms in order, form 0 first.

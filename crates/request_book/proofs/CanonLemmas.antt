@@ -1,5 +1,5 @@
 -- A written act reads back, so no two contents have one text.
-use Rattle.std.proofs.Common.{◌≡◌, ℕ, suc, ◌<◌, ◌≤◌, ◌^◌, max, List, [], ◌∷◌, ◌++◌, append-nil, true, false, Option, Some, None, option_and_then, option_map, MatchOption, refl, sym, ap, ◌∙◌, arith}
+use Rattle.std.proofs.Common.{◌≡◌, ℕ, suc, ◌<◌, ◌≤◌, ◌^◌, lit<, max, List, [], ◌∷◌, ◌++◌, append-nil, true, false, Option, Some, None, option_and_then, option_map, MatchOption, negsuc, refl, sym, ap, ◌∙◌, arith}
 use Rattle.std.specs.Prelude.{⊤}
 use Rattle.std.proofs.lemmas.Bool.Decides.{nat_tests}
 use Rattle.json.specs.Json as json
@@ -7,18 +7,20 @@ use Rattle.json.specs.Tree as tree
 use Rattle.json.specs.Lex.{tokens}
 use Rattle.json.proofs.Printed.Tokens.{tokens-print}
 use Rattle.json.proofs.Printed.Trees.{value-json_tokens, ArePrintable-json_tokens}
-use Rattle.json.proofs.Printed.Decimals.{IsNumber-decimal}
+use Rattle.json.proofs.Printed.Decimals.{IsNumber-decimal, IsNumber-signed_decimal}
 use Rattle.serde_json.specs.Data.{Members, no_members, Data, object, string}
 use Rattle.serde_json.specs.Read.{read, of_json, of_items, of_members}
 use Rattle.serde_json.specs.Written.{outline, items_outline, members_outline, has_float, items_have_float, members_have_float, compact_text}
 use Rattle.serde_json.proofs.Texts.{print-outline}
-use Rattle.serde_json.proofs.Numbers.{number_of-decimal}
+use Rattle.serde_json.proofs.Numbers.{number_of-decimal, number_of-negative}
 use Rattle.units.specs.Limits.{is_name, is_revision}
+use Rattle.units.specs.declared.votes.VoteValue.{VoteValue}
+use Rattle.units.specs.declared.votes.VoteValue.TheVariants.{Against, For}
 use Rattle.request_book.specs.declared.act.Act.{Act}
 use Rattle.request_book.specs.declared.act.Act.TheVariants.{OnUnit}
 use Rattle.request_book.specs.declared.parts.Parts.{Parts}
-use Rattle.request_book.specs.Words.{natural, string_items, strings, number_text, Field, with_member, members}
-use Rattle.request_book.specs.Acts.{fields_of, content_data, canon_text, IsAct}
+use Rattle.request_book.specs.Words.{natural, string_items, strings, number_text, number_data, Field, with_member, members}
+use Rattle.request_book.specs.Acts.{fields_of, vote_data, content_data, canon_text, IsAct}
 use Rattle.request_book.specs.Fields.{parts_of}
 use Rattle.request_book.specs.Puts.{put_optional, put_fields}
 use Rattle.request_book.proofs.Objects.{parts_complete}
@@ -34,6 +36,9 @@ pub record IsPlain (d : Data) : Type 0 where
 
 text_plain : (s : List ℕ) → IsPlain (string s)
 text_plain s = record { numbers = tt; shallow = omega arith; back = refl; flat = refl }
+
+number_plain : (u : List ℕ) → IsPlain (number_data u)
+number_plain u = text_plain (number_text u)
 
 natural_plain : (n : ℕ) → n < 2 ^ 64 → IsPlain (natural n)
 natural_plain n fits = record { numbers = IsNumber-decimal n fits; shallow = omega arith; back = rw (number_of-decimal n fits) refl; flat = refl }
@@ -56,6 +61,11 @@ strings_floats (t ∷ ts) = strings_floats ts
 
 strings_plain : (ts : List (List ℕ)) → IsPlain (strings ts)
 strings_plain ts = record { numbers = strings_numbers ts; shallow = rw (strings_depth ts) (omega arith); back = rw (strings_back ts) refl; flat = strings_floats ts }
+
+vote_plain : (value : Option VoteValue) → IsPlain (vote_data value)
+vote_plain None = natural_plain 0 (lit< tt)
+vote_plain (Some For) = natural_plain 1 (lit< tt)
+vote_plain (Some Against) = record { numbers = IsNumber-signed_decimal (negsuc 0) (lit< tt); shallow = omega arith; back = rw (number_of-negative 0 (lit< tt)) refl; flat = refl }
 
 abbrev pub MaybePlain : Option Data → Type 0
 MaybePlain o = MatchOption o ⊤ IsPlain
@@ -142,8 +152,14 @@ fields_plain caller n (OnUnit lang key act) fit = (
           (
             text_plain _,
             (
-              optional_plain (λ u. string (number_text u)) (λ u. text_plain (number_text u)) n,
-              (natural_plain act.seen (revision_fits act.seen fit.3), tt),
+              optional_plain strings strings_plain _,
+              (
+                optional_plain number_data number_plain n,
+                (
+                  natural_plain act.seen (revision_fits act.seen fit.3),
+                  (optional_plain number_data number_plain _, (optional_plain vote_data vote_plain _, tt)),
+                ),
+              ),
             ),
           ),
         ),

@@ -1,20 +1,19 @@
 -- From the parts of a text to the request or act that it is, and back.
-use Rattle.std.proofs.Common.{◌≡◌, ◌≢◌, ℕ, List, Option, Some, None, MatchOption, sym, ap, ◌∙◌, subst}
-use Rattle.std.specs.Prelude.{⊤}
+use Rattle.std.proofs.Common.{◌≡◌, ◌≢◌, ℕ, List, Option, Some, None, sym, ap, ◌∙◌, subst}
 use Rattle.serde_json.specs.Data.{object, Members}
 use Rattle.serde_json.specs.Read.{read}
 use Rattle.request_book.specs.declared.act.Act.{Act}
 use Rattle.request_book.specs.declared.act.Request.{Request}
 use Rattle.request_book.specs.declared.parts.Parts.{Parts}
-use Rattle.request_book.specs.Acts.{fields_of, IsNumber, IsRequestText}
+use Rattle.request_book.specs.Acts.{fields_of, IsRequestText}
 use Rattle.request_book.specs.Words.{members}
 use Rattle.request_book.specs.Fields.{parts_of, IsPartsText, to_request}
 use Rattle.request_book.proofs.Objects.{parts_sound, parts_complete}
 
-pub parts_of_object : (text : List ℕ) (ms : Members) (p : Parts) → read text ≡ Some (object ms) → parts_of ms ≡ Some p → MatchOption p.number ⊤ IsNumber → IsPartsText text p
-parts_of_object text ms p is e number =
+pub parts_of_object : (text : List ℕ) (ms : Members) (p : Parts) → read text ≡ Some (object ms) → parts_of ms ≡ Some p → IsPartsText text p
+parts_of_object text ms p is e =
     let h = parts_sound ms p e in
-    (is ∙ ap (λ s. Some (object s)) h.members, h.caller, number, h.fit)
+    (is ∙ ap (λ s. Some (object s)) h.members, h.caller, h.number, h.fit)
 
 object_is : (ms ns : Members) → object ms ≡ object ns → ms ≡ ns
 object_is ms ns e = cc

@@ -9,7 +9,7 @@ use Rattle.std.specs.Cmp.Lexicographic.{slice_cmp}
 use Rattle.serde_json.specs.Data.{Data, Members, no_members, member, put}
 use Rattle.request_book.specs.Words.{Field, given, optional, members}
 use Rattle.request_book.specs.Puts.{put_optional, put_fields}
-use Rattle.request_book.proofs.Readers.{both}
+use Rattle.request_book.proofs.Parsed.{both}
 
 -- ---- keys in order
 
@@ -99,7 +99,23 @@ put_fields-members fs rising = fields_behind fs rising no_members (none_before f
 
 -- ---- acts
 
-pub puts_unit : (act id lang seen : Data) (caller ctx forms n : Option Data)
-    → put (codes "seen") seen (put_optional (codes "number") n (put (codes "lang") lang (put (codes "id") id (put_optional (codes "forms") forms (put_optional (codes "ctx") ctx (put_optional (codes "caller") caller (put (codes "act") act no_members)))))))
-    ≡ members (given (codes "act") act ∷ optional (codes "caller") caller ∷ optional (codes "ctx") ctx ∷ optional (codes "forms") forms ∷ given (codes "id") id ∷ given (codes "lang") lang ∷ optional (codes "number") n ∷ given (codes "seen") seen ∷ [])
-puts_unit act id lang seen caller ctx forms n = put_fields-members (given (codes "act") act ∷ optional (codes "caller") caller ∷ optional (codes "ctx") ctx ∷ optional (codes "forms") forms ∷ given (codes "id") id ∷ given (codes "lang") lang ∷ optional (codes "number") n ∷ given (codes "seen") seen ∷ []) refl
+abbrev laid : (act id lang seen : Data) (caller ctx forms lines n suggestion vote : Option Data) → List Field
+laid act id lang seen caller ctx forms lines n suggestion vote =
+    given (codes "act") act
+    ∷ optional (codes "caller") caller
+    ∷ optional (codes "ctx") ctx
+    ∷ optional (codes "forms") forms
+    ∷ given (codes "id") id
+    ∷ given (codes "lang") lang
+    ∷ optional (codes "lines") lines
+    ∷ optional (codes "number") n
+    ∷ given (codes "seen") seen
+    ∷ optional (codes "suggestion") suggestion
+    ∷ optional (codes "value") vote
+    ∷ []
+
+pub puts_unit : (act id lang seen : Data) (caller ctx forms lines n suggestion vote : Option Data)
+    → put_optional (codes "value") vote (put_optional (codes "suggestion") suggestion (put (codes "seen") seen (put_optional (codes "number") n (put_optional (codes "lines") lines (put (codes "lang") lang (put (codes "id") id
+    (put_optional (codes "forms") forms (put_optional (codes "ctx") ctx (put_optional (codes "caller") caller (put (codes "act") act no_members))))))))))
+    ≡ members (laid act id lang seen caller ctx forms lines n suggestion vote)
+puts_unit act id lang seen caller ctx forms lines n suggestion vote = put_fields-members (laid act id lang seen caller ctx forms lines n suggestion vote) refl

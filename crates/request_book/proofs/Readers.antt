@@ -1,18 +1,24 @@
 -- Each reader of a field answers exactly what the field was written from.
-use Rattle.std.proofs.Common.{◌≡◌, ℕ, ◌&&◌, List, [], ◌∷◌, Bool, true, false, Option, Some, None, option_map, option_and_then, true≢false, inl, refl, sym, ap, ap₂, ◌∙◌, subst}
+use Rattle.std.proofs.Common.{◌≡◌, ℕ, ◌==◌, List, [], ◌∷◌, Bool, true, false, Option, Some, None, option_map, option_and_then, ℤ, negsuc, true≢false, inl, refl, sym, ap, ap₂, ◌∙◌, subst}
 use Rattle.std.specs.Prelude.{⊤, if◌then◌else◌}
+use Rattle.std.specs.Ordering.{int_eq}
+use Rattle.std.proofs.lemmas.Bool.{eqb-true}
+use Rattle.std.proofs.lemmas.Bool.Decides.{Decides-int_eq}
 use Rattle.std.specs.List.{list_all}
 use Rattle.std.specs.Str.{bytes_eq}
 use Rattle.std.proofs.lemmas.Slice.Eq.{bytes_eq-Decides}
 use Rattle.serde_json.specs.Data.{Num, unsigned, negative, float, Data, null, boolean, number, string, array, object, Items, no_items, item, Members, no_members, member}
 use Rattle.serde_json.specs.Find.{as_str, as_number, as_array, as_u64}
 use Rattle.po_read.specs.Strings.{is_string, is_forms}
-use Rattle.units.specs.Limits.{is_revision}
+use Rattle.units.specs.Limits.{is_revision, is_comment_lines}
+use Rattle.units.specs.declared.votes.VoteValue.{VoteValue}
+use Rattle.units.specs.declared.votes.VoteValue.TheVariants.{Against, For}
 use Rattle.uuid.specs.Text.{parsed, lower}
 use Rattle.uuid.proofs.RoundTrips.{parses_hyphenated}
-use Rattle.request_book.specs.Acts.{IsNumber}
-use Rattle.request_book.specs.Words.{natural, with_member, string_items, strings, number_text}
-use Rattle.request_book.specs.Fields.{only, text_of, revision_of, texts_of, forms_of, take, take_optional, number_of}
+use Rattle.request_book.specs.Acts.{IsNumber, vote_data}
+use Rattle.request_book.specs.Words.{natural, with_member, string_items, strings, number_text, number_data}
+use Rattle.request_book.specs.Fields.{only, text_of, revision_of, each_of, forms_of, lines_of, vote_of_numbers, vote_of, take, take_optional, number_of}
+use Rattle.request_book.proofs.Parsed.{both, is_number}
 
 -- ---- options
 
@@ -95,51 +101,106 @@ revision_sound d x e =
 pub revision_complete : Complete revision_of natural (λ n. is_revision n ≡ true)
 revision_complete x fit = rw fit refl
 
-texts_of_is : (ds : Items) (ts : List (List ℕ)) → texts_of ds ≡ Some ts → ds ≡ string_items ts
-texts_of_is no_items ts e = let h : ts ≡ [] = cc in rw h refl
-texts_of_is (item d ds) ts e =
-    let h = and_then_some (λ t. option_map (λ us. t ∷ us) (texts_of ds)) (text_of d) ts e in
-    let m = map_some (λ us. h.0 ∷ us) (texts_of ds) ts h.2 in
-    let first = (text_sound is_string d h.0 h.1).0 in
-    let rest = texts_of_is ds m.0 m.1 in
+-- lists of strings, each read by f
+each_is : (f : Data → Option (List ℕ)) (Fit : List ℕ → Type 0) → Sound f string Fit → (ds : Items) (ts : List (List ℕ)) → each_of f ds ≡ Some ts → ds ≡ string_items ts
+each_is f Fit sound no_items ts e = let h : ts ≡ [] = cc in rw h refl
+each_is f Fit sound (item d ds) ts e =
+    let h = and_then_some (λ t. option_map (λ us. t ∷ us) (each_of f ds)) (f d) ts e in
+    let m = map_some (λ us. h.0 ∷ us) (each_of f ds) ts h.2 in
+    let first = (sound d h.0 h.1).0 in
+    let rest = each_is f Fit sound ds m.0 m.1 in
     ap₂ item first rest ∙ ap string_items m.2
 
-pub both : (a b : Bool) → (a && b) ≡ true → (a ≡ true) × (b ≡ true)
-both true b e = (refl, e)
-both false b e = absurd (true≢false (sym e))
+list_sound : (f : Data → Option (List ℕ)) (Fit : List ℕ → Type 0) (p : List (List ℕ) → Bool) → Sound f string Fit
+    → Sound (λ d. option_and_then (only p) (option_and_then (each_of f) (as_array d))) strings (λ ts. p ts ≡ true)
+list_sound f Fit p sound d x e =
+    let h = and_then_some (only p) (option_and_then (each_of f) (as_array d)) x e in
+    let k = only_some p h.0 x h.2 in
+    let m = and_then_some (each_of f) (as_array d) h.0 h.1 in
+    (as_array_is d m.0 m.1 ∙ ap array (each_is f Fit sound m.0 h.0 m.2 ∙ ap string_items k.0), k.1)
 
-texts_of_strings : (ts : List (List ℕ)) → list_all is_string ts ≡ true → texts_of (string_items ts) ≡ Some ts
+pub forms_sound : Sound forms_of strings (λ ts. is_forms ts ≡ true)
+forms_sound = list_sound text_of (λ s. is_string s ≡ true) is_forms (text_sound is_string)
+
+pub lines_sound : Sound lines_of strings (λ ts. is_comment_lines ts ≡ true)
+lines_sound = list_sound as_str (λ s. ⊤) is_comment_lines (λ d s h. (as_str_is d s h, tt))
+
+texts_of_strings : (ts : List (List ℕ)) → list_all is_string ts ≡ true → each_of text_of (string_items ts) ≡ Some ts
 texts_of_strings [] fit = refl
 texts_of_strings (t ∷ ts) fit =
     let h = both (is_string t) (list_all is_string ts) fit in
     rw (text_complete is_string t h.0, texts_of_strings ts h.1) refl
 
-pub forms_sound : Sound forms_of strings (λ ts. is_forms ts ≡ true)
-forms_sound d x e =
-    let h = and_then_some (only is_forms) (option_and_then texts_of (as_array d)) x e in
-    let k = only_some is_forms h.0 x h.2 in
-    let m = and_then_some texts_of (as_array d) h.0 h.1 in
-    (as_array_is d m.0 m.1 ∙ ap array (texts_of_is m.0 h.0 m.2 ∙ ap string_items k.0), k.1)
-
 pub forms_complete : Complete forms_of strings (λ ts. is_forms ts ≡ true)
-forms_complete x fit = and_then_at (only is_forms) (texts_of (string_items x)) x (Some x) (texts_of_strings x (both _ _ fit).1) (only_fit is_forms x fit)
+forms_complete x fit = and_then_at (only is_forms) (each_of text_of (string_items x)) x (Some x) (texts_of_strings x (both _ _ fit).1) (only_fit is_forms x fit)
+
+lines_of_strings : (ts : List (List ℕ)) → each_of as_str (string_items ts) ≡ Some ts
+lines_of_strings [] = refl
+lines_of_strings (t ∷ ts) = rw (lines_of_strings ts) refl
+
+pub lines_complete : Complete lines_of strings (λ ts. is_comment_lines ts ≡ true)
+lines_complete x fit = and_then_at (only is_comment_lines) (each_of as_str (string_items x)) x (Some x) (lines_of_strings x) (only_fit is_comment_lines x fit)
+
+-- ---- votes
+
+vote_of_natural : (n : ℕ) (z : Option ℤ) (value : Option VoteValue) → vote_of_numbers (Some n) z ≡ Some value → number (unsigned n) ≡ vote_data value
+vote_of_natural n z value e = at_zero (n == 0) refl e
+  where
+    at_one : (c : Bool) → (n == 1) ≡ c → (if c then Some (Some For) else None) ≡ Some value → number (unsigned n) ≡ vote_data value
+    at_one true is h =
+        let same : Some For ≡ value = cc in
+        ap (λ k. number (unsigned k)) (eqb-true n 1 is) ∙ ap vote_data same
+    at_one false is h = absurd cc
+
+    at_zero : (c : Bool) → (n == 0) ≡ c → (if c then Some None else if n == 1 then Some (Some For) else None) ≡ Some value → number (unsigned n) ≡ vote_data value
+    at_zero true is h =
+        let same : None ≡ value = cc in
+        ap (λ k. number (unsigned k)) (eqb-true n 0 is) ∙ ap vote_data same
+    at_zero false is h = at_one (n == 1) refl h
+
+vote_of_negative : (z : ℤ) (value : Option VoteValue) → (if int_eq z (negsuc 0) then Some (Some Against) else None) ≡ Some value → number (negative z) ≡ vote_data value
+vote_of_negative z value e = by_test (int_eq z (negsuc 0)) refl e
+  where
+    by_test : (c : Bool) → int_eq z (negsuc 0) ≡ c → (if c then Some (Some Against) else None) ≡ Some value → number (negative z) ≡ vote_data value
+    by_test true is h =
+        let same : Some Against ≡ value = cc in
+        ap (λ y. number (negative y)) ((Decides-int_eq z (negsuc 0)).0 is) ∙ ap vote_data same
+    by_test false is h = absurd cc
+
+vote_of_number : (n : Num) (value : Option VoteValue) → vote_of (number n) ≡ Some value → number n ≡ vote_data value
+vote_of_number (unsigned n) value e = vote_of_natural n None value e
+vote_of_number (negative z) value e = vote_of_negative z value e
+vote_of_number (float x) value e = absurd cc
+
+pub vote_sound : Sound vote_of vote_data (λ value. ⊤)
+vote_sound null value e = absurd cc
+vote_sound (boolean b) value e = absurd cc
+vote_sound (number n) value e = (vote_of_number n value e, tt)
+vote_sound (string t) value e = absurd cc
+vote_sound (array es) value e = absurd cc
+vote_sound (object ms) value e = absurd cc
+
+pub vote_complete : Complete vote_of vote_data (λ value. ⊤)
+vote_complete None fit = refl
+vote_complete (Some For) fit = refl
+vote_complete (Some Against) fit = refl
 
 -- ---- numbers
 
 pub same_bytes : (xs ys : List ℕ) → bytes_eq xs ys ≡ true → xs ≡ ys
 same_bytes xs ys e = (bytes_eq-Decides xs ys).0 e
 
-pub number_sound : Sound number_of (λ u. string (number_text u)) (λ _. ⊤)
+pub number_sound : Sound number_of number_data IsNumber
 number_sound d u e =
     let h = and_then_some (λ s. option_and_then (only (λ v. bytes_eq (number_text v) s)) (parsed s)) (as_str d) u e in
     let m = and_then_some (only (λ v. bytes_eq (number_text v) h.0)) (parsed h.0) u h.2 in
     let k = only_some (λ v. bytes_eq (number_text v) h.0) m.0 u m.2 in
-    (as_str_is d h.0 h.1 ∙ ap string (sym (same_bytes _ _ k.1)), tt)
+    (as_str_is d h.0 h.1 ∙ ap string (sym (same_bytes _ _ k.1)), subst IsNumber k.0 (is_number h.0 m.0 m.1))
 
 only_same : (xs : List ℕ) → bytes_eq xs xs ≡ true
 only_same xs = (bytes_eq-Decides xs xs).1 refl
 
-pub number_complete : Complete number_of (λ u. string (number_text u)) IsNumber
+pub number_complete : Complete number_of number_data IsNumber
 number_complete u fit = rw (sym (parses_hyphenated lower u (inl refl) fit.0 fit.1), only_same (number_text u)) refl
 
 -- ---- members

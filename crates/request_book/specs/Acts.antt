@@ -2,28 +2,86 @@
 -- The definition goes from a request to its object: a text is a request where what `serde_json` reads is that object. So members may
 -- come in any order, and of a key that stands twice the last value counts.
 -- A new act on a unit is one line more in each function on actions; a new field is one line more in `fields_of` and `IsAct`.
-use Rattle.std.specs.Prelude.{◌≡◌, ◌<◌, List, [], ◌∷◌, length, true, Option, Some, None, option_map, MatchOption, All, ⊤, codes}
+use Rattle.std.specs.Prelude.{◌≡◌, ◌<◌, List, [], ◌∷◌, length, true, Option, Some, None, option_map, MatchOption, All, ⊤, ℤ, pos, negsuc, codes}
 use Rattle.serde_json.specs.Data.{Data, string, object}
 use Rattle.serde_json.specs.Read.{read}
 use Rattle.serde_json.specs.Written.{compact_text}
 use Rattle.po_read.specs.Texts.{Text}
 use Rattle.po_read.specs.Strings.{is_string, is_forms}
-use Rattle.units.specs.Limits.{is_name, is_lang, is_revision}
+use Rattle.units.specs.Limits.{is_name, is_lang, is_revision, is_comment_lines}
 use Rattle.units.specs.declared.unit.UnitAction.{UnitAction}
-use Rattle.units.specs.declared.unit.UnitAction.TheVariants.{Translate}
+use Rattle.units.specs.declared.unit.UnitAction.TheVariants.{Suggest, Vote, Accept, Dismiss, Translate, Comment, Approve, SendBack}
+use Rattle.units.specs.declared.votes.VoteValue.{VoteValue}
+use Rattle.units.specs.declared.votes.VoteValue.TheVariants.{Against, For}
 use Rattle.request_book.specs.declared.act.Act.{Act}
 use Rattle.request_book.specs.declared.act.Act.TheVariants.{OnUnit}
 use Rattle.request_book.specs.declared.act.Request.{Request}
-use Rattle.request_book.specs.Words.{natural, strings, number_text, Field, given, optional, members}
+use Rattle.request_book.specs.Words.{natural, whole, strings, number_data, Field, given, optional, members}
 
 -- ---- acts on a unit
 
 abbrev pub action_text : UnitAction → Text
+action_text (Suggest forms) = codes "suggest"
+action_text (Vote named value) = codes "vote"
+action_text (Accept named) = codes "accept"
+action_text (Dismiss named) = codes "dismiss"
 action_text (Translate forms) = codes "translate"
+action_text (Comment lines) = codes "comment"
+action_text Approve = codes "approve"
+action_text SendBack = codes "send-back"
 
 -- the forms that an act gives, where it gives any
 abbrev pub forms_in : UnitAction → Option (List Text)
+forms_in (Suggest forms) = Some forms
+forms_in (Vote named value) = None
+forms_in (Accept named) = None
+forms_in (Dismiss named) = None
 forms_in (Translate forms) = Some forms
+forms_in (Comment lines) = None
+forms_in Approve = None
+forms_in SendBack = None
+
+-- the comment lines that it gives
+abbrev pub lines_in : UnitAction → Option (List Text)
+lines_in (Suggest forms) = None
+lines_in (Vote named value) = None
+lines_in (Accept named) = None
+lines_in (Dismiss named) = None
+lines_in (Translate forms) = None
+lines_in (Comment lines) = Some lines
+lines_in Approve = None
+lines_in SendBack = None
+
+-- the number of the suggestion that it names
+abbrev pub suggestion_in : UnitAction → Option Text
+suggestion_in (Suggest forms) = None
+suggestion_in (Vote named value) = Some named
+suggestion_in (Accept named) = Some named
+suggestion_in (Dismiss named) = Some named
+suggestion_in (Translate forms) = None
+suggestion_in (Comment lines) = None
+suggestion_in Approve = None
+suggestion_in SendBack = None
+
+-- the vote that it gives, which is none where the caller's vote is taken back
+abbrev pub vote_in : UnitAction → Option (Option VoteValue)
+vote_in (Suggest forms) = None
+vote_in (Vote named value) = Some value
+vote_in (Accept named) = None
+vote_in (Dismiss named) = None
+vote_in (Translate forms) = None
+vote_in (Comment lines) = None
+vote_in Approve = None
+vote_in SendBack = None
+
+-- 1 for and -1 against; 0 takes a vote back
+abbrev pub vote_number : Option VoteValue → ℤ
+vote_number None = pos 0
+vote_number (Some For) = pos 1
+vote_number (Some Against) = negsuc 0
+
+abbrev pub vote_data : Option VoteValue → Data
+vote_data value = whole (vote_number value)
 
 -- ---- all acts
 
@@ -36,8 +94,11 @@ fields_of caller n (OnUnit lang key act) =
     ∷ optional (codes "forms") (option_map strings (forms_in act.action))
     ∷ given (codes "id") (string key.id)
     ∷ given (codes "lang") (string lang)
-    ∷ optional (codes "number") (option_map (λ u. string (number_text u)) n)
+    ∷ optional (codes "lines") (option_map strings (lines_in act.action))
+    ∷ optional (codes "number") (option_map number_data n)
     ∷ given (codes "seen") (natural act.seen)
+    ∷ optional (codes "suggestion") (option_map number_data (suggestion_in act.action))
+    ∷ optional (codes "value") (option_map vote_data (vote_in act.action))
     ∷ []
 
 -- the object of a content (caller and act), and of a request
@@ -57,6 +118,8 @@ abbrev pub IsAct : Act → Type 0
 IsAct (OnUnit lang key act) =
     (is_lang lang ≡ true) × (is_string key.id ≡ true) × MatchOption key.ctx ⊤ (λ c. is_string c ≡ true) × (is_revision act.seen ≡ true)
     × MatchOption (forms_in act.action) ⊤ (λ forms. is_forms forms ≡ true)
+    × MatchOption (lines_in act.action) ⊤ (λ lines. is_comment_lines lines ≡ true)
+    × MatchOption (suggestion_in act.action) ⊤ IsNumber
 
 abbrev pub IsRequest : Request → Type 0
 IsRequest r = IsNumber r.number × (is_name r.caller ≡ true) × IsAct r.act

@@ -1,22 +1,27 @@
 -- What the readers of fields answer. Only private clauses and proofs cite this file.
-use Rattle.std.specs.Prelude.{ℕ, List, [], ◌∷◌, Bool, true, false, if◌then◌else◌, Option, Some, None, option_map, option_and_then, codes, ◌≡◌, MatchOption, ⊤}
+use Rattle.std.specs.Prelude.{ℕ, List, [], ◌∷◌, Bool, true, false, if◌then◌else◌, ◌==◌, Option, Some, None, option_map, option_and_then, ℤ, negsuc, codes, ◌≡◌, MatchOption, ⊤}
+use Rattle.std.specs.Ordering.{int_eq}
 use Rattle.std.specs.Str.{bytes_eq}
 use Rattle.serde_json.specs.Data.{Data, string, object, Items, no_items, item, Members, no_members, member}
 use Rattle.serde_json.specs.Read.{read}
-use Rattle.serde_json.specs.Find.{as_str, as_number, as_array, as_u64}
+use Rattle.serde_json.specs.Find.{as_str, as_number, as_array, as_u64, as_i64}
 use Rattle.uuid.specs.Text.{parsed}
 use Rattle.po_read.specs.Texts.{Text}
 use Rattle.po_read.specs.Strings.{is_string, is_forms}
-use Rattle.units.specs.Limits.{is_name, is_lang, is_revision}
+use Rattle.units.specs.Limits.{is_name, is_lang, is_revision, is_comment_lines}
 use Rattle.units.specs.declared.unit.UnitAction.{UnitAction}
-use Rattle.units.specs.declared.unit.UnitAction.TheVariants.{Translate}
+use Rattle.units.specs.declared.unit.UnitAction.TheVariants.{Suggest, Vote, Accept, Dismiss, Translate, Comment, Approve, SendBack}
+use Rattle.units.specs.declared.votes.VoteValue.{VoteValue}
+use Rattle.units.specs.declared.votes.VoteValue.TheVariants.{Against, For}
 use Rattle.request_book.specs.declared.act.Act.{Act}
 use Rattle.request_book.specs.declared.act.Act.TheVariants.{OnUnit}
 use Rattle.request_book.specs.declared.act.Request.{Request}
 use Rattle.request_book.specs.declared.parts.Parts.{Parts}
 use Rattle.request_book.specs.declared.parts.UnitMembers.{UnitMembers}
-use Rattle.request_book.specs.Words.{natural, strings, number_text, Field, given, optional, members}
-use Rattle.request_book.specs.Acts.{fields_of, IsNumber, IsAct}
+use Rattle.request_book.specs.declared.parts.ActionMembers.{ActionMembers}
+use Rattle.request_book.specs.declared.parts.ActionMembers.TheVariants as brought
+use Rattle.request_book.specs.Words.{natural, strings, number_text, number_data, Field, given, optional, members}
+use Rattle.request_book.specs.Acts.{fields_of, vote_data, IsNumber, IsAct}
 
 -- `x ← o` of a `do`: the value where there is one, else the whole is none
 infixl 10 ◌>>=◌
@@ -41,12 +46,25 @@ lang_of d = as_str d >>= only is_lang
 abbrev pub revision_of : Data → Option ℕ
 revision_of d = option_and_then as_u64 (as_number d) >>= only is_revision
 
-abbrev pub texts_of : Items → Option (List Text)
-texts_of no_items = Some []
-texts_of (item d ds) = text_of d >>= (λ t. option_map (λ ts. t ∷ ts) (texts_of ds))
+-- each item, read by f
+abbrev pub each_of : {A : Type 0} → (Data → Option A) → Items → Option (List A)
+each_of f no_items = Some []
+each_of f (item d ds) = f d >>= (λ x. option_map (λ xs. x ∷ xs) (each_of f ds))
 
 abbrev pub forms_of : Data → Option (List Text)
-forms_of d = option_and_then texts_of (as_array d) >>= only is_forms
+forms_of d = option_and_then (each_of text_of) (as_array d) >>= only is_forms
+
+abbrev pub lines_of : Data → Option (List Text)
+lines_of d = option_and_then (each_of as_str) (as_array d) >>= only is_comment_lines
+
+-- 0 takes a vote back, 1 is for, and -1 against; other numbers are no vote
+abbrev pub vote_of_numbers : Option ℕ → Option ℤ → Option (Option VoteValue)
+vote_of_numbers (Some n) z = if n == 0 then Some None else if n == 1 then Some (Some For) else None
+vote_of_numbers None (Some z) = if int_eq z (negsuc 0) then Some (Some Against) else None
+vote_of_numbers None None = None
+
+abbrev pub vote_of : Data → Option (Option VoteValue)
+vote_of d = vote_of_numbers (option_and_then as_u64 (as_number d)) (option_and_then as_i64 (as_number d))
 
 -- the number that is written so
 abbrev pub number_of : Data → Option Text
@@ -90,8 +108,11 @@ unit_fields m =
     ∷ optional (codes "forms") (option_map strings m.forms)
     ∷ given (codes "id") (string m.id)
     ∷ given (codes "lang") (string m.lang)
-    ∷ optional (codes "number") (option_map (λ u. string (number_text u)) m.number)
+    ∷ optional (codes "lines") (option_map strings m.lines)
+    ∷ optional (codes "number") (option_map number_data m.number)
     ∷ given (codes "seen") (natural m.seen)
+    ∷ optional (codes "suggestion") (option_map number_data m.suggestion)
+    ∷ optional (codes "value") (option_map vote_data m.vote)
     ∷ []
 
 abbrev pub unit_members_of : Members → Option UnitMembers
@@ -101,14 +122,43 @@ unit_members_of ms = do
   forms ← take_optional_as forms_of (codes "forms") ctx.1
   id ← take_as text_of (codes "id") forms.1
   lang ← take_as lang_of (codes "lang") id.1
-  number ← take_optional_as number_of (codes "number") lang.1
+  lines ← take_optional_as lines_of (codes "lines") lang.1
+  number ← take_optional_as number_of (codes "number") lines.1
   seen ← take_as revision_of (codes "seen") number.1
-  if is_over seen.1 then Some (record { caller = caller.0; ctx = ctx.0; forms = forms.0; id = id.0; lang = lang.0; number = number.0; seen = seen.0 }) else None
+  suggestion ← take_optional_as number_of (codes "suggestion") seen.1
+  vote ← take_optional_as vote_of (codes "value") suggestion.1
+  if is_over vote.1 then Some (record {
+    caller = caller.0;
+    ctx = ctx.0;
+    forms = forms.0;
+    id = id.0;
+    lang = lang.0;
+    lines = lines.0;
+    number = number.0;
+    seen = seen.0;
+    suggestion = suggestion.0;
+    vote = vote.0;
+  }) else None
 
--- the action with this word, where exactly its own fields are there
-abbrev pub action_of : Text → Option (List Text) → Option UnitAction
-action_of word None = None
-action_of word (Some forms) = if bytes_eq word (codes "translate") then Some (Translate forms) else None
+-- what is there of the members that some acts lack
+abbrev pub action_members : Option (List Text) → Option (List Text) → Option Text → Option (Option VoteValue) → Option ActionMembers
+action_members None None None None = Some brought.Nothing
+action_members (Some forms) None None None = Some (brought.Forms forms)
+action_members None (Some lines) None None = Some (brought.Lines lines)
+action_members None None (Some named) None = Some (brought.Suggestion named)
+action_members None None (Some named) (Some vote) = Some (brought.Vote named vote)
+action_members forms lines named vote = None
+
+-- the action with this word, where exactly its own members are there
+abbrev pub action_with : Text → ActionMembers → Option UnitAction
+action_with word (brought.Nothing) = if bytes_eq word (codes "approve") then Some Approve else if bytes_eq word (codes "send-back") then Some SendBack else None
+action_with word (brought.Forms forms) = if bytes_eq word (codes "suggest") then Some (Suggest forms) else if bytes_eq word (codes "translate") then Some (Translate forms) else None
+action_with word (brought.Lines lines) = if bytes_eq word (codes "comment") then Some (Comment lines) else None
+action_with word (brought.Suggestion named) = if bytes_eq word (codes "accept") then Some (Accept named) else if bytes_eq word (codes "dismiss") then Some (Dismiss named) else None
+action_with word (brought.Vote named vote) = if bytes_eq word (codes "vote") then Some (Vote named vote) else None
+
+abbrev pub action_of : Text → UnitMembers → Option UnitAction
+action_of word m = action_members m.forms m.lines m.suggestion m.vote >>= action_with word
 
 abbrev pub unit_parts : UnitMembers → UnitAction → Parts
 unit_parts m action = record {
@@ -123,7 +173,7 @@ unit_parts m action = record {
 abbrev pub parts_behind : Text → Members → Option Parts
 parts_behind word ms = do
   m ← unit_members_of ms
-  option_map (unit_parts m) (action_of word m.forms)
+  option_map (unit_parts m) (action_of word m)
 
 abbrev pub parts_of : Members → Option Parts
 parts_of ms = do

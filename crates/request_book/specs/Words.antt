@@ -1,8 +1,9 @@
 -- Parts of JSON objects, and the words of states in them. This project's own rule; the states are those of Weblate's "Translation
 -- workflows".
-use Rattle.std.specs.Prelude.{ℕ, List, [], ◌∷◌, Option, Some, None, map, codes}
+use Rattle.std.specs.Prelude.{ℕ, List, [], ◌∷◌, Option, Some, None, ℤ, map, codes}
 use Rattle.uuid.specs.Text.{hyphenated_text, lower}
 use Rattle.serde_json.specs.Data.{Data, number, unsigned, string, array, object, Items, Members, no_members, member, put}
+use Rattle.serde_json.specs.Find.{of_integer}
 use Rattle.serde_json.specs.View.{items_of}
 use Rattle.po_read.specs.Texts.{Text}
 use Rattle.units.specs.declared.unit.ShownState.{ShownState}
@@ -10,6 +11,9 @@ use Rattle.units.specs.declared.unit.ShownState.TheVariants.{Untranslated, Needs
 
 abbrev pub natural : ℕ → Data
 natural n = number (unsigned n)
+
+abbrev pub whole : ℤ → Data
+whole z = number (of_integer z)
 
 abbrev pub string_items : List Text → Items
 string_items texts = items_of (map string texts)
@@ -20,6 +24,9 @@ strings texts = array (string_items texts)
 -- a number's text: hyphenated, lower case, 36 characters
 abbrev pub number_text : Text → Text
 number_text = hyphenated_text lower
+
+abbrev pub number_data : Text → Data
+number_data u = string (number_text u)
 
 abbrev pub state_text : ShownState → Text
 state_text Untranslated = codes "untranslated"

@@ -1,19 +1,19 @@
 //! Readers of single fields, and of the first member of an object in the order of its keys.
-ghost use Rattle.std.specs.Prelude.{◌≡◌, ◌++◌, List, ℕ, true, Err, IfOk, Some, None, option_map, MatchOption, ⊤};
+ghost use Rattle.std.specs.Prelude.{◌≡◌, ◌++◌, List, ℕ, true, Err, IfOk, Some, None, option_map};
 ghost use Rattle.std.specs.List.{list_all};
 ghost use Rattle.uuid.specs.Text.{parsed};
 ghost use Rattle.po_read.specs.Strings.{is_string};
 ghost use Rattle.request_book.specs.Acts.{IsNumber};
 ghost use Rattle.serde_json.specs.Find.{as_str};
 ghost use Rattle.serde_json.specs.View.{view, items_view, members_view};
-ghost use Rattle.request_book.specs.Fields.{text_of, name_of, lang_of, revision_of, texts_of, forms_of, number_of, take, take_optional, optional_as, is_over};
+ghost use Rattle.request_book.specs.Fields.{text_of, name_of, lang_of, revision_of, each_of, forms_of, lines_of, vote_of, number_of, take, take_optional, optional_as, is_over};
 ghost use Rattle.request_book.specs.declared.fault.RequestFault.TheVariants.{Malformed};
 
 use crate::fault::RequestFault;
-use po_read::{Forms, PoString};
+use po_read::{Forms, Items, PoString, Text};
 use serde_json::Value;
 use std::alloc::Global;
-use units::{Lang, Name, Revision};
+use units::{CommentLines, Lang, Name, Revision, VoteValue};
 use uuid::Uuid;
 
 pub(crate) fn text_from(alloc: Global, value: &Value) -> Result<PoString, RequestFault>
@@ -83,9 +83,9 @@ pub(crate) fn take_member<'v>(
 }
 
 fn texts_from(alloc: Global, values: &[Value]) -> Result<Vec<PoString>, RequestFault>
-    ensures ok { IfOk result (λ v. texts_of (items_view values.now) ≡ Some v.items) }
+    ensures ok { IfOk result (λ v. each_of text_of (items_view values.now) ≡ Some v.items) }
     ensures fit { IfOk result (λ v. list_all is_string v.items ≡ true) }
-    ensures malformed { result ≡ Err Malformed → texts_of (items_view values.now) ≡ None }
+    ensures malformed { result ≡ Err Malformed → each_of text_of (items_view values.now) ≡ None }
 {
     let mut texts = Vec::new(alloc);
     for value in values {
@@ -105,6 +105,46 @@ fn forms_from(alloc: Global, value: &Value) -> Result<Forms, RequestFault>
     match Forms::try_new(texts_from(alloc, list.as_slice())?) {
         Some(forms) => Ok(forms),
         None => Err(RequestFault::Malformed),
+    }
+}
+
+fn line_texts_from(alloc: Global, values: &[Value]) -> Result<Items<Text>, RequestFault>
+    ensures ok { IfOk result (λ lines. each_of as_str (items_view values.now) ≡ Some lines) }
+    ensures malformed { result ≡ Err Malformed → each_of as_str (items_view values.now) ≡ None }
+{
+    let mut lines = Items::new(alloc);
+    for value in values {
+        let Some(text) = value.as_str() else {
+            return Err(RequestFault::Malformed);
+        };
+        lines.push(Text::from_text(alloc, text)?)?;
+    }
+    Ok(lines)
+}
+
+fn lines_from(alloc: Global, value: &Value) -> Result<CommentLines, RequestFault>
+    ensures ok { IfOk result (λ lines. lines_of (view value.now) ≡ Some lines) }
+    ensures malformed { result ≡ Err Malformed → lines_of (view value.now) ≡ None }
+{
+    let Some(list) = value.as_array() else {
+        return Err(RequestFault::Malformed);
+    };
+    match CommentLines::try_new(line_texts_from(alloc, list.as_slice())?) {
+        Some(lines) => Ok(lines),
+        None => Err(RequestFault::Malformed),
+    }
+}
+
+// 0 takes a vote back.
+fn vote_from(value: &Value) -> Result<Option<VoteValue>, RequestFault>
+    ensures ok { IfOk result (λ vote. vote_of (view value.now) ≡ Some vote) }
+    ensures malformed { result ≡ Err Malformed → vote_of (view value.now) ≡ None }
+{
+    match (value.as_u64(), value.as_i64()) {
+        (Some(0), _) => Ok(None),
+        (Some(1), _) => Ok(Some(VoteValue::For)),
+        (None, Some(-1)) => Ok(Some(VoteValue::Against)),
+        (_, _) => Err(RequestFault::Malformed),
     }
 }
 
@@ -175,8 +215,36 @@ pub(crate) fn optional_forms(
     }
 }
 
+pub(crate) fn optional_lines(
+    alloc: Global,
+    value: Option<&Value>,
+) -> Result<Option<CommentLines>, RequestFault>
+    ensures ok { IfOk result
+        (λ o. optional_as lines_of (option_map (λ v. view v.now) value.entry) ≡ Some o) }
+    ensures malformed { result ≡ Err Malformed
+        → optional_as lines_of (option_map (λ v. view v.now) value.entry) ≡ None }
+{
+    match value {
+        Some(value) => Ok(Some(lines_from(alloc, value)?)),
+        None => Ok(None),
+    }
+}
+
+pub(crate) fn optional_vote(
+    value: Option<&Value>,
+) -> Result<Option<Option<VoteValue>>, RequestFault>
+    ensures ok { IfOk result
+        (λ o. optional_as vote_of (option_map (λ v. view v.now) value.entry) ≡ Some o) }
+    ensures malformed { result ≡ Err Malformed
+        → optional_as vote_of (option_map (λ v. view v.now) value.entry) ≡ None }
+{
+    match value {
+        Some(value) => Ok(Some(vote_from(value)?)),
+        None => Ok(None),
+    }
+}
+
 pub(crate) fn optional_number(value: Option<&Value>) -> Result<Option<Uuid>, RequestFault>
-    ensures fits { IfOk result (λ o. MatchOption o ⊤ IsNumber) }
     ensures ok { IfOk result
         (λ o. optional_as number_of (option_map (λ v. view v.now) value.entry) ≡ Some o) }
     ensures malformed { result ≡ Err Malformed
@@ -190,7 +258,6 @@ pub(crate) fn optional_number(value: Option<&Value>) -> Result<Option<Uuid>, Req
 
 // The text has to be the one that the number is written with.
 fn number_from(value: &Value) -> Result<Uuid, RequestFault>
-    ensures fits { IfOk result IsNumber }
     ensures ok { IfOk result (λ u. number_of (view value.now) ≡ Some u) }
     ensures malformed { result ≡ Err Malformed → number_of (view value.now) ≡ None }
 {
@@ -203,7 +270,6 @@ fn number_from(value: &Value) -> Result<Uuid, RequestFault>
     let mut buffer = Uuid::encode_buffer();
     let written: &str = number.hyphenated().encode_lower(&mut buffer);
     if written == text {
-        bytes_fit(number.as_bytes());
         Ok(number)
     } else {
         Err(RequestFault::Malformed)

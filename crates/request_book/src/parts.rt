@@ -1,22 +1,21 @@
 //! Reads the members of one object.
-ghost use Rattle.std.specs.Prelude.{◌≡◌, ◌≢◌, Err, IfOk, Some, None, MatchOption, option_map, ⊤};
+ghost use Rattle.std.specs.Prelude.{◌≡◌, ◌≢◌, Err, IfOk, Some, None, option_map};
 ghost use Rattle.serde_json.specs.Data.{Members, object};
 ghost use Rattle.serde_json.specs.Read.{read};
-ghost use Rattle.request_book.specs.Acts.{IsNumber};
 ghost use Rattle.serde_json.specs.View.{view, members_view};
-ghost use Rattle.request_book.specs.Fields.{unit_members_of, action_of, unit_parts, parts_of, IsPartsText};
+ghost use Rattle.request_book.specs.Fields.{unit_members_of, action_members, action_with, action_of, unit_parts, parts_of, IsPartsText};
 ghost use Rattle.request_book.specs.declared.fault.RequestFault.TheVariants.{Malformed};
 
 use crate::act::Act;
 use crate::fault::RequestFault;
 use crate::fields::{
-    is_over, lang_from, optional_forms, optional_name, optional_number, optional_text,
-    revision_from, take_member, take_optional, text_from,
+    is_over, lang_from, optional_forms, optional_lines, optional_name, optional_number,
+    optional_text, optional_vote, revision_from, take_member, take_optional, text_from,
 };
 use po_read::{Forms, PoString};
 use serde_json::Value;
 use std::alloc::Global;
-use units::{Key, Lang, Name, Revision, UnitAct, UnitAction};
+use units::{CommentLines, Key, Lang, Name, Revision, UnitAct, UnitAction, VoteValue};
 use uuid::Uuid;
 
 /// What an object says, `caller` and `number` each where it is there.
@@ -35,8 +34,22 @@ pub(crate) struct UnitMembers {
     pub(crate) forms: Option<Forms>,
     pub(crate) id: PoString,
     pub(crate) lang: Lang,
+    pub(crate) lines: Option<CommentLines>,
     pub(crate) number: Option<Uuid>,
     pub(crate) seen: Revision,
+    pub(crate) suggestion: Option<Uuid>,
+    /// The member `value`: a vote, which has no value where it takes one back.
+    pub(crate) vote: Option<Option<VoteValue>>,
+}
+
+/// What is there of the members that some acts on a unit lack.
+#[derive(Drop)]
+pub(crate) enum ActionMembers {
+    Nothing,
+    Forms(Forms),
+    Lines(CommentLines),
+    Suggestion(Uuid),
+    Vote(Uuid, Option<VoteValue>),
 }
 
 #[tactic(auto, using(crate::proofs::PartsLemmas::parts_of_object, crate::proofs::PartsLemmas::no_object, crate::proofs::PartsLemmas::no_parts))]
@@ -73,7 +86,6 @@ fn value_from(alloc: Global, text: &str) -> Result<Value, RequestFault>
 }
 
 fn parts_from(alloc: Global, fields: &[(String, Value)]) -> Result<Parts, RequestFault>
-    ensures number { IfOk result (λ p. MatchOption p.number ⊤ IsNumber) }
     ensures ok { IfOk result (λ p. parts_of (members_view fields.now) ≡ Some p) }
     ensures malformed { result ≡ Err Malformed → parts_of (members_view fields.now) ≡ None }
 {
@@ -89,9 +101,15 @@ fn parts_from(alloc: Global, fields: &[(String, Value)]) -> Result<Parts, Reques
 }
 
 fn parts_of_unit(word: &str, members: UnitMembers) -> Option<Parts>
-    ensures { result ≡ option_map (unit_parts members) (action_of word.now members.forms) }
+    ensures { result ≡ option_map (unit_parts members) (action_of word.now members) }
 {
-    let action = action_from(word, members.forms)?;
+    let given = action_members(
+        members.forms,
+        members.lines,
+        members.suggestion,
+        members.vote,
+    )?;
+    let action = action_from(word, given)?;
     Some(Parts {
         caller: members.caller,
         number: members.number,
@@ -109,17 +127,55 @@ fn parts_of_unit(word: &str, members: UnitMembers) -> Option<Parts>
     })
 }
 
-fn action_from(word: &str, forms: Option<Forms>) -> Option<UnitAction>
-    ensures { result ≡ action_of word.now forms }
+fn action_members(
+    forms: Option<Forms>,
+    lines: Option<CommentLines>,
+    suggestion: Option<Uuid>,
+    vote: Option<Option<VoteValue>>,
+) -> Option<ActionMembers>
+    ensures { result ≡ action_members forms lines suggestion vote }
 {
-    match (word, forms) {
-        ("translate", Some(forms)) => Some(UnitAction::Translate(forms)),
-        (_, _) => None,
+    match (forms, lines, suggestion, vote) {
+        (None, None, None, None) => Some(ActionMembers::Nothing),
+        (Some(forms), None, None, None) => Some(ActionMembers::Forms(forms)),
+        (None, Some(lines), None, None) => Some(ActionMembers::Lines(lines)),
+        (None, None, Some(suggestion), None) => Some(ActionMembers::Suggestion(suggestion)),
+        (None, None, Some(suggestion), Some(value)) => Some(ActionMembers::Vote(suggestion, value)),
+        (_, _, _, _) => None,
+    }
+}
+
+fn action_from(word: &str, given: ActionMembers) -> Option<UnitAction>
+    ensures { result ≡ action_with word.now given }
+{
+    match given {
+        ActionMembers::Nothing => match word {
+            "approve" => Some(UnitAction::Approve),
+            "send-back" => Some(UnitAction::SendBack),
+            _ => None,
+        },
+        ActionMembers::Forms(forms) => match word {
+            "suggest" => Some(UnitAction::Suggest(forms)),
+            "translate" => Some(UnitAction::Translate(forms)),
+            _ => None,
+        },
+        ActionMembers::Lines(lines) => match word {
+            "comment" => Some(UnitAction::Comment(lines)),
+            _ => None,
+        },
+        ActionMembers::Suggestion(suggestion) => match word {
+            "accept" => Some(UnitAction::Accept(suggestion)),
+            "dismiss" => Some(UnitAction::Dismiss(suggestion)),
+            _ => None,
+        },
+        ActionMembers::Vote(suggestion, value) => match word {
+            "vote" => Some(UnitAction::Vote(suggestion, value)),
+            _ => None,
+        },
     }
 }
 
 fn unit_members_from(alloc: Global, fields: &[(String, Value)]) -> Result<UnitMembers, RequestFault>
-    ensures number { IfOk result (λ m. MatchOption m.number ⊤ IsNumber) }
     ensures ok { IfOk result (λ m. unit_members_of (members_view fields.now) ≡ Some m) }
     ensures malformed { result ≡ Err Malformed → unit_members_of (members_view fields.now) ≡ None }
 {
@@ -133,10 +189,16 @@ fn unit_members_from(alloc: Global, fields: &[(String, Value)]) -> Result<UnitMe
     let id = text_from(alloc, id)?;
     let (lang, rest) = take_member(rest, "lang")?;
     let lang = lang_from(alloc, lang)?;
+    let (lines, rest) = take_optional(rest, "lines");
+    let lines = optional_lines(alloc, lines)?;
     let (number, rest) = take_optional(rest, "number");
     let number = optional_number(number)?;
     let (seen, rest) = take_member(rest, "seen")?;
     let seen = revision_from(seen)?;
+    let (suggestion, rest) = take_optional(rest, "suggestion");
+    let suggestion = optional_number(suggestion)?;
+    let (vote, rest) = take_optional(rest, "value");
+    let vote = optional_vote(vote)?;
     if !is_over(rest) {
         return Err(RequestFault::Malformed);
     }
@@ -146,7 +208,10 @@ fn unit_members_from(alloc: Global, fields: &[(String, Value)]) -> Result<UnitMe
         forms,
         id,
         lang,
+        lines,
         number,
         seen,
+        suggestion,
+        vote,
     })
 }

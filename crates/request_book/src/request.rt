@@ -22,7 +22,7 @@ impl Request {
     /// within its limits. Of a key that stands twice the last value counts, as `serde_json` reads it.
     ///
     /// `Malformed` where no request has this text; `Memory` where a growth was refused.
-    #[tactic(auto, using(crate::proofs::PartsLemmas::request_of_parts, crate::proofs::PartsLemmas::no_request, crate::proofs::PartsLemmas::unsigned))]
+    #[tactic(auto, using(crate::proofs::PartsLemmas::no_request, crate::proofs::PartsLemmas::unsigned))]
     pub fn from_json(alloc: Global, text: &str) -> Result<Request, RequestFault>
         ensures ok { IfOk result (IsRequestText text.now) }
         ensures one { IfOk result

@@ -10,6 +10,28 @@ const LINE: &str =
 const CANON: &str =
     "{\"act\":\"translate\",\"caller\":\"ann\",\"forms\":[\"Hallo\"],\"id\":\"Hello\",\"lang\":\"de\",\"seen\":1}";
 
+// Acts with their members, as contents: each is a request with a number beside `seen`.
+const SUGGEST: &str =
+    "{\"act\":\"suggest\",\"caller\":\"ann\",\"forms\":[\"Hallo\"],\"id\":\"Hello\",\"lang\":\"de\",\"seen\":1}";
+
+const VOTE: &str =
+    "{\"act\":\"vote\",\"caller\":\"bea\",\"id\":\"Hello\",\"lang\":\"de\",\"seen\":1,\"suggestion\":\"00000000-0000-4000-8000-000000000020\",\"value\":1}";
+
+const ACCEPT: &str =
+    "{\"act\":\"accept\",\"caller\":\"root\",\"ctx\":\"menu\",\"id\":\"Hello\",\"lang\":\"de\",\"seen\":1,\"suggestion\":\"00000000-0000-4000-8000-000000000020\"}";
+
+const DISMISS: &str =
+    "{\"act\":\"dismiss\",\"caller\":\"ann\",\"id\":\"Hello\",\"lang\":\"de\",\"seen\":1,\"suggestion\":\"00000000-0000-4000-8000-000000000020\"}";
+
+const COMMENT: &str =
+    "{\"act\":\"comment\",\"caller\":\"ann\",\"id\":\"Hello\",\"lang\":\"de\",\"lines\":[\"a note\"],\"seen\":1}";
+
+const APPROVE: &str =
+    "{\"act\":\"approve\",\"caller\":\"root\",\"id\":\"Hello\",\"lang\":\"de\",\"seen\":2}";
+
+const SEND_BACK: &str =
+    "{\"act\":\"send-back\",\"caller\":\"root\",\"ctx\":\"\",\"id\":\"Hello\",\"lang\":\"de\",\"seen\":2}";
+
 // None where the text is malformed. Want of memory ends the test.
 fn request_of(alloc: Global, text: &str) -> Result<Option<Request>, Fail> {
     match Request::from_json(alloc, text) {
@@ -17,6 +39,22 @@ fn request_of(alloc: Global, text: &str) -> Result<Option<Request>, Fail> {
         Err(RequestFault::Malformed) => Ok(None),
         Err(RequestFault::Memory) => Err(Fail::new("out of memory")),
     }
+}
+
+// The request with this content and a number.
+fn numbered(alloc: Global, content: &str) -> Result<Option<Request>, Fail> {
+    let line = content.replace(
+        alloc,
+        ",\"seen\"",
+        ",\"number\":\"00000000-0000-4000-8000-000000000022\",\"seen\"",
+    )?;
+    request_of(alloc, line.as_str())
+}
+
+// The same with another text in the place of one of the content's own.
+fn changed(alloc: Global, content: &str, old: &str, new: &str) -> Result<Option<Request>, Fail> {
+    let text = content.replace(alloc, old, new)?;
+    numbered(alloc, text.as_str())
 }
 
 // The line with another text in the place of one of its own.
@@ -57,6 +95,202 @@ fn texts_and_their_canonical_texts(rt: HostRuntime) -> Result<(), Fail> {
         let content = canon(alloc, &request)?;
         assert!(rt; content.as_str() == want, "{text}");
     }
+    Ok(())
+}
+
+// What is put into a content in the place of a text of its own, so that it is the content of another request.
+const CONTENTS: &[(&str, &str, &str)] = &[
+    (SUGGEST, "Hallo", "Hallo"),
+    (SUGGEST, "[\"Hallo\"]", "[\"\",\"\"]"),
+    (VOTE, ":1}", ":1}"),
+    (VOTE, ":1}", ":-1}"),
+    (VOTE, ":1}", ":0}"),
+    (ACCEPT, "menu", "menu"),
+    (DISMISS, "8000", "a0f0"),
+    (COMMENT, "note", "note"),
+    (COMMENT, "\"a note\"", ""),
+    (COMMENT, "\"a note\"", "\"\",\"\\tü\""),
+    (APPROVE, "de", "sr@latin"),
+    (SEND_BACK, "Hello", ""),
+];
+
+// Whether a content is the canonical text of its own request.
+fn is_canonical(alloc: Global, content: &str) -> Result<bool, Fail> {
+    match numbered(alloc, content)? {
+        Some(request) => {
+            let written = canon(alloc, &request)?;
+            Ok(written.as_str() == content)
+        }
+        None => Ok(false),
+    }
+}
+
+#[test]
+fn acts_and_their_canonical_texts(rt: HostRuntime) -> Result<(), Fail> {
+    let alloc = rt.alloc();
+    for (content, old, new) in CONTENTS {
+        let text = content.replace(alloc, *old, *new)?;
+        assert!(rt; is_canonical(alloc, text.as_str())?, "{text}");
+    }
+    let line = "a".repeat(alloc, 1_000)?;
+    let longest = COMMENT.replace(alloc, "a note", line.as_str())?;
+    assert!(rt; is_canonical(alloc, longest.as_str())?);
+    let lines = "\"a\",".repeat(alloc, 19)?;
+    let twenty = COMMENT.replace(
+        alloc,
+        "\"a note\"",
+        format!(in alloc; "{lines}\"a\"")?.as_str(),
+    )?;
+    assert!(rt; is_canonical(alloc, twenty.as_str())?);
+    Ok(())
+}
+
+// What is put into a content in the place of a text of its own, so that it is no request's.
+type Changes = &'static [(&'static str, &'static str)];
+
+const NO_VOTES: Changes = &[
+    (":1}", ":2}"),
+    (":1}", ":-2}"),
+    (":1}", ":1.0}"),
+    (":1}", ":1e0}"),
+    (":1}", ":-1.0}"),
+    (":1}", ":-0}"),
+    (":1}", ":0.0}"),
+    (":1}", ":01}"),
+    (":1}", ":+1}"),
+    (":1}", ":\"1\"}"),
+    (":1}", ":true}"),
+    (":1}", ":null}"),
+    (":1}", ":18446744073709551617}"),
+    (":1}", ":-9223372036854775809}"),
+    (",\"value\":1", ""),
+    ("\"value\"", "\"forms\":[\"Hallo\"],\"value\""),
+    ("\"value\"", "\"lines\":[],\"value\""),
+    ("vote", "accept"),
+    ("vote", "votes"),
+    (
+        "\"suggestion\":\"00000000-0000-4000-8000-000000000020\",",
+        "",
+    ),
+    ("8000", "ABCD"),
+];
+
+const NO_ACCEPTS: Changes = &[
+    (
+        ",\"suggestion\":\"00000000-0000-4000-8000-000000000020\"",
+        "",
+    ),
+    (
+        "00000000-0000-4000-8000-000000000020",
+        "00000000000040008000000000000020",
+    ),
+    (
+        "00000000-0000-4000-8000-000000000020",
+        "{00000000-0000-4000-8000-000000000020}",
+    ),
+    ("\"00000000-0000-4000-8000-000000000020\"", "20"),
+    ("\"00000000-0000-4000-8000-000000000020\"", "null"),
+    ("\"seen\"", "\"value\":1,\"seen\""),
+    ("accept", "vote"),
+    ("accept", "approve"),
+];
+
+const NO_DISMISSALS: Changes = &[
+    ("8000", "800G"),
+    ("\"id\"", "\"forms\":[\"Hallo\"],\"id\""),
+    ("dismiss", "Dismiss"),
+];
+
+const NO_SUGGESTIONS: Changes = &[
+    ("\"forms\":[\"Hallo\"],", ""),
+    ("[\"Hallo\"]", "[]"),
+    ("[\"Hallo\"]", "[\"\\u0000\"]"),
+    (
+        "\"seen\"",
+        "\"suggestion\":\"00000000-0000-4000-8000-000000000020\",\"seen\"",
+    ),
+    ("suggest", "comment"),
+];
+
+const NO_COMMENTS: Changes = &[
+    ("\"lines\":[\"a note\"],", ""),
+    ("[\"a note\"]", "\"a note\""),
+    ("\"a note\"", "1"),
+    ("\"a note\"", "null"),
+    ("a note", "two\\nlines"),
+    ("a note", "ends\\r"),
+    ("a note", "\\u0000"),
+    ("a note", "\\u001f"),
+    ("\"a note\"", "\"a note\",\"two\\nlines\""),
+    ("\"id\"", "\"forms\":[\"Hallo\"],\"id\""),
+    ("comment", "translate"),
+];
+
+const NO_APPROVALS: Changes = &[
+    ("\"id\"", "\"forms\":[\"Hallo\"],\"id\""),
+    ("\"id\"", "\"lines\":[],\"id\""),
+    ("\"id\"", "\"value\":1,\"id\""),
+    (
+        "\"id\"",
+        "\"suggestion\":\"00000000-0000-4000-8000-000000000020\",\"id\"",
+    ),
+    ("\"id\"", "\"suggestion\":null,\"id\""),
+    ("approve", "suggest"),
+];
+
+const NOT_SENT_BACK: Changes = &[
+    ("send-back", "send_back"),
+    ("send-back", "sendback"),
+    ("\"seen\":2", "\"seen\":2,\"x\":1"),
+];
+
+// The change under which the content is a request all the same.
+fn taken(alloc: Global, content: &str, changes: Changes) -> Result<Option<&'static str>, Fail> {
+    for (old, new) in changes {
+        if changed(alloc, content, *old, *new)?.is_some() {
+            return Ok(Some(*new));
+        }
+    }
+    Ok(None)
+}
+
+#[test]
+fn changed_votes_are_malformed(rt: HostRuntime) -> Result<(), Fail> {
+    let alloc = rt.alloc();
+    assert_eq!(rt; taken(alloc, VOTE, NO_VOTES)?, None);
+    Ok(())
+}
+
+#[test]
+fn changed_acts_on_suggestions_are_malformed(rt: HostRuntime) -> Result<(), Fail> {
+    let alloc = rt.alloc();
+    assert_eq!(rt; taken(alloc, ACCEPT, NO_ACCEPTS)?, None);
+    assert_eq!(rt; taken(alloc, DISMISS, NO_DISMISSALS)?, None);
+    assert_eq!(rt; taken(alloc, SUGGEST, NO_SUGGESTIONS)?, None);
+    Ok(())
+}
+
+#[test]
+fn changed_comments_and_reviews_are_malformed(rt: HostRuntime) -> Result<(), Fail> {
+    let alloc = rt.alloc();
+    assert_eq!(rt; taken(alloc, COMMENT, NO_COMMENTS)?, None);
+    assert_eq!(rt; taken(alloc, APPROVE, NO_APPROVALS)?, None);
+    assert_eq!(rt; taken(alloc, SEND_BACK, NOT_SENT_BACK)?, None);
+    Ok(())
+}
+
+#[test]
+fn overlong_comments_are_malformed(rt: HostRuntime) -> Result<(), Fail> {
+    let alloc = rt.alloc();
+    let long = "a".repeat(alloc, 1_001)?;
+    let lines = "\"a\",".repeat(alloc, 20)?;
+    let many = format!(in alloc; "[{lines}")?;
+    let deep = "[".repeat(alloc, 200)?;
+    let deep_end = "]".repeat(alloc, 200)?;
+    let nested = format!(in alloc; "{deep}{deep_end}")?;
+    assert!(rt; changed(alloc, COMMENT, "a note", long.as_str())?.is_none());
+    assert!(rt; changed(alloc, COMMENT, "[", many.as_str())?.is_none());
+    assert!(rt; changed(alloc, COMMENT, "\"a note\"", nested.as_str())?.is_none());
     Ok(())
 }
 

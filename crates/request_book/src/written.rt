@@ -3,17 +3,18 @@ ghost use Rattle.std.specs.Prelude.{◌≡◌, codes, true, IfOk, OnOk, MatchOpt
 ghost use Rattle.serde_json.specs.Data.{put as with, string, array};
 ghost use Rattle.serde_json.specs.View.{view, items_view, members_view};
 ghost use Rattle.request_book.specs.declared.act.Act.TheVariants.{OnUnit};
-ghost use Rattle.request_book.specs.Acts.{action_text, forms_in, fields_of, IsAct};
-ghost use Rattle.request_book.specs.Words.{strings, number_text, members};
-ghost use Rattle.units.specs.Limits.{is_name};
+ghost use Rattle.request_book.specs.Acts.{action_text, forms_in, lines_in, suggestion_in, vote_in, vote_data, fields_of, IsAct, IsNumber};
+ghost use Rattle.request_book.specs.Words.{strings, number_data, members};
+ghost use Rattle.units.specs.Limits.{is_name, is_comment_lines};
 ghost use Rattle.po_read.specs.Strings.{is_string, is_forms};
 ghost use Rattle.request_book.specs.Puts.{put_optional};
 
 use crate::act::Act;
+use crate::fields::bytes_fit;
 use po_read::{Forms, PoString};
 use serde_json::{Map, Value, put};
 use std::alloc::{AllocError, Global};
-use units::{Key, Lang, Name, UnitAct, UnitAction};
+use units::{CommentLines, Key, Lang, Name, UnitAct, UnitAction, VoteValue};
 use uuid::Uuid;
 
 /// The members of an act's object, with the caller and the number where they are given.
@@ -55,8 +56,11 @@ fn unit_map(
     put_forms(&mut map, alloc, &act.action)?;
     put_text(&mut map, alloc, "id", key.id.as_str())?;
     put_text(&mut map, alloc, "lang", lang.as_str())?;
-    put_number(&mut map, alloc, number)?;
+    put_lines(&mut map, alloc, &act.action)?;
+    put_number(&mut map, alloc, "number", number)?;
     put(&mut map, alloc, "seen", Value::from(act.seen.number()))?;
+    put_number(&mut map, alloc, "suggestion", suggestion_in(&act.action))?;
+    put_vote(&mut map, alloc, &act.action)?;
     Ok(map)
 }
 
@@ -64,7 +68,30 @@ fn action_word(action: &UnitAction) -> &'static str
     ensures { result.now ≡ action_text action.now }
 {
     match action {
+        UnitAction::Suggest(_) => "suggest",
+        UnitAction::Vote(_, _) => "vote",
+        UnitAction::Accept(_) => "accept",
+        UnitAction::Dismiss(_) => "dismiss",
         UnitAction::Translate(_) => "translate",
+        UnitAction::Comment(_) => "comment",
+        UnitAction::Approve => "approve",
+        UnitAction::SendBack => "send-back",
+    }
+}
+
+/// The number of the suggestion that an act names.
+fn suggestion_in(action: &UnitAction) -> Option<Uuid>
+    ensures { result ≡ suggestion_in action.now }
+{
+    match action {
+        UnitAction::Vote(suggestion, _)
+        | UnitAction::Accept(suggestion)
+        | UnitAction::Dismiss(suggestion) => Some(*suggestion),
+        UnitAction::Suggest(_)
+        | UnitAction::Translate(_)
+        | UnitAction::Comment(_)
+        | UnitAction::Approve
+        | UnitAction::SendBack => None,
     }
 }
 
@@ -122,26 +149,89 @@ fn put_forms(
     ensures fits { OnOk result (MatchOption (forms_in action.now) ⊤ (λ forms. is_forms forms ≡ true)) }
 {
     match action {
-        UnitAction::Translate(forms) => put(map, alloc, "forms", forms_value(alloc, forms)?),
+        UnitAction::Suggest(forms) | UnitAction::Translate(forms) => {
+            put(map, alloc, "forms", forms_value(alloc, forms)?)
+        }
+        UnitAction::Vote(_, _)
+        | UnitAction::Accept(_)
+        | UnitAction::Dismiss(_)
+        | UnitAction::Comment(_)
+        | UnitAction::Approve
+        | UnitAction::SendBack => Ok(()),
+    }
+}
+
+fn put_lines(
+    map: &mut Map<String, Value>,
+    alloc: Global,
+    action: &UnitAction,
+) -> Result<(), AllocError>
+    ensures value { OnOk result (members_view map.new.entries
+        ≡ put_optional (codes "lines") (option_map strings (lines_in action.now))
+        (members_view map.old.entries)) }
+    ensures fits { OnOk result (MatchOption (lines_in action.now) ⊤ (λ lines. is_comment_lines lines ≡ true)) }
+{
+    match action {
+        UnitAction::Comment(lines) => put(map, alloc, "lines", lines_value(alloc, lines)?),
+        UnitAction::Suggest(_)
+        | UnitAction::Vote(_, _)
+        | UnitAction::Accept(_)
+        | UnitAction::Dismiss(_)
+        | UnitAction::Translate(_)
+        | UnitAction::Approve
+        | UnitAction::SendBack => Ok(()),
     }
 }
 
 fn put_number(
     map: &mut Map<String, Value>,
     alloc: Global,
+    key: &str,
     number: Option<Uuid>,
 ) -> Result<(), AllocError>
-    ensures { OnOk result (members_view map.new.entries
-        ≡ put_optional (codes "number") (option_map (λ u. string (number_text u)) number)
-        (members_view map.old.entries)) }
+    ensures value { OnOk result (members_view map.new.entries
+        ≡ put_optional key.now (option_map number_data number) (members_view map.old.entries)) }
+    ensures fits { OnOk result (MatchOption number ⊤ IsNumber) }
 {
     match number {
         Some(number) => {
+            bytes_fit(number.as_bytes());
             let mut buffer = Uuid::encode_buffer();
             let written: &str = number.hyphenated().encode_lower(&mut buffer);
-            put_text(map, alloc, "number", written)
+            put_text(map, alloc, key, written)
         },
         None => Ok(()),
+    }
+}
+
+fn put_vote(
+    map: &mut Map<String, Value>,
+    alloc: Global,
+    action: &UnitAction,
+) -> Result<(), AllocError>
+    ensures { OnOk result (members_view map.new.entries
+        ≡ put_optional (codes "value") (option_map vote_data (vote_in action.now))
+        (members_view map.old.entries)) }
+{
+    match action {
+        UnitAction::Vote(_, value) => put(map, alloc, "value", vote_value(*value)),
+        UnitAction::Suggest(_)
+        | UnitAction::Accept(_)
+        | UnitAction::Dismiss(_)
+        | UnitAction::Translate(_)
+        | UnitAction::Comment(_)
+        | UnitAction::Approve
+        | UnitAction::SendBack => Ok(()),
+    }
+}
+
+fn vote_value(value: Option<VoteValue>) -> Value
+    ensures { view result ≡ vote_data value }
+{
+    match value {
+        None => Value::from(0_u64),
+        Some(VoteValue::For) => Value::from(1_u64),
+        Some(VoteValue::Against) => Value::from(-1_i64),
     }
 }
 
@@ -152,6 +242,17 @@ fn forms_value(alloc: Global, forms: &Forms) -> Result<Value, AllocError>
     let mut list = Vec::new(alloc);
     for text in forms.as_slice() {
         list.push(Value::try_from_str(alloc, text.as_str())?)?;
+    }
+    Ok(Value::Array(list))
+}
+
+fn lines_value(alloc: Global, lines: &CommentLines) -> Result<Value, AllocError>
+    ensures value { IfOk result (λ v. view v ≡ strings lines.now) }
+    ensures fits { is_comment_lines lines.now ≡ true }
+{
+    let mut list = Vec::new(alloc);
+    for line in lines.as_items().as_slice() {
+        list.push(Value::try_from_str(alloc, line.as_str())?)?;
     }
     Ok(Value::Array(list))
 }

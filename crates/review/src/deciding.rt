@@ -1,16 +1,41 @@
 //! Decisions on acts on one unit.
-ghost use Rattle.std.specs.Prelude.{◌≡◌, IfOk};
-ghost use Rattle.review.specs.UnitStep.{unit_step};
+ghost use Rattle.std.specs.Prelude.{◌≡◌, IfOk, List, ℕ};
+ghost use Rattle.review.specs.UnitStep as spec;
 
 use crate::decision::Decision;
-use crate::effects::{revision_after, unit_after, values_of};
-use crate::judging::given_state;
-use crate::refusing::{first_refusal, is_same};
+use crate::refusing::first_refusal;
+use crate::reviewing::{approve, send_back};
+use crate::suggesting::{dismiss, suggest};
+use crate::translating::{accept, comment, translate};
+use crate::voting::vote;
 use plural_expr::PluralForms;
-use po_read::Duplicate;
 use std::alloc::Global;
-use units::{Memory, Name, Policy, Refusal, Role, UnitAct, UnitView};
+use units::{Memory, Name, Policy, Role, UnitAct, UnitAction, UnitView};
 use uuid::Uuid;
+
+/// Decides an act that no refusal meets which every act has.
+fn decide_by_act(
+    alloc: Global,
+    view: &UnitView,
+    rule: &PluralForms,
+    policy: &Policy,
+    caller: &Name,
+    number: Uuid,
+    action: &UnitAction,
+) -> Result<Decision, Memory>
+    ensures { IfOk result (λ d. d ≡ spec.decision_by_act policy.now rule.now caller.now number view.now action.now) }
+{
+    match action {
+        UnitAction::Suggest(forms) => suggest(alloc, view, caller, number, forms),
+        UnitAction::Vote(named, value) => vote(alloc, view, rule, policy, caller, *named, *value),
+        UnitAction::Accept(named) => accept(alloc, view, rule, policy, *named),
+        UnitAction::Dismiss(named) => dismiss(alloc, view, *named),
+        UnitAction::Translate(forms) => translate(alloc, view, rule, policy, forms),
+        UnitAction::Comment(lines) => comment(view, lines),
+        UnitAction::Approve => approve(alloc, view, rule, policy),
+        UnitAction::SendBack => send_back(view, policy),
+    }
+}
 
 /// Decides an act on a unit, by what its caller may do and what the unit is: the unit's new view with the values of
 /// the reply, or the first refusal that applies. `rule` is the plural rule of the unit's language, `role` the role of
@@ -27,21 +52,10 @@ pub fn decide(
     number: Uuid,
     act: &UnitAct,
 ) -> Result<Decision, Memory>
-    ensures { IfOk result (λ d. d ≡ unit_step policy.now rule.now role caller.now number view.now act.now) }
+    ensures { IfOk result (λ d. d ≡ spec.unit_step policy.now rule.now role caller.now number view.now act.now) }
 {
-    if let Some(refusal) = first_refusal(policy, rule, role, view, act) {
-        return Ok(Decision::Refused(refusal));
+    match first_refusal(policy, rule, role, view, act) {
+        Some(refusal) => Ok(Decision::Refused(refusal)),
+        None => decide_by_act(alloc, view, rule, policy, caller, number, &act.action),
     }
-    let action = &act.action;
-    let state = given_state(alloc, policy, rule, view, action)?;
-    if is_same(state, view, action) {
-        return Ok(Decision::Refused(Refusal::IsSame));
-    }
-    let Some(revision) = revision_after(view, action) else {
-        return Ok(Decision::Refused(Refusal::PastLimit));
-    };
-    let unit = unit_after(view, state, revision, action)?;
-    let values = values_of(view, &unit, action);
-    let source = view.source.duplicate()?;
-    Ok(Decision::Done(UnitView { unit, source }, values))
 }

@@ -1,5 +1,6 @@
 //! What an act on a unit comes to.
 use units::{Refusal, Revision, ShownState, UnitView};
+use uuid::Uuid;
 
 /// The values of a reply to an act that was done.
 #[derive(Debug, Drop, Clone, Copy, PartialEq, Eq)]
@@ -8,6 +9,20 @@ pub enum Values {
     Plain {
         revision: Revision,
         state: ShownState,
+    },
+    /// Of a new suggestion: its number too, and the sum of its votes.
+    Suggested {
+        revision: Revision,
+        state: ShownState,
+        suggestion: Uuid,
+        votes: i64,
+    },
+    /// Of a vote: whether the suggestion was accepted by it too, and the sum of its votes after it.
+    Voted {
+        accepted: bool,
+        revision: Revision,
+        state: ShownState,
+        votes: i64,
     },
 }
 

@@ -3,11 +3,16 @@
 
 mod deciding;
 mod decision;
-mod effects;
 mod judging;
 mod refusing;
+mod reviewing;
+mod suggesting;
+mod suggestions;
 #[cfg(test)]
 mod tests;
+mod translating;
+mod units_after;
+mod voting;
 
 pub use deciding::decide;
 pub use decision::{Decision, Values};

@@ -1,8 +1,6 @@
-//! The refusals of an act, in their order.
+//! The refusals that every act has, in their order.
 ghost use Rattle.std.specs.Prelude.{◌≡◌, ◌==◌, not, List, ℕ, MatchOption, false, length};
 ghost use Rattle.std.specs.Option.{option_copied, option_map_or};
-ghost use Rattle.plural_expr.specs.Values.{Rule};
-ghost use Rattle.units.specs.declared.unit.Policy.{Policy as PolicyValue};
 ghost use Rattle.units.specs.Units.{needed};
 ghost use Rattle.review.specs.UnitStep as spec;
 
@@ -15,7 +13,20 @@ fn least_role(policy: &Policy, action: &UnitAction) -> Role
     ensures { result ≡ spec.least_role policy.now action.now }
 {
     match action {
+        UnitAction::Suggest(_) => {
+            if policy.guests_suggest {
+                Role::Guest
+            } else {
+                Role::Translator
+            }
+        }
+        UnitAction::Vote(_, _) => Role::Translator,
+        UnitAction::Accept(_) => Role::Translator,
+        UnitAction::Dismiss(_) => Role::Translator,
         UnitAction::Translate(_) => Role::Translator,
+        UnitAction::Comment(_) => Role::Translator,
+        UnitAction::Approve => Role::Reviewer,
+        UnitAction::SendBack => Role::Reviewer,
     }
 }
 
@@ -24,7 +35,14 @@ fn edits(action: &UnitAction) -> bool
     ensures { result ≡ spec.edits action.now }
 {
     match action {
+        UnitAction::Suggest(_) => false,
+        UnitAction::Vote(_, _) => false,
+        UnitAction::Accept(_) => true,
+        UnitAction::Dismiss(_) => false,
         UnitAction::Translate(_) => true,
+        UnitAction::Comment(_) => true,
+        UnitAction::Approve => false,
+        UnitAction::SendBack => false,
     }
 }
 
@@ -33,7 +51,14 @@ fn forms_of(action: &UnitAction) -> Option<&Forms>
     ensures { option_copied result ≡ spec.forms_of action.now }
 {
     match action {
+        UnitAction::Suggest(forms) => Some(forms),
+        UnitAction::Vote(_, _) => None,
+        UnitAction::Accept(_) => None,
+        UnitAction::Dismiss(_) => None,
         UnitAction::Translate(forms) => Some(forms),
+        UnitAction::Comment(_) => None,
+        UnitAction::Approve => None,
+        UnitAction::SendBack => None,
     }
 }
 
@@ -47,7 +72,7 @@ fn has_wrong_count(rule: &PluralForms, view: &UnitView, action: &UnitAction) -> 
     }
 }
 
-/// The first refusal that applies, of those that need no look at what the act would make of the unit.
+/// The first refusal that applies, of those that every act has.
 #[tactic(auto, unfolding(crate::specs::UnitStep::refusals))]
 pub(crate) fn first_refusal(
     policy: &Policy,
@@ -59,7 +84,7 @@ pub(crate) fn first_refusal(
     ensures { (caller number : List ℕ) →
         let wanted = spec.first_refusal (spec.refusals policy.now rule.now role caller number view.now act.now) in
         MatchOption result
-        (wanted ≡ spec.first_refusal (spec.refusals_by_effect policy.now rule.now caller number view.now act.now.action))
+        (wanted ≡ spec.first_refusal (spec.refusals_by_act policy.now rule.now caller number view.now act.now.action))
         (λ refusal. wanted ≡ Some refusal) }
 {
     let unit = &view.unit;
@@ -82,16 +107,4 @@ pub(crate) fn first_refusal(
         return Some(Refusal::PluralCount);
     }
     None
-}
-
-/// Whether an act would change nothing, by the state that its forms give.
-pub(crate) fn is_same(state: Option<UnitState>, view: &UnitView, action: &UnitAction) -> bool
-    ensures { (policy : PolicyValue) (rule : Rule) (caller : List ℕ) → state ≡ spec.given_state policy rule view.now action.now →
-        result ≡ spec.is_same policy rule caller view.now action.now }
-{
-    match action {
-        UnitAction::Translate(forms) => {
-            forms.as_slice() == view.unit.forms.as_slice() && state == Some(view.unit.state)
-        }
-    }
 }

@@ -1,19 +1,24 @@
 //! Rows of decisions: what `translate` makes of a unit, and which refusal comes first.
+
+mod acts;
+
 use crate::{Decision, Values, decide};
 use plural_expr::PluralForms;
 use po_read::{Entry, Forms, Items, PoString, Previous, Text};
 use std::alloc::Global;
 use std::test::Fail;
 use units::{
-    AcceptAt, Key, Memory, Name, Policy, Refusal, Revision, Role, ShownState, Unit, UnitAct,
-    UnitAction, UnitState, UnitView,
+    AcceptAt, Key, Memory, Name, Policy, Refusal, Revision, Role, ShownState, Suggestion, Unit,
+    UnitAct, UnitAction, UnitState, UnitView, Votes,
 };
 use uuid::Uuid;
 
-/// What a decision tells: the reply's values and whether a previous msgid is left, or the refusal.
+/// What a decision tells: the reply's values, with whether a previous msgid is left, or the refusal.
 #[derive(Clone, Copy, Debug, PartialEq, Eq)]
 enum Told {
     Done(u64, ShownState, bool),
+    Suggested(u64, ShownState, i64),
+    Voted(bool, u64, ShownState, i64),
     Refused(Refusal),
 }
 
@@ -165,12 +170,29 @@ fn policy(enforced: bool) -> Result<Policy, Fail> {
     })
 }
 
-fn outcome_of(decision: Decision) -> Told {
-    match decision {
-        Decision::Done(view, values) => {
-            let Values::Plain { revision, state } = values;
+fn values_told(view: &UnitView, values: Values) -> Told {
+    match values {
+        Values::Plain { revision, state } => {
             Told::Done(revision.number(), state, view.unit.previous.id.is_some())
         }
+        Values::Suggested {
+            revision,
+            state,
+            suggestion: _,
+            votes,
+        } => Told::Suggested(revision.number(), state, votes),
+        Values::Voted {
+            accepted,
+            revision,
+            state,
+            votes,
+        } => Told::Voted(accepted, revision.number(), state, votes),
+    }
+}
+
+fn outcome_of(decision: Decision) -> Told {
+    match decision {
+        Decision::Done(view, values) => values_told(&view, values),
         Decision::Refused(refusal) => Told::Refused(refusal),
     }
 }

@@ -3,10 +3,7 @@ use Rattle.std.specs.Prelude.{Bool, true, false, refl, ◌≡◌}
 use Rattle.std.specs.Coded.{Coded, code_by, coded_bool}
 use Rattle.units.specs.declared.votes.VoteValue.{VoteValue}
 use Rattle.units.specs.declared.votes.VoteValue.TheVariants.{Against, For}
-
-abbrev is_for : VoteValue → Bool
-is_for Against = false
-is_for For = true
+use Rattle.units.specs.Ballots.{is_for}
 
 abbrev vote_value : Bool → VoteValue
 vote_value true = For

@@ -1,5 +1,6 @@
 pub mod Limits
 pub mod Streams
+pub mod Ballots
 pub mod Coding
 pub mod Units
 pub mod Office

@@ -2,6 +2,7 @@
 -- be: this project's own rules.
 use Rattle.std.specs.Prelude.{ℕ, ◌==◌, ◌&&◌, ◌||◌, List, [], ◌∷◌, length, Bool, false, nat_le}
 use Rattle.std.specs.List.{list_all}
+use Rattle.po_lex.specs.Lines.{is_comment_text}
 use Rattle.po_read.specs.Texts.{Text}
 
 abbrev pub is_small_letter : ℕ → Bool
@@ -42,6 +43,20 @@ is_revision n = nat_le 1 n && nat_le n revision_limit
 -- 0 where no suggestion is accepted by votes
 abbrev pub is_accept_at : ℕ → Bool
 is_accept_at n = (n == 0) || (nat_le 2 n && nat_le n 100)
+
+-- the lines of a comment that an act gives: how many at most, and how many bytes each
+abbrev pub comment_limit : ℕ
+comment_limit = 20
+
+abbrev pub comment_line_limit : ℕ
+comment_line_limit = 1000
+
+-- no line end, and no control character but the tab
+abbrev pub is_comment_line : Text → Bool
+is_comment_line line = nat_le (length line) comment_line_limit && is_comment_text line
+
+abbrev pub is_comment_lines : List Text → Bool
+is_comment_lines lines = nat_le (length lines) comment_limit && list_all is_comment_line lines
 
 -- how many languages an office has at most, names its team, units (obsolete ones included) a language
 abbrev pub language_limit : ℕ

@@ -2,8 +2,9 @@
 -- documentation ("Translation workflows") and the entries of the GNU gettext manual ("The Format of PO Files").
 -- Sizes and letters of names, languages, strings and forms are kept by their types.
 use Rattle.std.specs.Prelude.{◌≡◌, ◌≤◌, [], ◌∷◌, length, true, false, not, Some, None, IsSome, IsOk, IsTrue, All, codes}
-use Rattle.std.specs.List.{list_any}
+use Rattle.std.specs.List.{list_any, AllByRecursion}
 use Rattle.std.specs.FinMap as maps
+use Rattle.po_lex.specs.Lines.{is_comment_text}
 use Rattle.po_read.specs.declared.entry.Entry.{Entry}
 use Rattle.po_read.specs.Entries.{is_header}
 use Rattle.po_read.specs.Texts.{Text, is_empty}
@@ -34,6 +35,8 @@ pub record IsUnit (rule : Rule) (unit : Unit) : Type 0 where
   -- previous strings are kept only while the unit needs editing
   pub previous : is_needs_editing unit.state ≡ false → unit.previous ≡ no_previous
   pub revised : (1 ≤ unit.revision) × (unit.revision ≤ revision_limit)
+  -- no line of its comment has a character below U+0020 other than tab
+  pub commented : AllByRecursion (λ line. IsTrue (is_comment_text line)) unit.comment
   pub suggested : length unit.suggestions ≤ suggestion_limit
   pub voted : All (λ s. maps.len s.votes ≤ vote_limit) unit.suggestions
 

@@ -21,7 +21,7 @@ use Rattle.units.specs.declared.unit.Role.{Role}
 use Rattle.units.specs.declared.unit.Role.TheVariants.{Guest, Translator, Reviewer, Manager}
 use Rattle.units.specs.declared.unit.Suggestion.{Suggestion}
 use Rattle.units.specs.declared.votes.VoteValue.{VoteValue}
-use Rattle.units.specs.declared.votes.VoteValue.TheVariants.{Against, For}
+pub use Rattle.units.specs.Ballots.{is_for, vote_eq}
 use Rattle.po_read.specs.Texts.{Text, text_cmp, text_eq, is_empty}
 
 -- ---- keys
@@ -138,10 +138,6 @@ suggestion_of number unit = find (has_number number) unit.suggestions
 
 abbrev pub without_suggestion : Text → Unit → Unit
 without_suggestion number unit = record unit { suggestions = filter (λ s. not (has_number number s)) unit.suggestions }
-
-abbrev pub is_for : VoteValue → Bool
-is_for For = true
-is_for Against = false
 
 -- 1 plus the votes, of which one for counts 1 and one against -1
 abbrev pub vote_sum : maps.FinMap text_cmp VoteValue → ℤ

@@ -51,7 +51,14 @@ impl Duplicate for UnitView {
 impl Duplicate for UnitAction {
     fn duplicate(&self) -> Result<UnitAction, AllocError> {
         match self {
+            UnitAction::Suggest(forms) => Ok(UnitAction::Suggest(forms.duplicate()?)),
+            UnitAction::Vote(number, value) => Ok(UnitAction::Vote(*number, *value)),
+            UnitAction::Accept(number) => Ok(UnitAction::Accept(*number)),
+            UnitAction::Dismiss(number) => Ok(UnitAction::Dismiss(*number)),
             UnitAction::Translate(forms) => Ok(UnitAction::Translate(forms.duplicate()?)),
+            UnitAction::Comment(lines) => Ok(UnitAction::Comment(lines.duplicate()?)),
+            UnitAction::Approve => Ok(UnitAction::Approve),
+            UnitAction::SendBack => Ok(UnitAction::SendBack),
         }
     }
 }

@@ -1,6 +1,7 @@
 //! Data of the office, and streams of bytes.
 #![tactic(auto)]
 
+mod comment;
 mod copies;
 mod memory;
 mod names;
@@ -11,6 +12,7 @@ mod tests;
 mod unit;
 mod votes;
 
+pub use comment::CommentLines;
 pub use memory::Memory;
 pub use names::{AcceptAt, Lang, Name, Revision};
 pub use states::{all_empty, has_flag, is_read_only, needed, some_empty};

@@ -2,13 +2,14 @@
 ghost use Rattle.std.specs.Prelude.{Some};
 
 use crate::{
-    AcceptAt, ByteSink, ByteSource, Key, Lang, Name, Revision, Role, ShownState, SinkFault,
-    SourceFault, Unit, UnitAct, UnitAction, UnitState, UnitView, VoteValue, Votes, all_empty,
-    has_flag, some_empty,
+    AcceptAt, ByteSink, ByteSource, CommentLines, Key, Lang, Name, Revision, Role, ShownState,
+    SinkFault, SourceFault, Unit, UnitAct, UnitAction, UnitState, UnitView, VoteValue, Votes,
+    all_empty, has_flag, some_empty,
 };
 use po_read::{Duplicate, Entry, Forms, Items, PoString, Previous, Text};
 use std::alloc::Global;
 use std::test::Fail;
+use uuid::Uuid;
 
 /// A sink over memory that takes some bytes a write, until it is full.
 #[derive(Drop)]
@@ -339,18 +340,124 @@ fn empty_forms(rt: HostRuntime) -> Result<(), Fail> {
     Ok(())
 }
 
+fn comment(alloc: Global, lines: &[&str]) -> Result<Option<CommentLines>, Fail> {
+    let mut items = Items::new(alloc);
+    for line in lines {
+        items.push(Text::from_text(alloc, line)?)?;
+    }
+    Ok(CommentLines::try_new(items))
+}
+
+#[test]
+fn comments(rt: HostRuntime) -> Result<(), Fail> {
+    let alloc = rt.alloc();
+    let long = "a".repeat(alloc, 1000)?;
+    let longer = "a".repeat(alloc, 1001)?;
+    let rows = [
+        ("", true),
+        ("a note", true),
+        ("\tindented", true),
+        ("grüße", true),
+        (long.as_str(), true),
+        (longer.as_str(), false),
+        ("two\nlines", false),
+        ("ends\r", false),
+        ("\u{1f}", false),
+        ("\u{7f}", true),
+    ];
+    for (line, is_one) in rows {
+        let lines = comment(alloc, &["first", line])?;
+        assert_eq!(rt; lines.is_some(), is_one, "at {} bytes", line.len());
+        if let Some(lines) = lines {
+            assert_eq!(rt; lines.as_items().as_slice().len(), 2);
+        }
+    }
+    assert!(rt; comment(alloc, &["a"; 20])?.is_some());
+    assert!(rt; comment(alloc, &["a"; 21])?.is_none());
+    assert!(rt; comment(alloc, &[])?.is_some());
+    Ok(())
+}
+
+/// What kind of act it is, and how many strings or lines it brings or which vote.
+fn shown_act(action: &UnitAction) -> (u8, usize) {
+    match action {
+        UnitAction::Suggest(forms) => (1, forms.as_slice().len()),
+        UnitAction::Vote(number, value) => match value {
+            None => (2, 0),
+            Some(VoteValue::For) => (3, number.as_bytes().len()),
+            Some(VoteValue::Against) => (4, number.as_bytes().len()),
+        },
+        UnitAction::Accept(number) => (5, number.as_bytes().len()),
+        UnitAction::Dismiss(number) => (6, number.as_bytes().len()),
+        UnitAction::Translate(forms) => (7, forms.as_slice().len()),
+        UnitAction::Comment(lines) => (8, lines.as_items().as_slice().len()),
+        UnitAction::Approve => (9, 0),
+        UnitAction::SendBack => (10, 0),
+    }
+}
+
 #[test]
 fn copies_of_acts(rt: HostRuntime) -> Result<(), Fail> {
     let alloc = rt.alloc();
-    let act = UnitAct {
-        seen: Revision::try_new(7).ok_or("no revision")?,
-        action: UnitAction::Translate(empty_form(alloc)?),
-    };
-    let copy = act.duplicate()?;
-    assert_eq!(rt; copy.seen.number(), 7);
-    let UnitAction::Translate(forms) = &copy.action;
-    assert_eq!(rt; forms.as_slice().len(), 1);
-    let _ = Votes::new(alloc).duplicate()?;
-    let _ = VoteValue::For;
+    let number = Uuid::from_u128(20);
+    let lines = comment(alloc, &["a", "b"])?.ok_or("no comment")?;
+    let rows = [
+        (UnitAction::Suggest(empty_form(alloc)?), (1, 1)),
+        (UnitAction::Vote(number, None), (2, 0)),
+        (UnitAction::Vote(number, Some(VoteValue::For)), (3, 16)),
+        (UnitAction::Vote(number, Some(VoteValue::Against)), (4, 16)),
+        (UnitAction::Accept(number), (5, 16)),
+        (UnitAction::Dismiss(number), (6, 16)),
+        (UnitAction::Translate(empty_form(alloc)?), (7, 1)),
+        (UnitAction::Comment(lines), (8, 2)),
+        (UnitAction::Approve, (9, 0)),
+        (UnitAction::SendBack, (10, 0)),
+    ];
+    for (action, shown) in rows {
+        let act = UnitAct {
+            seen: Revision::try_new(7).ok_or("no revision")?,
+            action,
+        };
+        let copy = act.duplicate()?;
+        assert_eq!(rt; copy.seen.number(), 7);
+        assert_eq!(rt; shown_act(&copy.action), shown);
+    }
+    Ok(())
+}
+
+fn name(alloc: Global, text: &str) -> Result<Name, Fail> {
+    Ok(Name::try_new(alloc, text)?.ok_or("no name")?)
+}
+
+/// How many votes there are, their sum, and that of `bea`.
+fn shown_votes(alloc: Global, votes: &Votes) -> Result<(usize, i64, Option<VoteValue>), Fail> {
+    Ok((votes.len(), votes.sum(), votes.get(&name(alloc, "bea")?)))
+}
+
+#[test]
+fn votes(rt: HostRuntime) -> Result<(), Fail> {
+    let alloc = rt.alloc();
+    let for_it = Some(VoteValue::For);
+    let against = Some(VoteValue::Against);
+    let mut votes = Votes::new(alloc);
+    assert_eq!(rt; shown_votes(alloc, &votes)?, (0, 1, None));
+    let rows = [
+        ("cay", for_it, (1, 2, None)),
+        ("bea", against, (2, 1, against)),
+        ("ann", for_it, (3, 2, against)),
+        ("bea", for_it, (3, 4, for_it)),
+        ("dan", against, (4, 3, for_it)),
+        ("cay", None, (3, 2, for_it)),
+        ("cay", None, (3, 2, for_it)),
+        ("bea", None, (2, 1, None)),
+    ];
+    for (voter, value, wanted) in rows {
+        match value {
+            Some(value) => votes.insert(name(alloc, voter)?, value)?,
+            None => votes.remove(&name(alloc, voter)?),
+        }
+        assert_eq!(rt; shown_votes(alloc, &votes)?, wanted, "by {voter}");
+        assert_eq!(rt; shown_votes(alloc, &votes.duplicate()?)?, wanted);
+    }
     Ok(())
 }

@@ -1,8 +1,9 @@
 //! Units, suggestions, roles, the policy and the acts on one unit. States, suggestions, votes and reviews are those of
 //! Weblate's documentation ("Translation workflows", "Translation states"); msgid, context and forms are those of the
 //! GNU gettext manual ("The Format of PO Files").
+use crate::comment::CommentLines;
 use crate::names::{AcceptAt, Name, Revision};
-use crate::votes::Votes;
+use crate::votes::{VoteValue, Votes};
 use po_read::{Entry, Forms, Items, PoString, Previous, Text};
 use uuid::Uuid;
 
@@ -107,15 +108,34 @@ pub enum Refusal {
     IsStale = 5,
     IsApproved = 6,
     PluralCount = 7,
+    NoSuggestion = 8,
+    VotingOff = 9,
+    ReviewsOff = 10,
+    IsFull = 11,
     IsSame = 12,
+    IsUnfit = 13,
     PastLimit = 17,
 }
 
 /// What an act does to its unit.
 #[derive(Debug, Drop)]
 pub enum UnitAction {
+    /// These forms are proposed, under the number of the request.
+    Suggest(Forms),
+    /// The caller votes on the suggestion with this number; without a value the caller's vote is taken back.
+    Vote(Uuid, Option<VoteValue>),
+    /// The forms of the suggestion with this number become the unit's.
+    Accept(Uuid),
+    /// The suggestion with this number is removed.
+    Dismiss(Uuid),
     /// These forms become the unit's.
     Translate(Forms),
+    /// These become the translator's comment lines.
+    Comment(CommentLines),
+    /// A reviewer approves the translation.
+    Approve,
+    /// A reviewer asks for another translation.
+    SendBack,
 }
 
 /// An act on one unit, by the revision that its caller has seen.

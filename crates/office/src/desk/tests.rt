@@ -3,7 +3,7 @@ use crate::{Desk, Lost};
 use request_book::{Reply, Request, RequestFault};
 use std::alloc::Global;
 use std::test::Fail;
-use units::Name;
+use units::{AcceptAt, Name, Policy, Role};
 
 // `Hello` to `Hallo`, by `ann`, under the number that ends in 1.
 const HALLO: &str =
@@ -26,10 +26,59 @@ const STALE: (u16, &str) = (409, "{\"refusal\":\"stale\",\"rule\":5}");
 
 const USED: (u16, &str) = (409, "{\"error\":\"number-used\"}");
 
+// Acts on suggestions and comments, on `Hello` too.
+const SUGGEST: &str =
+    "{\"act\":\"suggest\",\"caller\":\"ann\",\"forms\":[\"Hallo\"],\"id\":\"Hello\",\"lang\":\"de\",\"number\":\"00000000-0000-4000-8000-000000000020\",\"seen\":1}";
+
+const SUGGESTED: (u16, &str) = (
+    200,
+    "{\"revision\":1,\"state\":\"untranslated\",\"suggestion\":\"00000000-0000-4000-8000-000000000020\",\"votes\":1}",
+);
+
+const SUGGEST_AGAIN: &str =
+    "{\"act\":\"suggest\",\"caller\":\"root\",\"forms\":[\"Hallo\"],\"id\":\"Hello\",\"lang\":\"de\",\"number\":\"00000000-0000-4000-8000-000000000021\",\"seen\":1}";
+
+const SUGGEST_NOTHING: &str =
+    "{\"act\":\"suggest\",\"caller\":\"ann\",\"forms\":[\"\"],\"id\":\"Hello\",\"lang\":\"de\",\"number\":\"00000000-0000-4000-8000-000000000021\",\"seen\":1}";
+
+const VOTE: &str =
+    "{\"act\":\"vote\",\"caller\":\"root\",\"id\":\"Hello\",\"lang\":\"de\",\"number\":\"00000000-0000-4000-8000-000000000022\",\"seen\":1,\"suggestion\":\"00000000-0000-4000-8000-000000000020\",\"value\":1}";
+
+const APPROVE: &str =
+    "{\"act\":\"approve\",\"caller\":\"root\",\"id\":\"Hello\",\"lang\":\"de\",\"number\":\"00000000-0000-4000-8000-000000000024\",\"seen\":1}";
+
+const SEND_BACK: &str =
+    "{\"act\":\"send-back\",\"caller\":\"root\",\"id\":\"Hello\",\"lang\":\"de\",\"number\":\"00000000-0000-4000-8000-000000000024\",\"seen\":1}";
+
+const ACCEPT: &str =
+    "{\"act\":\"accept\",\"caller\":\"root\",\"id\":\"Hello\",\"lang\":\"de\",\"number\":\"00000000-0000-4000-8000-000000000025\",\"seen\":1,\"suggestion\":\"00000000-0000-4000-8000-000000000020\"}";
+
+const DISMISS: &str =
+    "{\"act\":\"dismiss\",\"caller\":\"ann\",\"id\":\"Hello\",\"lang\":\"de\",\"number\":\"00000000-0000-4000-8000-000000000026\",\"seen\":1,\"suggestion\":\"00000000-0000-4000-8000-000000000020\"}";
+
+const SUGGEST_NOTHING_LATER: &str =
+    "{\"act\":\"suggest\",\"caller\":\"ann\",\"forms\":[\"\"],\"id\":\"Hello\",\"lang\":\"de\",\"number\":\"00000000-0000-4000-8000-000000000027\",\"seen\":2}";
+
+const COMMENT: &str =
+    "{\"act\":\"comment\",\"caller\":\"ann\",\"id\":\"Hello\",\"lang\":\"de\",\"lines\":[\"a note\"],\"number\":\"00000000-0000-4000-8000-000000000028\",\"seen\":1}";
+
+const COMMENT_AGAIN: &str =
+    "{\"act\":\"comment\",\"caller\":\"ann\",\"id\":\"Hello\",\"lang\":\"de\",\"lines\":[\"a note\"],\"number\":\"00000000-0000-4000-8000-000000000029\",\"seen\":2}";
+
+const SAME: (u16, &str) = (409, "{\"refusal\":\"same\",\"rule\":12}");
+
+const REVIEWS_OFF: (u16, &str) = (409, "{\"refusal\":\"reviews-off\",\"rule\":10}");
+
+const NO_SUGGESTION: (u16, &str) = (404, "{\"refusal\":\"no-suggestion\",\"rule\":8}");
+
+const UNTRANSLATED: (u16, &str) = (200, "{\"revision\":1,\"state\":\"untranslated\"}");
+
+const COMMENTED: (u16, &str) = (200, "{\"revision\":2,\"state\":\"untranslated\"}");
+
 // Lines, each with its reply. The replies are those of the office's worked rows.
 type Row = &'static [(&'static str, (u16, &'static str))];
 
-const ROWS: [Row; 9] = [
+const ROWS: [Row; 14] = [
     &[(HALLO, DONE), (HALLO, DONE)],
     &[(SERVUS, STALE), (HALLO, DONE), (SERVUS, STALE)],
     &[(HALLO, DONE), (MOIN, USED), (HALLO, DONE)],
@@ -54,7 +103,161 @@ const ROWS: [Row; 9] = [
         "{\"act\":\"translate\",\"caller\":\"ann\",\"forms\":[\"Salut\"],\"id\":\"Hello\",\"lang\":\"fr\",\"number\":\"00000000-0000-4000-8000-000000000007\",\"seen\":1}",
         (404, "{\"refusal\":\"no-language\",\"rule\":1}"),
     )],
+    &[
+        (SUGGEST_NOTHING, SAME),
+        (SUGGEST, SUGGESTED),
+        (VOTE, (409, "{\"refusal\":\"voting-off\",\"rule\":9}")),
+        (APPROVE, REVIEWS_OFF),
+        (ACCEPT, DONE),
+        (
+            SUGGEST_NOTHING_LATER,
+            (422, "{\"refusal\":\"unfit\",\"rule\":13}"),
+        ),
+    ],
+    // A suggestion comes once, whoever makes it again, and its number stays used when it has gone.
+    &[
+        (SUGGEST, SUGGESTED),
+        (SUGGEST_AGAIN, SAME),
+        (SUGGEST, SUGGESTED),
+        (DISMISS, UNTRANSLATED),
+        (ACCEPT, NO_SUGGESTION),
+        (SUGGEST, SUGGESTED),
+        (VOTE, NO_SUGGESTION),
+    ],
+    &[(SEND_BACK, REVIEWS_OFF), (APPROVE, USED)],
+    &[
+        (COMMENT, COMMENTED),
+        (COMMENT_AGAIN, SAME),
+        (COMMENT, COMMENTED),
+    ],
+    &[
+        (VOTE, NO_SUGGESTION),
+        (SUGGEST, SUGGESTED),
+        (ACCEPT, DONE),
+        (VOTE, NO_SUGGESTION),
+        (ACCEPT, DONE),
+    ],
 ];
+
+// Votes on the suggestion, by those whose votes count.
+const BY_BEA: &str =
+    "{\"act\":\"vote\",\"caller\":\"bea\",\"id\":\"Hello\",\"lang\":\"de\",\"number\":\"00000000-0000-4000-8000-000000000030\",\"seen\":1,\"suggestion\":\"00000000-0000-4000-8000-000000000020\",\"value\":1}";
+
+const BY_CAY: &str =
+    "{\"act\":\"vote\",\"caller\":\"cay\",\"id\":\"Hello\",\"lang\":\"de\",\"number\":\"00000000-0000-4000-8000-000000000031\",\"seen\":1,\"suggestion\":\"00000000-0000-4000-8000-000000000020\",\"value\":1}";
+
+const BY_DAN: &str =
+    "{\"act\":\"vote\",\"caller\":\"dan\",\"id\":\"Hello\",\"lang\":\"de\",\"number\":\"00000000-0000-4000-8000-000000000032\",\"seen\":1,\"suggestion\":\"00000000-0000-4000-8000-000000000020\",\"value\":1}";
+
+const AGAINST_BY_CAY: &str =
+    "{\"act\":\"vote\",\"caller\":\"cay\",\"id\":\"Hello\",\"lang\":\"de\",\"number\":\"00000000-0000-4000-8000-000000000033\",\"seen\":1,\"suggestion\":\"00000000-0000-4000-8000-000000000020\",\"value\":-1}";
+
+const TAKEN_BACK_BY_BEA: &str =
+    "{\"act\":\"vote\",\"caller\":\"bea\",\"id\":\"Hello\",\"lang\":\"de\",\"number\":\"00000000-0000-4000-8000-000000000034\",\"seen\":1,\"suggestion\":\"00000000-0000-4000-8000-000000000020\",\"value\":0}";
+
+const BY_ITS_SUGGESTER: &str =
+    "{\"act\":\"vote\",\"caller\":\"ann\",\"id\":\"Hello\",\"lang\":\"de\",\"number\":\"00000000-0000-4000-8000-000000000035\",\"seen\":1,\"suggestion\":\"00000000-0000-4000-8000-000000000020\",\"value\":1}";
+
+const TWO: (u16, &str) = (
+    200,
+    "{\"accepted\":false,\"revision\":1,\"state\":\"untranslated\",\"votes\":2}",
+);
+
+const THREE: (u16, &str) = (
+    200,
+    "{\"accepted\":false,\"revision\":1,\"state\":\"untranslated\",\"votes\":3}",
+);
+
+const ONE: (u16, &str) = (
+    200,
+    "{\"accepted\":false,\"revision\":1,\"state\":\"untranslated\",\"votes\":1}",
+);
+
+const ZERO: (u16, &str) = (
+    200,
+    "{\"accepted\":false,\"revision\":1,\"state\":\"untranslated\",\"votes\":0}",
+);
+
+const ACCEPTED: (u16, &str) = (
+    200,
+    "{\"accepted\":true,\"revision\":2,\"state\":\"translated\",\"votes\":4}",
+);
+
+// Where four votes accept: the third vote is the fourth, with the suggestion itself.
+const VOTED: [Row; 3] = [
+    &[
+        (SUGGEST, SUGGESTED),
+        (BY_BEA, TWO),
+        (BY_CAY, THREE),
+        (BY_DAN, ACCEPTED),
+        (BY_BEA, TWO),
+        (BY_DAN, ACCEPTED),
+        (
+            SUGGEST_NOTHING_LATER,
+            (422, "{\"refusal\":\"unfit\",\"rule\":13}"),
+        ),
+    ],
+    &[
+        (SUGGEST, SUGGESTED),
+        (BY_BEA, TWO),
+        (AGAINST_BY_CAY, ONE),
+        (TAKEN_BACK_BY_BEA, ZERO),
+        (BY_CAY, TWO),
+        (BY_ITS_SUGGESTER, SAME),
+    ],
+    &[
+        (BY_BEA, NO_SUGGESTION),
+        (SUGGEST, SUGGESTED),
+        (BY_CAY, TWO),
+        (BY_DAN, THREE),
+        (BY_BEA, NO_SUGGESTION),
+    ],
+];
+
+// Where no vote accepts.
+const COUNTED: Row = &[
+    (SUGGEST, SUGGESTED),
+    (BY_BEA, TWO),
+    (BY_CAY, THREE),
+    (
+        BY_DAN,
+        (
+            200,
+            "{\"accepted\":false,\"revision\":1,\"state\":\"untranslated\",\"votes\":4}",
+        ),
+    ),
+];
+
+// Reviews of the translation, which `root` may do.
+const APPROVE_TWO: &str =
+    "{\"act\":\"approve\",\"caller\":\"root\",\"id\":\"Hello\",\"lang\":\"de\",\"number\":\"00000000-0000-4000-8000-000000000040\",\"seen\":2}";
+
+const APPROVE_BY_ANN: &str =
+    "{\"act\":\"approve\",\"caller\":\"ann\",\"id\":\"Hello\",\"lang\":\"de\",\"number\":\"00000000-0000-4000-8000-000000000041\",\"seen\":2}";
+
+const COMMENT_THREE: &str =
+    "{\"act\":\"comment\",\"caller\":\"ann\",\"id\":\"Hello\",\"lang\":\"de\",\"lines\":[],\"number\":\"00000000-0000-4000-8000-000000000042\",\"seen\":3}";
+
+const SEND_BACK_THREE: &str =
+    "{\"act\":\"send-back\",\"caller\":\"root\",\"id\":\"Hello\",\"lang\":\"de\",\"number\":\"00000000-0000-4000-8000-000000000043\",\"seen\":3}";
+
+const REVIEWED: [Row; 1] = [&[
+    (APPROVE, (422, "{\"refusal\":\"unfit\",\"rule\":13}")),
+    (HALLO, DONE),
+    (APPROVE_BY_ANN, (403, "{\"refusal\":\"role\",\"rule\":3}")),
+    (
+        APPROVE_TWO,
+        (200, "{\"revision\":3,\"state\":\"approved\"}"),
+    ),
+    (
+        COMMENT_THREE,
+        (409, "{\"refusal\":\"approved\",\"rule\":6}"),
+    ),
+    (
+        SEND_BACK_THREE,
+        (200, "{\"revision\":4,\"state\":\"needs-editing\"}"),
+    ),
+]];
 
 // The request of a line. Want of memory ends the test.
 fn request_of(alloc: Global, line: &str) -> Result<Request, Fail> {
@@ -73,17 +276,78 @@ fn delivered(desk: &mut Desk, request: &Request) -> Result<Reply, Lost> {
     }
 }
 
+// The first line that is answered otherwise than its row says.
+fn answered_otherwise(
+    alloc: Global,
+    desk: &mut Desk,
+    row: Row,
+) -> Result<Option<&'static str>, Fail> {
+    for (line, (status, body)) in row {
+        let request = request_of(alloc, line)?;
+        let reply = delivered(desk, &request)?;
+        if reply.status() != *status || reply.body() != *body {
+            return Ok(Some(*line));
+        }
+    }
+    Ok(None)
+}
+
 #[test]
 fn rows_by_deliveries(rt: HostRuntime) -> Result<(), Fail> {
     let alloc = rt.alloc();
     for row in ROWS {
         let mut desk = Desk::demo(alloc)?;
-        for (line, (status, body)) in row {
-            let request = request_of(alloc, line)?;
-            let reply = delivered(&mut desk, &request)?;
-            assert!(rt; reply.status() == *status, "{line}");
-            assert!(rt; reply.body() == *body, "{line}");
-        }
+        assert_eq!(rt; answered_otherwise(alloc, &mut desk, row)?, None);
+    }
+    Ok(())
+}
+
+// The demo office with three translators more and this policy.
+fn desk_with(alloc: Global, policy: Policy) -> Result<Desk, Fail> {
+    let mut desk = Desk::demo(alloc)?;
+    desk.tables.policy = policy;
+    for name in ["bea", "cay", "dan"] {
+        let name = String::from_str(alloc, name)?;
+        let _ = desk.tables.team.insert(name, Role::Translator)?;
+    }
+    Ok(desk)
+}
+
+fn policy(reviews: bool, voting: bool, accept_at: u8) -> Result<Policy, Fail> {
+    Ok(Policy {
+        reviews,
+        guests_suggest: false,
+        voting,
+        accept_at: AcceptAt::try_new(accept_at).ok_or("no threshold")?,
+        placeholders: false,
+        line_ends: false,
+    })
+}
+
+#[test]
+fn votes_accept_at_the_threshold(rt: HostRuntime) -> Result<(), Fail> {
+    let alloc = rt.alloc();
+    for row in VOTED {
+        let mut desk = desk_with(alloc, policy(false, true, 4)?)?;
+        assert_eq!(rt; answered_otherwise(alloc, &mut desk, row)?, None);
+    }
+    Ok(())
+}
+
+#[test]
+fn votes_accept_nothing_without_a_threshold(rt: HostRuntime) -> Result<(), Fail> {
+    let alloc = rt.alloc();
+    let mut desk = desk_with(alloc, policy(false, true, 0)?)?;
+    assert_eq!(rt; answered_otherwise(alloc, &mut desk, COUNTED)?, None);
+    Ok(())
+}
+
+#[test]
+fn reviewers_approve_and_send_back(rt: HostRuntime) -> Result<(), Fail> {
+    let alloc = rt.alloc();
+    for row in REVIEWED {
+        let mut desk = desk_with(alloc, policy(true, false, 0)?)?;
+        assert_eq!(rt; answered_otherwise(alloc, &mut desk, row)?, None);
     }
     Ok(())
 }

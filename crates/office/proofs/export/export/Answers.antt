@@ -3,6 +3,7 @@ use Rattle.std.specs.BTreeMap.{get_by}
 use Rattle.po_read.specs.Texts.{text_cmp}
 use Rattle.office.proofs.Sendings.{begin, more, broke, whole_sent}
 use Rattle.office.proofs.Finish.{text_there, no_language, cut_off, was_exported, template_cut, away_cut}
+use Rattle.office.proofs.ExportedSpelled.{spells_its_catalogue}
 use Rattle.office.proofs.export.export.Goals as goal
 
 pub returns-in_default-clause-err : goal.returns-in_default-clause-err
@@ -43,3 +44,8 @@ returns-clause-text g c =
     (whole_sent (more (more (more (begin _ _ _ refl) refl c.in_ok-put.ensures) (template_cut c.args.tables.now c.args.lang.now c.as_slice.result.now _ c.as_slice.ensures.value) c.in_ok-put_template.ensures)
     (away_cut c.args.tables.now c.args.lang.now c.in_ok-put_away.ensures.ordered) c.in_ok-put_away.ensures.sent) refl)
     c.finalize.ensures
+
+pub returns-clause-spelled : goal.returns-clause-spelled
+returns-clause-spelled g c =
+    spells_its_catalogue c.args.tables.now c.args.lang.now (g.W.ByteSink.taken c.args.w.now) (g.W.ByteSink.taken c.put_away.new.w) _
+    c.in_ok-put_away.ensures.ordered c.in_ok-put_away.ensures.strings (returns-clause-text g c)

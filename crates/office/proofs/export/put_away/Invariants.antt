@@ -1,9 +1,16 @@
 use Rattle.std.specs.Prelude.{flat_map}
+use Rattle.std.specs.List.{AllByRecursion}
+use Rattle.units.specs.declared.unit.Unit.{Unit}
+use Rattle.office.specs.declared.place.Place.{Place}
+use Rattle.office.specs.Spelled.{HasStrings}
 use Rattle.office.specs.Pieces.{unit_piece}
 use Rattle.office.specs.Exports.{SentSoFar}
 use Rattle.office.proofs.export.put_away.Given as goal
 
 abbrev pub invariant-loop-place : goal.invariant-loop-place
-invariant-loop-place g l = SentSoFar (g.W.ByteSink.taken l.fn.w) (g.W.ByteSink.taken l.w) (g.W.ByteSink.failed l.fn.w) (g.W.ByteSink.failed l.w) l.fn.sent l.sent
-    (flat_map (λ e. unit_piece l.lang e.0.lang e.1) l.tables.units.entries)
-    (flat_map (λ e. unit_piece l.lang e.0.lang e.1) l.place-iterator)
+invariant-loop-place g l = record {
+  sent : SentSoFar (g.W.ByteSink.taken l.fn.w) (g.W.ByteSink.taken l.w) (g.W.ByteSink.failed l.fn.w) (g.W.ByteSink.failed l.w) l.fn.sent l.sent
+      (flat_map (λ e. unit_piece l.lang e.0.lang e.1) l.tables.units.entries)
+      (flat_map (λ e. unit_piece l.lang e.0.lang e.1) l.place-iterator);
+  strings : AllByRecursion (λ (e : Place × Unit). HasStrings e.1) l.place-iterator → AllByRecursion (λ (e : Place × Unit). HasStrings e.1) l.tables.units.entries;
+}

@@ -32,6 +32,6 @@ returns-in-Some-clause-rules c = λ start. subst IsStart (sym c.known.ensures.sa
 
 pub returns-in-None-clause-rules : goal.returns-in-None-clause-rules
 returns-in-None-clause-rules c =
-    each_ok c.deliver_first.result _ _ (λ reply d start. subst IsStart (sym (IsDelivery.tables d)) (kept_rules (meaning c.args.self.now.tables) (c.args.request.now ∷ []) start))
+    each_ok c.deliver_first.result _ _ (λ reply d start. subst IsStart (sym (IsDelivery.tables d)) (kept_rules (meaning c.args.self.now.tables) c.args.request.now c.in_ok-content.ensures.limits start))
     (first_delivery (meaning c.args.self.now.tables) (meaning c.known.new.self.tables) (meaning c.deliver_first.new.self.tables) c.args.request.now c.deliver_first.result
     c.known.ensures.same (sym c.in-None.is ∙ c.in_ok-reply.ensures.answer) c.deliver_first.ensures.ok)

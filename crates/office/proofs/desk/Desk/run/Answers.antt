@@ -2,9 +2,7 @@ use Rattle.std.proofs.Common.{◌≡◌, ℕ, ◌≤◌, List, Bool, ◌<◌, �
 use Rattle.office.specs.declared.lost.Lost.TheVariants.{Memory}
 use Rattle.office.specs.Desk.{meaning_of}
 use Rattle.office.specs.Deliveries.{left_by, kept, lost_marks, after, IsRecordedIn}
-use Rattle.office.proofs.Running.{one_more, pushed, taken, longer, take-whole, one_more_all}
-use Rattle.office.specs.Starts.{IsStart}
-use Rattle.office.proofs.KeptRules.{kept_rules}
+use Rattle.office.proofs.Running.{one_more, still_start, pushed, taken, longer, take-whole, one_more_all}
 use Rattle.office.proofs.Told.{any_order}
 use Rattle.request_book.specs.declared.act.Request.{Request}
 use Rattle.request_book.specs.Book.{Meaning}
@@ -28,6 +26,7 @@ loop-request-preserved c =
       room = omega (arith, c.push.ensures.capacity);
       left = rw (items, front) ran.left;
       answers = rw (items, front) ran.answers;
+      rules = λ start. still_start c.deliver-result.result _ _ c.deliver-result.ensures.rules c.deliver-result.ensures.lost (inv.rules start);
       lost = one_more_all (λ answer. IfErr answer (λ e. e ≡ Memory)) _ _ _ items inv.lost c.deliver-result.ensures.memory;
     }
 
@@ -43,8 +42,4 @@ returns-clause-commuting c = λ xs alike.
     subst (λ (l : Meaning). (l.office ≡ after m.office xs) × IsRecordedIn l.book m.office xs) (sym left) (any_order m (kept c.args.requests.now marks) xs alike)
 
 pub returns-clause-rules : goal.returns-clause-rules
-returns-clause-rules c = λ start.
-    let m = meaning_of c.args.self.now in
-    let marks = lost_marks c.loop-request.results.items in
-    let left = left_at_end m (meaning_of c.loop-request.self) c.args.requests.now c.loop-request.request-index marks (omega arith) c.loop-request.invariant.left in
-    subst IsStart (sym left) (kept_rules m (kept c.args.requests.now marks) start)
+returns-clause-rules c = c.loop-request.invariant.rules

@@ -3,7 +3,7 @@ use Rattle.std.specs.Prelude.{unwrap_or}
 use Rattle.std.specs.FinMap as maps
 use Rattle.units.specs.declared.unit.Role.TheVariants.{Guest}
 use Rattle.office.specs.Plain.{plain_meaning, header_rows, team_rows}
-use Rattle.office.proofs.PlainRuns.{found_there}
+use Rattle.office.proofs.FoundLemmas.{found_there}
 use Rattle.office.proofs.plain.PlainOffice.found.Goals as goal
 
 pub returns : goal.returns

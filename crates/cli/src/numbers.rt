@@ -1,0 +1,15 @@
+//! Numbers in lines.
+ghost use Rattle.po_write.specs.Sending.{Sends};
+
+use itoa::{Buffer, Integer};
+use po_write::send;
+use units::{ByteSink, SinkFault};
+
+/// Writes a number in decimal digits.
+pub(crate) fn send_number<W: ByteSink, N: Integer>(w: &mut W, number: N) -> Result<(), SinkFault>
+    ensures { Sends W.taken W.failed w.old w.new (N.text number) result }
+{
+    let mut buffer = Buffer::new();
+    let digits = buffer.format(number);
+    send(w, digits.as_bytes())
+}

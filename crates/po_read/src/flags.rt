@@ -1,0 +1,94 @@
+//! The flags of an entry, each once and `fuzzy` first.
+
+ghost use Rattle.std.specs.Prelude.{◌≡◌, ◌++◌, List, [], ℕ, map, filter, not, IfOk};
+ghost use Rattle.std.specs.Str.{bytes_eq};
+ghost use Rattle.po_read.specs.Valid.{fuzzy};
+ghost use Rattle.std.specs.List.{fold};
+ghost use Rattle.po_lex.specs.Lines.{items_of};
+ghost use Rattle.po_read.specs.Spells.{add_once, with_fuzzy_first};
+ghost use Rattle.po_read.specs.Flags.{AreSeen};
+
+use crate::items::Items;
+use crate::text::Text;
+use po_lex::trim;
+use std::alloc::{AllocError, Global};
+use std::collections::BTreeSet;
+use std::marker::Model;
+
+/// The flags so far, each at its first place.
+#[derive(Drop)]
+pub(crate) struct Flags<'a> {
+    kept: Vec<&'a str>,
+    seen: BTreeSet<&'a str>,
+}
+
+impl<'a> Model for Flags<'a> {
+    ghost Value = { List (List ℕ) };
+
+    ghost view = { λ f. map (λ flag. flag.now) f.kept.items };
+
+    ghost invariant = { λ f. AreSeen f.seen (map (λ flag. flag.now) f.kept.items) };
+}
+
+impl<'a> Flags<'a> {
+    /// No flags.
+    pub(crate) fn new(alloc: Global) -> Flags<'a>
+        ensures { result ≡ [] }
+    {
+        Flags {
+            kept: Vec::new(alloc),
+            seen: BTreeSet::new(alloc),
+        }
+    }
+
+    /// The flags with one more, if it isn't there.
+    fn with(self, flag: &'a str) -> Result<Flags<'a>, AllocError>
+        ensures { IfOk result (λ flags. flags ≡ add_once self.entry flag.now) }
+    {
+        let Flags { mut kept, mut seen } = self;
+        if seen.insert(flag)? {
+            kept.push(flag)?;
+        }
+        Ok(Flags { kept, seen })
+    }
+
+    /// The flags with the items of a line.
+    pub(crate) fn with_all(self, items: &'a str) -> Result<Flags<'a>, AllocError>
+        ensures { IfOk result (λ flags. flags ≡ fold add_once self.entry (items_of items.now)) }
+    {
+        let mut flags = self;
+        let mut rest = items;
+        while let Some((item, more)) = rest.split_once(',') {
+            flags = flags.with(trim(item))?;
+            rest = more;
+        }
+        flags.with(trim(rest))
+    }
+
+    /// The flags, with `fuzzy` at the front if it is one.
+    pub(crate) fn into_items(self, alloc: Global) -> Result<Items<Text>, AllocError>
+        ensures { IfOk result (λ flags. flags ≡ with_fuzzy_first self.entry) }
+    {
+        let Flags { kept, seen } = self;
+        let mut flags = Items::new(alloc);
+        if seen.contains("fuzzy") {
+            flags.push(Text::from_text(alloc, "fuzzy")?)?;
+            with_others(alloc, flags, kept.as_slice())
+        } else {
+            with_others(alloc, flags, kept.as_slice())
+        }
+    }
+}
+
+/// These texts and the flags other than `fuzzy`.
+fn with_others(alloc: Global, texts: Items<Text>, flags: &[&str]) -> Result<Items<Text>, AllocError>
+    ensures { IfOk result (λ all. all ≡ texts ++ filter (λ text. not (bytes_eq fuzzy text)) (map (λ flag. flag.now) flags.now)) }
+{
+    let mut all = texts;
+    for flag in flags {
+        if *flag != "fuzzy" {
+            all.push(Text::from_text(alloc, flag)?)?;
+        }
+    }
+    Ok(all)
+}

@@ -1,0 +1,324 @@
+//! PO text to catalogue.
+
+ghost use Rattle.std.specs.Prelude.{◌≡◌, ◌∷◌, ◌++◌, ◌⊎◌, ◌&&◌, ◌||◌, [], List, true, false, not, None, Some, Ok, map, length, ◌<◌, ◌^◌, IfOk, IfErr, OnOk};
+ghost use Rattle.po_lex.specs.Lines.{lines_of, blank};
+ghost use Rattle.po_lex.specs.Views.{line_view};
+ghost use Rattle.po_lex.specs.declared.fault.FaultKind.TheVariants as kinds;
+ghost use Rattle.po_read.specs.declared.entry.Entry.{Entry};
+ghost use Rattle.po_read.specs.Spells.{Spells, IsWithin, limits};
+ghost use Rattle.po_read.specs.Faults.{Lines, no_lines, fault_at, before, after, or_else, begins_entry, IsFault, line_fault, add_line, fault_at_end, fault_from};
+ghost use Rattle.po_read.specs.Plain.{entry_of, entries_of, groups_of};
+ghost use Rattle.std.specs.BTreeSet.{contains};
+ghost use Rattle.po_read.specs.Texts.{is_empty};
+ghost use Rattle.po_read.specs.Header.{has_charset};
+ghost use Rattle.po_read.specs.Keys.{entry_key_cmp};
+ghost use Rattle.po_read.specs.Spells.{is_header_key};
+ghost use Rattle.po_read.specs.Drafts.{IsSoundLine};
+ghost use Rattle.po_read.specs.Views.{told, ReadsOrMemory, IsMemory};
+
+use crate::catalogue::Catalogue;
+use crate::entry::Entry;
+use crate::header::has_charset;
+use crate::key::EntryKey;
+use crate::message::{Message, is_header_key};
+use crate::string::PoString;
+use crate::unfinished::Unfinished;
+use po_lex::{FaultKind, Keyword, Line, Part, PoFault, lex};
+use std::alloc::{AllocError, Global};
+use std::collections::BTreeSet;
+use std::mem::replace;
+
+/// The most bytes that a text may have.
+const TEXT_LIMIT: usize = 4_194_304;
+
+/// The most entries that a catalogue may have besides the header.
+const ENTRY_LIMIT: usize = 20_000;
+
+/// What was read so far: whole entries with their keys, and the entry that may go on.
+#[derive(Drop)]
+pub(crate) struct Reader<'a> {
+    entries: Vec<Entry>,
+    keys: BTreeSet<EntryKey>,
+    current: Unfinished<'a>,
+    alloc: Global,
+}
+
+impl<'a> Reader<'a> {
+    ghost use Rattle.po_read.specs.SoFar.{so_far, goes_on_here, Reads, Tells, ended_here, entries_here, key_fault_here, header_fault_here, key_at_hand, front_fault, length_fault, order_fault_here, with_line, count_here, has_form_here, IsClosed};
+
+    /// Nothing was read.
+    fn new(alloc: Global) -> Reader<'a>
+        ensures { Reads result no_lines }
+    {
+        Reader {
+            entries: Vec::new(alloc),
+            keys: BTreeSet::new(alloc),
+            current: Unfinished::new(alloc),
+            alloc,
+        }
+    }
+
+    /// Reads a line.
+    fn read_line(&mut self, line: Line<'a>) -> Result<(), FaultKind>
+        requires sound { IsSoundLine (line_view line) }
+        ensures ok { OnOk result ((lines : Lines) → Reads self.old lines → (line_fault limits lines (Ok (line_view line.entry)) ≡ None) × Reads self.new (add_line lines (Ok (line_view line.entry)))) }
+        ensures err { IfErr result (λ kind. (lines : Lines) → Reads self.old lines → (line_fault limits lines (Ok (line_view line.entry)) ≡ Some kind) ⊎ (kind ≡ kinds.Memory)) }
+    {
+        match line {
+            Line::Blank => Ok(()),
+            line => self.read_more(line),
+        }
+    }
+
+    /// Reads a line that isn't blank.
+    fn read_more(&mut self, line: Line<'a>) -> Result<(), FaultKind>
+        requires sound { IsSoundLine (line_view line) }
+        requires some { line_view line ≡ blank → ⊥ }
+        ensures ok { OnOk result ((lines : Lines) → Reads self.old lines → (fault_at limits lines (line_view line.entry) ≡ None) × Reads self.new (after lines (line_view line.entry))) }
+        ensures err { IfErr result (λ kind. (lines : Lines) → Reads self.old lines → (fault_at limits lines (line_view line.entry) ≡ Some kind) ⊎ (kind ≡ kinds.Memory)) }
+    {
+        self.test_front(&line)?;
+        self.close_before(&line)?;
+        self.test_entry(&line)?;
+        self.add(line)?;
+        Ok(())
+    }
+
+    /// The tests of a line before the entry ends that it follows: fault 9 for its string, and those of a string that has ended.
+    fn test_front(&self, line: &Line<'a>) -> Result<(), FaultKind>
+        ensures { Tells result (front_fault self.now (line_view line.now)) }
+    {
+        self.current.test_length(line)?;
+        if self.current.goes_on(line) {
+            return Ok(());
+        }
+        self.test_ended(begins_entry(line))
+    }
+
+    /// Ends the entry, if it has a form and the line begins another.
+    fn close_before(&mut self, line: &Line<'a>) -> Result<(), AllocError>
+        ensures reads { OnOk result ((lines : Lines) → Reads self.old lines → Reads self.new (before lines (line_view line.now))) }
+        ensures length { OnOk result (length_fault (so_far self.new.current) (line_view line.now) ≡ length_fault (so_far self.old.current) (line_view line.now)) }
+    {
+        if begins_entry(line) && self.current.message.has_form() {
+            self.close()?;
+        }
+        Ok(())
+    }
+
+    /// The tests of a line in its entry: fault 5 or 6 if it can't follow, fault 9 for one more entry than there may be.
+    fn test_entry(&self, line: &Line<'a>) -> Result<(), FaultKind>
+        ensures { told result ≡ or_else (order_fault_here (so_far self.now.current) (line_view line.now)) (entries_here self.now (line_view line.now)) }
+    {
+        self.current.test_order(line)?;
+        self.test_entries(line)
+    }
+
+    /// Adds a line to the entry, which can follow.
+    fn add(&mut self, line: Line<'a>) -> Result<(), AllocError>
+        requires sound { IsSoundLine (line_view line) }
+        requires short { length_fault (so_far self.old.current) (line_view line) ≡ None }
+        requires follows { order_fault_here (so_far self.old.current) (line_view line) ≡ None }
+        ensures added { OnOk result (so_far self.new.current ≡ with_line (so_far self.old.current) (line_view line.entry)) }
+        ensures entries { OnOk result (self.new.entries ≡ self.old.entries) }
+        ensures keys { OnOk result (self.new.keys ≡ self.old.keys) }
+    {
+        let current = replace(&mut self.current, Unfinished::new(self.alloc));
+        self.current = current.with(self.alloc, line)?;
+        Ok(())
+    }
+
+    /// Ends the last entry, at the end of the text.
+    fn finish(&mut self) -> Result<(), FaultKind>
+        ensures ok { OnOk result ((lines : Lines) → Reads self.old lines → (fault_at_end lines ≡ None) × (self.new.entries.items ≡ map entry_of (groups_of lines))) }
+        ensures err { IfErr result (λ kind. (lines : Lines) → Reads self.old lines → (fault_at_end lines ≡ Some kind) ⊎ (kind ≡ kinds.Memory)) }
+    {
+        self.test_ended(true)?;
+        self.current.test_end()?;
+        if self.current.message.has_form() {
+            self.close()?;
+        }
+        Ok(())
+    }
+
+    /// The tests of a string that has ended, and with it the entry or not: fault 5 or 7 for a msgid, 8 for the header's string.
+    fn test_ended(&self, ends: bool) -> Result<(), FaultKind>
+        ensures { Tells result (ended_here self.now ends) }
+    {
+        match &self.current.message {
+            Message::Named { ctx, id } => self.test_key(ctx, id),
+            Message::Single { ctx, id, form } if ends => self.test_header(ctx, id, form),
+            _ => Ok(()),
+        }
+    }
+
+    /// Fault 5 if this is the header's key and not that of the first entry, or that of an obsolete one; fault 7 if it was there before.
+    fn test_key(&self, ctx: &Option<PoString>, id: &PoString) -> Result<(), FaultKind>
+        ensures { Tells result (key_fault_here self.now ctx.now id.now) }
+    {
+        if self.is_misplaced(ctx, id) {
+            return Err(FaultKind::Order);
+        }
+        if self.has_key(ctx, id)? {
+            Err(FaultKind::Duplicate)
+        } else {
+            Ok(())
+        }
+    }
+
+    /// Whether there is no whole entry.
+    fn is_first(&self) -> bool
+        ensures { result ≡ is_empty self.now.entries.items }
+    {
+        match self.entries.as_slice() {
+            [] => true,
+            _ => false,
+        }
+    }
+
+    /// Whether this is the header's key and not that of the first entry, or that of an obsolete one.
+    fn is_misplaced(&self, ctx: &Option<PoString>, id: &PoString) -> bool
+        ensures { result ≡ (is_header_key ctx.now id.now && (not (is_empty self.now.entries.items) || self.now.current.obsolete)) }
+    {
+        is_header_key(ctx, id) && (!self.is_first() || self.current.obsolete)
+    }
+
+    /// Whether a whole entry has this key.
+    fn has_key(&self, ctx: &Option<PoString>, id: &PoString) -> Result<bool, AllocError>
+        ensures { IfOk result (λ has. has ≡ contains entry_key_cmp self.now.keys (key_at_hand ctx.now id.now)) }
+    {
+        let key = EntryKey::of(self.alloc, ctx, id)?;
+        Ok(self.keys.contains(&key))
+    }
+
+    /// Fault 8 if this is the header, with another charset.
+    fn test_header(
+        &self,
+        ctx: &Option<PoString>,
+        id: &PoString,
+        form: &PoString,
+    ) -> Result<(), FaultKind>
+        ensures { told result ≡ header_fault_here self.now ctx.now id.now form.now }
+    {
+        if self.is_foreign(ctx, id, form) {
+            Err(FaultKind::Charset)
+        } else {
+            Ok(())
+        }
+    }
+
+    /// Whether this is the header, with another charset.
+    fn is_foreign(&self, ctx: &Option<PoString>, id: &PoString, form: &PoString) -> bool
+        ensures { result ≡ (is_empty self.now.entries.items && is_header_key ctx.now id.now && not (has_charset form.now)) }
+    {
+        self.is_first() && is_header_key(ctx, id) && !has_charset(form.as_str())
+    }
+
+    /// Fault 9 if the line begins one more entry than there may be.
+    fn test_entries(&self, line: &Line<'a>) -> Result<(), FaultKind>
+        ensures { told result ≡ entries_here self.now (line_view line.now) }
+    {
+        match line {
+            Line::Message {
+                part: Part::Begins(Keyword::Msgid, _),
+                ..
+            } if ENTRY_LIMIT <= self.count() => Err(FaultKind::Limit),
+            _ => Ok(()),
+        }
+    }
+
+    /// How many whole entries there are besides the header.
+    fn count(&self) -> usize
+        ensures { result ≡ count_here self.now }
+    {
+        match self.entries.as_slice() {
+            [] => 0,
+            [first, others @ ..] => {
+                if is_header_key(&first.ctx, &first.id) {
+                    others.len()
+                } else {
+                    others.len() + 1
+                }
+            }
+        }
+    }
+
+    /// Ends the entry, which has a form.
+    fn close(&mut self) -> Result<(), AllocError>
+        requires { has_form_here self.old ≡ true }
+        ensures { OnOk result (IsClosed self.old self.new) }
+    {
+        let current = replace(&mut self.current, Unfinished::new(self.alloc));
+        let entry = current.into_entry(self.alloc)?;
+        let key = EntryKey::of(self.alloc, &entry.ctx, &entry.id)?;
+        self.keys.insert(key)?;
+        self.entries.push(entry)?;
+        Ok(())
+    }
+}
+
+/// Whether the line begins an entry behind one with a form.
+fn begins_entry(line: &Line<'_>) -> bool
+    ensures { result ≡ begins_entry (line_view line.now) }
+{
+    !matches!(
+        line,
+        Line::Blank
+            | Line::Message {
+                part: Part::Continues(_)
+                    | Part::Begins(
+                        Keyword::MsgidPlural | Keyword::Msgstr | Keyword::MsgstrAt(_),
+                        _
+                    ),
+                ..
+            }
+    )
+}
+
+/// The entries that a text spells.
+fn read_text(alloc: Global, text: &str) -> Result<Vec<Entry>, PoFault>
+    requires { length text.now < 2 ^ 63 }
+    ensures ok { IfOk result (λ entries. (fault_from limits 1 no_lines (lines_of text.now) ≡ None) × (entries.items ≡ entries_of text.now)) }
+    ensures err { IfErr result (λ fault. (fault_from limits 1 no_lines (lines_of text.now) ≡ Some (fault.line, fault.kind)) ⊎ IsMemory fault) }
+{
+    let mut reader = Reader::new(alloc);
+    let mut lines = lex(text);
+    let mut line = 1;
+    while let Some(told) = lines.next() {
+        let token = told?;
+        if let Err(kind) = reader.read_line(token.line) {
+            return Err(PoFault { line, kind });
+        }
+        line += 1;
+    }
+    match reader.finish() {
+        Ok(()) => Ok(reader.entries),
+        Err(kind) => Err(PoFault { line, kind }),
+    }
+}
+
+/// The catalogue that the bytes spell, as "The Format of PO Files" of the GNU gettext manual has it, within the limits: a text of
+/// 4,194,304 bytes, 20,000 entries besides the header, strings of 65,536 bytes. Else the first fault, with its line; a text that is
+/// too long or isn't UTF-8 has it at line 0. A refused growth is told at the line that was read then.
+pub fn read(alloc: Global, bytes: &[u8]) -> Result<Catalogue, PoFault>
+    // What is read is what the bytes spell, within the limits.
+    ensures catalogue { IfOk result (λ c. Spells bytes.now c × IsWithin limits bytes.now c) }
+    // What the bytes spell within the limits is read, unless memory ran out.
+    ensures spelled { (c : List Entry) → Spells bytes.now c → IsWithin limits bytes.now c → ReadsOrMemory result c }
+    // Else the first fault is told, unless memory ran out.
+    ensures fault { IfErr result (λ fault. IsFault limits bytes.now (fault.line, fault.kind) ⊎ IsMemory fault) }
+{
+    if bytes.len() > TEXT_LIMIT {
+        return Err(PoFault {
+            line: 0,
+            kind: FaultKind::Limit,
+        });
+    }
+    match str::from_utf8(bytes) {
+        Ok(text) => Ok(Catalogue::new(read_text(alloc, text)?)),
+        Err(_) => Err(PoFault {
+            line: 0,
+            kind: FaultKind::NotUtf8,
+        }),
+    }
+}
