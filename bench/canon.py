@@ -1,5 +1,6 @@
 #!/usr/bin/env python3
-"""Measures `office canon` on a catalogue of 20,000 entries and 4 MB, beside `msgcat --no-wrap` of GNU gettext.
+"""Measures `office canon` on catalogues of 5,000, 10,000 and 20,000 entries, the last of 4 MB, beside `msgcat --no-wrap` of
+GNU gettext.
 
 The entries have comments, references, flags, escapes, contexts, plurals and strings of more lines. Prints the best time
 of several runs of both on the same file, in turn, their ratio, and the program's peak memory; what `office canon`
@@ -16,7 +17,7 @@ import tempfile
 import time
 
 PROGRAM = sys.argv[1] if len(sys.argv) > 1 else os.path.join("crates", "cli", "out", "cli")
-ENTRIES = 20_000
+COUNTS = (5_000, 10_000, 20_000)
 MOST = 4_194_304
 
 HEADER = (
@@ -42,9 +43,10 @@ def entry(i, room):
     return start + (words * (rest // len(words) + 1))[: max(rest, 0)] + '"\n'
 
 
-def catalogue():
-    room = (MOST - len(HEADER)) // ENTRIES
-    text = HEADER + "".join(entry(i, room) for i in range(ENTRIES))
+def catalogue(count):
+    """So many entries, all of one size, of which the greatest count still keeps the limit."""
+    room = (MOST - len(HEADER)) // max(COUNTS)
+    text = HEADER + "".join(entry(i, room) for i in range(count))
     if len(text.encode()) > MOST:
         raise SystemExit("%d bytes are too many" % len(text.encode()))
     return text.encode()
@@ -63,28 +65,33 @@ def run(words, path):
         return seconds, out.read(), usage.ru_maxrss / 1024
 
 
+def measure(folder, count):
+    path = os.path.join(folder, "catalogue.po")
+    again = os.path.join(folder, "canonical.po")
+    with open(path, "wb") as file:
+        file.write(catalogue(count))
+    ours, theirs, memory = [], [], 0
+    for _ in range(7):
+        seconds, text, peak = run([PROGRAM, "canon"], path)
+        ours.append(seconds)
+        memory = max(memory, peak)
+        theirs.append(run(["msgcat", "--no-wrap", "-"], path)[0])
+    with open(again, "wb") as file:
+        file.write(text)
+    if run([PROGRAM, "canon"], again)[1] != text:
+        raise SystemExit("what was printed comes out another way")
+    print("%d entries, %d bytes" % (count, os.path.getsize(path)))
+    print("office canon      %7.1f ms, %.1f MB at most" % (min(ours) * 1e3, memory))
+    print("msgcat --no-wrap  %7.1f ms" % (min(theirs) * 1e3))
+    print("ratio             %7.2f" % (min(ours) / min(theirs)))
+
+
 def main():
     if shutil.which("msgcat") is None:
         raise SystemExit("msgcat is missing: Debian's package gettext has it")
     with tempfile.TemporaryDirectory() as folder:
-        path = os.path.join(folder, "catalogue.po")
-        again = os.path.join(folder, "canonical.po")
-        with open(path, "wb") as file:
-            file.write(catalogue())
-        ours, theirs, memory = [], [], 0
-        for _ in range(7):
-            seconds, text, peak = run([PROGRAM, "canon"], path)
-            ours.append(seconds)
-            memory = max(memory, peak)
-            theirs.append(run(["msgcat", "--no-wrap", "-"], path)[0])
-        with open(again, "wb") as file:
-            file.write(text)
-        if run([PROGRAM, "canon"], again)[1] != text:
-            raise SystemExit("what was printed comes out another way")
-        print("%d entries, %d bytes" % (ENTRIES, os.path.getsize(path)))
-        print("office canon      %7.1f ms, %.1f MB at most" % (min(ours) * 1e3, memory))
-        print("msgcat --no-wrap  %7.1f ms" % (min(theirs) * 1e3))
-        print("ratio             %7.2f" % (min(ours) / min(theirs)))
+        for count in COUNTS:
+            measure(folder, count)
 
 
 main()
