@@ -1,15 +1,12 @@
 //! Rows of decisions: what `translate` makes of a unit, and which refusal comes first.
-
-mod acts;
-
 use crate::{Decision, Values, decide};
 use plural_expr::PluralForms;
 use po_read::{Entry, Forms, Items, PoString, Previous, Text};
 use std::alloc::Global;
 use std::test::Fail;
 use units::{
-    AcceptAt, Key, Memory, Name, Policy, Refusal, Revision, Role, ShownState, Suggestion, Unit,
-    UnitAct, UnitAction, UnitState, UnitView, Votes,
+    AcceptAt, Key, Memory, Name, Policy, Refusal, Revision, Role, ShownState, Unit, UnitAct,
+    UnitAction, UnitState, UnitView,
 };
 use uuid::Uuid;
 
