@@ -36,7 +36,7 @@ def run(library, words, lines, number):
 
 
 def not_begun(status, out, faults):
-    if out == "" and status in (1, 2) and faults in ("", "error: out of memory\n", "store fault 1\n"):
+    if out == "" and status == 1 and faults in ("", "error: out of memory\n", "store fault 1\n"):
         return "not begun"
     return None
 

@@ -20,7 +20,7 @@ use std::io::{self, BufWriter};
 use std::process::ExitCode;
 use streams::{Input, Output};
 use units::ByteSink;
-use words::{Asked, Deliver, Plural, read_words};
+use words::{Asked, Deliver, Plural, read_words, words_status};
 
 fn main(rt: HostRuntime) -> ExitCode {
     match run(&rt) {
@@ -38,7 +38,7 @@ fn run(rt: &HostRuntime) -> io::Result<u8> {
         Ok(Asked::Canon) => canon_standard(rt),
         Err(error) => {
             error.print(rt)?;
-            Ok(error.exit_code() as u8)
+            Ok(words_status(&error))
         }
     }
 }

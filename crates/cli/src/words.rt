@@ -1,5 +1,6 @@
 //! The words of the command line.
 
+use crate::deliver::FAILED;
 use clap::error::ErrorKind;
 use clap::{Arg, ArgAction, ArgMatches, Command, Error, value_parser};
 use std::alloc::{AllocError, Global};
@@ -106,6 +107,14 @@ pub(crate) fn read_words<'a>(alloc: Global, words: &'a [String]) -> Result<Asked
             let kind = ErrorKind::MissingSubcommand;
             Err(office_command(alloc)?.error(kind, "a subcommand is wanted")?)
         }
+    }
+}
+
+/// The exit status where the words ask for nothing to do: 0 for help and the version, 1 where memory ran out, 2 for wrong words.
+pub(crate) fn words_status(error: &Error) -> u8 {
+    match error.kind() {
+        ErrorKind::OutOfMemory => FAILED,
+        _ => error.exit_code() as u8,
     }
 }
 

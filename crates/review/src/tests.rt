@@ -1,4 +1,9 @@
 //! Rows of decisions: what `translate` makes of a unit, and which refusal comes first.
+mod acts;
+mod first_refusals;
+mod growths;
+mod steps;
+
 use crate::{Decision, Values, decide};
 use plural_expr::PluralForms;
 use po_read::{Entry, Forms, Items, PoString, Previous, Text};
@@ -14,7 +19,7 @@ use uuid::Uuid;
 #[derive(Clone, Copy, Debug, PartialEq, Eq)]
 enum Told {
     Done(u64, ShownState, bool),
-    Suggested(u64, ShownState, i64),
+    Suggested(u64, ShownState, u128, i64),
     Voted(bool, u64, ShownState, i64),
     Refused(Refusal),
 }
@@ -175,9 +180,9 @@ fn values_told(view: &UnitView, values: Values) -> Told {
         Values::Suggested {
             revision,
             state,
-            suggestion: _,
+            suggestion,
             votes,
-        } => Told::Suggested(revision.number(), state, votes),
+        } => Told::Suggested(revision.number(), state, suggestion.as_u128(), votes),
         Values::Voted {
             accepted,
             revision,
