@@ -795,8 +795,8 @@ fn with_suggestion(alloc: Global, view: UnitView, i: u128) -> Result<UnitView, F
 /// A unit with fifty suggestions.
 fn fifty_suggestions(alloc: Global) -> Result<UnitView, Fail> {
     let mut view = started(alloc, &DEMO)?;
-    for i in 0..50u128 {
-        view = with_suggestion(alloc, view, i)?;
+    for i in 0..50u32 {
+        view = with_suggestion(alloc, view, u128::from(i))?;
     }
     Ok(view)
 }
