@@ -18,7 +18,7 @@ use Rattle.units.specs.Units.{suggestion_of, shown_state, is_approved}
 use Rattle.review.specs.declared.decision.Decision.{Decision}
 use Rattle.review.specs.declared.decision.Decision.TheVariants.{Done, Refused}
 use Rattle.review.specs.declared.decision.Values.TheVariants.{Voted}
-use Rattle.review.specs.UnitStep.{unit_after, refusals_by_act, first_refusal, decision_by_act, with_accepted, plain_values, with_vote, set_vote, sum_of, is_due, is_same_vote}
+use Rattle.review.specs.UnitStep.{unit_after, decision_by_act, with_accepted, plain_values, with_vote, set_vote, sum_of, is_due, is_same_vote}
 use Rattle.review.proofs.Ballots.{with_votes, suggestion_of-with_vote}
 
 -- a value that is there is within the limit, and the one that there is

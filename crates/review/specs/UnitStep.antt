@@ -1,7 +1,7 @@
 -- An act on one unit: what refuses it, and what it does.
 -- States, suggestions, votes and review are those of Weblate's documentation ("Translation workflows", "Translation
 -- states"); the rules and their order are this project's.
-use Rattle.std.specs.Prelude.{◌+◌, List, [], ◌∷◌, ◌++◌, length, map, Bool, true, false, not, ◌&&◌, ◌||◌, ◌==◌, nat_lt, nat_le, if◌then◌else◌, Option, Some, None, is_none, ℤ, pos, int_le}
+use Rattle.std.specs.Prelude.{List, [], ◌∷◌, ◌++◌, length, map, Bool, true, false, not, ◌&&◌, ◌||◌, ◌==◌, nat_lt, nat_le, if◌then◌else◌, Option, Some, None, is_none, ℤ, pos, int_le}
 use Rattle.std.specs.Option.{option_map_or, option_eq}
 use Rattle.std.specs.List.{list_any}
 use Rattle.std.specs.FinMap as maps

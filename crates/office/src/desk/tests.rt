@@ -78,7 +78,7 @@ const COMMENTED: (u16, &str) = (200, "{\"revision\":2,\"state\":\"untranslated\"
 // Lines, each with its reply. The replies are those of the office's worked rows.
 type Row = &'static [(&'static str, (u16, &'static str))];
 
-const ROWS: [Row; 14] = [
+const ROWS: [Row; 16] = [
     &[(HALLO, DONE), (HALLO, DONE)],
     &[(SERVUS, STALE), (HALLO, DONE), (SERVUS, STALE)],
     &[(HALLO, DONE), (MOIN, USED), (HALLO, DONE)],
@@ -101,6 +101,15 @@ const ROWS: [Row; 14] = [
     )],
     &[(
         "{\"act\":\"translate\",\"caller\":\"ann\",\"forms\":[\"Salut\"],\"id\":\"Hello\",\"lang\":\"fr\",\"number\":\"00000000-0000-4000-8000-000000000007\",\"seen\":1}",
+        (404, "{\"refusal\":\"no-language\",\"rule\":1}"),
+    )],
+    // By a guest: that the unit isn't there is told before the role, and that the language isn't there before both.
+    &[(
+        "{\"act\":\"translate\",\"caller\":\"zed\",\"forms\":[\"Bye\"],\"id\":\"Bye\",\"lang\":\"de\",\"number\":\"00000000-0000-4000-8000-000000000008\",\"seen\":1}",
+        (404, "{\"refusal\":\"no-unit\",\"rule\":2}"),
+    )],
+    &[(
+        "{\"act\":\"translate\",\"caller\":\"zed\",\"forms\":[\"Bye\"],\"id\":\"Bye\",\"lang\":\"fr\",\"number\":\"00000000-0000-4000-8000-000000000009\",\"seen\":1}",
         (404, "{\"refusal\":\"no-language\",\"rule\":1}"),
     )],
     &[

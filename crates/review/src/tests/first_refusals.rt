@@ -154,7 +154,7 @@ const AT_LAST: Start = Start {
 /// A unit, who acts under which policy, what is done, and what refuses it.
 type Row = (Start, Setting, Deed, Refusal);
 
-/// The next rule refuses them too.
+/// Later rules refuse them too.
 const NEIGHBOURS: [Row; 20] = [
     (
         APPROVED,
@@ -169,7 +169,7 @@ const NEIGHBOURS: [Row; 20] = [
         Deed::Comment(&[]),
         Refusal::IsApproved,
     ),
-    // Two empty forms, where the unit's is empty.
+    // Two empty forms.
     (
         UNTRANSLATED,
         NOTHING,
@@ -177,12 +177,16 @@ const NEIGHBOURS: [Row; 20] = [
         Refusal::PluralCount,
     ),
     (
-        UNTRANSLATED,
+        Start {
+            revision: LAST,
+            ..UNTRANSLATED
+        },
         NOTHING,
         Deed::TranslateTwo,
         Refusal::PluralCount,
     ),
     (UNIT, NOTHING, Deed::Vote(7, FOR), Refusal::NoSuggestion),
+    // Were the suggestion there, its acceptance would pass the limit.
     (AT_LAST, NOTHING, Deed::Accept(7), Refusal::NoSuggestion),
     (UNIT, NOTHING, Deed::Vote(20, NO_VOTE), Refusal::VotingOff),
     (APPROVED, NOTHING, Deed::Approve, Refusal::ReviewsOff),

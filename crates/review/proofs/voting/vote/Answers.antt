@@ -1,4 +1,4 @@
-use Rattle.std.proofs.Common.{◌≡◌, ◌∙◌, sym, ℕ, List, Bool, true, false, not, refl, []}
+use Rattle.std.proofs.Common.{◌≡◌, ◌∙◌, sym, ℕ, List, []}
 use Rattle.std.proofs.lemmas.Int.{to_z-of_z}
 use Rattle.std.specs.Int.{w64}
 use Rattle.units.specs.declared.unit.UnitAction.TheVariants.{Vote}
