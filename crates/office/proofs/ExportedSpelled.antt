@@ -23,7 +23,7 @@ use Rattle.office.specs.Exports.{WasExported}
 use Rattle.office.specs.Spelled.{HasStrings, TookSpelled, TookCatalogue}
 use Rattle.office.specs.Tables.{meaning, place_of}
 use Rattle.office.specs.Viewed.{viewed}
-use Rattle.office.proofs.Catalogues.{entries-viewed}
+use Rattle.office.proofs.OrderedViews.{entries-viewed}
 use Rattle.office.proofs.ExportedValid.{exported_valid}
 
 -- the rows of the tables, as the definitions see them

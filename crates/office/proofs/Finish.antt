@@ -19,7 +19,7 @@ use Rattle.office.specs.declared.sent.Sent.{Sent}
 use Rattle.office.specs.declared.faults.ExportFault.{ExportFault}
 use Rattle.office.specs.declared.faults.ExportFault.TheVariants as fault
 use Rattle.office.specs.declared.tables.Tables.{Tables}
-use Rattle.office.specs.declared.tables.Language.{Language}
+use Rattle.office.specs.declared.languages.Language.{Language}
 use Rattle.office.specs.Tables.{meaning, place_of}
 use Rattle.office.specs.Entries.{catalogue_of, translated}
 use Rattle.office.specs.Export.{export_text}
@@ -32,17 +32,17 @@ use Rattle.office.proofs.Catalogues.{text_cut, unit_rows}
 abbrev pub pieces : Tables → Text → Language → List ℕ
 pieces t lang language =
     entry_text language.header
-    ++ (flat_map (λ entry. behind (with_its_unit (meaning t).office lang entry)) t.template.entries.items ++ flat_map (λ e. unit_piece lang e.0.0 e.1) (maps.entries (meaning t).office.units))
+    ++ (flat_map (λ entry. behind (with_its_unit (meaning t).office lang entry)) t.template.catalogue ++ flat_map (λ e. unit_piece lang e.0.0 e.1) (maps.entries (meaning t).office.units))
 
-pub text_there : (t : Tables) (lang : Text) (language : Language) → Some language ≡ get_by (λ k. text_cmp lang (string_bytes k)) t.languages → export_text (meaning t).office lang ≡ Some (pieces t lang language)
+pub text_there : (t : Tables) (lang : Text) (language : Language) → Some language ≡ get_by (λ k. text_cmp lang (string_bytes k)) t.languages.rows → export_text (meaning t).office lang ≡ Some (pieces t lang language)
 text_there t lang language found =
     ap (option_map (λ header. text_of (catalogue_of (meaning t).office lang header))) (header_at t lang ∙ sym (ap (option_map (λ l. l.header)) found))
     ∙ ap (λ text. Some text) (text_cut (meaning t).office lang language.header)
 
-no_text : (t : Tables) (lang : Text) → None ≡ get_by (λ k. text_cmp lang (string_bytes k)) t.languages → export_text (meaning t).office lang ≡ None
+no_text : (t : Tables) (lang : Text) → None ≡ get_by (λ k. text_cmp lang (string_bytes k)) t.languages.rows → export_text (meaning t).office lang ≡ None
 no_text t lang none = ap (option_map (λ header. text_of (catalogue_of (meaning t).office lang header))) (header_at t lang ∙ sym (ap (option_map (λ l. l.header)) none))
 
-pub no_language : (t : Tables) (lang : Text) (taken : Option (List ℕ)) (failed : ℕ) → None ≡ get_by (λ k. text_cmp lang (string_bytes k)) t.languages
+pub no_language : (t : Tables) (lang : Text) (taken : Option (List ℕ)) (failed : ℕ) → None ≡ get_by (λ k. text_cmp lang (string_bytes k)) t.languages.rows
     → WasCut (export_text (meaning t).office lang) taken taken failed failed fault.NoLanguage
 no_language t lang taken failed none = let P : Option (List ℕ) → Type 0 = λ o. IsNone o in (subst P (sym (no_text t lang none)) refl, refl)
 
@@ -69,8 +69,8 @@ was_exported {whole = whole} text sha is empty all digest =
     record { whole = whole; is = is; taken = all.taken; bytes = sent.bytes; within = sent.within; digest = digest whole sent.digest }
 
 -- the template's pieces, and those of what is put away
-pub template_cut : (t : Tables) (lang : Text) (entries : List Entry) (rest : List ℕ) → entries ≡ t.template.entries.items
-    → flat_map (λ entry. behind (with_its_unit (meaning t).office lang entry)) t.template.entries.items ++ rest ≡ flat_map (λ entry. behind (with_its_unit (meaning t).office lang entry)) entries ++ rest
+pub template_cut : (t : Tables) (lang : Text) (entries : List Entry) (rest : List ℕ) → entries ≡ t.template.catalogue
+    → flat_map (λ entry. behind (with_its_unit (meaning t).office lang entry)) t.template.catalogue ++ rest ≡ flat_map (λ entry. behind (with_its_unit (meaning t).office lang entry)) entries ++ rest
 template_cut t lang entries rest same = ap (λ xs. flat_map (λ entry. behind (with_its_unit (meaning t).office lang entry)) xs ++ rest) (sym same)
 
 pub away_cut : (t : Tables) (lang : Text) → IsOrdered (λ x y. place_cmp (place_of x) (place_of y)) t.units

@@ -13,13 +13,14 @@ use Rattle.units.specs.declared.unit.Role.{Role}
 use Rattle.units.specs.declared.unit.UnitView.{UnitView}
 use Rattle.office.specs.Found.{found_of}
 use Rattle.office.specs.declared.found.Found.{Found}
-use Rattle.office.specs.declared.tables.Language.{Language}
+use Rattle.office.specs.declared.languages.Language.{Language}
 
 abbrev found_by : Office → Text → Key → Text → Option Entry → Option Found
 found_by office lang key name header =
     option_map (λ h. record { rule = rule_at office lang; policy = office.policy; role = role_of office name; view = view_of office (lang, key) }) header
 
-rule_there : (office : Office) (lang : Text) (language : Language) → Some language.header ≡ maps.get office.headers lang → language.rule ≡ rule_at office lang
+-- a language's rule is the one of its header
+pub rule_there : (office : Office) (lang : Text) (language : Language) → Some language.header ≡ maps.get office.headers lang → language.rule ≡ rule_at office lang
 unfolding rule_at
 rule_there office lang language e =
     sym (ap (λ header. by_result (λ fault. record { count = 1; tree = trees.number 0 }) (λ rule. rule) (rule_in header)) (sym e)

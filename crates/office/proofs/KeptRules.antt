@@ -28,19 +28,27 @@ use Rattle.review.specs.declared.decision.Decision.{Decision}
 use Rattle.review.specs.declared.decision.Decision.TheVariants.{Done, Refused}
 use Rattle.review.specs.UnitStep.{unit_step, unit_after, refusals, first_refusal, values_of}
 use Rattle.request_book.specs.declared.act.Act.{Act}
-use Rattle.request_book.specs.declared.act.Act.TheVariants.{OnUnit}
+use Rattle.request_book.specs.declared.act.Act.TheVariants.{OnUnit, SetTemplate, AddLanguage, SetRole, SetPolicy}
 use Rattle.request_book.specs.declared.act.Request.{Request}
-use Rattle.units.specs.declared.unit.Refusal.TheVariants.{NoLanguage, NoUnit, BelowRole, IsReadOnly, IsStale, IsApproved, PluralCount, NoSuggestion, VotingOff, ReviewsOff, IsFull, IsSame, IsUnfit, PastLimit}
-use Rattle.office.specs.Step.{step, act_step, unit_act_step, decided, refuse}
+use Rattle.units.specs.declared.unit.Refusal.TheVariants.{NoLanguage, NoUnit}
+use Rattle.office.specs.Step.{step, act_step, unit_act_step, decided}
 use Rattle.request_book.specs.Acts.{IsAct, IsRequest, lines_in}
 use Rattle.request_book.specs.Book.{Book, Meaning, Recorded, recorded_as}
-use Rattle.office.specs.Bodies.{refused}
+use Rattle.office.specs.Bodies.{Stepped, refuse}
+use Rattle.office.specs.OfficeActs.{managed, template_step, language_step, team_step, policy_step}
 use Rattle.office.specs.Deliveries.{left_by}
 use Rattle.office.specs.Starts.{IsStart}
+use Rattle.office.proofs.LanguageKept.{language_kept}
+use Rattle.office.proofs.Numbering.{AreFewer, numbers_at, fewer_distinct}
 use Rattle.office.proofs.Numbers.{Part, part-all, part-behind, part-before, part-distinct, part_found, PutIn, put_in-behind, put_in-distinct, all-append, all-flat_map}
+use Rattle.office.proofs.OfficeEnds.{IsStatus, refusal_status, ends_status, managed_ends, template_ends, language_ends, team_ends, policy_ends}
 use Rattle.office.proofs.Once.{is_known, left_by-last, stepped}
+use Rattle.office.proofs.PolicyKept.{policy_kept}
+use Rattle.office.proofs.Rebuilt.{IsKept, kept_managed}
 use Rattle.office.proofs.Replaced.{length-filter-put, Found, flat_map-put, all_found}
 use Rattle.office.proofs.Swaps.{same_place}
+use Rattle.office.proofs.TeamKept.{team_kept}
+use Rattle.office.proofs.TemplateKept.{template_kept}
 use Rattle.office.proofs.Told.{fresh_number}
 use Rattle.office.proofs.UnitRules.{none_applies, numbers_of, Renumbered, Follows, act_follows}
 
@@ -55,11 +63,12 @@ at_place units place new p unit e = by_test (place_eq p place) refl (sym (maps.g
     by_test true t h = let same : unit ≡ new = cc in inl (same_place p place t, same)
     by_test false t h = inr h
 
--- a step leaves the office, or replaces one unit
+-- a step leaves the office, or replaces one unit, or is an office's own act
 data Moves (office : Office) (number : Text) : Office → Type 0 where
   still : Moves office number office
   moved : (place : Place) (old new : Unit) → maps.get office.units place ≡ Some old → old.obsolete ≡ false → Follows office.policy (rule_at office place.0) number old new →
       Moves office number (with_unit office place new)
+  rebuilt : (new : Office) → IsOffice new → AreFewer office.units new.units → Moves office number new
 
 few : (office : Office) (place : Place) (old new : Unit) → maps.get office.units place ≡ Some old → (lang : Text) →
     length (units_of (with_unit office place new) lang) ≡ length (units_of office lang)
@@ -150,44 +159,33 @@ unit_act_moves office caller number place act rules distinct given = by_unit (ma
     by_unit true None e = still
     by_unit true (Some old) e = decision_moves office place (role_of office caller) caller number (record { unit = old; source = entry_of office.template place.1 }) act rules distinct e given
 
+-- what an office's own act leaves
+managed_moves : (office : Office) (caller number : Text) (after : Stepped) → IsOffice office → IsKept office after → Moves office number (managed office caller after).0
+managed_moves office caller number after rules kept =
+    let all : IsKept office (managed office caller after) = kept_managed office caller after rules kept in
+    rebuilt (managed office caller after).0 all.rules all.fewer
+
 step_moves : (office : Office) (x : Request) → IsOffice office → IsDistinct text_eq (all_numbers office) → IsRequest x → Moves office x.number (step office x).0
 unfolding act_step
 step_moves office x rules distinct given = by_act x.act given.2
   where
     by_act : (act : Act) → IsAct act → Moves office x.number (act_step office x.caller x.number act).0
     by_act (OnUnit lang key act) is = unit_act_moves office x.caller x.number (lang, key) act rules distinct is.5
+    by_act (SetTemplate po) is = managed_moves office x.caller x.number (template_step office po) rules (template_kept office po rules)
+    by_act (AddLanguage lang po) is = managed_moves office x.caller x.number (language_step office lang po) rules (language_kept office lang po rules)
+    by_act (SetRole name role) is = managed_moves office x.caller x.number (team_step office name role) rules (team_kept office name role rules)
+    by_act (SetPolicy policy) is = managed_moves office x.caller x.number (policy_step office policy) rules (policy_kept office policy rules is)
 
 -- ---- the rules of the office, and those with its book
 
 kept_by_move : (office new : Office) (number : Text) → Moves office number new → IsOffice office → IsOffice new
 kept_by_move office new number still rules = rules
 kept_by_move office new number (moved place old unit there current r) rules = replaced office number place old unit rules there current r
-
--- each reply's status is one of five
-IsStatus : ℕ → Type 0
-IsStatus status = IsTrue (list_any (nat_eq status) (200 ∷ 403 ∷ 404 ∷ 409 ∷ 422 ∷ []))
-
-refusal_status : (refusal : Refusal) → IsStatus (refused refusal).status
-unfolding IsStatus
-refusal_status NoLanguage = refl
-refusal_status NoUnit = refl
-refusal_status BelowRole = refl
-refusal_status IsReadOnly = refl
-refusal_status IsStale = refl
-refusal_status IsApproved = refl
-refusal_status PluralCount = refl
-refusal_status NoSuggestion = refl
-refusal_status VotingOff = refl
-refusal_status ReviewsOff = refl
-refusal_status IsFull = refl
-refusal_status IsSame = refl
-refusal_status IsUnfit = refl
-refusal_status PastLimit = refl
+kept_by_move office _ number (rebuilt new kept fewer) rules = kept
 
 decision_status : (office : Office) (place : Place) (d : Decision) → IsStatus (decided office place d).1.status
-unfolding IsStatus
 decision_status office place (Done view values) = refl
-decision_status office place (Refused refusal) = refusal_status refusal
+decision_status office place (Refused refusal) = refusal_status refusal []
 
 unit_act_status : (office : Office) (caller number : Text) (place : Place) (act : UnitAct) → IsStatus (unit_act_step office caller number place act).1.status
 unit_act_status office caller number place act = by_view (maps.contains_key office.headers place.0) (view_of office place)
@@ -195,8 +193,8 @@ unit_act_status office caller number place act = by_view (maps.contains_key offi
     by_view : (there : Bool) (view : Option UnitView) →
         IsStatus (cond (not there) (refuse office NoLanguage) (option_map_or
         (λ v. decided office place (unit_step office.policy (rule_at office place.0) (role_of office caller) caller number v act)) view (refuse office NoUnit))).1.status
-    by_view false view = refusal_status NoLanguage
-    by_view true None = refusal_status NoUnit
+    by_view false view = refusal_status NoLanguage []
+    by_view true None = refusal_status NoUnit []
     by_view true (Some v) = decision_status office place (unit_step office.policy (rule_at office place.0) (role_of office caller) caller number v act)
 
 step_status : (office : Office) (x : Request) → IsStatus (step office x).1.status
@@ -205,6 +203,10 @@ step_status office x = by_act x.act
   where
     by_act : (act : Act) → IsStatus (act_step office x.caller x.number act).1.status
     by_act (OnUnit lang key act) = unit_act_status office x.caller x.number (lang, key) act
+    by_act (SetTemplate po) = ends_status office _ (managed_ends office x.caller (template_step office po) (template_ends office po))
+    by_act (AddLanguage lang po) = ends_status office _ (managed_ends office x.caller (language_step office lang po) (language_ends office lang po))
+    by_act (SetRole name role) = ends_status office _ (managed_ends office x.caller (team_step office name role) (team_ends office name role))
+    by_act (SetPolicy policy) = ends_status office _ (managed_ends office x.caller (policy_step office policy) (policy_ends office policy))
 
 -- what a new record leaves there
 still_there : (book : Book) (n : Text) (r : Recorded) (q : Text) → IsSome (maps.get book q) → IsSome (maps.get (maps.insert book n r) q)
@@ -235,6 +237,15 @@ renumbered_recorded : (book : Book) (number : Text) (old new : List Text) → Is
 renumbered_recorded book number old new own (inl part) h = part-all (λ n. IsSome (maps.get book n)) new old part h
 renumbered_recorded book number old new own (inr added) h = subst (AreRecorded book) (sym added) (all-append (λ n. IsSome (maps.get book n)) old (number ∷ []) h (own, tt))
 
+-- the numbers at a place
+at_recorded : (book : Book) (units : maps.FinMap place_cmp Unit) → ((place : Place) (unit : Unit) → maps.get units place ≡ Some unit → AreRecorded book (numbers_of unit)) →
+    (place : Place) → AreRecorded book (numbers_at units place)
+at_recorded book units h place = by (maps.get units place) refl
+  where
+    by : (o : Option Unit) → maps.get units place ≡ o → AreRecorded book (option_map_or numbers_of o [])
+    by None e = tt
+    by (Some unit) e = h place unit e
+
 moved_recorded : (office new : Office) (number : Text) (book : Book) → IsSome (maps.get book number) → Moves office number new →
     ((place : Place) (unit : Unit) → maps.get office.units place ≡ Some unit → AreRecorded book (numbers_of unit)) →
     (place : Place) (unit : Unit) → maps.get new.units place ≡ Some unit → AreRecorded book (numbers_of unit)
@@ -242,6 +253,9 @@ moved_recorded office new number book own still h = h
 moved_recorded office new number book own (moved place old unit there current r) h = λ p u e. ⊎_elim
     (λ same. subst (λ (v : Unit). AreRecorded book (numbers_of v)) (sym same.1) (renumbered_recorded book number (numbers_of old) (numbers_of unit) own r.numbers (h place old there)))
     (λ here. h p u here) (at_place office.units place unit p u e)
+moved_recorded office _ number book own (rebuilt new kept fewer) h = λ p u e.
+    let before : AreRecorded book (numbers_at office.units p) = at_recorded book office.units h p in
+    subst (λ (o : Option Unit). AreRecorded book (option_map_or numbers_of o [])) e (part-all (λ n. IsSome (maps.get book n)) (numbers_at new.units p) (numbers_at office.units p) (fewer p) before)
 
 -- a number that isn't recorded is none of theirs
 not_theirs : (book : Book) (number : Text) (numbers : List Text) → maps.get book number ≡ None → AreRecorded book numbers → AllByRecursion (λ n. text_eq number n ≡ false) numbers
@@ -266,6 +280,7 @@ moved_distinct : (office new : Office) (number : Text) (book : Book) → maps.ge
     ((place : Place) (unit : Unit) → maps.get office.units place ≡ Some unit → AreRecorded book (numbers_of unit)) → IsDistinct text_eq (all_numbers office) → IsDistinct text_eq (all_numbers new)
 unfolding all_numbers
 moved_distinct office new number book fresh still h distinct = distinct
+moved_distinct office _ number book fresh (rebuilt new kept fewer) h distinct = fewer_distinct office.units new.units fewer distinct
 moved_distinct office new number book fresh (moved place old unit there current r) h distinct =
     subst (λ (es : List (Place × Unit)). IsDistinct text_eq (flat_map (λ e. numbers_of e.1) es)) (sym (maps.entries-insert place_total office.units place unit)) (by_numbers r.numbers)
   where
@@ -285,7 +300,7 @@ moved_distinct office new number book fresh (moved place old unit there current 
 
 -- a new request's step and record
 one_more : (m : Meaning) (x : Request) → IsRequest x → maps.get m.book x.number ≡ None → IsStart m → IsStart (stepped m x)
-unfolding IsStatus all_numbers
+unfolding all_numbers
 one_more m x given fresh start =
     let next = (step m.office x).0 in
     let r : Recorded = recorded_as x (step m.office x).1 in

@@ -23,7 +23,7 @@ use Rattle.request_book.specs.declared.book.Record.{Record}
 use Rattle.office.specs.declared.place.Place.{Place}
 use Rattle.office.specs.declared.tables.Tables.{Tables}
 use Rattle.office.specs.declared.tables.Kept.{Kept}
-use Rattle.office.specs.declared.tables.Language.{Language}
+use Rattle.office.specs.declared.languages.Language.{Language}
 use Rattle.office.specs.Tables.{meaning, place_of, recorded_of}
 use Rattle.office.proofs.Views.{get-viewed, insert-viewed}
 use Rattle.office.proofs.FoundLemmas as lemmas
@@ -32,8 +32,8 @@ map_self : {X : Type 0} (o : Option X) → option_map (λ x. x) o ≡ o
 map_self None = refl
 map_self (Some x) = refl
 
-pub header_at : (t : Tables) (lang : Text) → maps.get (meaning t).office.headers lang ≡ option_map (λ language. language.header) (get_by (λ k. text_cmp lang (string_bytes k)) t.languages)
-header_at t lang = get-viewed text_cmp string_bytes (λ language. language.header) text_total t.languages lang
+pub header_at : (t : Tables) (lang : Text) → maps.get (meaning t).office.headers lang ≡ option_map (λ language. language.header) (get_by (λ k. text_cmp lang (string_bytes k)) t.languages.rows)
+header_at t lang = get-viewed text_cmp string_bytes (λ language. language.header) text_total t.languages.rows lang
 
 pub unit_at : (t : Tables) (place : OfficePlace) → maps.get (meaning t).office.units place ≡ get_by (λ k. place_cmp place (place_of k)) t.units
 unit_at t place = get-viewed place_cmp place_of (λ unit. unit) place_total t.units place ∙ map_self _
@@ -53,8 +53,8 @@ row_at t number found e = two found ∙ ap (λ o. option_map (row_of number) (op
     two (Some kept) = refl
 
 pub view_at : (t : Tables) (place : OfficePlace) (found : Option Unit) → found ≡ get_by (λ k. place_cmp place (place_of k)) t.units
-    → option_map (λ unit. record { unit = unit; source = entry_of t.template.entries.items place.1 }) found ≡ view_of (meaning t).office place
-view_at t place found e = ap (option_map (λ unit. record { unit = unit; source = entry_of t.template.entries.items place.1 })) (e ∙ sym (unit_at t place))
+    → option_map (λ unit. record { unit = unit; source = entry_of t.template.catalogue place.1 }) found ≡ view_of (meaning t).office place
+view_at t place found e = ap (option_map (λ unit. record { unit = unit; source = entry_of t.template.catalogue place.1 })) (e ∙ sym (unit_at t place))
 
 -- a record put in
 pub records-put : (t : Tables) (records : BTreeMap Text Kept) (number : Text) (kept : Kept) → records.entries ≡ insert_entry text_cmp t.records.entries number kept
@@ -67,12 +67,12 @@ pub units-put : (t : Tables) (units : BTreeMap Place Unit) (place : Place) (unit
 units-put t units place unit e i = record (meaning t).office { units = insert-viewed place_cmp place_of (λ unit. unit) place_total place_IsAntisymmetric t.units units place unit e i }
 
 -- what is found where the language is there, and where it isn't
-pub found_there : (t : Tables) (lang : Text) (key : Key) (name : Text) (language : Language) → Some language ≡ get_by (λ k. text_cmp lang (string_bytes k)) t.languages
+pub found_there : (t : Tables) (lang : Text) (key : Key) (name : Text) (language : Language) → Some language ≡ get_by (λ k. text_cmp lang (string_bytes k)) t.languages.rows
     → (rule : Rule) (role : Role) (view : Option UnitView) → rule ≡ language.rule → role ≡ role_of (meaning t).office name → view ≡ view_of (meaning t).office (lang, key)
     → ◌≡◌ {A = Option Found} (Some (record { rule = rule; policy = t.policy; role = role; view = view })) (found_of (meaning t).office lang key name)
 found_there t lang key name language e = lemmas.found_there (meaning t).office lang key name language (ap (option_map (λ l. l.header)) e ∙ sym (header_at t lang))
 
-pub nothing_found : (t : Tables) (lang : Text) (key : Key) (name : Text) → None ≡ get_by (λ k. text_cmp lang (string_bytes k)) t.languages → None ≡ found_of (meaning t).office lang key name
+pub nothing_found : (t : Tables) (lang : Text) (key : Key) (name : Text) → None ≡ get_by (λ k. text_cmp lang (string_bytes k)) t.languages.rows → None ≡ found_of (meaning t).office lang key name
 nothing_found t lang key name e = lemmas.nothing_found (meaning t).office lang key name (ap (option_map (λ l. l.header)) e ∙ sym (header_at t lang))
 
 -- both put in

@@ -104,7 +104,7 @@ all-put : (P : Text → Type 0) (number : Text) (front back : List Text) → P n
 all-put P number [] back h all = (h, all)
 all-put P number (y ∷ front) back h all = (all.0, all-put P number front back h all.1)
 
-differs : (x y : Text) → text_eq x y ≡ false → text_eq y x ≡ false
+pub differs : (x y : Text) → text_eq x y ≡ false → text_eq y x ≡ false
 differs x y e = by_test (text_eq y x) refl
   where
     by_test : (c : Bool) → text_eq y x ≡ c → text_eq y x ≡ false

@@ -3,17 +3,17 @@ use Rattle.std.proofs.Common.{◌≡◌, List, [], ◌∷◌, ◌++◌, Bool, tr
 use Rattle.std.specs.Prelude.{T, filter, flat_map}
 use Rattle.std.specs.declared.cmp.Ordering.{Ordering}
 use Rattle.std.specs.declared.cmp.Ordering.TheVariants.{Less, Equal, Greater}
-use Rattle.std.specs.Ordering.{is_lt, is_eq}
+use Rattle.std.specs.Ordering.{is_lt, is_eq, eq_by_cmp}
 use Rattle.std.specs.Cmp.{IsTotalOrder, tied_itself}
 use Rattle.std.specs.FinMap as maps
 use Rattle.std.specs.FinMap.Entries.{below_all, by_order, find_tied}
 use Rattle.std.specs.List.{AllByRecursion}
 
-left_true : (a b : Bool) → T (a && b) → T a
+pub left_true : (a b : Bool) → T (a && b) → T a
 left_true true b p = tt
 left_true false b p = p
 
-right_true : (a b : Bool) → T (a && b) → T b
+pub right_true : (a b : Bool) → T (a && b) → T b
 right_true true b p = p
 right_true false b p = absurd p
 
@@ -94,13 +94,13 @@ module _ {K X : Type 0} (R : K → K → Ordering) (o : IsTotalOrder R) where
 
   -- ---- each entry is found at its key
 
-  absent : (x : K) (es : List (K × X)) → T (below_all R x es) → maps.find R x es ≡ None
+  pub absent : (x : K) (es : List (K × X)) → T (below_all R x es) → maps.find R x es ≡ None
   absent x [] h = refl
   absent x (e ∷ es) h =
       ap (λ c. cond c (Some e.1) (maps.find R x es)) (no_tie (R x e.0) (left_true (is_lt (R x e.0)) (below_all R x es) h))
       ∙ absent x es (right_true (is_lt (R x e.0)) (below_all R x es) h)
 
-  past : (k : K) (v : X) (e : K × X) (es : List (K × X)) → T (below_all R e.0 es) → maps.find R k es ≡ Some v → (r : Ordering) → R k e.0 ≡ r →
+  pub past : (k : K) (v : X) (e : K × X) (es : List (K × X)) → T (below_all R e.0 es) → maps.find R k es ≡ Some v → (r : Ordering) → R k e.0 ≡ r →
       cond (is_eq r) (Some e.1) (maps.find R k es) ≡ Some v
   past k v e es below found Less t = found
   past k v e es below found Greater t = found
@@ -108,11 +108,26 @@ module _ {K X : Type 0} (R : K → K → Ordering) (o : IsTotalOrder R) where
       let none : maps.find R k es ≡ None = sym (find_tied R o k e.0 t es) ∙ absent e.0 es below in
       cc
 
-  -- what holds of each value that is found holds of each entry's
-  pub all_found : (P : X → Type 0) (es : List (K × X)) → T (maps.is_sorted R es) → ((k : K) (v : X) → maps.find R k es ≡ Some v → P v) → AllByRecursion (λ e. P e.1) es
-  all_found P [] s h = tt
-  all_found P (e ∷ es) s h =
+  -- a key that is found isn't tied to one below all
+  pub apart_from : (x : K) (es : List (K × X)) → T (below_all R x es) → (k : K) (v : X) → maps.find R k es ≡ Some v → eq_by_cmp R k x ≡ false
+  apart_from x es below k v found = by_order_of (R k x) refl
+    where
+      by_order_of : (r : Ordering) → R k x ≡ r → is_eq r ≡ false
+      by_order_of Less t = refl
+      by_order_of Greater t = refl
+      by_order_of Equal t =
+          let none : maps.find R k es ≡ None = sym (find_tied R o k x t es) ∙ absent x es below in
+          cc
+
+  -- what holds of each value that is found at its key holds of each entry
+  pub all_rows : (P : K → X → Type 0) (es : List (K × X)) → T (maps.is_sorted R es) → ((k : K) (v : X) → maps.find R k es ≡ Some v → P k v) → AllByRecursion (λ e. P e.0 e.1) es
+  all_rows P [] s h = tt
+  all_rows P (e ∷ es) s h =
       let below = left_true (below_all R e.0 es) (maps.is_sorted R es) s in (
         h e.0 e.1 (ap (λ r. cond (is_eq r) (Some e.1) (maps.find R e.0 es)) (tied_itself o e.0)),
-        all_found P es (right_true (below_all R e.0 es) (maps.is_sorted R es) s) (λ k v found. h k v (past k v e es below found (R k e.0) refl)),
+        all_rows P es (right_true (below_all R e.0 es) (maps.is_sorted R es) s) (λ k v found. h k v (past k v e es below found (R k e.0) refl)),
       )
+
+  -- what holds of each value that is found holds of each entry's
+  pub all_found : (P : X → Type 0) (es : List (K × X)) → T (maps.is_sorted R es) → ((k : K) (v : X) → maps.find R k es ≡ Some v → P v) → AllByRecursion (λ e. P e.1) es
+  all_found P es s h = all_rows (λ k v. P v) es s h

@@ -135,7 +135,7 @@ valid_hello = record {
 not_header : HasHeaderKey (plain_entry (codes "Hello") []) → ⊥
 not_header e = let wrong : codes "Hello" ≡ [] = ap (λ (k : EntryKey). k.1) e in cc
 
-valid_template : IsValid (plain_entry (codes "Hello") [] ∷ [])
+pub valid_template : IsValid (plain_entry (codes "Hello") [] ∷ [])
 valid_template = record { each = (valid_hello, tt); unique = (tt, tt); header = ((λ e. absurd (not_header e)), tt) }
 
 plain_hello : IsTemplateEntry (plain_entry (codes "Hello") [])

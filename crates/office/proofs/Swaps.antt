@@ -1,5 +1,5 @@
 -- Lists that are alike are joined by a chain of swaps of neighbours that don't clash, and no swap changes the office that is left.
-use Rattle.std.proofs.Common.{◌≡◌, List, [], ◌∷◌, ◌++◌, Bool, true, false, cond, ◌||◌, refl, sym, ◌∙◌, ap, subst, Option, Some, inr, ⊎_elim}
+use Rattle.std.proofs.Common.{◌≡◌, List, [], ◌∷◌, ◌++◌, Bool, true, false, cond, ◌||◌, refl, sym, ◌∙◌, ap, subst, Option, Some, None, inl, inr, ⊎_elim}
 use Rattle.std.specs.Prelude.{unwrap_or, ◌⊎◌}
 use Rattle.std.proofs.lemmas.List.Elements.{filter-append}
 use Rattle.std.specs.declared.cmp.Ordering.{Ordering}
@@ -9,7 +9,7 @@ use Rattle.std.specs.Cmp.{eq_by_cmp_equiv}
 use Rattle.units.specs.Office.{Office, Place, place_cmp, place_eq}
 use Rattle.units.proofs.Orders.{place_total, place_IsAntisymmetric}
 use Rattle.request_book.specs.declared.act.Act.{Act}
-use Rattle.request_book.specs.declared.act.Act.TheVariants.{OnUnit}
+use Rattle.request_book.specs.declared.act.Act.TheVariants.{OnUnit, SetTemplate, AddLanguage, SetRole, SetPolicy}
 use Rattle.request_book.specs.declared.act.Request.{Request}
 use Rattle.request_book.specs.Clash.{is_office_act, names, clash, own, Alike}
 use Rattle.office.specs.Step.{step, act_step}
@@ -44,6 +44,10 @@ go_behind x (y ∷ before) behind clear = swap [] x y (before ++ behind) clear.0
 
 abbrev unit_place : Act → Option Place
 unit_place (OnUnit lang key a) = Some (lang, key)
+unit_place (SetTemplate po) = None
+unit_place (AddLanguage lang po) = None
+unit_place (SetRole name role) = None
+unit_place (SetPolicy policy) = None
 
 abbrev concerns : Place → Act → Bool
 concerns place act = is_office_act act || names place act
@@ -59,12 +63,24 @@ tied Greater e = cc
 pub same_place : (p q : Place) → place_eq p q ≡ true → p ≡ q
 same_place p q e = place_IsAntisymmetric p q (tied (place_cmp p q) e)
 
+-- a place for acts that name none
+nowhere : Place
+nowhere = ([], record { ctx = None; id = [] })
+
 its_place : (act : Act) → (p : Place) × (concerns p act ≡ true)
 its_place (OnUnit lang key a) = ((lang, key), (eq_by_cmp_equiv place_total).refl (lang, key))
+its_place (SetTemplate po) = (nowhere, refl)
+its_place (AddLanguage lang po) = (nowhere, refl)
+its_place (SetRole name role) = (nowhere, refl)
+its_place (SetPolicy policy) = (nowhere, refl)
 
 -- what doesn't concern its unit doesn't clash with it
 no_clash : (a : Act) (x y : Request) (p : Place) → unit_place a ≡ Some p → concerns p y.act ≡ false → clash (record x { act = a }) y ≡ false
 no_clash (OnUnit lang key a) x y p e c = ap (λ (q : Place). concerns q y.act) (same_some (lang, key) p e) ∙ c
+no_clash (SetTemplate po) x y p e c = cc
+no_clash (AddLanguage lang po) x y p e c = cc
+no_clash (SetRole name role) x y p e c = cc
+no_clash (SetPolicy policy) x y p e c = cc
 
 all_clear : (x : Request) (p : Place) → unit_place x.act ≡ Some p → (ys : List Request) → own p ys ≡ [] → AllClear x ys
 all_clear x p is [] e = tt
@@ -109,6 +125,10 @@ data Movable (x : Request) : List Request → Type 0 where
 
 at_unit : (act : Act) (p q : Place) → unit_place act ≡ Some p → concerns q act ≡ true → q ≡ p
 at_unit (OnUnit lang key a) p q e t = same_place q (lang, key) t ∙ same_some (lang, key) p e
+at_unit (SetTemplate po) p q e t = cc
+at_unit (AddLanguage lang po) p q e t = cc
+at_unit (SetRole name role) p q e t = cc
+at_unit (SetPolicy policy) p q e t = cc
 
 cleared : (x : Request) (before : List Request) → Movable x before → (q : Place) → concerns q x.act ≡ true → own q before ≡ []
 cleared x before first q t = refl
@@ -130,12 +150,20 @@ alike_rest x xs before behind m alike q = by_test (concerns q x.act) refl
 kind_of : (act : Act) → (is_office_act act ≡ true) ⊎ (unit_place act ≡ Some (its_place act).0)
 unfolding its_place
 kind_of (OnUnit lang key a) = inr refl
+kind_of (SetTemplate po) = inl refl
+kind_of (AddLanguage lang po) = inl refl
+kind_of (SetRole name role) = inl refl
+kind_of (SetPolicy policy) = inl refl
 
 office_concerns : (act : Act) (q : Place) → is_office_act act ≡ true → concerns q act ≡ true
 office_concerns act q e = ap (λ c. c || names q act) e
 
 not_office : (p : Place) (act : Act) → concerns p act ≡ false → is_office_act act ≡ false
 not_office p (OnUnit lang key a) e = refl
+not_office p (SetTemplate po) e = cc
+not_office p (AddLanguage lang po) e = cc
+not_office p (SetRole name role) e = cc
+not_office p (SetPolicy policy) e = cc
 
 clear_first : (p : Place) (y : Request) (ys : List Request) → own p (y ∷ ys) ≡ [] → concerns p y.act ≡ false
 clear_first p y ys e = by_test (concerns p y.act) refl e
@@ -200,6 +228,14 @@ either o x y c = by_acts x.act y.act c
         let both = either_order o x.caller y.caller x.number y.number (lang, key) (other_lang, other_key) a b
         ((eq_by_cmp_equiv place_total).symm (other_lang, other_key) (lang, key) ∙ c) c in
         record { office = both.0; second = both.1; first = both.2 }
+    by_acts (OnUnit lang key a) (SetTemplate po) c = cc
+    by_acts (OnUnit lang key a) (AddLanguage other_lang po) c = cc
+    by_acts (OnUnit lang key a) (SetRole name role) c = cc
+    by_acts (OnUnit lang key a) (SetPolicy policy) c = cc
+    by_acts (SetTemplate po) b c = cc
+    by_acts (AddLanguage lang po) b c = cc
+    by_acts (SetRole name role) b c = cc
+    by_acts (SetPolicy policy) b c = cc
 
 swapped : (front : List Request) (x y : Request) (back : List Request) → clash x y ≡ false → (o : Office) → after o (front ++ x ∷ y ∷ back) ≡ after o (front ++ y ∷ x ∷ back)
 swapped [] x y back c o = ap (λ s. after s back) (GoInEitherOrder.office (either o x y c))

@@ -14,7 +14,7 @@ use Rattle.units.specs.declared.unit.Refusal.TheVariants.{NoLanguage, NoUnit}
 use Rattle.review.specs.declared.decision.Decision.{Decision}
 use Rattle.review.specs.declared.decision.Decision.TheVariants.{Done, Refused}
 use Rattle.review.specs.UnitStep.{unit_step}
-use Rattle.request_book.specs.declared.act.Act.TheVariants.{OnUnit}
+use Rattle.request_book.specs.declared.act.Act.TheVariants.{OnUnit, SetTemplate, AddLanguage, SetRole, SetPolicy}
 use Rattle.request_book.specs.declared.act.Request.{Request}
 use Rattle.request_book.specs.Replies.{Reply}
 use Rattle.request_book.specs.Acts.{content_text}
@@ -23,8 +23,11 @@ use Rattle.office.specs.declared.found.Found.{Found}
 use Rattle.office.specs.declared.outcome.Outcome.{Outcome}
 use Rattle.office.specs.Found.{found_of, written}
 use Rattle.office.specs.Outcomes.{outcome_of, outcome_of_decision}
-use Rattle.office.specs.Step.{Stepped, step, act_step, unit_act_step, decided, refuse}
+use Rattle.office.specs.Bodies.{Stepped, refuse}
+use Rattle.office.specs.OfficeActs.{template_step, language_step, team_step, policy_step}
+use Rattle.office.specs.Step.{step, act_step, unit_act_step, decided}
 use Rattle.office.specs.Deliveries.{first_delivered}
+use Rattle.office.proofs.OfficeEnds.{managed_ends, template_ends, language_ends, team_ends, policy_ends, ends_still}
 
 -- the office with an outcome's view, and its reply
 abbrev pub settled : Office → Text → Key → Outcome → Stepped
@@ -76,6 +79,10 @@ step_still office x h = by_act x.act h
   where
     by_act : (act : _) → (act_step office x.caller x.number act).1.status ≢ 200 → (act_step office x.caller x.number act).0 ≡ office
     by_act (OnUnit lang key act) h = still office x.caller x.number lang key act h
+    by_act (SetTemplate po) h = ends_still office _ (managed_ends office x.caller (template_step office po) (template_ends office po)) h
+    by_act (AddLanguage lang po) h = ends_still office _ (managed_ends office x.caller (language_step office lang po) (language_ends office lang po)) h
+    by_act (SetRole name role) h = ends_still office _ (managed_ends office x.caller (team_step office name role) (team_ends office name role)) h
+    by_act (SetPolicy policy) h = ends_still office _ (managed_ends office x.caller (policy_step office policy) (policy_ends office policy)) h
 
 -- ---- a unit act whose number is new: what was found, decided and committed is the step with its record
 

@@ -2,9 +2,16 @@ pub mod Faults
 pub mod Viewed
 pub mod Sets
 pub mod Index
+pub mod Rows
+pub mod Taken
+pub mod Befores
 pub mod Tables
 pub mod Found
 pub mod Bodies
+pub mod Fielded
+pub mod OfficeActs
+pub mod Changed
+pub mod Settled
 pub mod Step
 pub mod Outcomes
 pub mod Deliveries

@@ -5,13 +5,13 @@ use Rattle.std.specs.declared.cmp.Ordering.{Ordering}
 use Rattle.std.specs.FinMap as maps
 use Rattle.po_read.specs.Texts.{text_cmp}
 use Rattle.po_read.specs.declared.entry.Entry.{Entry}
-use Rattle.units.specs.Office.{place_cmp}
+use Rattle.units.specs.Office.{Place, place_cmp}
 use Rattle.units.specs.declared.unit.Role.{Role}
 use Rattle.units.specs.declared.unit.Unit.{Unit}
 use Rattle.request_book.specs.Book.{Book, Meaning, Recorded}
 use Rattle.request_book.specs.declared.act.Request.{Request}
 use Rattle.request_book.specs.declared.book.Record.{Record}
-use Rattle.office.specs.Tables.{place_of}
+use Rattle.office.specs.Rows.{place_of}
 use Rattle.office.specs.Deliveries.{kept}
 use Rattle.office.specs.declared.plain.CodedLanguage.{CodedLanguage}
 use Rattle.office.specs.declared.plain.PlacedUnit.{PlacedUnit}
@@ -25,6 +25,10 @@ rows R key value xs = maps.from_entries (map (λ x. (key x, value x)) xs)
 
 abbrev pub header_rows : List CodedLanguage → maps.FinMap text_cmp Entry
 header_rows = rows text_cmp (λ row. row.code) (λ row. row.language.header)
+
+-- units with their places
+abbrev pub rows_of : List PlacedUnit → List (Place × Unit)
+rows_of units = map (λ row. (place_of row.place, row.unit)) units
 
 abbrev pub unit_rows : List PlacedUnit → maps.FinMap place_cmp Unit
 unit_rows = rows place_cmp (λ row. place_of row.place) (λ row. row.unit)
@@ -42,7 +46,7 @@ record_rows = rows text_cmp (λ r. r.number) recorded_in
 abbrev pub plain_meaning : PlainOffice → Meaning
 plain_meaning plain = record {
   office = record {
-    template = plain.template.items;
+    template = plain.template;
     headers = header_rows plain.languages.items;
     units = unit_rows plain.units.items;
     team = team_rows plain.team.items;

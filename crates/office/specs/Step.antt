@@ -7,24 +7,15 @@ use Rattle.po_read.specs.Texts.{Text}
 use Rattle.units.specs.Office.{Office, Place, role_of, view_of, with_unit}
 use Rattle.units.specs.Rules.{rule_at}
 use Rattle.units.specs.declared.unit.UnitAct.{UnitAct}
-use Rattle.units.specs.declared.unit.Refusal.{Refusal}
 use Rattle.units.specs.declared.unit.Refusal.TheVariants.{NoLanguage, NoUnit}
 use Rattle.review.specs.declared.decision.Decision.{Decision}
 use Rattle.review.specs.declared.decision.Decision.TheVariants.{Done, Refused}
 use Rattle.review.specs.UnitStep.{unit_step}
 use Rattle.request_book.specs.declared.act.Act.{Act}
-use Rattle.request_book.specs.declared.act.Act.TheVariants.{OnUnit}
+use Rattle.request_book.specs.declared.act.Act.TheVariants.{OnUnit, SetTemplate, AddLanguage, SetRole, SetPolicy}
 use Rattle.request_book.specs.declared.act.Request.{Request}
-use Rattle.request_book.specs.Replies.{Reply}
-use Rattle.office.specs.Bodies.{refused, done}
-
--- an office, and the reply that was given with it
-abbrev pub Stepped : Type 0
-Stepped = Office × Reply
-
--- a refusal changes nothing
-abbrev pub refuse : Office → Refusal → Stepped
-refuse office refusal = (office, refused refusal)
+use Rattle.office.specs.Bodies.{Stepped, refuse, done}
+use Rattle.office.specs.OfficeActs.{managed, template_step, language_step, team_step, policy_step}
 
 -- ---- acts on a unit
 
@@ -44,6 +35,10 @@ unit_act_step office caller number place act =
 -- the office after a request, and its reply
 unfoldable pub act_step : Office → Text → Text → Act → Stepped
 act_step office caller number (OnUnit lang key act) = unit_act_step office caller number (lang, key) act
+act_step office caller number (SetTemplate po) = managed office caller (template_step office po)
+act_step office caller number (AddLanguage lang po) = managed office caller (language_step office lang po)
+act_step office caller number (SetRole name role) = managed office caller (team_step office name role)
+act_step office caller number (SetPolicy policy) = managed office caller (policy_step office policy)
 
 abbrev pub step : Office → Request → Stepped
 step office request = act_step office request.caller request.number request.act

@@ -6,6 +6,8 @@ ghost use Rattle.request_book.specs.Acts.{content_text};
 ghost use Rattle.request_book.specs.declared.act.Act.TheVariants.{OnUnit};
 ghost use Rattle.office.specs.Tables.{meaning};
 ghost use Rattle.office.specs.Deliveries.{reply_from, first_delivered, left_by, answers_of, kept, lost_marks, told};
+ghost use Rattle.office.specs.Settled.{IsSettled};
+ghost use Rattle.office.specs.Step.{step};
 ghost use Rattle.office.specs.Starts.{IsStart};
 ghost use Rattle.office.specs.Export.{export_text};
 ghost use Rattle.office.specs.Exports.{WasExported, WasCut};
@@ -17,6 +19,8 @@ ghost use Rattle.office.specs.declared.lost.Lost.TheVariants.{Memory as Refused}
 use crate::export::{ExportReceipt, export};
 use crate::faults::ExportFault;
 use crate::lost::Lost;
+use crate::office_acts::{set_language, set_policy, set_role, set_template};
+use crate::office_outcome::OfficeOutcome;
 use crate::outcome::Outcome;
 use crate::replies::used;
 use crate::tables::Tables;
@@ -115,7 +119,49 @@ impl Desk {
     {
         match &request.act {
             Act::OnUnit(lang, key, act) => self.deliver_unit_act(request, content, lang, key, act),
+            Act::SetTemplate(po) => {
+                let outcome = set_template(self.alloc, &self.tables, &request.caller, po)?;
+                self.settle(request, content, outcome)
+            }
+            Act::AddLanguage(lang, po) => {
+                let outcome = set_language(self.alloc, &self.tables, &request.caller, lang, po)?;
+                self.settle(request, content, outcome)
+            }
+            Act::SetRole(name, role) => {
+                let outcome = set_role(self.alloc, &self.tables, &request.caller, name, *role)?;
+                self.settle(request, content, outcome)
+            }
+            Act::SetPolicy(policy) => {
+                let outcome = set_policy(self.alloc, &self.tables, &request.caller, policy)?;
+                self.settle(request, content, outcome)
+            }
         }
+    }
+
+    /// Commits what an office act whose number is new comes to.
+    fn settle(
+        &mut self,
+        request: &Request,
+        content: Text,
+        outcome: OfficeOutcome,
+    ) -> Result<Reply, Lost>
+        requires settled { IsSettled (meaning self.old.tables).office outcome (step (meaning self.old.tables).office request.now) }
+        requires new { IsTrue (is_none (maps.get (meaning self.old.tables).book request.now.number)) }
+        requires content { content ≡ content_text request.now }
+        ensures ok { IfOk result
+            (λ reply. (meaning self.new.tables, reply) ≡ first_delivered (meaning self.old.tables) request.now) }
+        ensures lost { OnErr result (meaning self.new.tables ≡ meaning self.old.tables) }
+        ensures memory { IfErr result (λ e. e ≡ Refused) }
+    {
+        let OfficeOutcome { change, reply } = outcome;
+        // Reply and record are made before the commit: nothing after it takes memory.
+        let row = Record {
+            number: request.number,
+            content,
+            reply: reply.duplicate()?,
+        };
+        self.tables.commit_office(self.alloc, row, change)?;
+        Ok(reply)
     }
 
     /// Decides and commits an act on a unit whose number is new.

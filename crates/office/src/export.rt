@@ -47,7 +47,7 @@ pub(crate) fn export<W: ByteSink>(
         (IsOffice (meaning tables.now).office →
         TookCatalogue (meaning tables.now).office lang.now (W.taken w.old) (W.taken w.new)) }
 {
-    let Some(language) = tables.languages.get(lang.as_str()) else {
+    let Some(language) = tables.languages.get(lang) else {
         return Err(ExportFault::NoLanguage);
     };
     let mut sent = Sent::new();
@@ -58,7 +58,7 @@ pub(crate) fn export<W: ByteSink>(
         lang,
         w,
         &mut sent,
-        tables.template.entries.as_slice(),
+        tables.template.catalogue.entries(),
     )?;
     put_away(alloc, tables, lang, w, &mut sent)?;
     let Sent { bytes, digest } = sent;

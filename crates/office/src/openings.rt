@@ -1,23 +1,23 @@
 //! The tables that a desk may open with.
 
-ghost use Rattle.std.specs.Prelude.{◌≡◌, [], ◌∷◌, Ok, true, codes, IfOk, IfErr, string_bytes};
+ghost use Rattle.std.specs.Prelude.{◌≡◌, [], ◌∷◌, Ok, true, codes, IfOk, IfErr};
 ghost use Rattle.std.specs.FinMap as maps;
 ghost use Rattle.po_read.specs.Texts.{text_cmp};
 ghost use Rattle.plural_expr.specs.Faults.{reading_of};
 ghost use Rattle.units.specs.Units.{no_previous};
 ghost use Rattle.units.specs.declared.unit.Role.TheVariants.{Manager};
-ghost use Rattle.office.specs.Viewed.{viewed};
-ghost use Rattle.office.specs.Tables.{place_of};
+ghost use Rattle.office.specs.Rows.{headers_in, units_in, team_in};
 ghost use Rattle.po_read.specs.Strings.{is_string};
 ghost use Rattle.units.specs.Openings as opens;
 ghost use Rattle.office.specs.declared.lost.Lost.TheVariants.{Memory};
 
+use crate::languages::{Language, Languages};
 use crate::lost::Lost;
 use crate::place::{OrderedKey, Place};
-use crate::tables::{Language, Tables};
+use crate::tables::Tables;
 use crate::template::Template;
 use plural_expr::{PluralFault, PluralForms};
-use po_read::{Entry, Forms, Items, PoString, Previous};
+use po_read::{Catalogue, Entry, Forms, Items, PoString, Previous};
 use std::alloc::{AllocError, Global};
 use std::collections::BTreeMap;
 use units::{AcceptAt, Key, Lang, Name, Policy, Revision, Role, Unit, UnitState};
@@ -74,7 +74,7 @@ fn one_form(alloc: Global, text: &str) -> Result<Forms, AllocError>
 }
 
 /// An entry with a msgid and one form.
-pub(crate) fn plain_entry(alloc: Global, id: &str, form: &str) -> Result<Entry, AllocError>
+fn plain_entry(alloc: Global, id: &str, form: &str) -> Result<Entry, AllocError>
     requires id { is_string id.now ≡ true }
     requires form { is_string form.now ≡ true }
     ensures { IfOk result (λ entry. entry ≡ opens.plain_entry id.now form.now) }
@@ -163,26 +163,25 @@ pub(crate) fn demo_language(alloc: Global) -> Result<Language, Lost>
 }
 
 fn demo_units(alloc: Global) -> Result<BTreeMap<Place, Unit>, AllocError>
-    ensures { IfOk result (λ units. maps.from_entries (viewed place_of (λ unit. unit) units.entries) ≡ opens.demo.units) }
+    ensures { IfOk result (λ units. units_in units ≡ opens.demo.units) }
 {
     let mut units = BTreeMap::new(alloc);
     units.insert(demo_place(alloc)?, demo_unit(alloc)?)?;
     Ok(units)
 }
 
-fn demo_languages(alloc: Global) -> Result<BTreeMap<String, Language>, Lost>
-    ensures languages { IfOk result
-        (λ languages. maps.from_entries (viewed string_bytes (λ language. language.header) languages.entries) ≡ opens.demo.headers) }
+fn demo_languages(alloc: Global) -> Result<Languages, Lost>
+    ensures languages { IfOk result (λ languages. headers_in languages.rows ≡ opens.demo.headers) }
     ensures memory { IfErr result (λ e. e ≡ Memory) }
 {
-    let mut languages = BTreeMap::new(alloc);
-    languages.insert(String::from_str(alloc, "de")?, demo_language(alloc)?)?;
+    let mut languages = Languages::new(alloc);
+    languages.insert(alloc, &demo_lang(alloc)?, demo_language(alloc)?)?;
     Ok(languages)
 }
 
 /// A team of one manager.
 fn team_of(alloc: Global, manager: &str) -> Result<BTreeMap<String, Role>, AllocError>
-    ensures { IfOk result (λ team. maps.from_entries (viewed string_bytes (λ role. role) team.entries) ≡ maps.insert {R = text_cmp} maps.empty manager.now Manager) }
+    ensures { IfOk result (λ team. team_in team ≡ maps.insert {R = text_cmp} maps.empty manager.now Manager) }
 {
     let mut team = BTreeMap::new(alloc);
     team.insert(String::from_str(alloc, manager)?, Role::Manager)?;
@@ -190,17 +189,21 @@ fn team_of(alloc: Global, manager: &str) -> Result<BTreeMap<String, Role>, Alloc
 }
 
 fn demo_team(alloc: Global) -> Result<BTreeMap<String, Role>, AllocError>
-    ensures { IfOk result (λ team. maps.from_entries (viewed string_bytes (λ role. role) team.entries) ≡ opens.demo.team) }
+    ensures { IfOk result (λ team. team_in team ≡ opens.demo.team) }
 {
     let mut team = team_of(alloc, "root")?;
     team.insert(String::from_str(alloc, "ann")?, Role::Translator)?;
     Ok(team)
 }
 
-fn demo_template(alloc: Global) -> Result<Template, AllocError>
-    ensures { IfOk result (λ template. template.entries.items ≡ opens.demo.template) }
+pub(crate) fn demo_catalogue(alloc: Global) -> Result<Catalogue, AllocError>
+    ensures { IfOk result (λ catalogue. catalogue ≡ opens.demo.template) }
 {
-    Template::new(alloc).with(plain_entry(alloc, "Hello", "")?)
+    let entries = Vec::from_array(alloc, [plain_entry(alloc, "Hello", "")?])?;
+    match Catalogue::try_new(alloc, entries)? {
+        Some(catalogue) => Ok(catalogue),
+        None => unreachable!(),
+    }
 }
 
 impl Tables {
@@ -212,8 +215,8 @@ impl Tables {
         ensures memory { IfErr result (λ e. e ≡ Memory) }
     {
         Ok(Tables {
-            template: Template::new(alloc),
-            languages: BTreeMap::new(alloc),
+            template: Template::of(alloc, Catalogue::empty(alloc))?,
+            languages: Languages::new(alloc),
             units: BTreeMap::new(alloc),
             team: team_of(alloc, name.as_str())?,
             policy: closed_policy(),
@@ -228,7 +231,7 @@ impl Tables {
         ensures memory { IfErr result (λ e. e ≡ Memory) }
     {
         Ok(Tables {
-            template: demo_template(alloc)?,
+            template: Template::of(alloc, demo_catalogue(alloc)?)?,
             languages: demo_languages(alloc)?,
             units: demo_units(alloc)?,
             team: demo_team(alloc)?,

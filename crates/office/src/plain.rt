@@ -1,4 +1,5 @@
-//! The plain program: deliveries over lists, in which everything is looked up by a scan from the front. It is slow and obvious, and
+//! The plain program: deliveries over lists, in which everything is looked up by a scan from the front. Office acts
+//! are decided over maps that are made anew of the lists. It is slow and obvious, and
 //! stands beside the desk so that tests can hold the desk's replies against it.
 ghost use Rattle.std.specs.Prelude.{◌≡◌, ◌∷◌, [], ◌++◌, true, codes, IfOk, OnOk, IfErr, IsTrue, is_none, option_map, unwrap_or};
 ghost use Rattle.std.specs.List.{position_from};
@@ -11,26 +12,39 @@ ghost use Rattle.units.specs.declared.unit.Role.TheVariants.{Guest};
 ghost use Rattle.request_book.specs.Acts.{content_text};
 ghost use Rattle.request_book.specs.Book.{with_record};
 ghost use Rattle.request_book.specs.declared.act.Act.TheVariants.{OnUnit};
-ghost use Rattle.office.specs.Tables.{place_of};
+ghost use Rattle.office.specs.Rows.{place_of};
 ghost use Rattle.office.specs.Found.{found_of, written};
 ghost use Rattle.office.specs.Deliveries.{reply_from, first_delivered, left_by, answers_of};
+ghost use Rattle.office.specs.Changed.{changed, changed_by, IsPossible, IsPossibleChange};
+ghost use Rattle.office.specs.declared.change.Change.TheVariants.{OneRole, NewPolicy, NewLanguage, NewTemplate};
+ghost use Rattle.office.specs.Settled.{IsSettled};
+ghost use Rattle.office.specs.Step.{step};
+ghost use Rattle.office.specs.Tables.{meaning};
 ghost use Rattle.office.specs.Starts.{IsStart};
 ghost use Rattle.office.specs.Plain.{header_rows, unit_rows, team_rows, record_rows, recorded_in, kept_of, plain_meaning};
 ghost use Rattle.office.specs.declared.lost.Lost.TheVariants.{Memory as Refused};
 
+use crate::change::Change;
 use crate::found::Found;
+use crate::languages::Language;
 use crate::lost::Lost;
+use crate::office_acts::{set_language, set_policy, set_role, set_template};
+use crate::office_outcome::OfficeOutcome;
 use crate::openings::{
-    closed_policy, demo_lang, demo_language, demo_place, demo_unit, plain_entry,
+    closed_policy, demo_catalogue, demo_lang, demo_language, demo_place, demo_unit,
 };
 use crate::outcome::Outcome;
 use crate::place::{OrderedKey, Place};
+use crate::plain_changes::{put_member, put_policy, put_units, rows_of_plans};
+use crate::plain_tables::{languages_of, team_of, units_of};
 use crate::replies::used;
-use crate::tables::Language;
-use crate::template::key_of;
-use po_read::{Duplicate, Entry, Text};
+use crate::tables::Tables;
+use crate::template::{Template, key_of};
+use po_read::{Catalogue, Duplicate, Entry, Text};
 use request_book::{Act, Class, Record, Reply, Request, canon, classify};
 use std::alloc::{AllocError, Global};
+use std::collections::BTreeMap;
+use template_update::Plan;
 use units::{Key, Lang, Memory, Name, Policy, Role, Unit, UnitAct, UnitView};
 use uuid::Uuid;
 
@@ -39,30 +53,30 @@ mod tests;
 
 /// A language with its code.
 #[derive(Drop)]
-struct CodedLanguage {
-    code: Lang,
-    language: Language,
+pub(crate) struct CodedLanguage {
+    pub(crate) code: Lang,
+    pub(crate) language: Language,
 }
 
 /// A unit at its place.
 #[derive(Drop)]
-struct PlacedUnit {
-    place: Place,
-    unit: Unit,
+pub(crate) struct PlacedUnit {
+    pub(crate) place: Place,
+    pub(crate) unit: Unit,
 }
 
 /// Somebody in the team.
 #[derive(Drop)]
-struct Member {
-    name: Name,
-    role: Role,
+pub(crate) struct Member {
+    pub(crate) name: Name,
+    pub(crate) role: Role,
 }
 
 /// An office with its book of recorded requests, as lists. Of rows with one key the first counts. Contracts see it as the office with
 /// its book.
 #[derive(Drop)]
 pub struct PlainOffice {
-    template: Vec<Entry>,
+    template: Catalogue,
     languages: Vec<CodedLanguage>,
     units: Vec<PlacedUnit>,
     team: Vec<Member>,
@@ -181,7 +195,7 @@ fn place_in(units: &[PlacedUnit], place: &Place) -> Option<usize>
 }
 
 /// Puts a unit at its place: into the row that is there, or else into a new one.
-fn put_unit(units: &mut Vec<PlacedUnit>, place: Place, unit: Unit) -> Result<(), Memory>
+pub(crate) fn put_unit(units: &mut Vec<PlacedUnit>, place: Place, unit: Unit) -> Result<(), Memory>
     ensures { OnOk result (unit_rows units.new.items ≡ maps.insert (unit_rows units.old.items) (place_of place) unit) }
 {
     match place_in(units, &place) {
@@ -218,7 +232,7 @@ impl PlainOffice {
         ensures memory { IfErr result (λ e. e ≡ Refused) }
     {
         Ok(PlainOffice {
-            template: Vec::from_array(alloc, [plain_entry(alloc, "Hello", "")?])?,
+            template: demo_catalogue(alloc)?,
             languages: Vec::from_array(alloc, [demo_row(alloc)?])?,
             units: Vec::from_array(
                 alloc,
@@ -248,7 +262,7 @@ impl PlainOffice {
         ensures memory { IfErr result (λ e. e ≡ Refused) }
     {
         Ok(PlainOffice {
-            template: Vec::new(alloc),
+            template: Catalogue::empty(alloc),
             languages: Vec::new(alloc),
             units: Vec::new(alloc),
             team: Vec::from_array(
@@ -271,7 +285,7 @@ impl PlainOffice {
         match unit_in(&self.units, &place) {
             Some(unit) => Ok(Some(UnitView {
                 unit: unit.duplicate()?,
-                source: source_in(&self.template, &place.key)?,
+                source: source_in(self.template.entries(), &place.key)?,
             })),
             None => Ok(None),
         }
@@ -374,6 +388,119 @@ impl PlainOffice {
         Ok(reply)
     }
 
+    /// The lists as tables in maps, without the records.
+    fn tables(&self, alloc: Global) -> Result<Tables, Memory>
+        ensures { IfOk result (λ tables. (meaning tables).office ≡ (plain_meaning self.now).office) }
+    {
+        Ok(Tables {
+            template: Template::of(alloc, self.template.duplicate()?)?,
+            languages: languages_of(alloc, &self.languages)?,
+            units: units_of(alloc, &self.units)?,
+            team: team_of(alloc, &self.team)?,
+            policy: self.policy,
+            records: BTreeMap::new(alloc),
+        })
+    }
+
+    /// Sets a name's role.
+    fn change_role(&mut self, name: Name, role: Role) -> Result<(), Memory>
+        ensures { OnOk result (plain_meaning self.new
+            ≡ record { office = changed (plain_meaning self.old).office (OneRole name role); book = (plain_meaning self.old).book }) }
+    {
+        put_member(&mut self.team, name, role)?;
+        Ok(())
+    }
+
+    /// Sets the policy.
+    fn change_policy(&mut self, policy: Policy)
+        requires { IsPossible (plain_meaning self.old).office (NewPolicy policy) }
+        ensures { plain_meaning self.new
+            ≡ record { office = changed (plain_meaning self.old).office (NewPolicy policy); book = (plain_meaning self.old).book } }
+    {
+        put_policy(&mut self.units, &policy);
+        self.policy = policy;
+    }
+
+    /// Adds a language with its units.
+    fn add_language(&mut self, code: Lang, language: Language, plan: Plan) -> Result<(), Memory>
+        ensures { OnOk result (plain_meaning self.new
+            ≡ record { office = changed (plain_meaning self.old).office (NewLanguage code language plan); book = (plain_meaning self.old).book }) }
+    {
+        put_units(&mut self.units, &code, plan.units.into_vec())?;
+        self.languages.insert(0, CodedLanguage { code, language })?;
+        Ok(())
+    }
+
+    /// Sets the template, and the units of all languages.
+    fn change_template(
+        &mut self,
+        alloc: Global,
+        template: Catalogue,
+        plans: Vec<(Lang, Plan)>,
+    ) -> Result<(), Memory>
+        ensures { OnOk result (plain_meaning self.new
+            ≡ record { office = changed (plain_meaning self.old).office (NewTemplate template plans); book = (plain_meaning self.old).book }) }
+    {
+        let units = rows_of_plans(alloc, plans)?;
+        self.units = units;
+        self.template = template;
+        Ok(())
+    }
+
+    /// Makes a change.
+    fn make_change(&mut self, alloc: Global, change: Change) -> Result<(), Memory>
+        requires { IsPossible (plain_meaning self.old).office change }
+        ensures { OnOk result (plain_meaning self.new
+            ≡ record { office = changed (plain_meaning self.old).office change; book = (plain_meaning self.old).book }) }
+    {
+        match change {
+            Change::OneRole(name, role) => self.change_role(name, role),
+            Change::NewPolicy(policy) => {
+                self.change_policy(policy);
+                Ok(())
+            }
+            Change::NewLanguage(code, language, plan) => self.add_language(code, language, plan),
+            Change::NewTemplate(template, plans) => self.change_template(alloc, template, plans),
+        }
+    }
+
+    /// Makes a change, if there is one.
+    fn put_change(&mut self, alloc: Global, change: Option<Change>) -> Result<(), Memory>
+        requires { IsPossibleChange (plain_meaning self.old).office change }
+        ensures { OnOk result (plain_meaning self.new
+            ≡ record { office = changed_by (plain_meaning self.old).office change; book = (plain_meaning self.old).book }) }
+    {
+        match change {
+            None => Ok(()),
+            Some(change) => self.make_change(alloc, change),
+        }
+    }
+
+    /// Commits what an office act whose number is new comes to.
+    fn settle(
+        &mut self,
+        alloc: Global,
+        request: &Request,
+        content: Text,
+        outcome: OfficeOutcome,
+    ) -> Result<Reply, Memory>
+        requires settled { IsSettled (plain_meaning self.old).office outcome (step (plain_meaning self.old).office request.now) }
+        requires new { IsTrue (is_none (maps.get (plain_meaning self.old).book request.now.number)) }
+        requires content { content ≡ content_text request.now }
+        ensures { IfOk result
+            (λ reply. (plain_meaning self.new, reply) ≡ first_delivered (plain_meaning self.old) request.now) }
+    {
+        let OfficeOutcome { change, reply } = outcome;
+        let row = Record {
+            number: request.number,
+            content,
+            reply: reply.duplicate()?,
+        };
+        self.put_change(alloc, change)?;
+        self.put_record(row)?;
+        Ok(reply)
+    }
+
     /// Decides a request whose number is new.
     fn decide(&mut self, alloc: Global, request: &Request, content: Text) -> Result<Reply, Memory>
         requires new { IsTrue (is_none (maps.get (plain_meaning self.old).book request.now.number)) }
@@ -384,6 +511,26 @@ impl PlainOffice {
         match &request.act {
             Act::OnUnit(lang, key, act) => {
                 self.decide_unit_act(alloc, request, content, lang, key, act)
+            }
+            Act::SetTemplate(po) => {
+                let tables = self.tables(alloc)?;
+                let outcome = set_template(alloc, &tables, &request.caller, po)?;
+                self.settle(alloc, request, content, outcome)
+            }
+            Act::AddLanguage(lang, po) => {
+                let tables = self.tables(alloc)?;
+                let outcome = set_language(alloc, &tables, &request.caller, lang, po)?;
+                self.settle(alloc, request, content, outcome)
+            }
+            Act::SetRole(name, role) => {
+                let tables = self.tables(alloc)?;
+                let outcome = set_role(alloc, &tables, &request.caller, name, *role)?;
+                self.settle(alloc, request, content, outcome)
+            }
+            Act::SetPolicy(policy) => {
+                let tables = self.tables(alloc)?;
+                let outcome = set_policy(alloc, &tables, &request.caller, policy)?;
+                self.settle(alloc, request, content, outcome)
             }
         }
     }

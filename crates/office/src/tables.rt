@@ -1,33 +1,22 @@
 //! The tables of a desk, in ordered maps. Contracts see them as the office with its book that they stand for.
 
-ghost use Rattle.std.specs.Prelude.{◌≡◌, Ok, Some, IfOk, OnOk, OnErr, IfErr, IsTrue, is_none, option_map};
+ghost use Rattle.std.specs.Prelude.{◌≡◌, IfOk, OnOk, OnErr, IfErr, IsTrue, is_none, option_map};
 ghost use Rattle.std.specs.FinMap as maps;
-ghost use Rattle.std.proofs.Props.{props};
 ghost use Rattle.request_book.specs.Book.{row_of, with_record};
 ghost use Rattle.units.specs.Office.{entry_of, role_of, view_of, with_unit};
-ghost use Rattle.units.specs.Rules.{rule_in};
-ghost use Rattle.office.specs.Sets.{Rule-set, PluralFault-set};
 ghost use Rattle.office.specs.declared.lost.Lost.TheVariants.{Memory};
 
 use crate::found::Found;
+use crate::languages::Languages;
 use crate::lost::Lost;
 use crate::place::{OrderedKey, Place};
 use crate::template::Template;
-use plural_expr::PluralForms;
 use po_read::{Duplicate, Entry, Text};
 use request_book::{Record, Reply};
 use std::alloc::AllocError;
 use std::collections::BTreeMap;
 use units::{Key, Lang, Name, Policy, Role, Unit, UnitView};
 use uuid::Uuid;
-
-/// A language: its header entry, and the plural rule of the header.
-#[derive(Drop)]
-pub(crate) struct Language {
-    pub(crate) header: Entry,
-    pub(crate) rule: PluralForms,
-    ghost ruled: { rule_in (Some header) ≡ Ok rule } by { Prim.hlevel (props, Rule-set, PluralFault-set) },
-}
 
 /// What is kept under a request's number: the text of its content and its first reply.
 #[derive(Drop)]
@@ -40,7 +29,7 @@ impl Kept {
     ghost use Rattle.office.specs.Tables.{recorded_of};
 
     /// What is kept of a row.
-    fn of(row: Record) -> Kept
+    pub(crate) fn of(row: Record) -> Kept
         ensures { recorded_of result ≡ record { content = row.content; reply = row.reply } }
     {
         Kept {
@@ -65,7 +54,7 @@ impl Kept {
 #[derive(Drop)]
 pub(crate) struct Tables {
     pub(crate) template: Template,
-    pub(crate) languages: BTreeMap<String, Language>,
+    pub(crate) languages: Languages,
     pub(crate) units: BTreeMap<Place, Unit>,
     pub(crate) team: BTreeMap<String, Role>,
     pub(crate) policy: Policy,
@@ -99,7 +88,7 @@ impl Tables {
         ensures same { meaning self.new ≡ meaning self.old }
         ensures memory { IfErr result (λ e. e ≡ Memory) }
     {
-        let Some(language) = self.languages.get(lang.as_str()) else {
+        let Some(language) = self.languages.get(lang) else {
             return Ok(None);
         };
         Ok(Some(Found {
@@ -111,7 +100,7 @@ impl Tables {
     }
 
     /// A caller's role.
-    fn role_of(&self, name: &Name) -> Role
+    pub(crate) fn role_of(&self, name: &Name) -> Role
         ensures { result ≡ role_of (meaning self.now).office name.now }
     {
         self.team.get(name.as_str()).copied().unwrap_or(Role::Guest)

@@ -1,6 +1,6 @@
 //! A project's template.
 
-ghost use Rattle.std.specs.Prelude.{◌≡◌, [], ◌∷◌, ◌++◌, IfOk, option_and_then, slice_get, option_map};
+ghost use Rattle.std.specs.Prelude.{◌≡◌, IfOk, option_and_then, slice_get, option_map};
 ghost use Rattle.std.specs.Option.{option_copied};
 ghost use Rattle.std.proofs.Props.{props};
 ghost use Rattle.units.specs.Units.{key_of};
@@ -8,7 +8,7 @@ ghost use Rattle.units.specs.Office.{entry_of};
 ghost use Rattle.office.specs.Index.{IsIndexOf};
 
 use crate::place::OrderedKey;
-use po_read::{Duplicate, Entry};
+use po_read::{Catalogue, Duplicate, Entry};
 use std::alloc::{AllocError, Global};
 use std::collections::BTreeMap;
 use units::Key;
@@ -16,46 +16,43 @@ use units::Key;
 /// The entries of a template in their order, and where the entry of each key stands.
 #[derive(Drop)]
 pub(crate) struct Template {
-    pub(crate) entries: Vec<Entry>,
+    pub(crate) catalogue: Catalogue,
     places: BTreeMap<OrderedKey, usize>,
-    ghost indexed: { IsIndexOf entries.items places } by { Prim.hlevel props },
+    ghost indexed: { IsIndexOf catalogue places } by { Prim.hlevel props },
 }
 
 impl Template {
-    pub(crate) fn new(alloc: Global) -> Template
-        ensures { result.entries.items ≡ [] }
+    /// The template with these entries.
+    pub(crate) fn of(alloc: Global, catalogue: Catalogue) -> Result<Template, AllocError>
+        ensures { IfOk result (λ template. template.catalogue ≡ catalogue) }
     {
-        Template {
-            entries: Vec::new(alloc),
-            places: BTreeMap::new(alloc),
-        }
-    }
-
-    /// The template with one more entry.
-    pub(crate) fn with(self, entry: Entry) -> Result<Template, AllocError>
-        ensures { IfOk result (λ template. template.entries.items ≡ self.entries.items ++ entry ∷ []) }
-    {
-        let Template {
-            mut entries,
-            mut places,
-        } = self;
-        let key = key_of(&entry)?;
-        if !places.contains_key(&key) {
-            places.insert(key, entries.as_slice().len())?;
-        }
-        entries.push(entry)?;
-        Ok(Template { entries, places })
+        let places = places_of(alloc, catalogue.entries())?;
+        Ok(Template { catalogue, places })
     }
 
     /// The entry of a key.
     pub(crate) fn entry_of(&self, key: &OrderedKey) -> Option<&Entry>
-        ensures { option_copied result ≡ entry_of self.now.entries.items key.now.key }
+        ensures { option_copied result ≡ entry_of self.now.catalogue key.now.key }
     {
         match self.places.get(key) {
-            Some(place) => self.entries.get(*place),
+            Some(place) => self.catalogue.entries().get(*place),
             None => None,
         }
     }
+}
+
+/// Where the first entry of each key stands.
+fn places_of(alloc: Global, entries: &[Entry]) -> Result<BTreeMap<OrderedKey, usize>, AllocError>
+    ensures { IfOk result (λ places. IsIndexOf entries.now places) }
+{
+    let mut places = BTreeMap::new(alloc);
+    for (at, entry) in entries.iter().enumerate() {
+        let key = key_of(entry)?;
+        if !places.contains_key(&key) {
+            places.insert(key, at)?;
+        }
+    }
+    Ok(places)
 }
 
 pub(crate) fn key_of(entry: &Entry) -> Result<OrderedKey, AllocError>

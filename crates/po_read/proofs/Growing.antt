@@ -219,7 +219,7 @@ keys_apart (g ∷ groups) (x ∷ es) key z h =
     let r = or_false _ _ h in
     (λ e. false≢true (sym r.0 ∙ ap (λ (k : Key). same_key k key) (key_read g x z.0 ∙ e) ∙ same_key_self key), keys_apart groups es key z.1 r.1)
 
-unique_push : (es : List Entry) (e : Entry) → HasUniqueKeys es → AllByRecursion (λ other. key_of other ≢ key_of e) es → HasUniqueKeys (es ++ e ∷ [])
+pub unique_push : (es : List Entry) (e : Entry) → HasUniqueKeys es → AllByRecursion (λ other. key_of other ≢ key_of e) es → HasUniqueKeys (es ++ e ∷ [])
 unique_push [] e u o = (tt, tt)
 unique_push (x ∷ es) e u o = (all_push (λ (other : Entry). key_of other ≢ key_of x) es e u.0 (λ q. o.0 (sym q)), unique_push es e u.1 o.1)
 

@@ -20,3 +20,4 @@ pub mod Tested
 pub mod TextLines
 pub mod Answered
 pub mod Charsets
+pub mod Checked

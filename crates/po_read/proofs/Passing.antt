@@ -518,7 +518,7 @@ pass_groups most whole (g ∷ groups) (e ∷ es) z h = pass_group most whole g (
 
 -- ---- what a valid catalogue gives
 
-unique_cut : (done es : List Entry) (e : Entry) → HasUniqueKeys (done ++ e ∷ es) → AllByRecursion (λ x. key_of e ≢ key_of x) done
+pub unique_cut : (done es : List Entry) (e : Entry) → HasUniqueKeys (done ++ e ∷ es) → AllByRecursion (λ x. key_of e ≢ key_of x) done
 unique_cut [] es e u = tt
 unique_cut (x ∷ done) es e u = ((all_right (λ (other : Entry). key_of other ≢ key_of x) done (e ∷ es) u.0).0, unique_cut done es e u.1)
 
@@ -528,7 +528,7 @@ context_same None (Some b) h = cc
 context_same (Some a) None h = cc
 context_same (Some a) (Some b) h = ap Some ((bytes_eq-Decides a b).0 h)
 
-key_same : (a b : Key) → same_key a b ≡ true → a ≡ b
+pub key_same : (a b : Key) → same_key a b ≡ true → a ≡ b
 key_same a b h =
     let r = both_true (same_context a.0 b.0) (bytes_eq a.1 b.1) h in
     let first : a.0 ≡ b.0 = context_same a.0 b.0 r.0 in
@@ -545,7 +545,7 @@ none_same (g ∷ groups) (x ∷ done) e z h = neither _ _ (by (same_key (key_at 
     by true k = absurd (h.0 (sym (key_same (key_at g) (key_of e) k) ∙ key_read g x z.0))
     by false k = refl
 
-header_key : (ctx : Option Text) (id : Text) → is_header_key ctx id ≡ true → (let k : Key = (ctx, id) in k) ≡ (None, [])
+pub header_key : (ctx : Option Text) (id : Text) → is_header_key ctx id ≡ true → (let k : Key = (ctx, id) in k) ≡ (None, [])
 header_key None [] h = refl
 header_key None (b ∷ id) h = cc
 header_key (Some ctx) id h = cc

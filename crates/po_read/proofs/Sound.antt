@@ -128,14 +128,14 @@ other_text : (a b : Text) → bytes_eq a b ≡ false → b ≢ a
 other_text a b h e = false≢true (sym h ∙ (bytes_eq-Decides a b).1 (sym e))
 
 -- none of these is the text
-abbrev AreOthers : Text → List Text → Type 0
+abbrev pub AreOthers : Text → List Text → Type 0
 AreOthers text texts = AllByRecursion (λ other. other ≢ text) texts
 
-none_of : (text : Text) (texts : List Text) → has_text text texts ≡ false → AreOthers text texts
+pub none_of : (text : Text) (texts : List Text) → has_text text texts ≡ false → AreOthers text texts
 none_of text [] h = tt
 none_of text (other ∷ texts) h = let r = or_false (bytes_eq text other) (has_text text texts) h in (other_text text other r.0, none_of text texts r.1)
 
-distinct_push : (texts : List Text) (text : Text) → AreDistinct texts → AreOthers text texts → AreDistinct (texts ++ text ∷ [])
+pub distinct_push : (texts : List Text) (text : Text) → AreDistinct texts → AreOthers text texts → AreDistinct (texts ++ text ∷ [])
 distinct_push [] text d o = (tt, tt)
 distinct_push (t ∷ texts) text d o = (all_push (λ (other : Text). other ≢ t) texts text d.0 (λ e. o.0 (sym e)), distinct_push texts text d.1 o.1)
 

@@ -217,10 +217,10 @@ context_same None (Some b) = refl
 context_same (Some a) None = refl
 context_same (Some a) (Some b) = text_same a b
 
-cmp_same : (a b : EntryKey) → is_eq (entry_key_cmp a b) ≡ same_key (a.ctx, a.id) (b.ctx, b.id)
+pub cmp_same : (a b : EntryKey) → is_eq (entry_key_cmp a b) ≡ same_key (a.ctx, a.id) (b.ctx, b.id)
 cmp_same a b = sym (tied_then (option_cmp (slice_cmp nat_cmp) a.ctx b.ctx) (slice_cmp nat_cmp a.id b.id)) ∙ (λ i. context_same a.ctx b.ctx i && text_same a.id b.id i)
 
-or_last : (a b : Bool) → cond a true b ≡ (b || (a || false))
+pub or_last : (a b : Bool) → cond a true b ≡ (b || (a || false))
 or_last true true = refl
 or_last true false = refl
 or_last false true = refl

@@ -5,7 +5,7 @@ ghost use Rattle.std.specs.Str.{bytes_eq};
 ghost use Rattle.po_read.specs.Valid.{fuzzy};
 ghost use Rattle.std.specs.List.{fold};
 ghost use Rattle.po_lex.specs.Lines.{items_of};
-ghost use Rattle.po_read.specs.Spells.{add_once, with_fuzzy_first};
+ghost use Rattle.po_read.specs.Spells.{add_once, has_text, with_fuzzy_first};
 ghost use Rattle.po_read.specs.Flags.{AreSeen};
 
 use crate::items::Items;
@@ -41,8 +41,15 @@ impl<'a> Flags<'a> {
         }
     }
 
+    /// Whether this is one of the flags.
+    pub(crate) fn has(&self, flag: &str) -> bool
+        ensures { result ≡ has_text flag.now self.now }
+    {
+        self.seen.contains(flag)
+    }
+
     /// The flags with one more, if it isn't there.
-    fn with(self, flag: &'a str) -> Result<Flags<'a>, AllocError>
+    pub(crate) fn with(self, flag: &'a str) -> Result<Flags<'a>, AllocError>
         ensures { IfOk result (λ flags. flags ≡ add_once self.entry flag.now) }
     {
         let Flags { mut kept, mut seen } = self;

@@ -17,6 +17,7 @@ mod string;
 mod tests;
 mod text;
 mod unfinished;
+mod valid;
 mod was;
 
 pub use catalogue::Catalogue;

@@ -1,8 +1,13 @@
-//! Texts that the gettext manual and this project's profile decide.
+//! Texts that the gettext manual and this project's profile decide, and entries that are a valid catalogue or break one rule of it.
 
-use crate::entry::Entry;
+ghost use Rattle.std.specs.Prelude.{◌≡◌, IfOk, true};
+ghost use Rattle.po_read.specs.Strings.{is_string};
+
+use crate::catalogue::Catalogue;
+use crate::entry::{Entry, Previous};
+use crate::items::Items;
 use crate::reading::read;
-use crate::string::PoString;
+use crate::string::{Forms, PoString};
 use crate::text::Text;
 use std::alloc::Global;
 use std::test::Fail;
@@ -284,5 +289,239 @@ fn limit_of_entries(rt: HostRuntime) -> Result<(), Fail> {
         Some((40_001, 9)),
         "without one"
     );
+    Ok(())
+}
+
+/// An entry that is made by hand.
+#[derive(Clone, Copy)]
+struct Row {
+    comment: &'static str,
+    extracted: &'static str,
+    reference: &'static str,
+    flags: &'static [&'static str],
+    ctx: Option<&'static str>,
+    id: &'static str,
+    plural: Option<&'static str>,
+    forms: &'static [&'static str],
+    obsolete: bool,
+}
+
+const PLAIN: Row = Row {
+    comment: "a note",
+    extracted: "seen\tonce",
+    reference: "a.c:1",
+    flags: &["fuzzy", "c-format"],
+    ctx: None,
+    id: "Hello",
+    plural: None,
+    forms: &["Hallo"],
+    obsolete: false,
+};
+
+const HEADER: Row = Row {
+    id: "",
+    forms: &["Content-Type: text/plain; charset=UTF-8\n"],
+    ..PLAIN
+};
+
+const OTHER: Row = Row { id: "Bye", ..PLAIN };
+
+// Entries that are a valid catalogue: none, one, a header first, a msgid_plural with two forms, and keys that differ in the
+// context, empty or none, alone.
+const VALID: [&[Row]; 7] = [
+    &[],
+    &[PLAIN],
+    &[HEADER, PLAIN, OTHER],
+    &[Row {
+        flags: &[],
+        ..PLAIN
+    }],
+    &[Row {
+        plural: Some("Hellos"),
+        forms: &["Hallo", "Hallos"],
+        ..PLAIN
+    }],
+    &[
+        PLAIN,
+        Row {
+            ctx: Some(""),
+            obsolete: true,
+            ..PLAIN
+        },
+    ],
+    &[Row {
+        ctx: Some(""),
+        obsolete: true,
+        ..HEADER
+    }],
+];
+
+// Entries that break one rule on entries: of comment lines, of flags, and of forms.
+const FAULTY: [&[Row]; 10] = [
+    &[Row {
+        comment: "a\nnote",
+        ..PLAIN
+    }],
+    &[Row {
+        extracted: "\u{1b}",
+        ..PLAIN
+    }],
+    &[
+        OTHER,
+        Row {
+            reference: "\r",
+            ..PLAIN
+        },
+    ],
+    &[Row {
+        flags: &[""],
+        ..PLAIN
+    }],
+    &[Row {
+        flags: &["a,b"],
+        ..PLAIN
+    }],
+    &[Row {
+        flags: &["a\u{1}b"],
+        ..PLAIN
+    }],
+    &[Row {
+        flags: &["c-format", " a"],
+        ..PLAIN
+    }],
+    &[Row {
+        flags: &["a", "b", "a"],
+        ..PLAIN
+    }],
+    &[Row {
+        flags: &["c-format", "fuzzy"],
+        ..PLAIN
+    }],
+    &[Row {
+        forms: &["Hallo", "Hallos"],
+        ..PLAIN
+    }],
+];
+
+// Entries that break one rule on keys or on the header.
+const MISPLACED: [&[Row]; 6] = [
+    &[PLAIN, OTHER, PLAIN],
+    &[
+        PLAIN,
+        Row {
+            obsolete: true,
+            ..PLAIN
+        },
+    ],
+    &[PLAIN, HEADER],
+    &[Row {
+        plural: Some("s"),
+        ..HEADER
+    }],
+    &[Row {
+        obsolete: true,
+        ..HEADER
+    }],
+    &[Row {
+        forms: &["Content-Type: text/plain; charset=ISO-8859-1\n"],
+        ..HEADER
+    }],
+];
+
+fn string(alloc: Global, text: &str) -> Result<PoString, Fail>
+    ensures { IfOk result (λ s. is_string s ≡ true) }
+{
+    Ok(PoString::try_new(alloc, text)?.ok_or("no string")?)
+}
+
+fn maybe(alloc: Global, text: Option<&str>) -> Result<Option<PoString>, Fail> {
+    match text {
+        None => Ok(None),
+        Some(text) => Ok(Some(string(alloc, text)?)),
+    }
+}
+
+fn strings(alloc: Global, texts: &[&str]) -> Result<Forms, Fail> {
+    let mut strings = Vec::new(alloc);
+    for text in texts {
+        strings.push(string(alloc, text)?)?;
+    }
+    Ok(Forms::try_new(strings).ok_or("no forms")?)
+}
+
+fn texts(alloc: Global, lines: &[&str]) -> Result<Items<Text>, Fail> {
+    let mut all = Items::new(alloc);
+    for line in lines {
+        all.push(Text::from_text(alloc, line)?)?;
+    }
+    Ok(all)
+}
+
+fn entry(alloc: Global, row: &Row) -> Result<Entry, Fail> {
+    let translator = texts(alloc, &[row.comment])?;
+    let extracted = texts(alloc, &[row.extracted])?;
+    let references = texts(alloc, &[row.reference])?;
+    let flags = texts(alloc, row.flags)?;
+    let ctx = maybe(alloc, row.ctx)?;
+    let id = string(alloc, row.id)?;
+    let plural = maybe(alloc, row.plural)?;
+    let forms = strings(alloc, row.forms)?;
+    Ok(Entry {
+        translator,
+        extracted,
+        references,
+        flags,
+        previous: Previous::none(),
+        ctx,
+        id,
+        plural,
+        forms,
+        obsolete: row.obsolete,
+    })
+}
+
+/// How many entries the catalogue of these has, where they are one.
+fn made(alloc: Global, rows: &[Row]) -> Result<Option<usize>, Fail> {
+    let mut entries = Vec::new(alloc);
+    for row in rows {
+        entries.push(entry(alloc, row)?)?;
+    }
+    match Catalogue::try_new(alloc, entries)? {
+        None => Ok(None),
+        Some(catalogue) => Ok(Some(catalogue.entries().len())),
+    }
+}
+
+#[test]
+fn valid_catalogues(rt: HostRuntime) -> Result<(), Fail> {
+    for rows in VALID {
+        assert!(rt; made(rt.alloc(), rows)? == Some(rows.len()));
+    }
+    Ok(())
+}
+
+#[test]
+fn faulty_entries(rt: HostRuntime) -> Result<(), Fail> {
+    for rows in FAULTY {
+        assert!(rt; made(rt.alloc(), rows)?.is_none());
+    }
+    Ok(())
+}
+
+#[test]
+fn misplaced_keys(rt: HostRuntime) -> Result<(), Fail> {
+    for rows in MISPLACED {
+        assert!(rt; made(rt.alloc(), rows)?.is_none());
+    }
+    Ok(())
+}
+
+/// What was read is a valid catalogue.
+#[test]
+fn a_catalogue_that_was_read(rt: HostRuntime) -> Result<(), Fail> {
+    let catalogue = read(rt.alloc(), EXPORT.as_bytes())?;
+    let entries = catalogue.into_entries().into_vec();
+    let again = Catalogue::try_new(rt.alloc(), entries)?.ok_or("no catalogue")?;
+    assert!(rt; again.entries().len() == 2);
     Ok(())
 }

@@ -1,5 +1,5 @@
 -- A written act reads back, so no two contents have one text.
-use Rattle.std.proofs.Common.{◌≡◌, ℕ, suc, ◌<◌, ◌≤◌, ◌^◌, lit<, max, List, [], ◌∷◌, ◌++◌, append-nil, true, false, Option, Some, None, option_and_then, option_map, MatchOption, negsuc, refl, sym, ap, ◌∙◌, arith}
+use Rattle.std.proofs.Common.{◌≡◌, ℕ, suc, ◌<◌, ◌≤◌, ◌^◌, lit<, max, List, [], ◌∷◌, ◌++◌, append-nil, Bool, true, false, Option, Some, None, option_and_then, option_map, MatchOption, negsuc, refl, sym, ap, ◌∙◌, arith}
 use Rattle.std.specs.Prelude.{⊤}
 use Rattle.std.proofs.lemmas.Bool.Decides.{nat_tests}
 use Rattle.json.specs.Json as json
@@ -8,16 +8,16 @@ use Rattle.json.specs.Lex.{tokens}
 use Rattle.json.proofs.Printed.Tokens.{tokens-print}
 use Rattle.json.proofs.Printed.Trees.{value-json_tokens, ArePrintable-json_tokens}
 use Rattle.json.proofs.Printed.Decimals.{IsNumber-decimal, IsNumber-signed_decimal}
-use Rattle.serde_json.specs.Data.{Members, no_members, Data, object, string}
+use Rattle.serde_json.specs.Data.{Members, no_members, Data, boolean, object, string}
 use Rattle.serde_json.specs.Read.{read, of_json, of_items, of_members}
 use Rattle.serde_json.specs.Written.{outline, items_outline, members_outline, has_float, items_have_float, members_have_float, compact_text}
 use Rattle.serde_json.proofs.Texts.{print-outline}
 use Rattle.serde_json.proofs.Numbers.{number_of-decimal, number_of-negative}
-use Rattle.units.specs.Limits.{is_name, is_revision}
+use Rattle.units.specs.Limits.{is_name, is_revision, is_accept_at}
 use Rattle.units.specs.declared.votes.VoteValue.{VoteValue}
 use Rattle.units.specs.declared.votes.VoteValue.TheVariants.{Against, For}
 use Rattle.request_book.specs.declared.act.Act.{Act}
-use Rattle.request_book.specs.declared.act.Act.TheVariants.{OnUnit}
+use Rattle.request_book.specs.declared.act.Act.TheVariants.{OnUnit, SetTemplate, AddLanguage, SetRole, SetPolicy}
 use Rattle.request_book.specs.declared.parts.Parts.{Parts}
 use Rattle.request_book.specs.Words.{natural, string_items, strings, number_text, number_data, Field, with_member, members}
 use Rattle.request_book.specs.Acts.{fields_of, vote_data, content_data, canon_text, IsAct}
@@ -36,6 +36,10 @@ pub record IsPlain (d : Data) : Type 0 where
 
 text_plain : (s : List ℕ) → IsPlain (string s)
 text_plain s = record { numbers = tt; shallow = omega arith; back = refl; flat = refl }
+
+boolean_plain : (b : Bool) → IsPlain (boolean b)
+boolean_plain true = record { numbers = tt; shallow = omega arith; back = refl; flat = refl }
+boolean_plain false = record { numbers = tt; shallow = omega arith; back = refl; flat = refl }
 
 number_plain : (u : List ℕ) → IsPlain (number_data u)
 number_plain u = text_plain (number_text u)
@@ -137,6 +141,9 @@ read_object fs rising plain = read_compact (object (members fs)) (fields_numbers
 revision_fits : (n : ℕ) → is_revision n ≡ true → n < 2 ^ 64
 revision_fits n h = let k : n ≤ 9000000000000000 = grind (arith, nat_tests) in omega arith
 
+accept_at_fits : (n : ℕ) → is_accept_at n ≡ true → n < 2 ^ 64
+accept_at_fits n h = let k : n ≤ 100 = grind (arith, nat_tests) in omega arith
+
 -- a line for each field
 fields_plain : (caller n : Option (List ℕ)) (a : Act) → IsAct a → AllPlain (fields_of caller n a)
 fields_plain caller n (OnUnit lang key act) fit = (
@@ -167,9 +174,37 @@ fields_plain caller n (OnUnit lang key act) fit = (
     ),
   ),
 )
+fields_plain caller n (SetTemplate po) fit = (text_plain _, (optional_plain string text_plain caller, (optional_plain number_data number_plain n, (text_plain po, tt))))
+fields_plain caller n (AddLanguage lang po) fit =
+    (text_plain _, (optional_plain string text_plain caller, (text_plain lang, (optional_plain number_data number_plain n, (text_plain po, tt)))))
+fields_plain caller n (SetRole name role) fit =
+    (text_plain _, (optional_plain string text_plain caller, (text_plain name, (optional_plain number_data number_plain n, (text_plain _, tt)))))
+fields_plain caller n (SetPolicy policy) fit = (
+  natural_plain policy.accept_at (accept_at_fits policy.accept_at fit),
+  (
+    text_plain _,
+    (
+      optional_plain string text_plain caller,
+      (
+        boolean_plain policy.guests_suggest,
+        (
+          boolean_plain policy.line_ends,
+          (
+            optional_plain number_data number_plain n,
+            (boolean_plain policy.placeholders, (boolean_plain policy.reviews, (boolean_plain policy.voting, tt))),
+          ),
+        ),
+      ),
+    ),
+  ),
+)
 
 fields_rise : (caller n : Option (List ℕ)) (a : Act) → is_rising (fields_of caller n a) ≡ true
 fields_rise caller n (OnUnit lang key act) = refl
+fields_rise caller n (SetTemplate po) = refl
+fields_rise caller n (AddLanguage lang po) = refl
+fields_rise caller n (SetRole name role) = refl
+fields_rise caller n (SetPolicy policy) = refl
 
 pub no_floats : (caller n : Option (List ℕ)) (a : Act) → IsAct a → has_float (object (members (fields_of caller n a))) ≡ false
 no_floats caller n a fit = fields_floats _ (fields_plain caller n a fit)

@@ -3,22 +3,26 @@ use Rattle.std.proofs.Common.{◌≡◌, ℕ, List, [], ◌∷◌, Bool, true, f
 use Rattle.std.specs.Prelude.{⊤, codes, if◌then◌else◌, not}
 use Rattle.std.specs.List.{list_all}
 use Rattle.std.specs.Str.{bytes_eq}
-use Rattle.serde_json.specs.Data.{Data, string, Members, no_members, member}
-use Rattle.serde_json.specs.Find.{as_str}
+use Rattle.serde_json.specs.Data.{Data, boolean, string, Members, no_members, member}
+use Rattle.serde_json.specs.Find.{as_bool, as_str}
 use Rattle.po_read.specs.Strings.{is_string, is_forms}
-use Rattle.units.specs.Limits.{is_name, is_lang, is_revision, is_comment_lines}
+use Rattle.units.specs.Limits.{is_name, is_lang, is_revision, is_accept_at, is_comment_lines}
+use Rattle.units.specs.declared.unit.Key.{Key}
+use Rattle.units.specs.declared.unit.UnitAct.{UnitAct}
 use Rattle.units.specs.declared.unit.UnitAction.{UnitAction}
 use Rattle.units.specs.declared.unit.UnitAction.TheVariants.{Suggest, Vote, Accept, Dismiss, Translate, Comment, Approve, SendBack}
 use Rattle.units.specs.declared.votes.VoteValue.{VoteValue}
+use Rattle.units.specs.declared.unit.Role.{Role}
+use Rattle.units.specs.declared.unit.Policy.{Policy}
 use Rattle.request_book.specs.declared.act.Act.{Act}
-use Rattle.request_book.specs.declared.act.Act.TheVariants.{OnUnit}
+use Rattle.request_book.specs.declared.act.Act.TheVariants.{OnUnit, SetTemplate, AddLanguage, SetRole, SetPolicy}
 use Rattle.request_book.specs.declared.parts.Parts.{Parts}
 use Rattle.request_book.specs.declared.parts.UnitMembers.{UnitMembers}
-use Rattle.request_book.specs.Words.{natural, strings, number_data, Field, with_member, members}
+use Rattle.request_book.specs.Words.{natural, strings, number_data, role_text, Field, with_member, members}
 use Rattle.request_book.specs.Acts.{action_text, forms_in, lines_in, suggestion_in, vote_in, vote_data, fields_of, IsNumber, IsAct}
-use Rattle.request_book.specs.Fields.{text_of, name_of, lang_of, revision_of, forms_of, lines_of, number_of, vote_of, take, take_as, take_optional, optional_as, take_optional_as, is_over, unit_fields, unit_members_of, action_members, action_with, action_of, unit_parts, parts_behind, parts_of}
+use Rattle.request_book.specs.Fields.{text_of, name_of, lang_of, revision_of, accept_at_of, role_of, forms_of, lines_of, number_of, vote_of, take, take_as, take_optional, optional_as, take_optional_as, is_over, unit_fields, unit_members_of, action_members, action_with, action_of, unit_parts, unit_parts_of, template_of, language_of, team_of, policy_of, parts_behind, parts_of}
 use Rattle.request_book.proofs.Parsed.{both}
-use Rattle.request_book.proofs.Readers.{as_str_is, same_bytes, Sound, Complete, and_then_some, and_then_at, map_some, take_is, take_here, take_optional_is, take_optional_other, take_optional_here, text_sound, text_complete, revision_sound, revision_complete, forms_sound, forms_complete, lines_sound, lines_complete, number_sound, number_complete, vote_sound, vote_complete}
+use Rattle.request_book.proofs.Readers.{Sound, Complete, and_then_some, and_then_at, map_some, some_is, chosen, take_is, take_here, take_optional_is, take_optional_other, take_optional_here, str_sound, bool_sound, text_sound, text_complete, revision_sound, revision_complete, accept_at_sound, accept_at_complete, role_sound, role_complete, forms_sound, forms_complete, lines_sound, lines_complete, number_sound, number_complete, vote_sound, vote_complete}
 
 -- ---- one member
 
@@ -178,13 +182,7 @@ Gives forms lines suggestion vote word a =
 -- this word and this action, or else others
 worded : (P : List ℕ → UnitAction → Type 0) (word own : List ℕ) (x a : UnitAction) (others : Option UnitAction) → P own x → (others ≡ Some a → P word a)
     → (if bytes_eq word own then Some x else others) ≡ Some a → P word a
-worded P word own x a others here later e = by_test (bytes_eq word own) refl e
-  where
-    by_test : (b : Bool) → bytes_eq word own ≡ b → (if b then Some x else others) ≡ Some a → P word a
-    by_test true same h =
-        let is : x ≡ a = cc in
-        subst (λ (w : List ℕ). P w a) (sym (same_bytes word own same)) (subst (P own) is here)
-    by_test false same h = later h
+worded P word own x a others here later e = chosen (λ w. P w a) word own (Some x) others a (λ h. subst (P own) (some_is x a h) here) later e
 
 -- a line for each action
 action_sound : (word : List ℕ) (forms lines : Option (List (List ℕ))) (suggestion : Option (List ℕ)) (vote : Option (Option VoteValue)) (a : UnitAction)
@@ -246,21 +244,137 @@ unit_is_parts word ms m a u same =
       fit = (u.fits.lang, u.fits.id, u.fits.ctx, u.fits.seen, fits.forms, fits.lines, fits.suggestion);
     }
 
+unit_parts_sound : (word : List ℕ) (ms : Members) (p : Parts) → unit_parts_of word ms ≡ Some p → IsParts (member (codes "act") (string word) ms) p
+unit_parts_sound word ms p e =
+    let h = and_then_some _ (unit_members_of ms) p e in
+    let a = map_some (unit_parts h.0) (action_of word h.0) p h.2 in
+    subst (IsParts (member (codes "act") (string word) ms)) a.2
+    (unit_is_parts word ms h.0 a.0 (unit_sound ms h.0 h.1) (action_sound word h.0.forms h.0.lines h.0.suggestion h.0.vote a.0 a.1))
+
+template_sound : (ms : Members) (p : Parts) → template_of ms ≡ Some p → IsParts (member (codes "act") (string (codes "template")) ms) p
+template_sound ms p e =
+    let Is : Parts → Type 0 = IsParts (member (codes "act") (string (codes "template")) ms) in
+    optional_step name_of string (Fits is_name) (text_sound is_name) (codes "caller") ms _ p (Is p) e (λ caller ms1 m1 caller_fits e1.
+    optional_step number_of number_data IsNumber number_sound (codes "number") ms1 _ p (Is p) e1 (λ number ms2 m2 number_fits e2.
+    step as_str string (λ _. ⊤) str_sound (codes "po") ms2 _ p (Is p) e2 (λ po ms3 m3 po_fits e3.
+    let over = last_step ms3 _ p e3 in
+    subst Is over.1 (record { members = rw (m1, m2, m3, over.0) refl; caller = caller_fits; number = number_fits; fit = tt }))))
+
+language_sound : (ms : Members) (p : Parts) → language_of ms ≡ Some p → IsParts (member (codes "act") (string (codes "language")) ms) p
+language_sound ms p e =
+    let Is : Parts → Type 0 = IsParts (member (codes "act") (string (codes "language")) ms) in
+    optional_step name_of string (Fits is_name) (text_sound is_name) (codes "caller") ms _ p (Is p) e (λ caller ms1 m1 caller_fits e1.
+    step lang_of string (Fits is_lang) (text_sound is_lang) (codes "lang") ms1 _ p (Is p) e1 (λ lang ms2 m2 lang_fits e2.
+    optional_step number_of number_data IsNumber number_sound (codes "number") ms2 _ p (Is p) e2 (λ number ms3 m3 number_fits e3.
+    step as_str string (λ _. ⊤) str_sound (codes "po") ms3 _ p (Is p) e3 (λ po ms4 m4 po_fits e4.
+    let over = last_step ms4 _ p e4 in
+    subst Is over.1 (record { members = rw (m1, m2, m3, m4, over.0) refl; caller = caller_fits; number = number_fits; fit = lang_fits })))))
+
+team_sound : (ms : Members) (p : Parts) → team_of ms ≡ Some p → IsParts (member (codes "act") (string (codes "team")) ms) p
+team_sound ms p e =
+    let Is : Parts → Type 0 = IsParts (member (codes "act") (string (codes "team")) ms) in
+    optional_step name_of string (Fits is_name) (text_sound is_name) (codes "caller") ms _ p (Is p) e (λ caller ms1 m1 caller_fits e1.
+    step name_of string (Fits is_name) (text_sound is_name) (codes "name") ms1 _ p (Is p) e1 (λ name ms2 m2 name_fits e2.
+    optional_step number_of number_data IsNumber number_sound (codes "number") ms2 _ p (Is p) e2 (λ number ms3 m3 number_fits e3.
+    step role_of (λ role. string (role_text role)) (λ _. ⊤) role_sound (codes "role") ms3 _ p (Is p) e3 (λ role ms4 m4 role_fits e4.
+    let over = last_step ms4 _ p e4 in
+    subst Is over.1 (record { members = rw (m1, m2, m3, m4, over.0) refl; caller = caller_fits; number = number_fits; fit = name_fits })))))
+
+-- a policy's threshold stands in front
+policy_sound : (accept_at : ℕ) (ms : Members) (p : Parts) → is_accept_at accept_at ≡ true → policy_of accept_at ms ≡ Some p
+    → IsParts (member (codes "accept_at") (natural accept_at) (member (codes "act") (string (codes "policy")) ms)) p
+policy_sound accept_at ms p accept_at_fits e =
+    let Is : Parts → Type 0 = IsParts (member (codes "accept_at") (natural accept_at) (member (codes "act") (string (codes "policy")) ms)) in
+    optional_step name_of string (Fits is_name) (text_sound is_name) (codes "caller") ms _ p (Is p) e (λ caller ms1 m1 caller_fits e1.
+    step as_bool boolean (λ _. ⊤) bool_sound (codes "guests_suggest") ms1 _ p (Is p) e1 (λ guests_suggest ms2 m2 _ e2.
+    step as_bool boolean (λ _. ⊤) bool_sound (codes "line_ends") ms2 _ p (Is p) e2 (λ line_ends ms3 m3 _ e3.
+    optional_step number_of number_data IsNumber number_sound (codes "number") ms3 _ p (Is p) e3 (λ number ms4 m4 number_fits e4.
+    step as_bool boolean (λ _. ⊤) bool_sound (codes "placeholders") ms4 _ p (Is p) e4 (λ placeholders ms5 m5 _ e5.
+    step as_bool boolean (λ _. ⊤) bool_sound (codes "reviews") ms5 _ p (Is p) e5 (λ reviews ms6 m6 _ e6.
+    step as_bool boolean (λ _. ⊤) bool_sound (codes "voting") ms6 _ p (Is p) e6 (λ voting ms7 m7 _ e7.
+    let over = last_step ms7 _ p e7 in
+    subst Is over.1 (record { members = rw (m1, m2, m3, m4, m5, m6, m7, over.0) refl; caller = caller_fits; number = number_fits; fit = accept_at_fits }))))))))
+
+behind_sound : (accept_at : Option ℕ) (word : List ℕ) (ms : Members) (p : Parts) → MatchOption accept_at ⊤ (Fits is_accept_at) → parts_behind accept_at word ms ≡ Some p
+    → IsParts (with_member (codes "accept_at") (option_map natural accept_at) (member (codes "act") (string word) ms)) p
+behind_sound None word ms p fits e =
+    let Goal : List ℕ → Type 0 = λ w. IsParts (member (codes "act") (string w) ms) p in
+    chosen Goal word (codes "template") (template_of ms) _ p (template_sound ms p)
+    (chosen Goal word (codes "language") (language_of ms) _ p (language_sound ms p)
+    (chosen Goal word (codes "team") (team_of ms) _ p (team_sound ms p) (unit_parts_sound word ms p))) e
+behind_sound (Some accept_at) word ms p fits e =
+    let Goal : List ℕ → Type 0 = λ w. IsParts (member (codes "accept_at") (natural accept_at) (member (codes "act") (string w) ms)) p in
+    chosen Goal word (codes "policy") (policy_of accept_at ms) None p (policy_sound accept_at ms p fits) (λ h. absurd cc) e
+
 pub parts_sound : (ms : Members) (p : Parts) → parts_of ms ≡ Some p → IsParts ms p
 parts_sound ms p e =
-    step as_str string (λ _. ⊤) (λ d s h. (as_str_is d s h, tt)) (codes "act") ms _ p (IsParts ms p) e (λ word ms1 m1 _ e1.
-    let h = and_then_some _ (unit_members_of ms1) p e1 in
-    let a = map_some (unit_parts h.0) (action_of word h.0) p h.2 in
-    rw m1 (subst (IsParts (member (codes "act") (string word) ms1)) a.2
-    (unit_is_parts word ms1 h.0 a.0 (unit_sound ms1 h.0 h.1) (action_sound word h.0.forms h.0.lines h.0.suggestion h.0.vote a.0 a.1))))
+    optional_step accept_at_of natural (Fits is_accept_at) accept_at_sound (codes "accept_at") ms _ p (IsParts ms p) e (λ accept_at ms1 m1 fits e1.
+    step as_str string (λ _. ⊤) str_sound (codes "act") ms1 _ p (IsParts ms p) e1 (λ word ms2 m2 _ e2.
+    rw (m1, m2) (behind_sound accept_at word ms2 p fits e2)))
 
 any_vote : (o : Option (Option VoteValue)) → MatchOption o ⊤ (λ _. ⊤)
 any_vote None = tt
 any_vote (Some value) = tt
 
-pub parts_complete : (caller n : Option (List ℕ)) (a : Act) → MatchOption caller ⊤ (Fits is_name) → MatchOption n ⊤ IsNumber → IsAct a
-    → parts_of (members (fields_of caller n a)) ≡ Some (record { caller = caller; number = n; act = a })
-parts_complete caller n (OnUnit lang key act) caller_fits number_fits fit =
+-- the parts that a caller, a number and an act make
+abbrev made_of : Option (List ℕ) → Option (List ℕ) → Act → Parts
+made_of caller n a = record { caller = caller; number = n; act = a }
+
+abbrev IsSigned : Option (List ℕ) → Option (List ℕ) → Type 0
+IsSigned caller n = MatchOption caller ⊤ (Fits is_name) × MatchOption n ⊤ IsNumber
+
+-- the word of an act on a unit is no office act's
+unit_behind : (a : UnitAction) (ms : Members) → parts_behind None (action_text a) ms ≡ unit_parts_of (action_text a) ms
+unit_behind (Suggest forms) ms = refl
+unit_behind (Vote named value) ms = refl
+unit_behind (Accept named) ms = refl
+unit_behind (Dismiss named) ms = refl
+unit_behind (Translate forms) ms = refl
+unit_behind (Comment lines) ms = refl
+unit_behind Approve ms = refl
+unit_behind SendBack ms = refl
+
+-- the fields behind the first ones
+abbrev behind : ℕ → Option (List ℕ) → Option (List ℕ) → Act → List Field
+behind k caller n a = drop k (fields_of caller n a)
+
+caller_complete : (caller : Option (List ℕ)) (fs : List Field) → MatchOption caller ⊤ (Fits is_name) → take (codes "caller") (members fs) ≡ None
+    → take_optional_as name_of (codes "caller") (with_member (codes "caller") (option_map string caller) (members fs)) ≡ Some (caller, members fs)
+caller_complete caller fs fits other = opt_complete name_of string (Fits is_name) (text_complete is_name) (codes "caller") caller (members fs) fits other
+
+named_complete : (n : Option (List ℕ)) (fs : List Field) → MatchOption n ⊤ IsNumber → take (codes "number") (members fs) ≡ None
+    → take_optional_as number_of (codes "number") (with_member (codes "number") (option_map number_data n) (members fs)) ≡ Some (n, members fs)
+named_complete n fs fits other = opt_complete number_of number_data IsNumber number_complete (codes "number") n (members fs) fits other
+
+-- strings and truth values are taken by computing, as is `act` where it comes first
+template_complete : (caller n : Option (List ℕ)) (po : List ℕ) → IsSigned caller n → template_of (members (behind 1 caller n (SetTemplate po))) ≡ Some (made_of caller n (SetTemplate po))
+template_complete caller n po signed =
+    and_then_at _ _ _ _ (caller_complete caller (behind 2 caller n (SetTemplate po)) signed.0 (past_fields (codes "caller") (behind 2 caller n (SetTemplate po)) refl))
+    (and_then_at _ _ _ _ (named_complete n (behind 3 caller n (SetTemplate po)) signed.1 (past_fields (codes "number") (behind 3 caller n (SetTemplate po)) refl)) refl)
+
+language_complete : (caller n : Option (List ℕ)) (lang po : List ℕ) → IsSigned caller n → is_lang lang ≡ true
+    → language_of (members (behind 1 caller n (AddLanguage lang po))) ≡ Some (made_of caller n (AddLanguage lang po))
+language_complete caller n lang po signed fit =
+    and_then_at _ _ _ _ (caller_complete caller (behind 2 caller n (AddLanguage lang po)) signed.0 (past_fields (codes "caller") (behind 2 caller n (AddLanguage lang po)) refl))
+    (and_then_at _ _ _ _ (as_complete lang_of string (Fits is_lang) (text_complete is_lang) (codes "lang") lang (members (behind 3 caller n (AddLanguage lang po))) fit)
+    (and_then_at _ _ _ _ (named_complete n (behind 4 caller n (AddLanguage lang po)) signed.1 (past_fields (codes "number") (behind 4 caller n (AddLanguage lang po)) refl)) refl))
+
+team_complete : (caller n : Option (List ℕ)) (name : List ℕ) (role : Role) → IsSigned caller n → is_name name ≡ true
+    → team_of (members (behind 1 caller n (SetRole name role))) ≡ Some (made_of caller n (SetRole name role))
+team_complete caller n name role signed fit =
+    and_then_at _ _ _ _ (caller_complete caller (behind 2 caller n (SetRole name role)) signed.0 (past_fields (codes "caller") (behind 2 caller n (SetRole name role)) refl))
+    (and_then_at _ _ _ _ (as_complete name_of string (Fits is_name) (text_complete is_name) (codes "name") name (members (behind 3 caller n (SetRole name role))) fit)
+    (and_then_at _ _ _ _ (named_complete n (behind 4 caller n (SetRole name role)) signed.1 (past_fields (codes "number") (behind 4 caller n (SetRole name role)) refl))
+    (and_then_at _ _ _ _ (as_complete role_of (λ r. string (role_text r)) (λ _. ⊤) role_complete (codes "role") role no_members tt) refl)))
+
+policy_complete : (caller n : Option (List ℕ)) (policy : Policy) → IsSigned caller n → policy_of policy.accept_at (members (behind 2 caller n (SetPolicy policy))) ≡ Some (made_of caller n (SetPolicy policy))
+policy_complete caller n policy signed =
+    and_then_at _ _ _ _ (caller_complete caller (behind 3 caller n (SetPolicy policy)) signed.0 (past_fields (codes "caller") (behind 3 caller n (SetPolicy policy)) refl))
+    (and_then_at _ _ _ _ (named_complete n (behind 6 caller n (SetPolicy policy)) signed.1 (past_fields (codes "number") (behind 6 caller n (SetPolicy policy)) refl)) refl)
+
+unit_parts_complete : (caller n : Option (List ℕ)) (lang : List ℕ) (key : Key) (act : UnitAct) → IsSigned caller n → IsAct (OnUnit lang key act)
+    → unit_parts_of (action_text act.action) (members (behind 1 caller n (OnUnit lang key act))) ≡ Some (made_of caller n (OnUnit lang key act))
+unit_parts_complete caller n lang key act signed fit =
     let m : UnitMembers = record {
       caller = caller;
       ctx = key.ctx;
@@ -274,16 +388,27 @@ parts_complete caller n (OnUnit lang key act) caller_fits number_fits fit =
       vote = vote_in act.action;
     } in
     let fits : UnitFits m = record {
-      caller = caller_fits;
+      caller = signed.0;
       ctx = fit.2;
       forms = fit.4;
       id = fit.1;
       lang = fit.0;
       lines = fit.5;
-      number = number_fits;
+      number = signed.1;
       seen = fit.3;
       suggestion = fit.6;
       vote = any_vote (vote_in act.action);
     } in
-    and_then_at (λ word. parts_behind word.0 word.1) _ _ _ (as_complete as_str string (λ _. ⊤) (λ x _. refl) (codes "act") (action_text act.action) (members (unit_fields m)) tt)
-    (and_then_at (λ (x : UnitMembers). option_map (unit_parts x) (action_of (action_text act.action) x)) _ _ _ (unit_complete m fits) (ap (option_map (unit_parts m)) (action_complete act.action)))
+    and_then_at (λ (x : UnitMembers). option_map (unit_parts x) (action_of (action_text act.action) x)) _ _ _ (unit_complete m fits) (ap (option_map (unit_parts m)) (action_complete act.action))
+
+-- a line for each act
+pub parts_complete : (caller n : Option (List ℕ)) (a : Act) → MatchOption caller ⊤ (Fits is_name) → MatchOption n ⊤ IsNumber → IsAct a
+    → parts_of (members (fields_of caller n a)) ≡ Some (record { caller = caller; number = n; act = a })
+parts_complete caller n (OnUnit lang key act) caller_fits number_fits fit =
+    unit_behind act.action (members (behind 1 caller n (OnUnit lang key act))) ∙ unit_parts_complete caller n lang key act (caller_fits, number_fits) fit
+parts_complete caller n (SetTemplate po) caller_fits number_fits fit = template_complete caller n po (caller_fits, number_fits)
+parts_complete caller n (AddLanguage lang po) caller_fits number_fits fit = language_complete caller n lang po (caller_fits, number_fits) fit
+parts_complete caller n (SetRole name role) caller_fits number_fits fit = team_complete caller n name role (caller_fits, number_fits) fit
+parts_complete caller n (SetPolicy policy) caller_fits number_fits fit =
+    and_then_at (λ accept_at. option_and_then (λ word. parts_behind accept_at.0 word.0 word.1) (take_as as_str (codes "act") accept_at.1)) _ _ _ (opt_complete accept_at_of natural (Fits is_accept_at) accept_at_complete (codes "accept_at") (Some policy.accept_at) (members (behind 1 caller n (SetPolicy policy))) fit
+    (past_fields (codes "accept_at") (behind 1 caller n (SetPolicy policy)) refl)) (policy_complete caller n policy (caller_fits, number_fits))

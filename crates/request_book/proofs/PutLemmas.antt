@@ -97,7 +97,7 @@ none_before (f ∷ fs) = none_before fs
 pub put_fields-members : (fs : List Field) → is_rising fs ≡ true → put_fields fs no_members ≡ members fs
 put_fields-members fs rising = fields_behind fs rising no_members (none_before fs)
 
--- ---- acts
+-- ---- acts: one lemma each
 
 abbrev laid : (act id lang seen : Data) (caller ctx forms lines n suggestion vote : Option Data) → List Field
 laid act id lang seen caller ctx forms lines n suggestion vote =
@@ -119,3 +119,49 @@ pub puts_unit : (act id lang seen : Data) (caller ctx forms lines n suggestion v
     (put_optional (codes "forms") forms (put_optional (codes "ctx") ctx (put_optional (codes "caller") caller (put (codes "act") act no_members))))))))))
     ≡ members (laid act id lang seen caller ctx forms lines n suggestion vote)
 puts_unit act id lang seen caller ctx forms lines n suggestion vote = put_fields-members (laid act id lang seen caller ctx forms lines n suggestion vote) refl
+
+abbrev template_laid : (act po : Data) (caller n : Option Data) → List Field
+template_laid act po caller n = given (codes "act") act ∷ optional (codes "caller") caller ∷ optional (codes "number") n ∷ given (codes "po") po ∷ []
+
+pub puts_template : (act po : Data) (caller n : Option Data)
+    → put (codes "po") po (put_optional (codes "number") n (put_optional (codes "caller") caller (put (codes "act") act no_members)))
+    ≡ members (template_laid act po caller n)
+puts_template act po caller n = put_fields-members (template_laid act po caller n) refl
+
+abbrev language_laid : (act lang po : Data) (caller n : Option Data) → List Field
+language_laid act lang po caller n =
+    given (codes "act") act ∷ optional (codes "caller") caller ∷ given (codes "lang") lang ∷ optional (codes "number") n ∷ given (codes "po") po ∷ []
+
+pub puts_language : (act lang po : Data) (caller n : Option Data)
+    → put (codes "po") po (put_optional (codes "number") n (put (codes "lang") lang (put_optional (codes "caller") caller (put (codes "act") act no_members))))
+    ≡ members (language_laid act lang po caller n)
+puts_language act lang po caller n = put_fields-members (language_laid act lang po caller n) refl
+
+abbrev team_laid : (act name role : Data) (caller n : Option Data) → List Field
+team_laid act name role caller n =
+    given (codes "act") act ∷ optional (codes "caller") caller ∷ given (codes "name") name ∷ optional (codes "number") n ∷ given (codes "role") role ∷ []
+
+pub puts_team : (act name role : Data) (caller n : Option Data)
+    → put (codes "role") role (put_optional (codes "number") n (put (codes "name") name (put_optional (codes "caller") caller (put (codes "act") act no_members))))
+    ≡ members (team_laid act name role caller n)
+puts_team act name role caller n = put_fields-members (team_laid act name role caller n) refl
+
+abbrev policy_laid : (accept_at act guests_suggest line_ends placeholders reviews voting : Data) (caller n : Option Data) → List Field
+policy_laid accept_at act guests_suggest line_ends placeholders reviews voting caller n =
+    given (codes "accept_at") accept_at
+    ∷ given (codes "act") act
+    ∷ optional (codes "caller") caller
+    ∷ given (codes "guests_suggest") guests_suggest
+    ∷ given (codes "line_ends") line_ends
+    ∷ optional (codes "number") n
+    ∷ given (codes "placeholders") placeholders
+    ∷ given (codes "reviews") reviews
+    ∷ given (codes "voting") voting
+    ∷ []
+
+pub puts_policy : (accept_at act guests_suggest line_ends placeholders reviews voting : Data) (caller n : Option Data)
+    → put (codes "voting") voting (put (codes "reviews") reviews (put (codes "placeholders") placeholders (put_optional (codes "number") n (put (codes "line_ends") line_ends (put (codes "guests_suggest") guests_suggest
+    (put_optional (codes "caller") caller (put (codes "act") act (put (codes "accept_at") accept_at no_members))))))))
+    ≡ members (policy_laid accept_at act guests_suggest line_ends placeholders reviews voting caller n)
+puts_policy accept_at act guests_suggest line_ends placeholders reviews voting caller n =
+    put_fields-members (policy_laid accept_at act guests_suggest line_ends placeholders reviews voting caller n) refl

@@ -1,6 +1,6 @@
 -- Each reader of a field answers exactly what the field was written from.
 use Rattle.std.proofs.Common.{◌≡◌, ℕ, ◌==◌, List, [], ◌∷◌, Bool, true, false, Option, Some, None, option_map, option_and_then, ℤ, negsuc, true≢false, inl, refl, sym, ap, ap₂, ◌∙◌, subst}
-use Rattle.std.specs.Prelude.{⊤, if◌then◌else◌}
+use Rattle.std.specs.Prelude.{⊤, codes, if◌then◌else◌}
 use Rattle.std.specs.Ordering.{int_eq}
 use Rattle.std.proofs.lemmas.Bool.{eqb-true}
 use Rattle.std.proofs.lemmas.Bool.Decides.{Decides-int_eq}
@@ -8,16 +8,18 @@ use Rattle.std.specs.List.{list_all}
 use Rattle.std.specs.Str.{bytes_eq}
 use Rattle.std.proofs.lemmas.Slice.Eq.{bytes_eq-Decides}
 use Rattle.serde_json.specs.Data.{Num, unsigned, negative, float, Data, null, boolean, number, string, array, object, Items, no_items, item, Members, no_members, member}
-use Rattle.serde_json.specs.Find.{as_str, as_number, as_array, as_u64}
+use Rattle.serde_json.specs.Find.{as_bool, as_str, as_number, as_array, as_u64}
 use Rattle.po_read.specs.Strings.{is_string, is_forms}
-use Rattle.units.specs.Limits.{is_revision, is_comment_lines}
+use Rattle.units.specs.Limits.{is_revision, is_accept_at, is_comment_lines}
 use Rattle.units.specs.declared.votes.VoteValue.{VoteValue}
 use Rattle.units.specs.declared.votes.VoteValue.TheVariants.{Against, For}
+use Rattle.units.specs.declared.unit.Role.{Role}
+use Rattle.units.specs.declared.unit.Role.TheVariants.{Guest, Translator, Reviewer, Manager}
 use Rattle.uuid.specs.Text.{parsed, lower}
 use Rattle.uuid.proofs.RoundTrips.{parses_hyphenated}
 use Rattle.request_book.specs.Acts.{IsNumber, vote_data}
-use Rattle.request_book.specs.Words.{natural, with_member, string_items, strings, number_text, number_data}
-use Rattle.request_book.specs.Fields.{only, text_of, revision_of, each_of, forms_of, lines_of, vote_of_numbers, vote_of, take, take_optional, number_of}
+use Rattle.request_book.specs.Words.{natural, with_member, string_items, strings, number_text, number_data, role_text}
+use Rattle.request_book.specs.Fields.{only, text_of, revision_of, accept_at_of, role_named, role_of, each_of, forms_of, lines_of, vote_of_numbers, vote_of, take, take_optional, number_of}
 use Rattle.request_book.proofs.Parsed.{both, is_number}
 
 -- ---- options
@@ -33,6 +35,9 @@ and_then_at f o x r here next = rw here next
 pub map_some : {A B : Type 0} (f : A → B) (o : Option A) (y : B) → option_map f o ≡ Some y → (x : A) × (o ≡ Some x) × (f x ≡ y)
 map_some f None y e = absurd cc
 map_some f (Some x) y e = (x, refl, cc)
+
+pub some_is : {A : Type 0} (x y : A) → Some x ≡ Some y → x ≡ y
+some_is x y e = cc
 
 only_at : {A : Type 0} (b : Bool) (x y : A) → (if b then Some x else None) ≡ Some y → (x ≡ y) × (b ≡ true)
 only_at true x y e = (cc, refl)
@@ -91,15 +96,76 @@ text_sound p d x e =
 pub text_complete : (p : List ℕ → Bool) → Complete (λ d. option_and_then (only p) (as_str d)) string (λ s. p s ≡ true)
 text_complete p x fit = rw fit refl
 
-pub revision_sound : Sound revision_of natural (λ n. is_revision n ≡ true)
-revision_sound d x e =
-    let h = and_then_some (only is_revision) (option_and_then as_u64 (as_number d)) x e in
-    let k = only_some is_revision h.0 x h.2 in
+-- any string, and any truth value
+pub str_sound : Sound as_str string (λ s. ⊤)
+str_sound d s e = (as_str_is d s e, tt)
+
+as_bool_is : (d : Data) (b : Bool) → as_bool d ≡ Some b → d ≡ boolean b
+as_bool_is null b e = absurd cc
+as_bool_is (boolean c) b e = cc
+as_bool_is (number n) b e = absurd cc
+as_bool_is (string t) b e = absurd cc
+as_bool_is (array ds) b e = absurd cc
+as_bool_is (object ms) b e = absurd cc
+
+pub bool_sound : Sound as_bool boolean (λ b. ⊤)
+bool_sound d b e = (as_bool_is d b e, tt)
+
+-- a whole number that passes a test
+natural_sound : (p : ℕ → Bool) → Sound (λ d. option_and_then (only p) (option_and_then as_u64 (as_number d))) natural (λ n. p n ≡ true)
+natural_sound p d x e =
+    let h = and_then_some (only p) (option_and_then as_u64 (as_number d)) x e in
+    let k = only_some p h.0 x h.2 in
     let m = and_then_some as_u64 (as_number d) h.0 h.1 in
     (as_number_is d m.0 m.1 ∙ ap number (as_u64_is m.0 h.0 m.2 ∙ ap unsigned k.0), k.1)
 
+natural_complete : (p : ℕ → Bool) → Complete (λ d. option_and_then (only p) (option_and_then as_u64 (as_number d))) natural (λ n. p n ≡ true)
+natural_complete p x fit = rw fit refl
+
+pub revision_sound : Sound revision_of natural (λ n. is_revision n ≡ true)
+revision_sound = natural_sound is_revision
+
 pub revision_complete : Complete revision_of natural (λ n. is_revision n ≡ true)
-revision_complete x fit = rw fit refl
+revision_complete = natural_complete is_revision
+
+pub accept_at_sound : Sound accept_at_of natural (λ n. is_accept_at n ≡ true)
+accept_at_sound = natural_sound is_accept_at
+
+pub accept_at_complete : Complete accept_at_of natural (λ n. is_accept_at n ≡ true)
+accept_at_complete = natural_complete is_accept_at
+
+-- ---- words
+
+pub same_bytes : (xs ys : List ℕ) → bytes_eq xs ys ≡ true → xs ≡ ys
+same_bytes xs ys e = (bytes_eq-Decides xs ys).0 e
+
+-- the one of this word, or else the one of another
+pub chosen : {A : Type 0} (Goal : List ℕ → Type 0) (word own : List ℕ) (here others : Option A) (x : A) → (here ≡ Some x → Goal own) → (others ≡ Some x → Goal word)
+    → (if bytes_eq word own then here else others) ≡ Some x → Goal word
+chosen {A} Goal word own here others x is later e = by_test (bytes_eq word own) refl e
+  where
+    by_test : (b : Bool) → bytes_eq word own ≡ b → (if b then here else others) ≡ Some x → Goal word
+    by_test true same h = subst Goal (sym (same_bytes word own same)) (is h)
+    by_test false same h = later h
+
+role_named_is : (word : List ℕ) (role : Role) → role_named word ≡ Some role → word ≡ role_text role
+role_named_is word role e =
+    let Goal : List ℕ → Type 0 = λ w. w ≡ role_text role in
+    chosen Goal word (codes "guest") (Some Guest) _ role (λ h. ap role_text (some_is Guest role h))
+    (chosen Goal word (codes "translator") (Some Translator) _ role (λ h. ap role_text (some_is Translator role h))
+    (chosen Goal word (codes "reviewer") (Some Reviewer) _ role (λ h. ap role_text (some_is Reviewer role h))
+    (chosen Goal word (codes "manager") (Some Manager) None role (λ h. ap role_text (some_is Manager role h)) (λ h. absurd cc)))) e
+
+pub role_sound : Sound role_of (λ role. string (role_text role)) (λ role. ⊤)
+role_sound d role e =
+    let h = and_then_some role_named (as_str d) role e in
+    (as_str_is d h.0 h.1 ∙ ap string (role_named_is h.0 role h.2), tt)
+
+pub role_complete : Complete role_of (λ role. string (role_text role)) (λ role. ⊤)
+role_complete Guest fit = refl
+role_complete Translator fit = refl
+role_complete Reviewer fit = refl
+role_complete Manager fit = refl
 
 -- lists of strings, each read by f
 each_is : (f : Data → Option (List ℕ)) (Fit : List ℕ → Type 0) → Sound f string Fit → (ds : Items) (ts : List (List ℕ)) → each_of f ds ≡ Some ts → ds ≡ string_items ts
@@ -186,9 +252,6 @@ vote_complete (Some For) fit = refl
 vote_complete (Some Against) fit = refl
 
 -- ---- numbers
-
-pub same_bytes : (xs ys : List ℕ) → bytes_eq xs ys ≡ true → xs ≡ ys
-same_bytes xs ys e = (bytes_eq-Decides xs ys).0 e
 
 pub number_sound : Sound number_of number_data IsNumber
 number_sound d u e =

@@ -1,22 +1,23 @@
 -- The JSON (RFC 8259) of requests: one object with exactly the fields of its act, its caller and its number. This project's own rule.
 -- The definition goes from a request to its object: a text is a request where what `serde_json` reads is that object. So members may
 -- come in any order, and of a key that stands twice the last value counts.
--- A new act on a unit is one line more in each function on actions; a new field is one line more in `fields_of` and `IsAct`.
+-- A new act on a unit is one line more in each function on actions; a new field is one line more in `fields_of` and `IsAct`; a
+-- new office act is one case more in each of these two.
 use Rattle.std.specs.Prelude.{◌≡◌, ◌<◌, List, [], ◌∷◌, length, true, Option, Some, None, option_map, MatchOption, All, ⊤, ℤ, pos, negsuc, codes}
-use Rattle.serde_json.specs.Data.{Data, string, object}
+use Rattle.serde_json.specs.Data.{Data, boolean, string, object}
 use Rattle.serde_json.specs.Read.{read}
 use Rattle.serde_json.specs.Written.{compact_text}
 use Rattle.po_read.specs.Texts.{Text}
 use Rattle.po_read.specs.Strings.{is_string, is_forms}
-use Rattle.units.specs.Limits.{is_name, is_lang, is_revision, is_comment_lines}
+use Rattle.units.specs.Limits.{is_name, is_lang, is_revision, is_accept_at, is_comment_lines}
 use Rattle.units.specs.declared.unit.UnitAction.{UnitAction}
 use Rattle.units.specs.declared.unit.UnitAction.TheVariants.{Suggest, Vote, Accept, Dismiss, Translate, Comment, Approve, SendBack}
 use Rattle.units.specs.declared.votes.VoteValue.{VoteValue}
 use Rattle.units.specs.declared.votes.VoteValue.TheVariants.{Against, For}
 use Rattle.request_book.specs.declared.act.Act.{Act}
-use Rattle.request_book.specs.declared.act.Act.TheVariants.{OnUnit}
+use Rattle.request_book.specs.declared.act.Act.TheVariants.{OnUnit, SetTemplate, AddLanguage, SetRole, SetPolicy}
 use Rattle.request_book.specs.declared.act.Request.{Request}
-use Rattle.request_book.specs.Words.{natural, whole, strings, number_data, Field, given, optional, members}
+use Rattle.request_book.specs.Words.{natural, whole, strings, number_data, role_text, Field, given, optional, members}
 
 -- ---- acts on a unit
 
@@ -100,6 +101,37 @@ fields_of caller n (OnUnit lang key act) =
     ∷ optional (codes "suggestion") (option_map number_data (suggestion_in act.action))
     ∷ optional (codes "value") (option_map vote_data (vote_in act.action))
     ∷ []
+fields_of caller n (SetTemplate po) =
+    given (codes "act") (string (codes "template"))
+    ∷ optional (codes "caller") (option_map string caller)
+    ∷ optional (codes "number") (option_map number_data n)
+    ∷ given (codes "po") (string po)
+    ∷ []
+fields_of caller n (AddLanguage lang po) =
+    given (codes "act") (string (codes "language"))
+    ∷ optional (codes "caller") (option_map string caller)
+    ∷ given (codes "lang") (string lang)
+    ∷ optional (codes "number") (option_map number_data n)
+    ∷ given (codes "po") (string po)
+    ∷ []
+fields_of caller n (SetRole name role) =
+    given (codes "act") (string (codes "team"))
+    ∷ optional (codes "caller") (option_map string caller)
+    ∷ given (codes "name") (string name)
+    ∷ optional (codes "number") (option_map number_data n)
+    ∷ given (codes "role") (string (role_text role))
+    ∷ []
+fields_of caller n (SetPolicy policy) =
+    given (codes "accept_at") (natural policy.accept_at)
+    ∷ given (codes "act") (string (codes "policy"))
+    ∷ optional (codes "caller") (option_map string caller)
+    ∷ given (codes "guests_suggest") (boolean policy.guests_suggest)
+    ∷ given (codes "line_ends") (boolean policy.line_ends)
+    ∷ optional (codes "number") (option_map number_data n)
+    ∷ given (codes "placeholders") (boolean policy.placeholders)
+    ∷ given (codes "reviews") (boolean policy.reviews)
+    ∷ given (codes "voting") (boolean policy.voting)
+    ∷ []
 
 -- the object of a content (caller and act), and of a request
 abbrev pub content_data : Text → Act → Data
@@ -114,12 +146,17 @@ request_data r = object (members (fields_of (Some r.caller) (Some r.number) r.ac
 abbrev pub IsNumber : Text → Type 0
 IsNumber u = (length u ≡ 16) × All (λ b. b < 256) u
 
+-- a `po` may be any text: which texts are catalogues within the limits, the office decides
 abbrev pub IsAct : Act → Type 0
 IsAct (OnUnit lang key act) =
     (is_lang lang ≡ true) × (is_string key.id ≡ true) × MatchOption key.ctx ⊤ (λ c. is_string c ≡ true) × (is_revision act.seen ≡ true)
     × MatchOption (forms_in act.action) ⊤ (λ forms. is_forms forms ≡ true)
     × MatchOption (lines_in act.action) ⊤ (λ lines. is_comment_lines lines ≡ true)
     × MatchOption (suggestion_in act.action) ⊤ IsNumber
+IsAct (SetTemplate po) = ⊤
+IsAct (AddLanguage lang po) = is_lang lang ≡ true
+IsAct (SetRole name role) = is_name name ≡ true
+IsAct (SetPolicy policy) = is_accept_at policy.accept_at ≡ true
 
 abbrev pub IsRequest : Request → Type 0
 IsRequest r = IsNumber r.number × (is_name r.caller ≡ true) × IsAct r.act

@@ -1,21 +1,33 @@
 -- Which requests may not change places. This project's own rule.
-use Rattle.std.specs.Prelude.{◌≡◌, List, Bool, false, ◌||◌, filter}
+use Rattle.std.specs.Prelude.{◌≡◌, List, Bool, true, false, ◌||◌, filter}
 use Rattle.units.specs.Office.{Place, place_eq}
 use Rattle.request_book.specs.declared.act.Act.{Act}
-use Rattle.request_book.specs.declared.act.Act.TheVariants.{OnUnit}
+use Rattle.request_book.specs.declared.act.Act.TheVariants.{OnUnit, SetTemplate, AddLanguage, SetRole, SetPolicy}
 use Rattle.request_book.specs.declared.act.Request.{Request}
 
 -- template, language, team and policy requests
 abbrev pub is_office_act : Act → Bool
 is_office_act (OnUnit lang key act) = false
+is_office_act (SetTemplate po) = true
+is_office_act (AddLanguage lang po) = true
+is_office_act (SetRole name role) = true
+is_office_act (SetPolicy policy) = true
 
 -- the act is on the unit at this place
 abbrev pub names : Place → Act → Bool
 names place (OnUnit lang key act) = place_eq place (lang, key)
+names place (SetTemplate po) = false
+names place (AddLanguage lang po) = false
+names place (SetRole name role) = false
+names place (SetPolicy policy) = false
 
 -- both name one unit
 abbrev same_unit : Act → Act → Bool
 same_unit (OnUnit lang key act) other = names (lang, key) other
+same_unit (SetTemplate po) other = false
+same_unit (AddLanguage lang po) other = false
+same_unit (SetRole name role) other = false
+same_unit (SetPolicy policy) other = false
 
 -- either is an office request, or both name one unit
 abbrev pub clash : Request → Request → Bool

@@ -4,17 +4,19 @@ use Rattle.std.specs.Ordering.{int_eq}
 use Rattle.std.specs.Str.{bytes_eq}
 use Rattle.serde_json.specs.Data.{Data, string, object, Items, no_items, item, Members, no_members, member}
 use Rattle.serde_json.specs.Read.{read}
-use Rattle.serde_json.specs.Find.{as_str, as_number, as_array, as_u64, as_i64}
+use Rattle.serde_json.specs.Find.{as_bool, as_str, as_number, as_array, as_u64, as_i64}
 use Rattle.uuid.specs.Text.{parsed}
 use Rattle.po_read.specs.Texts.{Text}
 use Rattle.po_read.specs.Strings.{is_string, is_forms}
-use Rattle.units.specs.Limits.{is_name, is_lang, is_revision, is_comment_lines}
+use Rattle.units.specs.Limits.{is_name, is_lang, is_revision, is_accept_at, is_comment_lines}
 use Rattle.units.specs.declared.unit.UnitAction.{UnitAction}
 use Rattle.units.specs.declared.unit.UnitAction.TheVariants.{Suggest, Vote, Accept, Dismiss, Translate, Comment, Approve, SendBack}
 use Rattle.units.specs.declared.votes.VoteValue.{VoteValue}
 use Rattle.units.specs.declared.votes.VoteValue.TheVariants.{Against, For}
+use Rattle.units.specs.declared.unit.Role.{Role}
+use Rattle.units.specs.declared.unit.Role.TheVariants.{Guest, Translator, Reviewer, Manager}
 use Rattle.request_book.specs.declared.act.Act.{Act}
-use Rattle.request_book.specs.declared.act.Act.TheVariants.{OnUnit}
+use Rattle.request_book.specs.declared.act.Act.TheVariants.{OnUnit, SetTemplate, AddLanguage, SetRole, SetPolicy}
 use Rattle.request_book.specs.declared.act.Request.{Request}
 use Rattle.request_book.specs.declared.parts.Parts.{Parts}
 use Rattle.request_book.specs.declared.parts.UnitMembers.{UnitMembers}
@@ -45,6 +47,20 @@ lang_of d = as_str d >>= only is_lang
 
 abbrev pub revision_of : Data → Option ℕ
 revision_of d = option_and_then as_u64 (as_number d) >>= only is_revision
+
+abbrev pub accept_at_of : Data → Option ℕ
+accept_at_of d = option_and_then as_u64 (as_number d) >>= only is_accept_at
+
+-- the role with this word
+abbrev pub role_named : Text → Option Role
+role_named word =
+    if bytes_eq word (codes "guest") then Some Guest
+    else (if bytes_eq word (codes "translator") then Some Translator
+    else (if bytes_eq word (codes "reviewer") then Some Reviewer
+    else (if bytes_eq word (codes "manager") then Some Manager else None)))
+
+abbrev pub role_of : Data → Option Role
+role_of d = as_str d >>= role_named
 
 -- each item, read by f
 abbrev pub each_of : {A : Type 0} → (Data → Option A) → Items → Option (List A)
@@ -167,18 +183,75 @@ unit_parts m action = record {
   act = OnUnit m.lang (record { ctx = m.ctx; id = m.id }) (record { seen = m.seen; action = action });
 }
 
--- ---- all acts
-
--- behind `act`, which has this word
-abbrev pub parts_behind : Text → Members → Option Parts
-parts_behind word ms = do
+-- the parts of the object of such an act, whose `act` has this word
+abbrev pub unit_parts_of : Text → Members → Option Parts
+unit_parts_of word ms = do
   m ← unit_members_of ms
   option_map (unit_parts m) (action_of word m)
 
+-- ---- office acts: the parts, by the members behind `act`
+
+abbrev pub template_of : Members → Option Parts
+template_of ms = do
+  caller ← take_optional_as name_of (codes "caller") ms
+  number ← take_optional_as number_of (codes "number") caller.1
+  po ← take_as as_str (codes "po") number.1
+  if is_over po.1 then Some (record { caller = caller.0; number = number.0; act = SetTemplate po.0 }) else None
+
+abbrev pub language_of : Members → Option Parts
+language_of ms = do
+  caller ← take_optional_as name_of (codes "caller") ms
+  lang ← take_as lang_of (codes "lang") caller.1
+  number ← take_optional_as number_of (codes "number") lang.1
+  po ← take_as as_str (codes "po") number.1
+  if is_over po.1 then Some (record { caller = caller.0; number = number.0; act = AddLanguage lang.0 po.0 }) else None
+
+abbrev pub team_of : Members → Option Parts
+team_of ms = do
+  caller ← take_optional_as name_of (codes "caller") ms
+  name ← take_as name_of (codes "name") caller.1
+  number ← take_optional_as number_of (codes "number") name.1
+  role ← take_as role_of (codes "role") number.1
+  if is_over role.1 then Some (record { caller = caller.0; number = number.0; act = SetRole name.0 role.0 }) else None
+
+-- the threshold stands in front of `act`
+abbrev pub policy_of : ℕ → Members → Option Parts
+policy_of accept_at ms = do
+  caller ← take_optional_as name_of (codes "caller") ms
+  guests_suggest ← take_as as_bool (codes "guests_suggest") caller.1
+  line_ends ← take_as as_bool (codes "line_ends") guests_suggest.1
+  number ← take_optional_as number_of (codes "number") line_ends.1
+  placeholders ← take_as as_bool (codes "placeholders") number.1
+  reviews ← take_as as_bool (codes "reviews") placeholders.1
+  voting ← take_as as_bool (codes "voting") reviews.1
+  if is_over voting.1 then Some (record {
+    caller = caller.0;
+    number = number.0;
+    act = SetPolicy (record {
+      reviews = reviews.0;
+      guests_suggest = guests_suggest.0;
+      voting = voting.0;
+      accept_at = accept_at;
+      placeholders = placeholders.0;
+      line_ends = line_ends.0;
+    });
+  }) else None
+
+-- ---- all acts
+
+-- behind `act`, which has this word, and in front of which a threshold may stand
+abbrev pub parts_behind : Option ℕ → Text → Members → Option Parts
+parts_behind (Some accept_at) word ms = if bytes_eq word (codes "policy") then policy_of accept_at ms else None
+parts_behind None word ms =
+    if bytes_eq word (codes "template") then template_of ms
+    else (if bytes_eq word (codes "language") then language_of ms
+    else (if bytes_eq word (codes "team") then team_of ms else unit_parts_of word ms))
+
 abbrev pub parts_of : Members → Option Parts
 parts_of ms = do
-  word ← take_as as_str (codes "act") ms
-  parts_behind word.0 word.1
+  accept_at ← take_optional_as accept_at_of (codes "accept_at") ms
+  word ← take_as as_str (codes "act") accept_at.1
+  parts_behind accept_at.0 word.0 word.1
 
 -- the text is an object of these parts
 abbrev pub IsPartsText : Text → Parts → Type 0

@@ -4,16 +4,16 @@ ghost use Rattle.std.specs.List.{list_all};
 ghost use Rattle.uuid.specs.Text.{parsed};
 ghost use Rattle.po_read.specs.Strings.{is_string};
 ghost use Rattle.request_book.specs.Acts.{IsNumber};
-ghost use Rattle.serde_json.specs.Find.{as_str};
+ghost use Rattle.serde_json.specs.Find.{as_bool, as_str};
 ghost use Rattle.serde_json.specs.View.{view, items_view, members_view};
-ghost use Rattle.request_book.specs.Fields.{text_of, name_of, lang_of, revision_of, each_of, forms_of, lines_of, vote_of, number_of, take, take_optional, optional_as, is_over};
+ghost use Rattle.request_book.specs.Fields.{text_of, name_of, lang_of, revision_of, accept_at_of, role_named, role_of, each_of, forms_of, lines_of, vote_of, number_of, take, take_as, take_optional, optional_as, is_over};
 ghost use Rattle.request_book.specs.declared.fault.RequestFault.TheVariants.{Malformed};
 
 use crate::fault::RequestFault;
 use po_read::{Forms, Items, PoString, Text};
 use serde_json::Value;
 use std::alloc::Global;
-use units::{CommentLines, Lang, Name, Revision, VoteValue};
+use units::{AcceptAt, CommentLines, Lang, Name, Revision, Role, VoteValue};
 use uuid::Uuid;
 
 pub(crate) fn text_from(alloc: Global, value: &Value) -> Result<PoString, RequestFault>
@@ -29,7 +29,7 @@ pub(crate) fn text_from(alloc: Global, value: &Value) -> Result<PoString, Reques
     }
 }
 
-fn name_from(alloc: Global, value: &Value) -> Result<Name, RequestFault>
+pub(crate) fn name_from(alloc: Global, value: &Value) -> Result<Name, RequestFault>
     ensures ok { IfOk result (λ t. name_of (view value.now) ≡ Some t) }
     ensures malformed { result ≡ Err Malformed → name_of (view value.now) ≡ None }
 {
@@ -68,6 +68,58 @@ pub(crate) fn revision_from(value: &Value) -> Result<Revision, RequestFault>
     }
 }
 
+fn accept_at_from(value: &Value) -> Result<AcceptAt, RequestFault>
+    ensures ok { IfOk result (λ n. accept_at_of (view value.now) ≡ Some n) }
+    ensures malformed { result ≡ Err Malformed → accept_at_of (view value.now) ≡ None }
+{
+    let Some(number) = value.as_u64() else {
+        return Err(RequestFault::Malformed);
+    };
+    if 100 < number {
+        return Err(RequestFault::Malformed);
+    }
+    match AcceptAt::try_new(number as u8) {
+        Some(accept_at) => Ok(accept_at),
+        None => Err(RequestFault::Malformed),
+    }
+}
+
+pub(crate) fn role_from(value: &Value) -> Result<Role, RequestFault>
+    ensures ok { IfOk result (λ role. role_of (view value.now) ≡ Some role) }
+    ensures malformed { result ≡ Err Malformed → role_of (view value.now) ≡ None }
+{
+    let Some(word) = value.as_str() else {
+        return Err(RequestFault::Malformed);
+    };
+    match role_named(word) {
+        Some(role) => Ok(role),
+        None => Err(RequestFault::Malformed),
+    }
+}
+
+fn role_named(word: &str) -> Option<Role>
+    ensures { result ≡ role_named word.now }
+{
+    match word {
+        "guest" => Some(Role::Guest),
+        "translator" => Some(Role::Translator),
+        "reviewer" => Some(Role::Reviewer),
+        "manager" => Some(Role::Manager),
+        _ => None,
+    }
+}
+
+// A PO text may be any text: what it says is read later.
+pub(crate) fn po_from(alloc: Global, value: &Value) -> Result<Text, RequestFault>
+    ensures ok { IfOk result (λ t. as_str (view value.now) ≡ Some t) }
+    ensures malformed { result ≡ Err Malformed → as_str (view value.now) ≡ None }
+{
+    let Some(text) = value.as_str() else {
+        return Err(RequestFault::Malformed);
+    };
+    Ok(Text::from_text(alloc, text)?)
+}
+
 pub(crate) fn take_member<'v>(
     fields: &'v [(String, Value)],
     name: &str,
@@ -79,6 +131,22 @@ pub(crate) fn take_member<'v>(
     match fields.split_first() {
         Some((first, rest)) if first.0.as_str() == name => Ok((&first.1, rest)),
         _ => Err(RequestFault::Malformed),
+    }
+}
+
+pub(crate) fn take_flag<'v>(
+    fields: &'v [(String, Value)],
+    name: &str,
+) -> Result<(bool, &'v [(String, Value)]), RequestFault>
+    ensures ok { IfOk result
+        (λ p. take_as as_bool name.now (members_view fields.now) ≡ Some (p.0, members_view p.1.now)) }
+    ensures malformed { result ≡ Err Malformed
+        → take_as as_bool name.now (members_view fields.now) ≡ None }
+{
+    let (value, rest) = take_member(fields, name)?;
+    match value.as_bool() {
+        Some(flag) => Ok((flag, rest)),
+        None => Err(RequestFault::Malformed),
     }
 }
 
@@ -196,6 +264,18 @@ pub(crate) fn optional_name(
 {
     match value {
         Some(value) => Ok(Some(name_from(alloc, value)?)),
+        None => Ok(None),
+    }
+}
+
+pub(crate) fn optional_accept_at(value: Option<&Value>) -> Result<Option<AcceptAt>, RequestFault>
+    ensures ok { IfOk result
+        (λ o. optional_as accept_at_of (option_map (λ v. view v.now) value.entry) ≡ Some o) }
+    ensures malformed { result ≡ Err Malformed
+        → optional_as accept_at_of (option_map (λ v. view v.now) value.entry) ≡ None }
+{
+    match value {
+        Some(value) => Ok(Some(accept_at_from(value)?)),
         None => Ok(None),
     }
 }

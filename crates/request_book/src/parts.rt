@@ -3,19 +3,22 @@ ghost use Rattle.std.specs.Prelude.{◌≡◌, ◌≢◌, Err, IfOk, Some, None,
 ghost use Rattle.serde_json.specs.Data.{Members, object};
 ghost use Rattle.serde_json.specs.Read.{read};
 ghost use Rattle.serde_json.specs.View.{view, members_view};
-ghost use Rattle.request_book.specs.Fields.{unit_members_of, action_members, action_with, action_of, unit_parts, parts_of, IsPartsText};
+ghost use Rattle.request_book.specs.Fields.{unit_members_of, action_members, action_with, action_of, unit_parts, unit_parts_of, template_of, language_of, team_of, policy_of, parts_behind, parts_of, IsPartsText};
 ghost use Rattle.request_book.specs.declared.fault.RequestFault.TheVariants.{Malformed};
 
 use crate::act::Act;
 use crate::fault::RequestFault;
 use crate::fields::{
-    is_over, lang_from, optional_forms, optional_lines, optional_name, optional_number,
-    optional_text, optional_vote, revision_from, take_member, take_optional, text_from,
+    is_over, lang_from, name_from, optional_accept_at, optional_forms, optional_lines,
+    optional_name, optional_number, optional_text, optional_vote, po_from, revision_from,
+    role_from, take_flag, take_member, take_optional, text_from,
 };
 use po_read::{Forms, PoString};
 use serde_json::Value;
 use std::alloc::Global;
-use units::{CommentLines, Key, Lang, Name, Revision, UnitAct, UnitAction, VoteValue};
+use units::{
+    AcceptAt, CommentLines, Key, Lang, Name, Policy, Revision, UnitAct, UnitAction, VoteValue,
+};
 use uuid::Uuid;
 
 /// What an object says, `caller` and `number` each where it is there.
@@ -89,11 +92,150 @@ fn parts_from(alloc: Global, fields: &[(String, Value)]) -> Result<Parts, Reques
     ensures ok { IfOk result (λ p. parts_of (members_view fields.now) ≡ Some p) }
     ensures malformed { result ≡ Err Malformed → parts_of (members_view fields.now) ≡ None }
 {
-    let (word, rest) = take_member(fields, "act")?;
-    let Some(word) = word.as_str() else {
+    let (accept_at, rest) = take_optional(fields, "accept_at");
+    let accept_at = optional_accept_at(accept_at)?;
+    let (word, rest) = take_member(rest, "act")?;
+    match word.as_str() {
+        Some(word) => parts_behind(alloc, accept_at, word, rest),
+        None => Err(RequestFault::Malformed),
+    }
+}
+
+// The members behind `act`. A policy's threshold stands in front of it.
+fn parts_behind(
+    alloc: Global,
+    accept_at: Option<AcceptAt>,
+    word: &str,
+    fields: &[(String, Value)],
+) -> Result<Parts, RequestFault>
+    ensures ok { IfOk result
+        (λ p. parts_behind accept_at word.now (members_view fields.now) ≡ Some p) }
+    ensures malformed { result ≡ Err Malformed
+        → parts_behind accept_at word.now (members_view fields.now) ≡ None }
+{
+    match accept_at {
+        Some(accept_at) => match word {
+            "policy" => policy_from(alloc, accept_at, fields),
+            _ => Err(RequestFault::Malformed),
+        },
+        None => match word {
+            "template" => template_from(alloc, fields),
+            "language" => language_from(alloc, fields),
+            "team" => team_from(alloc, fields),
+            _ => unit_parts_from(alloc, word, fields),
+        },
+    }
+}
+
+fn template_from(alloc: Global, fields: &[(String, Value)]) -> Result<Parts, RequestFault>
+    ensures ok { IfOk result (λ p. template_of (members_view fields.now) ≡ Some p) }
+    ensures malformed { result ≡ Err Malformed → template_of (members_view fields.now) ≡ None }
+{
+    let (caller, rest) = take_optional(fields, "caller");
+    let caller = optional_name(alloc, caller)?;
+    let (number, rest) = take_optional(rest, "number");
+    let number = optional_number(number)?;
+    let (po, rest) = take_member(rest, "po")?;
+    let po = po_from(alloc, po)?;
+    if !is_over(rest) {
         return Err(RequestFault::Malformed);
-    };
-    let members = unit_members_from(alloc, rest)?;
+    }
+    Ok(Parts {
+        caller,
+        number,
+        act: Act::SetTemplate(po),
+    })
+}
+
+fn language_from(alloc: Global, fields: &[(String, Value)]) -> Result<Parts, RequestFault>
+    ensures ok { IfOk result (λ p. language_of (members_view fields.now) ≡ Some p) }
+    ensures malformed { result ≡ Err Malformed → language_of (members_view fields.now) ≡ None }
+{
+    let (caller, rest) = take_optional(fields, "caller");
+    let caller = optional_name(alloc, caller)?;
+    let (lang, rest) = take_member(rest, "lang")?;
+    let lang = lang_from(alloc, lang)?;
+    let (number, rest) = take_optional(rest, "number");
+    let number = optional_number(number)?;
+    let (po, rest) = take_member(rest, "po")?;
+    let po = po_from(alloc, po)?;
+    if !is_over(rest) {
+        return Err(RequestFault::Malformed);
+    }
+    Ok(Parts {
+        caller,
+        number,
+        act: Act::AddLanguage(lang, po),
+    })
+}
+
+fn team_from(alloc: Global, fields: &[(String, Value)]) -> Result<Parts, RequestFault>
+    ensures ok { IfOk result (λ p. team_of (members_view fields.now) ≡ Some p) }
+    ensures malformed { result ≡ Err Malformed → team_of (members_view fields.now) ≡ None }
+{
+    let (caller, rest) = take_optional(fields, "caller");
+    let caller = optional_name(alloc, caller)?;
+    let (name, rest) = take_member(rest, "name")?;
+    let name = name_from(alloc, name)?;
+    let (number, rest) = take_optional(rest, "number");
+    let number = optional_number(number)?;
+    let (role, rest) = take_member(rest, "role")?;
+    let role = role_from(role)?;
+    if !is_over(rest) {
+        return Err(RequestFault::Malformed);
+    }
+    Ok(Parts {
+        caller,
+        number,
+        act: Act::SetRole(name, role),
+    })
+}
+
+fn policy_from(
+    alloc: Global,
+    accept_at: AcceptAt,
+    fields: &[(String, Value)],
+) -> Result<Parts, RequestFault>
+    ensures ok { IfOk result (λ p. policy_of accept_at (members_view fields.now) ≡ Some p) }
+    ensures malformed { result ≡ Err Malformed
+        → policy_of accept_at (members_view fields.now) ≡ None }
+{
+    let (caller, rest) = take_optional(fields, "caller");
+    let caller = optional_name(alloc, caller)?;
+    let (guests_suggest, rest) = take_flag(rest, "guests_suggest")?;
+    let (line_ends, rest) = take_flag(rest, "line_ends")?;
+    let (number, rest) = take_optional(rest, "number");
+    let number = optional_number(number)?;
+    let (placeholders, rest) = take_flag(rest, "placeholders")?;
+    let (reviews, rest) = take_flag(rest, "reviews")?;
+    let (voting, rest) = take_flag(rest, "voting")?;
+    if !is_over(rest) {
+        return Err(RequestFault::Malformed);
+    }
+    Ok(Parts {
+        caller,
+        number,
+        act: Act::SetPolicy(Policy {
+            reviews,
+            guests_suggest,
+            voting,
+            accept_at,
+            placeholders,
+            line_ends,
+        }),
+    })
+}
+
+fn unit_parts_from(
+    alloc: Global,
+    word: &str,
+    fields: &[(String, Value)],
+) -> Result<Parts, RequestFault>
+    ensures ok { IfOk result (λ p. unit_parts_of word.now (members_view fields.now) ≡ Some p) }
+    ensures malformed { result ≡ Err Malformed
+        → unit_parts_of word.now (members_view fields.now) ≡ None }
+{
+    let members = unit_members_from(alloc, fields)?;
     match parts_of_unit(word, members) {
         Some(parts) => Ok(parts),
         None => Err(RequestFault::Malformed),

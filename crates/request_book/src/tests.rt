@@ -279,6 +279,268 @@ fn changed_comments_and_reviews_are_malformed(rt: HostRuntime) -> Result<(), Fai
     Ok(())
 }
 
+// Office requests, each with the same number.
+const NUMBER: &str = "\"number\":\"00000000-0000-4000-8000-000000000030\",";
+
+const TEMPLATE: &str =
+    "{\"act\":\"template\",\"caller\":\"root\",\"number\":\"00000000-0000-4000-8000-000000000030\",\"po\":\"# Hello\\n\"}";
+
+const LANGUAGE: &str =
+    "{\"act\":\"language\",\"caller\":\"root\",\"lang\":\"fr\",\"number\":\"00000000-0000-4000-8000-000000000030\",\"po\":\"# Hello\\n\"}";
+
+const TEAM: &str =
+    "{\"act\":\"team\",\"caller\":\"root\",\"name\":\"bea\",\"number\":\"00000000-0000-4000-8000-000000000030\",\"role\":\"translator\"}";
+
+const POLICY: &str =
+    "{\"accept_at\":4,\"act\":\"policy\",\"caller\":\"root\",\"guests_suggest\":false,\"line_ends\":false,\"number\":\"00000000-0000-4000-8000-000000000030\",\"placeholders\":false,\"reviews\":false,\"voting\":true}";
+
+// What is put into a request in the place of a text of its own, so that it is another request.
+const OFFICE_REQUESTS: &[(&str, &str, &str)] = &[
+    (TEMPLATE, "Hello", "Hello"),
+    (TEMPLATE, "# Hello\\n", ""),
+    (TEMPLATE, "Hello", "\\u0000\\u0001\\t\\u001f \\\"ü\\\\"),
+    (TEMPLATE, "root", "zed"),
+    (LANGUAGE, "fr", "sr@latin"),
+    (LANGUAGE, "# Hello\\n", ""),
+    (LANGUAGE, "Hello", "\\u0000\\r\\b\\f ü"),
+    (TEAM, "translator", "guest"),
+    (TEAM, "translator", "translator"),
+    (TEAM, "translator", "reviewer"),
+    (TEAM, "translator", "manager"),
+    (TEAM, "bea", "root"),
+    (POLICY, ":4,", ":4,"),
+    (POLICY, ":4,", ":0,"),
+    (POLICY, ":4,", ":2,"),
+    (POLICY, ":4,", ":100,"),
+    (POLICY, "false", "true"),
+    (POLICY, "\"voting\":true", "\"voting\":false"),
+    (POLICY, "\"reviews\":false", "\"reviews\":true"),
+    (
+        POLICY,
+        "\"guests_suggest\":false",
+        "\"guests_suggest\":true",
+    ),
+    (POLICY, "\"line_ends\":false", "\"line_ends\":true"),
+    (POLICY, "\"placeholders\":false", "\"placeholders\":true"),
+];
+
+// Whether a request without its number is the canonical text of its content.
+fn is_canonical_request(alloc: Global, line: &str) -> Result<bool, Fail> {
+    match request_of(alloc, line)? {
+        Some(request) => {
+            let content = line.replace(alloc, NUMBER, "")?;
+            let written = canon(alloc, &request)?;
+            Ok(written.as_str() == content.as_str())
+        }
+        None => Ok(false),
+    }
+}
+
+#[test]
+fn office_requests_and_their_canonical_texts(rt: HostRuntime) -> Result<(), Fail> {
+    let alloc = rt.alloc();
+    for (line, old, new) in OFFICE_REQUESTS {
+        let text = line.replace(alloc, *old, *new)?;
+        assert!(rt; is_canonical_request(alloc, text.as_str())?, "{text}");
+    }
+    Ok(())
+}
+
+// What no office request has: no caller or number, a wrong one, or a member of another act.
+const NOT_SIGNED: Changes = &[
+    ("\"caller\":\"root\",", ""),
+    ("root", ""),
+    ("root", "Root"),
+    ("\"root\"", "null"),
+    ("\"number\":\"00000000-0000-4000-8000-000000000030\",", ""),
+    ("8000", "ABCD"),
+    ("\"00000000-0000-4000-8000-000000000030\"", "30"),
+    ("\"act\"", "\"x\":1,\"act\""),
+    ("\"act\"", "\"seen\":1,\"act\""),
+    ("\"act\"", "\"id\":\"Hello\",\"act\""),
+];
+
+const NO_TEMPLATES: Changes = &[
+    ("\"act\":\"template\",", ""),
+    ("\"template\"", "1"),
+    ("template", "templates"),
+    ("template", "Template"),
+    ("template", "language"),
+    ("template", "team"),
+    ("template", "approve"),
+    ("\"act\"", "\"lang\":\"fr\",\"act\""),
+    (",\"po\":\"# Hello\\n\"", ""),
+    ("\"# Hello\\n\"", "null"),
+    ("\"# Hello\\n\"", "1"),
+    ("\"# Hello\\n\"", "[\"# Hello\"]"),
+    ("\"# Hello\\n\"", "true"),
+    ("Hello", "\\ud800"),
+    ("Hello", "\\x"),
+    (
+        "Hello",
+        "
+",
+    ),
+    ("\"po\"", "\"Po\""),
+    ("\"act\"", "\"accept_at\":2,\"act\""),
+    ("\"po\"", "\"role\":\"guest\",\"po\""),
+];
+
+const NO_LANGUAGES: Changes = &[
+    ("\"act\":\"language\",", ""),
+    ("language", "languages"),
+    ("language", "template"),
+    ("language", "policy"),
+    ("\"lang\":\"fr\",", ""),
+    ("fr", "f"),
+    ("fr", "fr/be"),
+    ("fr", "abcdefghijklmnopq"),
+    ("\"fr\"", "null"),
+    ("\"act\"", "\"name\":\"bea\",\"act\""),
+    (",\"po\":\"# Hello\\n\"", ""),
+    ("\"# Hello\\n\"", "null"),
+    ("\"# Hello\\n\"", "1"),
+    ("\"# Hello\\n\"", "[\"# Hello\"]"),
+    ("\"# Hello\\n\"", "true"),
+    ("Hello", "\\ud800"),
+    ("Hello", "\\x"),
+    (
+        "Hello",
+        "
+",
+    ),
+    ("\"po\"", "\"Po\""),
+    ("\"act\"", "\"accept_at\":2,\"act\""),
+    ("\"po\"", "\"role\":\"guest\",\"po\""),
+];
+
+const NO_MEMBERS: Changes = &[
+    ("\"act\":\"team\",", ""),
+    ("team", "teams"),
+    ("team", "translate"),
+    ("\"name\":\"bea\",", ""),
+    ("bea", ""),
+    ("bea", "1bea"),
+    ("bea", "abcdefghijklmnopqrstuvwxyz0123456"),
+    ("\"bea\"", "null"),
+    (",\"role\":\"translator\"", ""),
+    ("translator", "owner"),
+    ("translator", "Translator"),
+    ("translator", ""),
+    ("translator", "guest "),
+    ("\"translator\"", "null"),
+    ("\"translator\"", "1"),
+    ("\"act\"", "\"accept_at\":2,\"act\""),
+    ("\"act\"", "\"lang\":\"fr\",\"act\""),
+    ("\"act\"", "\"po\":\"\",\"act\""),
+];
+
+const NO_POLICIES: Changes = &[
+    ("\"act\":\"policy\",", ""),
+    ("policy", "policies"),
+    ("policy", "team"),
+    ("policy", "template"),
+    ("\"accept_at\":4,", ""),
+    (":4,", ":1,"),
+    (":4,", ":101,"),
+    (":4,", ":-1,"),
+    (":4,", ":-0,"),
+    (":4,", ":4.0,"),
+    (":4,", ":4e0,"),
+    (":4,", ":04,"),
+    (":4,", ":260,"),
+    (":4,", ":18446744073709551620,"),
+    (":4,", ":\"4\","),
+    (":4,", ":true,"),
+    (":4,", ":null,"),
+    ("\"guests_suggest\":false,", ""),
+    ("\"guests_suggest\":false", "\"guests_suggest\":0"),
+    ("\"guests_suggest\":false", "\"guests_suggest\":null"),
+    ("\"guests_suggest\":false", "\"guests_suggest\":\"false\""),
+    ("\"line_ends\":false,", ""),
+    ("\"line_ends\":false", "\"line_ends\":0"),
+    ("\"line_ends\":false", "\"line_ends\":null"),
+    ("\"line_ends\":false", "\"line_ends\":\"false\""),
+    ("\"placeholders\":false,", ""),
+    ("\"placeholders\":false", "\"placeholders\":0"),
+    ("\"placeholders\":false", "\"placeholders\":null"),
+    ("\"placeholders\":false", "\"placeholders\":\"false\""),
+    ("\"reviews\":false,", ""),
+    ("\"reviews\":false", "\"reviews\":0"),
+    ("\"reviews\":false", "\"reviews\":null"),
+    ("\"reviews\":false", "\"reviews\":\"false\""),
+    (",\"voting\":true", ""),
+    ("true", "1"),
+    ("true", "null"),
+    ("true", "\"true\""),
+    ("true", "True"),
+    ("voting", "votes"),
+    ("\"act\"", "\"name\":\"bea\",\"act\""),
+    ("\"act\"", "\"po\":\"\",\"act\""),
+];
+
+// An act on a unit with the members of office requests beside or in place of its own.
+const NOT_ON_UNITS: Changes = &[
+    ("\"act\"", "\"accept_at\":2,\"act\""),
+    ("\"act\"", "\"po\":\"\",\"act\""),
+    ("\"act\"", "\"name\":\"bea\",\"act\""),
+    ("\"act\"", "\"role\":\"guest\",\"act\""),
+    ("\"act\"", "\"voting\":true,\"act\""),
+    ("translate", "template"),
+    ("translate", "language"),
+    ("translate", "team"),
+    ("translate", "policy"),
+];
+
+// The change under which the line is a request all the same.
+fn taken_line(alloc: Global, line: &str, changes: Changes) -> Result<Option<&'static str>, Fail> {
+    for (old, new) in changes {
+        let text = line.replace(alloc, *old, *new)?;
+        if request_of(alloc, text.as_str())?.is_some() {
+            return Ok(Some(*new));
+        }
+    }
+    Ok(None)
+}
+
+#[test]
+fn unsigned_office_requests_are_malformed(rt: HostRuntime) -> Result<(), Fail> {
+    let alloc = rt.alloc();
+    for line in [TEMPLATE, LANGUAGE, TEAM, POLICY] {
+        assert_eq!(rt; taken_line(alloc, line, NOT_SIGNED)?, None);
+    }
+    Ok(())
+}
+
+#[test]
+fn changed_catalogue_requests_are_malformed(rt: HostRuntime) -> Result<(), Fail> {
+    let alloc = rt.alloc();
+    assert_eq!(rt; taken_line(alloc, TEMPLATE, NO_TEMPLATES)?, None);
+    assert_eq!(rt; taken_line(alloc, LANGUAGE, NO_LANGUAGES)?, None);
+    Ok(())
+}
+
+#[test]
+fn changed_team_requests_are_malformed(rt: HostRuntime) -> Result<(), Fail> {
+    let alloc = rt.alloc();
+    assert_eq!(rt; taken_line(alloc, TEAM, NO_MEMBERS)?, None);
+    Ok(())
+}
+
+#[test]
+fn changed_policy_requests_are_malformed(rt: HostRuntime) -> Result<(), Fail> {
+    let alloc = rt.alloc();
+    assert_eq!(rt; taken_line(alloc, POLICY, NO_POLICIES)?, None);
+    Ok(())
+}
+
+#[test]
+fn unit_acts_with_office_members_are_malformed(rt: HostRuntime) -> Result<(), Fail> {
+    let alloc = rt.alloc();
+    assert_eq!(rt; taken_line(alloc, LINE, NOT_ON_UNITS)?, None);
+    Ok(())
+}
+
 #[test]
 fn overlong_comments_are_malformed(rt: HostRuntime) -> Result<(), Fail> {
     let alloc = rt.alloc();

@@ -1,20 +1,20 @@
 //! Writes acts as the members of objects.
 ghost use Rattle.std.specs.Prelude.{◌≡◌, codes, true, IfOk, OnOk, MatchOption, option_map, ⊤};
-ghost use Rattle.serde_json.specs.Data.{put as with, string, array};
+ghost use Rattle.serde_json.specs.Data.{put as with, boolean, string, array};
 ghost use Rattle.serde_json.specs.View.{view, items_view, members_view};
-ghost use Rattle.request_book.specs.declared.act.Act.TheVariants.{OnUnit};
+ghost use Rattle.request_book.specs.declared.act.Act.TheVariants.{OnUnit, SetTemplate, AddLanguage, SetRole, SetPolicy};
 ghost use Rattle.request_book.specs.Acts.{action_text, forms_in, lines_in, suggestion_in, vote_in, vote_data, fields_of, IsAct, IsNumber};
-ghost use Rattle.request_book.specs.Words.{strings, number_data, members};
+ghost use Rattle.request_book.specs.Words.{strings, number_data, role_text, members};
 ghost use Rattle.units.specs.Limits.{is_name, is_comment_lines};
 ghost use Rattle.po_read.specs.Strings.{is_string, is_forms};
 ghost use Rattle.request_book.specs.Puts.{put_optional};
 
 use crate::act::Act;
 use crate::fields::bytes_fit;
-use po_read::{Forms, PoString};
+use po_read::{Forms, PoString, Text};
 use serde_json::{Map, Value, put};
 use std::alloc::{AllocError, Global};
-use units::{CommentLines, Key, Lang, Name, UnitAct, UnitAction, VoteValue};
+use units::{CommentLines, Key, Lang, Name, Policy, Role, UnitAct, UnitAction, VoteValue};
 use uuid::Uuid;
 
 /// The members of an act's object, with the caller and the number where they are given.
@@ -31,6 +31,10 @@ pub(crate) fn members_map(
 {
     match act {
         Act::OnUnit(lang, key, act) => unit_map(alloc, caller, number, lang, key, act),
+        Act::SetTemplate(po) => template_map(alloc, caller, number, po),
+        Act::AddLanguage(lang, po) => language_map(alloc, caller, number, lang, po),
+        Act::SetRole(name, role) => team_map(alloc, caller, number, name, *role),
+        Act::SetPolicy(policy) => policy_map(alloc, caller, number, policy),
     }
 }
 
@@ -64,6 +68,100 @@ fn unit_map(
     Ok(map)
 }
 
+#[tactic(auto, using(crate::proofs::PutLemmas::puts_template))]
+fn template_map(
+    alloc: Global,
+    caller: Option<&Name>,
+    number: Option<Uuid>,
+    po: &Text,
+) -> Result<Map<String, Value>, AllocError>
+    ensures value { IfOk result (λ m. members_view m.entries
+        ≡ members (fields_of (option_map (λ c. c.now) caller.entry) number
+        (SetTemplate po.now))) }
+    ensures fits { IfOk result (λ _. IsAct (SetTemplate po.now)) }
+    ensures caller { IfOk result (λ _. MatchOption caller.entry ⊤ (λ c. is_name c.now ≡ true)) }
+{
+    let mut map = Map::new(alloc);
+    put_text(&mut map, alloc, "act", "template")?;
+    put_caller(&mut map, alloc, caller)?;
+    put_number(&mut map, alloc, "number", number)?;
+    put_text(&mut map, alloc, "po", po.as_str())?;
+    Ok(map)
+}
+
+#[tactic(auto, using(crate::proofs::PutLemmas::puts_language))]
+fn language_map(
+    alloc: Global,
+    caller: Option<&Name>,
+    number: Option<Uuid>,
+    lang: &Lang,
+    po: &Text,
+) -> Result<Map<String, Value>, AllocError>
+    ensures value { IfOk result (λ m. members_view m.entries
+        ≡ members (fields_of (option_map (λ c. c.now) caller.entry) number
+        (AddLanguage lang.now po.now))) }
+    ensures fits { IfOk result (λ _. IsAct (AddLanguage lang.now po.now)) }
+    ensures caller { IfOk result (λ _. MatchOption caller.entry ⊤ (λ c. is_name c.now ≡ true)) }
+{
+    let mut map = Map::new(alloc);
+    put_text(&mut map, alloc, "act", "language")?;
+    put_caller(&mut map, alloc, caller)?;
+    put_text(&mut map, alloc, "lang", lang.as_str())?;
+    put_number(&mut map, alloc, "number", number)?;
+    put_text(&mut map, alloc, "po", po.as_str())?;
+    Ok(map)
+}
+
+#[tactic(auto, using(crate::proofs::PutLemmas::puts_team))]
+fn team_map(
+    alloc: Global,
+    caller: Option<&Name>,
+    number: Option<Uuid>,
+    name: &Name,
+    role: Role,
+) -> Result<Map<String, Value>, AllocError>
+    ensures value { IfOk result (λ m. members_view m.entries
+        ≡ members (fields_of (option_map (λ c. c.now) caller.entry) number
+        (SetRole name.now role))) }
+    ensures fits { IfOk result (λ _. IsAct (SetRole name.now role)) }
+    ensures caller { IfOk result (λ _. MatchOption caller.entry ⊤ (λ c. is_name c.now ≡ true)) }
+{
+    let mut map = Map::new(alloc);
+    put_text(&mut map, alloc, "act", "team")?;
+    put_caller(&mut map, alloc, caller)?;
+    put_text(&mut map, alloc, "name", name.as_str())?;
+    put_number(&mut map, alloc, "number", number)?;
+    put_text(&mut map, alloc, "role", role_word(role))?;
+    Ok(map)
+}
+
+#[tactic(auto, using(crate::proofs::PutLemmas::puts_policy))]
+fn policy_map(
+    alloc: Global,
+    caller: Option<&Name>,
+    number: Option<Uuid>,
+    policy: &Policy,
+) -> Result<Map<String, Value>, AllocError>
+    ensures value { IfOk result (λ m. members_view m.entries
+        ≡ members (fields_of (option_map (λ c. c.now) caller.entry) number
+        (SetPolicy policy.now))) }
+    ensures fits { IfOk result (λ _. IsAct (SetPolicy policy.now)) }
+    ensures caller { IfOk result (λ _. MatchOption caller.entry ⊤ (λ c. is_name c.now ≡ true)) }
+{
+    let mut map = Map::new(alloc);
+    let accept_at = policy.accept_at.number();
+    put(&mut map, alloc, "accept_at", Value::from(accept_at))?;
+    put_text(&mut map, alloc, "act", "policy")?;
+    put_caller(&mut map, alloc, caller)?;
+    put_flag(&mut map, alloc, "guests_suggest", policy.guests_suggest)?;
+    put_flag(&mut map, alloc, "line_ends", policy.line_ends)?;
+    put_number(&mut map, alloc, "number", number)?;
+    put_flag(&mut map, alloc, "placeholders", policy.placeholders)?;
+    put_flag(&mut map, alloc, "reviews", policy.reviews)?;
+    put_flag(&mut map, alloc, "voting", policy.voting)?;
+    Ok(map)
+}
+
 fn action_word(action: &UnitAction) -> &'static str
     ensures { result.now ≡ action_text action.now }
 {
@@ -76,6 +174,17 @@ fn action_word(action: &UnitAction) -> &'static str
         UnitAction::Comment(_) => "comment",
         UnitAction::Approve => "approve",
         UnitAction::SendBack => "send-back",
+    }
+}
+
+fn role_word(role: Role) -> &'static str
+    ensures { result.now ≡ role_text role }
+{
+    match role {
+        Role::Guest => "guest",
+        Role::Translator => "translator",
+        Role::Reviewer => "reviewer",
+        Role::Manager => "manager",
     }
 }
 
@@ -105,6 +214,18 @@ fn put_text(
         ≡ with key.now (string text.now) (members_view map.old.entries)) }
 {
     put(map, alloc, key, Value::try_from_str(alloc, text)?)
+}
+
+fn put_flag(
+    map: &mut Map<String, Value>,
+    alloc: Global,
+    key: &str,
+    flag: bool,
+) -> Result<(), AllocError>
+    ensures { OnOk result (members_view map.new.entries
+        ≡ with key.now (boolean flag) (members_view map.old.entries)) }
+{
+    put(map, alloc, key, Value::from(flag))
 }
 
 fn put_caller(

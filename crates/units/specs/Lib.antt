@@ -4,6 +4,7 @@ pub mod Ballots
 pub mod Coding
 pub mod Units
 pub mod Office
+pub mod Changes
 pub mod Rules
 pub mod Offices
 pub mod Openings

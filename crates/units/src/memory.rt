@@ -3,15 +3,15 @@ use std::alloc::{AllocError, AllocFailed};
 
 /// Want of memory: a growth was refused.
 #[derive(Debug, Drop, Clone, Copy, PartialEq, Eq)]
-pub struct Memory;
+pub struct Memory(AllocError);
 
 impl From<AllocError> for Memory {
     ghost use Rattle.std.specs.Prelude.{⊤};
 
     ghost from_gives = { λ _ e. ⊤ };
 
-    fn from(_refused: AllocError) -> Memory {
-        Memory
+    fn from(refused: AllocError) -> Memory {
+        Memory(refused)
     }
 }
 
@@ -20,7 +20,7 @@ impl<T: Drop> From<AllocFailed<T>> for Memory {
 
     ghost from_gives = { λ _ e. ⊤ };
 
-    fn from(_refused: AllocFailed<T>) -> Memory {
-        Memory
+    fn from(refused: AllocFailed<T>) -> Memory {
+        Memory(AllocError::from(refused))
     }
 }

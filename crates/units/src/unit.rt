@@ -114,7 +114,11 @@ pub enum Refusal {
     IsFull = 11,
     IsSame = 12,
     IsUnfit = 13,
+    LanguageExists = 14,
+    PoText = 15,
+    PluralFormsField = 16,
     PastLimit = 17,
+    LastManager = 18,
 }
 
 /// What an act does to its unit.

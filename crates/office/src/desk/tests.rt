@@ -5,6 +5,8 @@ use std::alloc::Global;
 use std::test::Fail;
 use units::{AcceptAt, Name, Policy, Role};
 
+mod office;
+
 // `Hello` to `Hallo`, by `ann`, under the number that ends in 1.
 const HALLO: &str =
     "{\"act\":\"translate\",\"caller\":\"ann\",\"forms\":[\"Hallo\"],\"id\":\"Hello\",\"lang\":\"de\",\"number\":\"00000000-0000-4000-8000-000000000001\",\"seen\":1}";
@@ -285,16 +287,27 @@ fn delivered(desk: &mut Desk, request: &Request) -> Result<Reply, Lost> {
     }
 }
 
+// Whether a line is answered with this status and this body.
+fn is_answered(
+    alloc: Global,
+    desk: &mut Desk,
+    line: &str,
+    wanted: (u16, &str),
+) -> Result<bool, Fail> {
+    let request = request_of(alloc, line)?;
+    let reply = delivered(desk, &request)?;
+    let (status, body) = wanted;
+    Ok(reply.status() == status && reply.body() == body)
+}
+
 // The first line that is answered otherwise than its row says.
 fn answered_otherwise(
     alloc: Global,
     desk: &mut Desk,
     row: Row,
 ) -> Result<Option<&'static str>, Fail> {
-    for (line, (status, body)) in row {
-        let request = request_of(alloc, line)?;
-        let reply = delivered(desk, &request)?;
-        if reply.status() != *status || reply.body() != *body {
+    for (line, wanted) in row {
+        if !is_answered(alloc, desk, line, *wanted)? {
             return Ok(Some(*line));
         }
     }

@@ -32,6 +32,28 @@ const BYE: &str =
 const SALUT: &str =
     "{\"act\":\"translate\",\"caller\":\"ann\",\"forms\":[\"Salut\"],\"id\":\"Hello\",\"lang\":\"fr\",\"number\":\"00000000-0000-4000-8000-000000000007\",\"seen\":1}";
 
+// A language, a template without a message, a name that comes to the team, and the policy.
+const FRENCH: &str =
+    "{\"act\":\"language\",\"caller\":\"root\",\"lang\":\"fr\",\"number\":\"00000000-0000-4000-8000-000000000080\",\"po\":\"msgid \\\"\\\"\\nmsgstr \\\"Plural-Forms: nplurals=2; plural=n>1;\\\\n\\\"\\n\\nmsgid \\\"Hello\\\"\\nmsgstr \\\"Bonjour\\\"\\n\\n#~ msgid \\\"Old\\\"\\n#~ msgstr \\\"Vieux\\\"\\n\"}";
+
+const NO_TEMPLATE: &str =
+    "{\"act\":\"template\",\"caller\":\"root\",\"number\":\"00000000-0000-4000-8000-000000000003\",\"po\":\"\"}";
+
+const ZED: &str =
+    "{\"act\":\"team\",\"caller\":\"root\",\"name\":\"zed\",\"number\":\"00000000-0000-4000-8000-000000000060\",\"role\":\"translator\"}";
+
+const REVIEWS: &str =
+    "{\"accept_at\":0,\"act\":\"policy\",\"caller\":\"root\",\"guests_suggest\":false,\"line_ends\":false,\"number\":\"00000000-0000-4000-8000-000000000073\",\"placeholders\":false,\"reviews\":true,\"voting\":false}";
+
+const OFFICE_LINES: [&str; 4] = [FRENCH, NO_TEMPLATE, ZED, REVIEWS];
+
+const LOADED: (u16, &str) = (200, "{\"loaded\":1,\"missing\":0,\"obsolete\":1}");
+
+const GONE: (u16, &str) = (
+    200,
+    "{\"languages\":{\"de\":{\"added\":0,\"changed\":0,\"kept\":0,\"obsolete\":1,\"revived\":0}}}",
+);
+
 const LINES: [&str; 7] = [HALLO, MOIN, BY_ROOT, SERVUS, BY_GUEST, BYE, SALUT];
 
 const DONE: (u16, &str) = (200, "{\"revision\":2,\"state\":\"translated\"}");
@@ -55,7 +77,7 @@ struct Row {
     replies: &'static [(u16, &'static str)],
 }
 
-const ROWS: [Row; 10] = [
+const ROWS: [Row; 12] = [
     Row {
         lines: &[(HALLO, false), (HALLO, false)],
         replies: &[DONE, DONE],
@@ -98,6 +120,27 @@ const ROWS: [Row; 10] = [
     Row {
         lines: &[(HALLO, false), (HALLO, true), (SERVUS, true)],
         replies: &[DONE],
+    },
+    // A lost template changes nothing; a repeat after the template was emptied.
+    Row {
+        lines: &[
+            (NO_TEMPLATE, true),
+            (HALLO, false),
+            (NO_TEMPLATE, false),
+            (HALLO, false),
+            (SERVUS, false),
+        ],
+        replies: &[DONE, GONE, DONE, NO_UNIT],
+    },
+    // A lost language isn't there.
+    Row {
+        lines: &[
+            (FRENCH, true),
+            (SALUT, false),
+            (FRENCH, false),
+            (SALUT, false),
+        ],
+        replies: &[NO_LANGUAGE, LOADED, NO_LANGUAGE],
     },
 ];
 
@@ -174,6 +217,17 @@ fn the_desk_answers_three_lines_as_the_plain_program(rt: HostRuntime) -> Result<
             for third in LINES {
                 expect_alike(&rt, alloc, &[first, second, third])?;
             }
+        }
+    }
+    Ok(())
+}
+
+#[test]
+fn the_desk_answers_office_acts_as_the_plain_program(rt: HostRuntime) -> Result<(), Fail> {
+    let alloc = rt.alloc();
+    for first in OFFICE_LINES {
+        for second in OFFICE_LINES {
+            expect_alike(&rt, alloc, &[first, HALLO, second, BY_GUEST, SALUT])?;
         }
     }
     Ok(())

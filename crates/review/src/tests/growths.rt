@@ -37,7 +37,7 @@ fn told(alloc: Global, row: &Row) -> Result<Told, Fail> {
     let act = act_of(alloc, 1, *deed)?;
     match decided_once(alloc, setting, &view, *deed, &act)? {
         Ok(decision) => Ok(told_of(view, decision)),
-        Err(Memory) => told_again(alloc, setting, view, *deed, &act, *wanted),
+        Err(_) => told_again(alloc, setting, view, *deed, &act, *wanted),
     }
 }
 

@@ -1,6 +1,4 @@
-use Rattle.std.proofs.Common.{string_bytes, refl, ap, ◌∙◌}
-use Rattle.std.specs.BTreeMap.{get_by}
-use Rattle.po_read.specs.Texts.{text_cmp}
+use Rattle.std.proofs.Common.{refl}
 use Rattle.office.proofs.Sendings.{begin, more, broke, whole_sent}
 use Rattle.office.proofs.Finish.{text_there, no_language, cut_off, was_exported, template_cut, away_cut}
 use Rattle.office.proofs.ExportedSpelled.{spells_its_catalogue}
@@ -8,40 +6,35 @@ use Rattle.office.proofs.export.export.Goals as goal
 
 pub returns-in_default-clause-err : goal.returns-in_default-clause-err
 returns-in_default-clause-err g c =
-    no_language c.args.tables.now c.args.lang.now _ (g.W.ByteSink.failed c.args.w.now)
-    (c.in_default.ensures.value ∙ ap (λ lang. get_by (λ k. text_cmp lang (string_bytes k)) c.args.tables.now.languages) c.as_str.ensures.value)
+    no_language c.args.tables.now c.args.lang.now _ (g.W.ByteSink.failed c.args.w.now) c.in_default.ensures
 
 pub returns-in_err-put-clause-err : goal.returns-in_err-put-clause-err
 returns-in_err-put-clause-err g c =
     cut_off _ c.from_residual.result c.in_err-put.field-0.0 c.from_residual.ensures.1
-    (text_there c.args.tables.now c.args.lang.now c.in-Some.language.now
-    (c.in-Some.ensures.value ∙ ap (λ lang. get_by (λ k. text_cmp lang (string_bytes k)) c.args.tables.now.languages) c.as_str.ensures.value))
+    (text_there c.args.tables.now c.args.lang.now c.in-Some.language.now c.in-Some.ensures)
     c.new-sent.ensures (broke _ (begin _ _ _ refl) refl c.in_err-put.ensures)
 
 pub returns-in_err-put_template-clause-err : goal.returns-in_err-put_template-clause-err
 returns-in_err-put_template-clause-err g c =
     cut_off _ c.from_residual-in_err-put_template.result c.in_err-put_template.field-0.0 c.from_residual-in_err-put_template.ensures.1
-    (text_there c.args.tables.now c.args.lang.now c.in-Some.language.now
-    (c.in-Some.ensures.value ∙ ap (λ lang. get_by (λ k. text_cmp lang (string_bytes k)) c.args.tables.now.languages) c.as_str.ensures.value))
+    (text_there c.args.tables.now c.args.lang.now c.in-Some.language.now c.in-Some.ensures)
     c.new-sent.ensures
-    (broke _ (more (begin _ _ _ refl) refl c.in_ok-put.ensures) (template_cut c.args.tables.now c.args.lang.now c.as_slice.result.now _ c.as_slice.ensures.value) c.in_err-put_template.ensures)
+    (broke _ (more (begin _ _ _ refl) refl c.in_ok-put.ensures) (template_cut c.args.tables.now c.args.lang.now c.entries.result.now _ c.entries.ensures.value) c.in_err-put_template.ensures)
 
 pub returns-in_err-put_away-clause-err : goal.returns-in_err-put_away-clause-err
 returns-in_err-put_away-clause-err g c =
     cut_off _ c.from_residual-in_err-put_away.result c.in_err-put_away.field-0.0 c.from_residual-in_err-put_away.ensures.1
-    (text_there c.args.tables.now c.args.lang.now c.in-Some.language.now
-    (c.in-Some.ensures.value ∙ ap (λ lang. get_by (λ k. text_cmp lang (string_bytes k)) c.args.tables.now.languages) c.as_str.ensures.value))
+    (text_there c.args.tables.now c.args.lang.now c.in-Some.language.now c.in-Some.ensures)
     c.new-sent.ensures
-    (broke _ (more (more (begin _ _ _ refl) refl c.in_ok-put.ensures) (template_cut c.args.tables.now c.args.lang.now c.as_slice.result.now _ c.as_slice.ensures.value) c.in_ok-put_template.ensures)
+    (broke _ (more (more (begin _ _ _ refl) refl c.in_ok-put.ensures) (template_cut c.args.tables.now c.args.lang.now c.entries.result.now _ c.entries.ensures.value) c.in_ok-put_template.ensures)
     (away_cut c.args.tables.now c.args.lang.now c.in_err-put_away.ensures.ordered) c.in_err-put_away.ensures.sent)
 
 pub returns-clause-text : goal.returns-clause-text
 returns-clause-text g c =
     was_exported _ c.finalize.result
-    (text_there c.args.tables.now c.args.lang.now c.in-Some.language.now
-    (c.in-Some.ensures.value ∙ ap (λ lang. get_by (λ k. text_cmp lang (string_bytes k)) c.args.tables.now.languages) c.as_str.ensures.value))
+    (text_there c.args.tables.now c.args.lang.now c.in-Some.language.now c.in-Some.ensures)
     c.new-sent.ensures
-    (whole_sent (more (more (more (begin _ _ _ refl) refl c.in_ok-put.ensures) (template_cut c.args.tables.now c.args.lang.now c.as_slice.result.now _ c.as_slice.ensures.value) c.in_ok-put_template.ensures)
+    (whole_sent (more (more (more (begin _ _ _ refl) refl c.in_ok-put.ensures) (template_cut c.args.tables.now c.args.lang.now c.entries.result.now _ c.entries.ensures.value) c.in_ok-put_template.ensures)
     (away_cut c.args.tables.now c.args.lang.now c.in_ok-put_away.ensures.ordered) c.in_ok-put_away.ensures.sent) refl)
     c.finalize.ensures
 

@@ -8,7 +8,6 @@ use Rattle.office.proofs.plain.PlainOffice.demo.Goals as goal
 
 pub returns-clause-rules : goal.returns-clause-rules
 returns-clause-rules c =
-    let template = c.in_ok-from_array.ensures.items ∙ ap (λ entry. entry ∷ []) c.in_ok-plain_entry.ensures in
     let header : header_rows (c.in_ok-demo_row.field-0 ∷ []) ≡ demo.headers = λ i. maps.insert maps.empty (c.in_ok-demo_row.ensures.code i) (c.in_ok-demo_row.ensures.header i) in
     let unit : unit_rows (record { place = c.in_ok-demo_place.field-0; unit = c.in_ok-demo_unit.field-0 } ∷ []) ≡ demo.units = λ i.
     maps.insert maps.empty (c.in_ok-demo_place.ensures.lang i, c.in_ok-demo_place.ensures.key i) (c.in_ok-demo_unit.ensures i) in
@@ -17,10 +16,10 @@ returns-clause-rules c =
     subst IsStart
     (λ i. record {
       office = record {
-        template = sym template i;
-        headers = sym (ap header_rows c.in_ok-from_array-2.ensures.items ∙ header) i;
-        units = sym (ap unit_rows c.in_ok-from_array-3.ensures.items ∙ unit) i;
-        team = sym (ap team_rows c.in_ok-from_array-4.ensures.items ∙ members) i;
+        template = sym c.in_ok-demo_catalogue.ensures i;
+        headers = sym (ap header_rows c.in_ok-from_array.ensures.items ∙ header) i;
+        units = sym (ap unit_rows c.in_ok-from_array-2.ensures.items ∙ unit) i;
+        team = sym (ap team_rows c.in_ok-from_array-3.ensures.items ∙ members) i;
         policy = sym c.closed_policy.ensures i;
       };
       book = record_rows (sym c.new.ensures.items i);

@@ -11,12 +11,12 @@ returns-clause-rules c =
     subst IsStart
     (λ i. record {
       office = record {
-        template = sym c.new.ensures.items i;
-        headers = header_rows (sym c.new-2.ensures.items i);
-        units = unit_rows (sym c.new-3.ensures.items i);
+        template = sym c.empty.ensures i;
+        headers = header_rows (sym c.new.ensures.items i);
+        units = unit_rows (sym c.new-2.ensures.items i);
         team = sym team i;
         policy = sym c.closed_policy.ensures i;
       };
-      book = record_rows (sym c.new-4.ensures.items i);
+      book = record_rows (sym c.new-3.ensures.items i);
     })
     (opening_starts c.args.manager.now)

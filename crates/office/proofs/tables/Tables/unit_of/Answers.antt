@@ -9,7 +9,7 @@ pub returns-in-Some : goal.returns-in-Some
 returns-in-Some c =
     (λ i. Some (record {
       unit = c.in_ok-duplicate-in-Some.ensures i;
-      source = (c.in_ok-source_of-in-Some.ensures ∙ ap (entry_of c.args.self.now.template.entries.items) c.in_ok-place.ensures.key) i;
+      source = (c.in_ok-source_of-in-Some.ensures ∙ ap (entry_of c.args.self.now.template.catalogue) c.in_ok-place.ensures.key) i;
     }))
     ∙ view_at c.args.self.now (c.args.lang.now, c.args.key.now) (Some c.in-Some.unit.now)
     (c.in-Some.ensures.value ∙ (λ i. get_by (λ k. place_cmp (c.in_ok-place.ensures.lang i, c.in_ok-place.ensures.key i) (place_of k)) c.args.self.now.units))

@@ -3,8 +3,8 @@ use Rattle.office.proofs.template.Template.entry_of.Goals as goal
 
 pub returns-in-Some : goal.returns-in-Some
 returns-in-Some c =
-    entry_found c.args.self.now.entries.items c.args.self.now.places c.args.self.now.indexed c.args.key.now.key c.in-Some.place.now c.deref.result.now c.get-in-Some.result
-    c.in-Some.ensures.value c.deref.ensures.value c.get-in-Some.ensures.lookup
+    entry_found c.args.self.now.catalogue c.args.self.now.places c.args.self.now.indexed c.args.key.now.key c.in-Some.place.now c.entries.result.now c.get-in-Some.result
+    c.in-Some.ensures.value c.entries.ensures.value c.get-in-Some.ensures.lookup
 
 pub returns-in-None : goal.returns-in-None
-returns-in-None c = no_entry c.args.self.now.entries.items c.args.self.now.places c.args.self.now.indexed c.args.key.now.key c.in-None.ensures.value
+returns-in-None c = no_entry c.args.self.now.catalogue c.args.self.now.places c.args.self.now.indexed c.args.key.now.key c.in-None.ensures.value

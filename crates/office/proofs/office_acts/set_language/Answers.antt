@@ -1,0 +1,19 @@
+use Rattle.std.proofs.Common.{sym, ◌∙◌}
+use Rattle.units.specs.declared.unit.Refusal.TheVariants.{BelowRole}
+use Rattle.office.specs.Tables.{meaning}
+use Rattle.office.specs.Bodies.{refused}
+use Rattle.office.specs.OfficeActs.{language_step}
+use Rattle.office.proofs.ActsSettled.{unchanged, not_allowed, alike, allowed}
+use Rattle.office.proofs.office_acts.set_language.Goals as goal
+
+pub returns-then-is_below_manager : goal.returns-then-is_below_manager
+returns-then-is_below_manager c =
+    let office = (meaning c.args.tables.now).office in
+    let stepped = language_step office c.args.lang.now c.args.po.now in
+    unchanged c.refused.result office (refused BelowRole) _ (not_allowed office c.args.caller.now stepped (sym c.is_below_manager.ensures ∙ c.if-is_below_manager.true)) c.refused.ensures
+
+pub returns : goal.returns
+returns c =
+    let office = (meaning c.args.tables.now).office in
+    let stepped = language_step office c.args.lang.now c.args.po.now in
+    alike c.language_outcome.result office _ _ (allowed office c.args.caller.now stepped (sym c.is_below_manager.ensures ∙ c.if-is_below_manager.false)) c.language_outcome.ensures

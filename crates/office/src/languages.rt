@@ -1,0 +1,75 @@
+//! The languages of an office, by their codes.
+
+ghost use Rattle.std.specs.Prelude.{◌≡◌, [], Ok, Some, OnOk, OnErr, IfSome, true, length, string_bytes};
+ghost use Rattle.std.specs.List.{list_all};
+ghost use Rattle.std.specs.Option.{option_copied};
+ghost use Rattle.std.specs.BTreeMap.{get_by};
+ghost use Rattle.std.specs.FinMap as maps;
+ghost use Rattle.std.proofs.Props.{props};
+ghost use Rattle.po_read.specs.Texts.{text_cmp};
+ghost use Rattle.units.specs.Limits.{is_lang};
+ghost use Rattle.units.specs.Rules.{rule_in};
+ghost use Rattle.office.specs.Sets.{Rule-set, PluralFault-set};
+
+use plural_expr::PluralForms;
+use po_read::Entry;
+use std::alloc::{AllocError, Global};
+use std::collections::BTreeMap;
+use units::Lang;
+
+/// A language: its header entry, and the plural rule of the header.
+#[derive(Drop)]
+pub(crate) struct Language {
+    pub(crate) header: Entry,
+    pub(crate) rule: PluralForms,
+    ghost ruled: { rule_in (Some header) ≡ Ok rule } by { Prim.hlevel (props, Rule-set, PluralFault-set) },
+}
+
+/// The languages, each under its code.
+#[derive(Drop)]
+pub(crate) struct Languages {
+    pub(crate) rows: BTreeMap<String, Language>,
+    ghost coded: { list_all (λ row. is_lang (string_bytes row.0)) rows.entries ≡ true } by { Prim.hlevel props },
+}
+
+impl Languages {
+    ghost use Rattle.office.specs.Rows.{headers_in};
+
+    /// No languages.
+    pub(crate) fn new(alloc: Global) -> Languages
+        ensures { result.rows.entries ≡ [] }
+    {
+        Languages {
+            rows: BTreeMap::new(alloc),
+        }
+    }
+
+    /// The language with a code.
+    pub(crate) fn get(&self, code: &Lang) -> Option<&Language>
+        ensures { option_copied result ≡ get_by (λ k. text_cmp code.now (string_bytes k)) self.now.rows }
+    {
+        self.rows.get(code.as_str())
+    }
+
+    /// How many languages there are.
+    pub(crate) fn len(&self) -> usize
+        ensures { result ≡ maps.len (headers_in self.now.rows) }
+    {
+        self.rows.len()
+    }
+
+    /// Puts a language under its code.
+    pub(crate) fn insert(
+        &mut self,
+        alloc: Global,
+        code: &Lang,
+        language: Language,
+    ) -> Result<(), AllocError>
+        ensures ok { OnOk result (headers_in self.new.rows ≡ maps.insert (headers_in self.old.rows) code.now language.header) }
+        ensures err { OnErr result (self.new.rows.entries ≡ self.old.rows.entries) }
+    {
+        let own = String::from_str(alloc, code.as_str())?;
+        self.rows.insert(own, language)?;
+        Ok(())
+    }
+}

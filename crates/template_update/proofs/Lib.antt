@@ -1,0 +1,12 @@
+pub mod Compared
+pub mod Empties
+pub mod Found
+pub mod Listed
+pub mod LoadLemmas
+pub mod LoadRules
+pub mod Moving
+pub mod PlanRules
+pub mod Rows
+pub mod Taken
+pub mod TemplateLemmas
+pub mod Updating

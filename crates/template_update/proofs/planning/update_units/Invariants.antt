@@ -1,0 +1,10 @@
+use Rattle.std.proofs.Common.{List, take}
+use Rattle.po_read.specs.declared.entry.Entry.{Entry}
+use Rattle.units.specs.Units.{key_of}
+use Rattle.template_update.specs.Steps.{AreUpdated}
+use Rattle.template_update.specs.Views.{IsIndexOf}
+use Rattle.template_update.proofs.planning.update_units.Given as goal
+
+abbrev pub invariant-loop-unit : goal.invariant-loop-unit
+invariant-loop-unit l = (was will : List Entry) → IsIndexOf key_of was l.present.found → IsIndexOf key_of will l.next.found →
+    AreUpdated was will l.rule (take l.unit-index l.units) l.all.items l.updates.items

@@ -1,0 +1,5 @@
+use Rattle.std.proofs.Common.{◌≡◌, replicate, []}
+use Rattle.template_update.proofs.refit.forms_of.Given as goal
+
+abbrev pub invariant-loop : goal.invariant-loop
+invariant-loop l = l.strings.items ≡ replicate l.counter []

@@ -1,0 +1,19 @@
+//! What a new template makes of a language's units, and which units a language's first text gives.
+#![tactic(auto)]
+
+mod index;
+mod key;
+mod loading;
+mod planning;
+mod plans;
+mod refit;
+mod template;
+#[cfg(test)]
+mod tests;
+mod update;
+mod updates;
+
+pub use loading::load;
+pub use planning::plan;
+pub use plans::{Counts, Plan};
+pub use template::template_of;

@@ -1,0 +1,37 @@
+//! A language's units afterwards.
+use po_read::Items;
+use units::Unit;
+
+/// The numbers of a reply.
+#[derive(Debug, Drop, Clone, Copy, PartialEq, Eq)]
+pub enum Counts {
+    /// What a new template made of a language's units. Units that are obsolete before and after aren't counted.
+    Updated {
+        /// Units of keys that are new to the language.
+        added: u64,
+        /// Units whose msgid_plural changed, or whose flag `read-only` came or went.
+        changed: u64,
+        /// Units that stay as they were.
+        kept: u64,
+        /// Units whose keys went.
+        obsolete: u64,
+        /// Obsolete units whose keys came back.
+        revived: u64,
+    },
+    /// What a language's text had of the template.
+    Loaded {
+        /// Template entries whose keys the text has.
+        loaded: u64,
+        /// Template entries whose keys it doesn't have.
+        missing: u64,
+        /// Obsolete units.
+        obsolete: u64,
+    },
+}
+
+/// All units of a language afterwards, and the numbers of the reply.
+#[derive(Drop)]
+pub struct Plan {
+    pub units: Items<Unit>,
+    pub counts: Counts,
+}

@@ -1,0 +1,172 @@
+//! Units under a template's msgid_plural.
+
+ghost use Rattle.std.specs.Prelude.{◌≡◌, ◌<◌, ◌≤◌, IfOk, replicate, []};
+ghost use Rattle.std.specs.Option.{option_copied};
+ghost use Rattle.po_read.specs.Texts.{maybe_text_eq};
+ghost use Rattle.units.specs.Units.{needed, no_previous};
+ghost use Rattle.template_update.specs.Units as spec;
+
+use plural_expr::PluralForms;
+use po_read::{Duplicate, Entry, Forms, Items, PoString, Previous};
+use std::alloc::{AllocError, Global};
+use units::{Key, Revision, Unit, UnitState, all_empty};
+
+pub(crate) fn no_previous() -> Previous
+    ensures { result ≡ no_previous }
+{
+    Previous {
+        ctx: None,
+        id: None,
+        plural: None,
+    }
+}
+
+pub(crate) fn first_revision() -> Revision
+    ensures { result ≡ 1 }
+{
+    Revision::try_new(1).unwrap()
+}
+
+fn empty_string(alloc: Global) -> Result<PoString, AllocError>
+    ensures { IfOk result (λ string. string ≡ []) }
+{
+    match PoString::try_new(alloc, "")? {
+        Some(string) => Ok(string),
+        None => unreachable!(),
+    }
+}
+
+/// Empty forms.
+pub(crate) fn forms_of(alloc: Global, count: u32) -> Result<Forms, AllocError>
+    requires some { 0 < count }
+    requires most { count ≤ 8 }
+    ensures { IfOk result (λ forms. forms ≡ replicate count []) }
+{
+    let mut strings = Vec::new(alloc);
+    for _ in 0..count {
+        strings.push(empty_string(alloc)?)?;
+    }
+    match Forms::try_new(strings) {
+        Some(forms) => Ok(forms),
+        None => unreachable!(),
+    }
+}
+
+/// As many empty forms as a msgid_plural needs.
+fn empty_forms(
+    alloc: Global,
+    rule: &PluralForms,
+    plural: Option<&PoString>,
+) -> Result<Forms, AllocError>
+    ensures { IfOk result (λ forms. forms ≡ spec.empty_forms rule.now (option_copied plural.entry)) }
+{
+    match plural {
+        None => forms_of(alloc, 1),
+        Some(_) => forms_of(alloc, rule.count()),
+    }
+}
+
+pub(crate) fn copied(string: Option<&PoString>) -> Result<Option<PoString>, AllocError>
+    ensures { IfOk result (λ copy. copy ≡ option_copied string.entry) }
+{
+    match string {
+        None => Ok(None),
+        Some(string) => Ok(Some(string.duplicate()?)),
+    }
+}
+
+/// A unit that nobody has worked on.
+pub(crate) fn new_unit(alloc: Global, rule: &PluralForms, entry: &Entry) -> Result<Unit, AllocError>
+    ensures { IfOk result (λ unit. unit ≡ spec.new_unit rule.now entry.now) }
+{
+    Ok(Unit {
+        key: Key {
+            ctx: entry.ctx.duplicate()?,
+            id: entry.id.duplicate()?,
+        },
+        plural: entry.plural.duplicate()?,
+        forms: empty_forms(alloc, rule, entry.plural.as_ref())?,
+        state: UnitState::Untranslated,
+        obsolete: false,
+        revision: first_revision(),
+        comment: Items::new(alloc),
+        previous: no_previous(),
+        suggestions: Items::new(alloc),
+    })
+}
+
+/// How many forms a unit with this msgid_plural needs.
+pub(crate) fn needed(rule: &PluralForms, plural: Option<&PoString>) -> u32
+    ensures { result ≡ needed rule.now (option_copied plural.entry) }
+{
+    match plural {
+        None => 1,
+        Some(_) => rule.count(),
+    }
+}
+
+/// Whether the forms can't be kept: they aren't the needed number, or all are empty.
+fn is_useless(rule: &PluralForms, plural: Option<&PoString>, forms: &[PoString]) -> bool
+    ensures { result ≡ spec.is_useless rule.now (option_copied plural.entry) forms.now }
+{
+    forms.len() != needed(rule, plural) as usize || all_empty(forms)
+}
+
+pub(crate) fn is_same(a: Option<&PoString>, b: Option<&PoString>) -> bool
+    ensures { result ≡ maybe_text_eq (option_copied a.entry) (option_copied b.entry) }
+{
+    match (a, b) {
+        (None, None) => true,
+        (Some(x), Some(y)) => *x == *y,
+        (_, _) => false,
+    }
+}
+
+/// The unit without a translation, under another msgid_plural.
+fn emptied(
+    alloc: Global,
+    rule: &PluralForms,
+    plural: Option<&PoString>,
+    unit: Unit,
+) -> Result<Unit, AllocError>
+    ensures { IfOk result (λ new. new ≡ spec.emptied rule.now (option_copied plural.entry) unit) }
+{
+    let mut unit = unit;
+    unit.forms = empty_forms(alloc, rule, plural)?;
+    unit.plural = copied(plural)?;
+    Ok(unit.in_state(UnitState::Untranslated))
+}
+
+/// The unit's forms under another msgid_plural, for which they need editing.
+fn reworded(plural: Option<&PoString>, unit: Unit) -> Result<Unit, AllocError>
+    ensures { IfOk result (λ new. new ≡ spec.reworded (option_copied plural.entry) unit) }
+{
+    let mut unit = unit;
+    unit.previous = Previous {
+        ctx: unit.key.ctx.duplicate()?,
+        id: Some(unit.key.id.duplicate()?),
+        plural: unit.plural.duplicate()?,
+    };
+    unit.plural = copied(plural)?;
+    unit.state = UnitState::NeedsEditing;
+    Ok(unit)
+}
+
+/// The unit under a msgid_plural: without its forms where they can't be kept, needing editing where the msgid_plural is another,
+/// else as it is.
+pub(crate) fn refit(
+    alloc: Global,
+    rule: &PluralForms,
+    plural: Option<&PoString>,
+    unit: Unit,
+) -> Result<Unit, AllocError>
+    ensures { IfOk result (λ new. new ≡ spec.refit rule.now (option_copied plural.entry) unit) }
+{
+    if is_useless(rule, plural, unit.forms.as_slice()) {
+        emptied(alloc, rule, plural, unit)
+    } else if !is_same(plural, unit.plural.as_ref()) {
+        reworded(plural, unit)
+    } else {
+        Ok(unit)
+    }
+}

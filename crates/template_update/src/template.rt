@@ -1,0 +1,93 @@
+//! The template that a PO text gives.
+
+ghost use Rattle.std.specs.Prelude.{◌≡◌, All, IfOk, []};
+ghost use Rattle.po_read.specs.Entries.{is_header};
+ghost use Rattle.po_read.specs.Texts.{text_eq};
+ghost use Rattle.po_read.specs.Valid.{fuzzy};
+ghost use Rattle.units.specs.Offices.{IsTemplateEntry};
+ghost use Rattle.template_update.specs.Templates.{without_fuzzy, as_template, is_message, template_of};
+
+use crate::refit::{forms_of, no_previous};
+use po_read::{Catalogue, Duplicate, Entry, Items, Text};
+use std::alloc::{AllocError, Global};
+use units::Memory;
+
+/// An entry with an empty msgid, no context, no plural and not obsolete.
+pub(crate) fn is_header(entry: &Entry) -> bool
+    ensures { result ≡ is_header entry.now }
+{
+    entry.ctx.is_none() && entry.id.as_str().is_empty() && entry.plural.is_none() && !entry.obsolete
+}
+
+/// Neither the header nor obsolete.
+fn is_message(entry: &Entry) -> bool
+    ensures { result ≡ is_message entry.now }
+{
+    !entry.obsolete && !is_header(entry)
+}
+
+fn is_fuzzy_flag(flag: &Text) -> bool
+    ensures { result ≡ text_eq fuzzy flag.now }
+{
+    "fuzzy" == flag.as_str()
+}
+
+fn without_fuzzy(alloc: Global, flags: &[Text]) -> Result<Items<Text>, AllocError>
+    ensures { IfOk result (λ kept. kept ≡ without_fuzzy flags.now) }
+{
+    let mut kept = Items::new(alloc);
+    for flag in flags {
+        if !is_fuzzy_flag(flag) {
+            kept.push(flag.duplicate()?)?;
+        }
+    }
+    Ok(kept)
+}
+
+/// The entry without what belongs to a translation; one empty form stands for its forms.
+fn as_template(alloc: Global, entry: &Entry) -> Result<Entry, AllocError>
+    ensures { IfOk result (λ own. own ≡ as_template entry.now) }
+{
+    Ok(Entry {
+        translator: Items::new(alloc),
+        extracted: entry.extracted.duplicate()?,
+        references: entry.references.duplicate()?,
+        flags: without_fuzzy(alloc, entry.flags.as_slice())?,
+        previous: no_previous(),
+        ctx: entry.ctx.duplicate()?,
+        id: entry.id.duplicate()?,
+        plural: entry.plural.duplicate()?,
+        forms: forms_of(alloc, 1)?,
+        obsolete: entry.obsolete,
+    })
+}
+
+/// The messages of a text, in their order.
+pub(crate) fn messages(alloc: Global, entries: &[Entry]) -> Result<Vec<Entry>, AllocError>
+    ensures { IfOk result (λ all. all.items ≡ template_of entries.now) }
+{
+    let mut all = Vec::new(alloc);
+    for entry in entries {
+        if is_message(entry) {
+            all.push(as_template(alloc, entry)?)?;
+        }
+    }
+    Ok(all)
+}
+
+/// The template that a text gives: its entries, in their order, but for the header and the obsolete ones, each without forms,
+/// translator comments, previous strings and the flag `fuzzy`. One empty form stands for the forms, so that templates that mean the
+/// same are equal. (GNU gettext manual, "The Format of PO Files".)
+///
+/// `Memory` where a growth was refused.
+pub fn template_of(alloc: Global, text: &Catalogue) -> Result<Catalogue, Memory>
+    ensures entries { IfOk result (λ template. template ≡ template_of text.now) }
+    ensures plain { IfOk result (λ template. All IsTemplateEntry template) }
+{
+    let entries = messages(alloc, text.entries())?;
+    let made = Catalogue::try_new(alloc, entries)?;
+    match made {
+        Some(template) => Ok(template),
+        None => unreachable!(),
+    }
+}

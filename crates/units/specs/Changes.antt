@@ -1,0 +1,30 @@
+-- What a change of the team or of the policy does to an office: this project's own rule, over the roles and reviews of Weblate's
+-- documentation ("Translation workflows").
+use Rattle.std.specs.Prelude.{◌+◌, List, map, if◌then◌else◌}
+use Rattle.std.specs.FinMap as maps
+use Rattle.po_read.specs.Texts.{Text, text_cmp}
+use Rattle.units.specs.Units.{is_approved, in_state, next_revision}
+use Rattle.units.specs.Office.{Office, Place}
+use Rattle.units.specs.declared.unit.Unit.{Unit}
+use Rattle.units.specs.declared.unit.UnitState.TheVariants.{Translated}
+use Rattle.units.specs.declared.unit.Role.{Role}
+use Rattle.units.specs.declared.unit.Role.TheVariants.{Guest, Translator, Reviewer, Manager}
+use Rattle.units.specs.declared.unit.Policy.{Policy}
+
+-- a guest isn't in the team
+abbrev pub set_role : Text → Role → maps.FinMap text_cmp Role → maps.FinMap text_cmp Role
+set_role name Guest team = maps.remove team name
+set_role name Translator team = maps.insert team name Translator
+set_role name Reviewer team = maps.insert team name Reviewer
+set_role name Manager team = maps.insert team name Manager
+
+-- an approved unit becomes translated, at the next revision
+abbrev pub unapproved : Unit → Unit
+unapproved unit = if is_approved unit.state then next_revision (in_state Translated unit) else unit
+
+-- the units under a policy: without reviews none stays approved, an obsolete one neither
+abbrev pub under : Policy → List (Place × Unit) → List (Place × Unit)
+under policy placed = if policy.reviews then placed else map (λ e. (e.0, unapproved e.1)) placed
+
+abbrev pub with_policy : Office → Policy → Office
+with_policy office policy = record office { policy = policy; units = maps.from_entries (under policy (maps.entries office.units)) }
