@@ -1,18 +1,18 @@
 #!/usr/bin/env python3
 """Runs one act of each kind with each of its growths refused in turn.
 
-Each test of crates/review/src/tests/growths.rt decides one act. With a growth refused it either has no unit and no request
+Each test of crates/review_tests/src/tests/growths.rt decides one act. With a growth refused it either has no unit and no request
 to decide on ("before the decision"), or the decision answers want of memory and, decided once more, what it does with
 ample memory ("of the decision"). Never may it answer anything else.
 
-Usage: tests/growths/review.py        (from the top of the repository, after rt test in crates/review; wants cc)
+Usage: tests/growths/review.py        (from the top of the repository, after rt test in crates/review_tests; wants cc)
 """
 import os
 import re
 import subprocess
 import tempfile
 
-PROGRAM = os.path.join("crates", "review", "out", "review_tests")
+PROGRAM = os.path.join("crates", "review_tests", "out", "review_tests_tests")
 BEFORE = re.compile(r"error: (AllocError|AllocFailed \{ \.\. \}|Memory)\n")
 WITHIN = "a growth of the decision was refused\n"
 

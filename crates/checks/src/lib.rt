@@ -10,6 +10,3 @@ mod source;
 pub use checking::{findings, result_state};
 pub use scan::directives;
 pub use source::{Findings, Source};
-
-#[cfg(test)]
-mod tests;

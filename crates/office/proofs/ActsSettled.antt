@@ -8,7 +8,7 @@ use Rattle.units.specs.declared.unit.Role.TheVariants.{Manager}
 use Rattle.units.specs.declared.unit.Refusal.TheVariants.{BelowRole}
 use Rattle.request_book.specs.Replies.{Reply}
 use Rattle.office.specs.declared.office_outcome.OfficeOutcome.{OfficeOutcome}
-use Rattle.office.specs.Bodies.{Stepped, refuse, refused}
+use Rattle.replies.specs.Bodies.{Stepped, refuse, refused}
 use Rattle.office.specs.OfficeActs.{managed}
 use Rattle.office.specs.Settled.{IsSettled, without_change}
 

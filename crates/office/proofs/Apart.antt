@@ -14,7 +14,7 @@ use Rattle.office.specs.declared.found.Found.{Found}
 use Rattle.office.specs.declared.outcome.Outcome.{Outcome}
 use Rattle.office.specs.Found.{found_of, written}
 use Rattle.office.specs.Outcomes.{outcome_of}
-use Rattle.office.specs.Bodies.{Stepped}
+use Rattle.replies.specs.Bodies.{Stepped}
 use Rattle.office.specs.Step.{unit_act_step}
 use Rattle.office.proofs.UnitActs.{unit_act_step-is, settled}
 

@@ -34,7 +34,7 @@ use Rattle.units.specs.declared.unit.Refusal.TheVariants.{NoLanguage, NoUnit}
 use Rattle.office.specs.Step.{step, act_step, unit_act_step, decided}
 use Rattle.request_book.specs.Acts.{IsAct, IsRequest, lines_in}
 use Rattle.request_book.specs.Book.{Book, Meaning, Recorded, recorded_as}
-use Rattle.office.specs.Bodies.{Stepped, refuse}
+use Rattle.replies.specs.Bodies.{Stepped, refuse}
 use Rattle.office.specs.OfficeActs.{managed, template_step, language_step, team_step, policy_step}
 use Rattle.office.specs.Deliveries.{left_by}
 use Rattle.office.specs.Starts.{IsStart}

@@ -33,7 +33,7 @@ use Rattle.template_update.specs.Loads.{load_of}
 use Rattle.template_update.proofs.Listed.{clash, all_imply, all_from, found_one, headed_each}
 use Rattle.template_update.proofs.Found.{equal}
 use Rattle.template_update.proofs.LoadRules.{IsLoaded, load_all, load_few, load_covers}
-use Rattle.office.specs.Bodies.{Stepped, refuse, refused_with, reply, po_fault_fields, plural_fault_fields, count_fields}
+use Rattle.replies.specs.Bodies.{Stepped, refuse, refused_with, reply, po_fault_fields, plural_fault_fields, count_fields}
 use Rattle.office.specs.OfficeActs.{with_language, language_step}
 use Rattle.office.proofs.Numbers.{Part, part-self, part-none}
 use Rattle.office.proofs.Numbering.{AreFewer, numbers_at}

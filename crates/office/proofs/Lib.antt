@@ -10,7 +10,6 @@ pub mod Ranges
 pub mod Teams
 pub mod Plans
 pub mod ReadTexts
-pub mod Objects
 pub mod Settling
 pub mod ActsSettled
 pub mod Demo
@@ -24,7 +23,6 @@ pub mod Told
 pub mod Replaced
 pub mod Numbers
 pub mod UnitRules
-pub mod Flat
 pub mod Numbering
 pub mod Tallies
 pub mod Rebuilt
@@ -40,6 +38,7 @@ pub mod Running
 pub mod DemoRequests
 pub mod Rows
 pub mod ActRows
+pub mod LastRevision
 pub mod ExportRows
 pub mod Sendings
 pub mod Catalogues

@@ -27,7 +27,7 @@ use Rattle.template_update.specs.declared.plans.Plan.{Plan}
 use Rattle.template_update.specs.Templates.{template_of}
 use Rattle.template_update.specs.Loads.{load_of}
 use Rattle.request_book.specs.Words.{Fields}
-use Rattle.office.specs.Bodies.{Stepped, reply, refused_with, refuse, po_fault_fields, plural_fault_fields, count_fields, template_fields, team_fields, policy_fields}
+use Rattle.replies.specs.Bodies.{Stepped, reply, refused_with, refuse, po_fault_fields, plural_fault_fields, count_fields, template_fields, team_fields, policy_fields}
 use Rattle.office.specs.OfficeActs.{LanguagePlan, plans, with_template, with_language, managed, template_step, language_step, team_step, policy_step}
 
 -- each reply's status is one of five

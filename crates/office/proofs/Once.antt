@@ -15,7 +15,7 @@ use Rattle.request_book.specs.declared.act.Request.{Request}
 use Rattle.request_book.specs.Replies.{Reply}
 use Rattle.request_book.specs.Acts.{content_text}
 use Rattle.request_book.specs.Book.{Book, Meaning, Recorded, recorded_as, has_number}
-use Rattle.office.specs.Bodies.{number_used}
+use Rattle.replies.specs.Bodies.{number_used}
 use Rattle.office.specs.Step.{step}
 use Rattle.office.specs.Deliveries.{without, first_of, after, book_of, arrival_of, record_of, reply_from, reply_at, left_by, delivered, replies_after, answers_of}
 

@@ -20,7 +20,7 @@ use Rattle.units.specs.declared.unit.UnitState.TheVariants.{Translated}
 use Rattle.units.specs.declared.unit.Policy.{Policy}
 use Rattle.units.specs.declared.unit.Refusal.TheVariants.{PastLimit}
 use Rattle.units.proofs.Orders.{place_total}
-use Rattle.office.specs.Bodies.{Stepped, refuse, reply, policy_fields}
+use Rattle.replies.specs.Bodies.{Stepped, refuse, reply, policy_fields}
 use Rattle.office.specs.OfficeActs.{policy_step}
 use Rattle.office.proofs.Numbers.{Part, part-self}
 use Rattle.office.proofs.Numbering.{AreFewer, numbers_at}

@@ -22,7 +22,7 @@ use Rattle.units.specs.declared.unit.Refusal.{Refusal}
 use Rattle.units.specs.declared.unit.Refusal.TheVariants.{BelowRole}
 use Rattle.units.proofs.Orders.{place_total}
 use Rattle.request_book.specs.Words.{Fields}
-use Rattle.office.specs.Bodies.{Stepped, reply, refused_with, refuse}
+use Rattle.replies.specs.Bodies.{Stepped, reply, refused_with, refuse}
 use Rattle.office.specs.OfficeActs.{managed}
 use Rattle.office.proofs.Numbers.{part-self}
 use Rattle.office.proofs.Numbering.{numbers_at, AreFewer}

@@ -12,7 +12,7 @@ use Rattle.request_book.specs.Acts.{content_text}
 use Rattle.serde_json.proofs.OnLiterals.{serde_json_on_literals}
 use Rattle.checks.specs.Result.{result_state}
 use Rattle.review.specs.UnitStep.{unit_step, refusals, unit_after}
-use Rattle.office.specs.Bodies.{Stepped, number_used}
+use Rattle.replies.specs.Bodies.{Stepped, number_used}
 use Rattle.office.specs.Step.{step, act_step}
 use Rattle.office.specs.Deliveries.{reply_at, answers_of, first_of}
 use Rattle.office.proofs.DemoRequests.{begun, first_line, header_de, unit_hello, role_ann, role_zed, act_on, hello, ann, root}

@@ -7,7 +7,7 @@ use Rattle.request_book.specs.Acts.{content_text}
 use Rattle.request_book.specs.Replies.{Reply}
 use Rattle.request_book.specs.Book.{Meaning, with_record}
 use Rattle.office.specs.declared.change.Change.{Change}
-use Rattle.office.specs.Bodies.{Stepped}
+use Rattle.replies.specs.Bodies.{Stepped}
 use Rattle.office.specs.OfficeActs.{managed, template_step, language_step, team_step, policy_step}
 use Rattle.office.specs.Changed.{changed_by}
 use Rattle.office.specs.Deliveries.{first_delivered}

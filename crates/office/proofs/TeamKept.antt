@@ -16,7 +16,7 @@ use Rattle.units.specs.declared.unit.Role.{Role}
 use Rattle.units.specs.declared.unit.Role.TheVariants.{Guest, Translator, Reviewer, Manager}
 use Rattle.units.specs.declared.unit.Refusal.TheVariants.{PastLimit, LastManager}
 use Rattle.units.proofs.Orders.{text_total}
-use Rattle.office.specs.Bodies.{refuse, reply, team_fields}
+use Rattle.replies.specs.Bodies.{refuse, reply, team_fields}
 use Rattle.office.specs.OfficeActs.{team_step}
 use Rattle.office.proofs.Numbers.{part-self}
 use Rattle.office.proofs.Numbering.{numbers_at}

@@ -35,7 +35,7 @@ use Rattle.template_update.proofs.Listed.{clash, all_imply, all_from, all_joined
 use Rattle.template_update.proofs.Found.{equal}
 use Rattle.template_update.proofs.PlanRules.{IsCounted, IsUpdate, updates, new_rules, plan_all, plan_few, plan_covers}
 use Rattle.template_update.proofs.TemplateLemmas.{valid_template, plain_entries}
-use Rattle.office.specs.Bodies.{Stepped, refuse, refused_with, reply, po_fault_fields, template_fields}
+use Rattle.replies.specs.Bodies.{Stepped, refuse, refused_with, reply, po_fault_fields, template_fields}
 use Rattle.office.specs.OfficeActs.{LanguagePlan, all_some, plan_at, plans, with_template, template_step}
 use Rattle.office.proofs.Counted.{rule_counted}
 use Rattle.office.proofs.Numbers.{Part, part-self, part-none}

@@ -23,7 +23,7 @@ use Rattle.office.specs.declared.found.Found.{Found}
 use Rattle.office.specs.declared.outcome.Outcome.{Outcome}
 use Rattle.office.specs.Found.{found_of, written}
 use Rattle.office.specs.Outcomes.{outcome_of, outcome_of_decision}
-use Rattle.office.specs.Bodies.{Stepped, refuse}
+use Rattle.replies.specs.Bodies.{Stepped, refuse}
 use Rattle.office.specs.OfficeActs.{template_step, language_step, team_step, policy_step}
 use Rattle.office.specs.Step.{step, act_step, unit_act_step, decided}
 use Rattle.office.specs.Deliveries.{first_delivered}

@@ -7,8 +7,6 @@ pub mod Taken
 pub mod Befores
 pub mod Tables
 pub mod Found
-pub mod Bodies
-pub mod Fielded
 pub mod OfficeActs
 pub mod Changed
 pub mod Settled

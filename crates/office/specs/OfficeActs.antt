@@ -26,7 +26,7 @@ use Rattle.template_update.specs.declared.plans.Plan.{Plan}
 use Rattle.template_update.specs.Templates.{template_of}
 use Rattle.template_update.specs.Updates.{plan_of}
 use Rattle.template_update.specs.Loads.{load_of}
-use Rattle.office.specs.Bodies.{Stepped, refuse, refused_with, reply, po_fault_fields, plural_fault_fields, template_fields, count_fields, team_fields, policy_fields}
+use Rattle.replies.specs.Bodies.{Stepped, refuse, refused_with, reply, po_fault_fields, plural_fault_fields, template_fields, count_fields, team_fields, policy_fields}
 
 -- ---- what stands in the text of a request
 

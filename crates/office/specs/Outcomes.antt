@@ -10,7 +10,7 @@ use Rattle.review.specs.declared.decision.Decision.TheVariants.{Done, Refused}
 use Rattle.review.specs.UnitStep.{unit_step}
 use Rattle.office.specs.declared.found.Found.{Found}
 use Rattle.office.specs.declared.outcome.Outcome.{Outcome}
-use Rattle.office.specs.Bodies.{refused, done}
+use Rattle.replies.specs.Bodies.{refused, done}
 
 -- no view is written
 abbrev pub refusing : Refusal → Outcome

@@ -6,7 +6,7 @@ use Rattle.po_read.specs.declared.entry.Entry.{Entry}
 use Rattle.units.specs.Office.{Office}
 use Rattle.request_book.specs.Replies.{Reply}
 use Rattle.office.specs.declared.office_outcome.OfficeOutcome.{OfficeOutcome}
-use Rattle.office.specs.Bodies.{Stepped}
+use Rattle.replies.specs.Bodies.{Stepped}
 use Rattle.office.specs.Changed.{changed_by, IsPossibleChange}
 
 -- the office and the reply are those of the step, and the change can be made

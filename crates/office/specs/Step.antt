@@ -14,7 +14,7 @@ use Rattle.review.specs.UnitStep.{unit_step}
 use Rattle.request_book.specs.declared.act.Act.{Act}
 use Rattle.request_book.specs.declared.act.Act.TheVariants.{OnUnit, SetTemplate, AddLanguage, SetRole, SetPolicy}
 use Rattle.request_book.specs.declared.act.Request.{Request}
-use Rattle.office.specs.Bodies.{Stepped, refuse, done}
+use Rattle.replies.specs.Bodies.{Stepped, refuse, done}
 use Rattle.office.specs.OfficeActs.{managed, template_step, language_step, team_step, policy_step}
 
 -- ---- acts on a unit

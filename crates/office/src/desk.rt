@@ -22,15 +22,12 @@ use crate::lost::Lost;
 use crate::office_acts::{set_language, set_policy, set_role, set_template};
 use crate::office_outcome::OfficeOutcome;
 use crate::outcome::Outcome;
-use crate::replies::used;
 use crate::tables::Tables;
 use po_read::{Duplicate, Text};
+use replies::used;
 use request_book::{Act, Class, Record, Reply, Request, canon, classify};
 use std::alloc::Global;
 use units::{ByteSink, Key, Lang, Memory, Name, UnitAct};
-
-#[cfg(test)]
-mod tests;
 
 /// A desk over the tables of one office, which stand in memory. Contracts see it as the office with its book of recorded
 /// requests.

@@ -23,9 +23,6 @@ use sha2::Digest;
 use std::alloc::{AllocError, Global};
 use units::{ByteSink, Lang, Unit, all_empty};
 
-#[cfg(test)]
-mod tests;
-
 /// What was exported: how many bytes, and their SHA-256 digest.
 #[derive(Clone, Copy, Debug, PartialEq, Eq)]
 pub struct ExportReceipt {

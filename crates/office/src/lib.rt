@@ -21,7 +21,6 @@ mod plain;
 mod plain_changes;
 mod plain_tables;
 mod po_text;
-mod replies;
 mod sent;
 mod tables;
 mod template;

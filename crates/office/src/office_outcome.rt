@@ -2,9 +2,9 @@
 ghost use Rattle.std.specs.Prelude.{◌≡◌, IfOk};
 
 use crate::change::Change;
-use crate::replies::{refused, refused_rule, refused_text};
 use plural_expr::PluralFault;
 use po_lex::PoFault;
+use replies::{refused, refused_rule, refused_text};
 use request_book::Reply;
 use std::alloc::Global;
 use units::{Memory, Refusal};
@@ -18,7 +18,7 @@ pub(crate) struct OfficeOutcome {
 
 impl OfficeOutcome {
     ghost use Rattle.units.specs.declared.unit.Refusal.TheVariants.{PoText, PluralFormsField};
-    ghost use Rattle.office.specs.Bodies.{refused, refused_with, po_fault_fields, plural_fault_fields};
+    ghost use Rattle.replies.specs.Bodies.{refused, refused_with, po_fault_fields, plural_fault_fields};
     ghost use Rattle.office.specs.Settled.{without_change};
 
     /// Nothing changes.

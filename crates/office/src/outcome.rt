@@ -2,7 +2,7 @@
 ghost use Rattle.std.specs.Prelude.{◌≡◌, IfOk};
 
 use crate::found::Found;
-use crate::replies::{done, refused};
+use replies::{done, refused};
 use request_book::{Reply, Request};
 use review::{Decision, Values, decide};
 use std::alloc::Global;
@@ -17,7 +17,7 @@ pub(crate) struct Outcome {
 
 impl Outcome {
     ghost use Rattle.review.specs.UnitStep.{unit_step};
-    ghost use Rattle.office.specs.Bodies.{done as done_of};
+    ghost use Rattle.replies.specs.Bodies.{done as done_of};
     ghost use Rattle.office.specs.Outcomes.{refusing, outcome_of_decision, outcome_of};
 
     /// The unit gets a new view.

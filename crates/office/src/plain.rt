@@ -37,19 +37,16 @@ use crate::outcome::Outcome;
 use crate::place::{OrderedKey, Place};
 use crate::plain_changes::{put_member, put_policy, put_units, rows_of_plans};
 use crate::plain_tables::{languages_of, team_of, units_of};
-use crate::replies::used;
 use crate::tables::Tables;
 use crate::template::{Template, key_of};
 use po_read::{Catalogue, Duplicate, Entry, Text};
+use replies::used;
 use request_book::{Act, Class, Record, Reply, Request, canon, classify};
 use std::alloc::{AllocError, Global};
 use std::collections::BTreeMap;
 use template_update::Plan;
 use units::{Key, Lang, Memory, Name, Policy, Role, Unit, UnitAct, UnitView};
 use uuid::Uuid;
-
-#[cfg(test)]
-mod tests;
 
 /// A language with its code.
 #[derive(Drop)]

@@ -10,8 +10,6 @@ mod lexer;
 mod reading;
 mod rule;
 mod testing;
-#[cfg(test)]
-mod tests;
 mod text;
 mod token;
 mod tree;

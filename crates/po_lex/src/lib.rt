@@ -6,8 +6,6 @@ mod forms;
 mod line;
 mod lines;
 mod pieces;
-#[cfg(test)]
-mod tests;
 mod white;
 
 pub use fault::{FaultKind, PoFault};

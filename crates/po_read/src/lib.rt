@@ -13,8 +13,6 @@ mod message;
 mod pieces;
 mod reading;
 mod string;
-#[cfg(test)]
-mod tests;
 mod text;
 mod unfinished;
 mod valid;

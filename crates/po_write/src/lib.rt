@@ -8,8 +8,6 @@ mod fault;
 mod laws;
 mod sending;
 mod strings;
-#[cfg(test)]
-mod tests;
 mod writer;
 mod writing;
 

@@ -8,8 +8,6 @@ mod fields;
 mod parts;
 mod reply;
 mod request;
-#[cfg(test)]
-mod tests;
 mod written;
 
 pub use act::{Act, Request};

@@ -8,8 +8,6 @@ mod refusing;
 mod reviewing;
 mod suggesting;
 mod suggestions;
-#[cfg(test)]
-mod tests;
 mod translating;
 mod units_after;
 mod voting;

@@ -8,8 +8,6 @@ mod planning;
 mod plans;
 mod refit;
 mod template;
-#[cfg(test)]
-mod tests;
 mod update;
 mod updates;
 

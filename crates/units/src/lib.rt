@@ -7,8 +7,6 @@ mod memory;
 mod names;
 mod states;
 mod streams;
-#[cfg(test)]
-mod tests;
 mod unit;
 mod votes;
 

@@ -1,7 +1,7 @@
 use Rattle.std.proofs.Common.{sym, ◌∙◌}
 use Rattle.units.specs.declared.unit.Refusal.TheVariants.{BelowRole}
 use Rattle.office.specs.Tables.{meaning}
-use Rattle.office.specs.Bodies.{refused}
+use Rattle.replies.specs.Bodies.{refused}
 use Rattle.office.specs.OfficeActs.{language_step}
 use Rattle.office.proofs.ActsSettled.{unchanged, not_allowed, alike, allowed}
 use Rattle.office.proofs.office_acts.set_language.Goals as goal
