@@ -1,0 +1,38 @@
+#!/usr/bin/env python3
+"""Tries the must-fail edits that the gate leaves out for time: those of inner functions, crates/NAME/inner-edits/*.edit.
+
+    tests/inner_edits.py [CRATE..]
+
+The prover has to refuse each: `rt must-fail` tries them, with the folder in the place of must-fail/ until it ends.
+"""
+import pathlib
+import subprocess
+import sys
+
+CRATES = pathlib.Path(__file__).resolve().parent.parent / "crates"
+ASIDE = "gate-edits"
+
+
+def put_back():
+    """Has each folder at its place, also after a run that was killed."""
+    for aside in CRATES.glob(f"*/{ASIDE}"):
+        (aside.parent / "must-fail").rename(aside.parent / "inner-edits")
+        aside.rename(aside.parent / "must-fail")
+
+
+def main(names):
+    put_back()
+    crates = sorted(it.parent for it in CRATES.glob("*/inner-edits") if not names or it.parent.name in names)
+    if not crates:
+        sys.exit(f"no edits of inner functions in: {' '.join(names)}")
+    try:
+        for crate in crates:
+            (crate / "must-fail").rename(crate / ASIDE)
+            (crate / "inner-edits").rename(crate / "must-fail")
+        return subprocess.call(["rt", "must-fail", *[it.name for it in crates]], cwd=CRATES.parent)
+    finally:
+        put_back()
+
+
+if __name__ == "__main__":
+    sys.exit(main(sys.argv[1:]))
