@@ -1,15 +1,19 @@
 -- The strings of an entry whose lines may go on.
-use Rattle.std.proofs.Common.{◌≡◌, ℕ, ◌+◌, ◌≤◌, List, [], ◌∷◌, ◌++◌, Bool, true, false, not, length, refl, ◌∙◌, ap, Option, Some, None, suc, arith, ◌==◌}
+use Rattle.std.proofs.Common.{◌≡◌, ℕ, ◌+◌, ◌≤◌, List, [], ◌∷◌, ◌++◌, Bool, true, false, not, length, refl, sym, ◌∙◌, ap, Result, Ok, Err, Option, Some, None, suc, arith, ◌==◌}
 use Rattle.std.proofs.lemmas.Bool.Decides.{nat_tests}
 use Rattle.std.specs.List.{AllByRecursion}
+use Rattle.std.specs.Result.{OnOk}
+use Rattle.po_read.specs.Strings.{is_forms}
+use Rattle.po_read.specs.declared.message.Message.{Message}
+use Rattle.po_read.specs.declared.message.Message.TheVariants.{Counted}
 use Rattle.po_lex.specs.declared.line.Keyword.TheVariants.{Msgctxt, Msgid, MsgidPlural, Msgstr, MsgstrAt}
 use Rattle.po_lex.specs.declared.fault.FaultKind.TheVariants as kinds
-use Rattle.po_lex.specs.Lines.{Part, begins, continues}
+use Rattle.po_lex.specs.Lines.{Part, begins, continues, is_form}
 use Rattle.po_read.specs.Entries.{Keyed, optional, numbered, previous_strings}
 use Rattle.po_read.specs.Texts.{Text}
 use Rattle.po_read.specs.declared.entry.Previous.{Previous}
 use Rattle.po_read.specs.Valid.{AllStrings}
-pub use Rattle.po_read.specs.Drafts.{Draft, nothing, context, named, counted, single, draft_strings, counted_last, draft_last, last_more, with_more, with_keyword, draft_with, IsPreviousPart}
+pub use Rattle.po_read.specs.Drafts.{Draft, nothing, context, named, counted, single, draft_strings, counted_last, draft_last, last_more, with_more, with_keyword, draft_with, IsPreviousPart, draft_key, draft_of, whole_of}
 use Rattle.po_read.specs.Spells.{go_on, add_part}
 use Rattle.po_read.specs.Faults.{last_keyword, last_with, part_fault, previous_fault, numbered_fault, when}
 
@@ -170,3 +174,25 @@ pub all_go_on : (P : Text → Type 0) (strings : List Keyed) (more : Text) → A
 all_go_on P [] more all h = tt
 all_go_on P (s ∷ []) more all h = (h, tt)
 all_go_on P (s ∷ t ∷ strings) more all h = (all.0, all_go_on P (t ∷ strings) more all.1 h)
+
+-- ---- the key of a whole entry
+
+pub whole_key : (ctx : Option Text) (id : Text) (plural : Option Text) (forms : List Text) (d : Draft) → is_form (draft_last d) ≡ true → d ≡ whole_of ctx id plural forms → draft_key d ≡ (ctx, id)
+whole_key ctx id plural forms d h e = ap draft_key e ∙ of_whole plural forms (ap (λ (d : Draft). is_form (draft_last d)) (sym e) ∙ h)
+  where
+    of_whole : (plural : Option Text) (forms : List Text) → is_form (draft_last (whole_of ctx id plural forms)) ≡ true → draft_key (whole_of ctx id plural forms) ≡ (ctx, id)
+    of_whole (Some plural) forms h = refl
+    of_whole None (form ∷ []) h = refl
+    of_whole None [] h = cc
+    of_whole None (form ∷ other ∷ forms) h = cc
+
+-- ---- the forms, of which the last goes on
+
+pub forms_more : {A E : Type 0} (r : Result A E) (m : Message) (ctx : Option Text) (id plural : Text) (forms new : List Text) (more : Text) → m ≡ Counted ctx id plural forms → is_forms forms ≡ true → OnOk r (new ≡ last_more forms more)
+    → OnOk r (counted ctx id plural new ≡ with_more (draft_of m) more)
+forms_more r m ctx id plural forms new more is some grown = rw is (by r forms some grown)
+  where
+    by : {A E : Type 0} (r : Result A E) (forms : List Text) → is_forms forms ≡ true → OnOk r (new ≡ last_more forms more) → OnOk r (counted ctx id plural new ≡ with_more (counted ctx id plural forms) more)
+    by (Ok x) (form ∷ forms) h e = ap (λ fs. counted ctx id plural fs) e
+    by (Ok x) [] h e = cc
+    by (Err x) forms h e = tt

@@ -1,11 +1,13 @@
 -- The string of a piece, cut at a backslash.
-use Rattle.std.proofs.Common.{◌≡◌, ◌≢◌, ℕ, ◌+◌, List, [], ◌∷◌, ◌++◌, Bool, true, false, cond, length, drop, refl, sym, ◌∙◌, ap, Some, None, Result, Ok, Err, option_map, unwrap_or, ◌==◌, suc, arith, append_assoc}
+use Rattle.std.proofs.Common.{◌≡◌, ◌≢◌, ℕ, ◌+◌, List, [], ◌∷◌, ◌++◌, Bool, true, false, cond, length, drop, refl, sym, ◌∙◌, ap, Some, None, Result, Ok, Err, option_map, unwrap_or, ◌==◌, suc, arith, append_assoc, subst, ◌≤◌, Option}
 use Rattle.std.specs.List.{slice_get}
+use Rattle.std.specs.Option.{is_some}
 use Rattle.std.specs.Result.{is_ok, OnOk}
 use Rattle.std.proofs.lemmas.Bool.{ne_eqb}
 use Rattle.std.proofs.lemmas.Bool.Decides.{nat_tests}
 use Rattle.std.proofs.lemmas.List.{length-append}
 use Rattle.po_lex.specs.Escapes.{meaning_of, unescaped, unescaped_behind}
+use Rattle.memchr.specs.Find.{IsFirstByte, is_byte}
 use Rattle.po_read.proofs.HeaderLemmas.{Without}
 
 rest_without : (b c : ℕ) (text : List ℕ) → Without b (c ∷ text) → Without b text
@@ -77,3 +79,26 @@ pushed_front t0 t1 rest front behind whole a cut e w =
 pub pushed_rest : {A E : Type 0} (r : Result A E) (t0 t1 rest whole : List ℕ) → t1 ≡ cond (is_ok r) (t0 ++ rest) t0 → unescaped rest ≡ rest → t0 ++ unescaped rest ≡ whole → OnOk r (t1 ≡ whole)
 pushed_rest (Ok x) t0 t1 rest whole a e w = a ∙ ap (λ t. t0 ++ t) (sym e) ∙ w
 pushed_rest (Err x) t0 t1 rest whole a e w = tt
+
+-- ---- a piece without a backslash
+
+pub no_escape : (text : List ℕ) (found : Option ℕ) → IsFirstByte (is_byte 92) text found → is_some found ≡ false → unescaped text ≡ text
+no_escape text None first e = plain text (λ i lt at. first i (omega arith) lt (subst (λ (n : ℕ). (n == 92) ≡ true) (sym at) refl))
+no_escape text (Some k) first e = cc
+
+-- ---- a string is no longer than its piece
+
+shorter : (t : Bool) (c : ℕ) (behind rest raw : List ℕ) → length behind ≤ length raw → length rest ≤ length raw → length (cond t behind (c ∷ rest)) ≤ length (c ∷ raw)
+shorter true c behind rest raw a b = omega arith
+shorter false c behind rest raw a b = omega arith
+
+mutual
+  unfolding unescaped unescaped_behind
+
+  pub unescaped_shorter : (raw : List ℕ) → length (unescaped raw) ≤ length raw
+  unescaped_shorter [] = omega arith
+  unescaped_shorter (c ∷ raw) = shorter (c == 92) c (unescaped_behind raw) (unescaped raw) raw (behind_shorter raw) (unescaped_shorter raw)
+
+  behind_shorter : (raw : List ℕ) → length (unescaped_behind raw) ≤ length raw
+  behind_shorter [] = omega arith
+  behind_shorter (letter ∷ raw) = let h = unescaped_shorter raw in omega arith

@@ -1,6 +1,10 @@
 //! Entries of a catalogue.
+
+ghost use Rattle.std.specs.Prelude.{◌≡◌, IfOk};
+
 use crate::duplicate::Duplicate;
 use crate::items::Items;
+use crate::message::Strings;
 use crate::string::{Forms, PoString};
 use crate::text::Text;
 use std::alloc::AllocError;
@@ -39,18 +43,60 @@ impl Duplicate for Previous {
     }
 }
 
-impl Duplicate for Entry {
-    fn duplicate(&self) -> Result<Entry, AllocError> {
-        Ok(Entry {
+/// The comments and flags of an entry.
+#[derive(Drop)]
+struct Comments {
+    translator: Items<Text>,
+    extracted: Items<Text>,
+    references: Items<Text>,
+    flags: Items<Text>,
+}
+
+impl Entry {
+    fn duplicate_comments(&self) -> Result<Comments, AllocError>
+        ensures translator { IfOk result (λ copy. copy.translator ≡ self.now.translator) }
+        ensures extracted { IfOk result (λ copy. copy.extracted ≡ self.now.extracted) }
+        ensures references { IfOk result (λ copy. copy.references ≡ self.now.references) }
+        ensures flags { IfOk result (λ copy. copy.flags ≡ self.now.flags) }
+    {
+        Ok(Comments {
             translator: self.translator.duplicate()?,
             extracted: self.extracted.duplicate()?,
             references: self.references.duplicate()?,
             flags: self.flags.duplicate()?,
-            previous: self.previous.duplicate()?,
+        })
+    }
+
+    fn duplicate_strings(&self) -> Result<Strings, AllocError>
+        ensures ctx { IfOk result (λ copy. copy.ctx ≡ self.now.ctx) }
+        ensures id { IfOk result (λ copy. copy.id ≡ self.now.id) }
+        ensures plural { IfOk result (λ copy. copy.plural ≡ self.now.plural) }
+        ensures forms { IfOk result (λ copy. copy.forms ≡ self.now.forms) }
+    {
+        Ok(Strings {
             ctx: self.ctx.duplicate()?,
             id: self.id.duplicate()?,
             plural: self.plural.duplicate()?,
             forms: self.forms.duplicate()?,
+        })
+    }
+}
+
+impl Duplicate for Entry {
+    fn duplicate(&self) -> Result<Entry, AllocError> {
+        let comments = self.duplicate_comments()?;
+        let previous = self.previous.duplicate()?;
+        let strings = self.duplicate_strings()?;
+        Ok(Entry {
+            translator: comments.translator,
+            extracted: comments.extracted,
+            references: comments.references,
+            flags: comments.flags,
+            previous,
+            ctx: strings.ctx,
+            id: strings.id,
+            plural: strings.plural,
+            forms: strings.forms,
             obsolete: self.obsolete,
         })
     }

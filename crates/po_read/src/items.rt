@@ -1,9 +1,10 @@
 //! A list, which contracts see as the list of its elements' values.
-ghost use Rattle.std.specs.Prelude.{◌≡◌, List, [], ◌++◌, ◌∷◌, ℕ, IfOk, OnOk, OnErr, length};
+ghost use Rattle.std.specs.Prelude.{◌≡◌, List, [], ◌++◌, ◌∷◌, ℕ, IfOk, OnOk, OnErr, length, ◌<◌, get_or, slice_set};
 ghost use Rattle.std.specs.Coded.{coded_list};
 
 use std::alloc::{AllocError, AllocFailed, Global};
 use std::marker::Model;
+use std::mem::replace;
 
 /// A list of values that keeps its allocator.
 #[derive(Debug, Drop, Clone)]
@@ -61,5 +62,14 @@ impl<T> Items<T> {
         ensures err { OnErr result (self.new ≡ self.old) }
     {
         self.inner.push(x)
+    }
+
+    /// Puts another element in the place of one, which it gives.
+    pub(crate) fn replace_at(&mut self, index: usize, x: T) -> T
+        requires { index < length self.old }
+        ensures was { result ≡ get_or self.old index result }
+        ensures now { self.new ≡ slice_set self.old index x }
+    {
+        replace(&mut self.inner[index], x)
     }
 }

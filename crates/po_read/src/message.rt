@@ -1,6 +1,6 @@
 //! The message lines of an entry that may go on.
 
-ghost use Rattle.std.specs.Prelude.{◌≡◌, ◌+◌, ◌≤◌, ◌==◌, ◌||◌, not, true, None, length, is_some, IfOk};
+ghost use Rattle.std.specs.Prelude.{◌≡◌, ◌+◌, ◌≤◌, ◌==◌, ◌||◌, [], not, true, Option, None, length, is_some, IfOk, OnOk};
 ghost use Rattle.std.specs.List.{list_all};
 ghost use Rattle.po_lex.specs.Lines.{is_form, begins};
 ghost use Rattle.po_lex.specs.Escapes.{unescaped};
@@ -8,13 +8,17 @@ ghost use Rattle.po_lex.specs.Views.{part_view};
 ghost use Rattle.po_read.specs.Strings.{is_string_byte};
 ghost use Rattle.po_read.specs.Spells.{is_header_key};
 ghost use Rattle.po_read.specs.Faults.{part_fault, form_fault, numbered_fault, when, is_id};
-ghost use Rattle.po_read.specs.Drafts.{draft_of, draft_last, draft_header, draft_end, with_keyword, with_more, whole_of, IsDigitKey};
+ghost use Rattle.po_read.specs.Drafts.{draft_of, draft_last, draft_header, draft_end, draft_key, draft_with, counted, with_keyword, with_more, whole_of, part_text, part_more, IsDigitKey, IsDigitPart};
 ghost use Rattle.po_read.specs.Views.{told};
 ghost use Rattle.po_lex.specs.declared.fault.FaultKind.TheVariants as kinds;
+ghost use Rattle.po_lex.specs.declared.line.Keyword.TheVariants.{Msgid, MsgidPlural, Msgstr, MsgstrAt};
+ghost use Rattle.po_read.specs.Texts.{Text};
 
+use crate::key::EntryKey;
 use crate::string::{Forms, PoString};
 use po_lex::{FaultKind, Keyword, Part};
 use std::alloc::{AllocError, Global};
+use std::mem::replace;
 
 /// What the message lines so far say.
 #[derive(Drop)]
@@ -133,95 +137,174 @@ impl Message {
         }
     }
 
-    /// The message with one more string, which can follow.
-    pub(crate) fn with_keyword(
-        self,
+    /// Adds one more part, which can follow.
+    pub(crate) fn add(&mut self, alloc: Global, part: Part<'_>) -> Result<(), AllocError>
+        requires short { length (part_text (draft_end (draft_of self.old)) (part_view part)) ≤ 65536 }
+        requires bytes { list_all is_string_byte (part_more (part_view part)) ≡ true }
+        requires follows { part_fault (draft_last (draft_of self.old)) (draft_header (draft_of self.old)) (part_view part) ≡ None }
+        requires digit { IsDigitPart (part_view part) }
+        ensures { OnOk result (draft_of self.new ≡ draft_with (draft_of self.old) (part_view part.entry)) }
+    {
+        match part {
+            Part::Begins(keyword, raw) => {
+                let text = PoString::from_piece(alloc, raw)?;
+                self.add_keyword(alloc, keyword, text)
+            }
+            Part::Continues(raw) => self.add_more(alloc, raw),
+        }
+    }
+
+    /// Adds one more string, which can follow.
+    fn add_keyword(
+        &mut self,
         alloc: Global,
         keyword: Keyword,
         text: PoString,
-    ) -> Result<Message, AllocError>
-        requires follows { part_fault (draft_last (draft_of self)) (draft_header (draft_of self)) (begins keyword text) ≡ None }
+    ) -> Result<(), AllocError>
+        requires follows { part_fault (draft_last (draft_of self.old)) (draft_header (draft_of self.old)) (begins keyword text) ≡ None }
         requires digit { IsDigitKey keyword }
-        ensures { IfOk result (λ message. draft_of message ≡ with_keyword (draft_of self) keyword text) }
+        ensures { OnOk result (draft_of self.new ≡ with_keyword (draft_of self.old) keyword text) }
     {
-        Ok(match (self, keyword) {
-            (Message::Nothing, Keyword::Msgid) => Message::Named {
+        match keyword {
+            Keyword::Msgctxt => {
+                self.set(Message::Context(text));
+                Ok(())
+            }
+            Keyword::Msgid => {
+                self.add_id(text);
+                Ok(())
+            }
+            Keyword::MsgidPlural => {
+                self.add_plural(text);
+                Ok(())
+            }
+            Keyword::Msgstr => {
+                self.add_form(text);
+                Ok(())
+            }
+            Keyword::MsgstrAt(digit) => self.add_numbered(alloc, digit, text),
+        }
+    }
+
+    fn set(&mut self, message: Message)
+        ensures { self.new ≡ message }
+    {
+        *self = message;
+    }
+
+    fn add_id(&mut self, text: PoString)
+        ensures { draft_of self.new ≡ with_keyword (draft_of self.old) Msgid text }
+    {
+        let new = match replace(self, Message::Nothing) {
+            Message::Nothing => Message::Named {
                 ctx: None,
                 id: text,
             },
-            (Message::Context(ctx), Keyword::Msgid) => Message::Named {
+            Message::Context(ctx) => Message::Named {
                 ctx: Some(ctx),
                 id: text,
             },
-            (Message::Named { ctx, id }, Keyword::MsgidPlural) => Message::Plural {
+            other => {
+                drop(other);
+                Message::Context(text)
+            }
+        };
+        self.set(new);
+    }
+
+    fn add_plural(&mut self, text: PoString)
+        ensures { draft_of self.new ≡ with_keyword (draft_of self.old) MsgidPlural text }
+    {
+        let new = match replace(self, Message::Nothing) {
+            Message::Named { ctx, id } => Message::Plural {
                 ctx,
                 id,
                 plural: text,
             },
-            (Message::Named { ctx, id }, Keyword::Msgstr) => Message::Single {
+            other => {
+                drop(other);
+                Message::Context(text)
+            }
+        };
+        self.set(new);
+    }
+
+    fn add_form(&mut self, text: PoString)
+        ensures { draft_of self.new ≡ with_keyword (draft_of self.old) Msgstr text }
+    {
+        let new = match replace(self, Message::Nothing) {
+            Message::Named { ctx, id } => Message::Single {
                 ctx,
                 id,
                 form: text,
             },
-            (Message::Plural { ctx, id, plural }, Keyword::MsgstrAt(_)) => Message::Counted {
-                ctx,
-                id,
-                plural,
-                forms: Forms::one(alloc, text)?,
-            },
-            (
-                Message::Counted {
-                    ctx,
-                    id,
-                    plural,
-                    forms,
-                },
-                Keyword::MsgstrAt(_),
-            ) => Message::Counted {
-                ctx,
-                id,
-                plural,
-                forms: forms.with(text)?,
-            },
-            _ => Message::Context(text),
-        })
+            other => {
+                drop(other);
+                Message::Context(text)
+            }
+        };
+        self.set(new);
     }
 
-    /// The message whose last string has the string of this piece at its end.
-    pub(crate) fn with_more(self, raw: &str) -> Result<Message, AllocError>
-        requires short { length (draft_end (draft_of self)) + length (unescaped raw.now) ≤ 65536 }
-        requires bytes { list_all is_string_byte (unescaped raw.now) ≡ true }
-        ensures { IfOk result (λ message. draft_of message ≡ with_more (draft_of self) (unescaped raw.now)) }
+    fn add_numbered(&mut self, alloc: Global, digit: u8, text: PoString) -> Result<(), AllocError>
+        requires follows { numbered_fault (draft_last (draft_of self.old)) digit ≡ None }
+        requires digit { digit ≤ 7 }
+        ensures { OnOk result (draft_of self.new ≡ with_keyword (draft_of self.old) (MsgstrAt digit) text) }
     {
-        Ok(match self {
-            Message::Nothing => Message::Nothing,
-            Message::Context(ctx) => Message::Context(ctx.with_piece(raw)?),
-            Message::Named { ctx, id } => Message::Named {
-                ctx,
-                id: id.with_piece(raw)?,
-            },
-            Message::Plural { ctx, id, plural } => Message::Plural {
-                ctx,
-                id,
-                plural: plural.with_piece(raw)?,
-            },
-            Message::Counted {
+        match self {
+            Message::Counted { forms, .. } => forms.add(text),
+            Message::Plural { .. } => {
+                let forms = Forms::one(alloc, text)?;
+                self.add_forms(forms);
+                Ok(())
+            }
+            _ => unreachable!(),
+        }
+    }
+
+    /// Adds the first forms.
+    fn add_forms(&mut self, forms: Forms)
+        ensures { (ctx : Option Text) (id plural : Text) → draft_of self.old ≡ counted ctx id plural [] → draft_of self.new ≡ counted ctx id plural forms }
+    {
+        let new = match replace(self, Message::Nothing) {
+            Message::Plural { ctx, id, plural } => Message::Counted {
                 ctx,
                 id,
                 plural,
                 forms,
-            } => Message::Counted {
-                ctx,
-                id,
-                plural,
-                forms: forms.with_piece(raw)?,
             },
-            Message::Single { ctx, id, form } => Message::Single {
-                ctx,
-                id,
-                form: form.with_piece(raw)?,
-            },
-        })
+            other => other,
+        };
+        self.set(new);
+    }
+
+    /// The key of the strings, where there is a form.
+    pub(crate) fn key(&self, alloc: Global) -> Result<EntryKey, AllocError>
+        requires { is_form (draft_last (draft_of self.now)) ≡ true }
+        ensures ctx { IfOk result (λ key. key.ctx ≡ (draft_key (draft_of self.now)).0) }
+        ensures id { IfOk result (λ key. key.id ≡ (draft_key (draft_of self.now)).1) }
+    {
+        match self {
+            Message::Counted { ctx, id, .. } => EntryKey::of(alloc, ctx, id),
+            Message::Single { ctx, id, .. } => EntryKey::of(alloc, ctx, id),
+            _ => unreachable!(),
+        }
+    }
+
+    /// Adds the string of this piece at the last one's end.
+    fn add_more(&mut self, alloc: Global, raw: &str) -> Result<(), AllocError>
+        requires short { length (draft_end (draft_of self.old)) + length (unescaped raw.now) ≤ 65536 }
+        requires bytes { list_all is_string_byte (unescaped raw.now) ≡ true }
+        ensures { OnOk result (draft_of self.new ≡ with_more (draft_of self.old) (unescaped raw.now)) }
+    {
+        match self {
+            Message::Nothing => Ok(()),
+            Message::Context(ctx) => ctx.add_piece(alloc, raw),
+            Message::Named { id, .. } => id.add_piece(alloc, raw),
+            Message::Plural { plural, .. } => plural.add_piece(alloc, raw),
+            Message::Counted { forms, .. } => forms.add_piece(alloc, raw),
+            Message::Single { form, .. } => form.add_piece(alloc, raw),
+        }
     }
 }
 

@@ -1,8 +1,9 @@
 //! The strings that pieces stand for.
 
-ghost use Rattle.std.specs.Prelude.{◌≡◌, ◌++◌, ◌∷◌, ◌<◌, ◌≤◌, length, string_bytes, MatchOption, IfSome, OnOk};
+ghost use Rattle.std.specs.Prelude.{◌≡◌, ◌++◌, false, ◌∷◌, ◌<◌, ◌≤◌, length, string_bytes, MatchOption, IfSome, OnOk};
 ghost use Rattle.po_lex.specs.Escapes.{meaning_of, unescaped, unescaped_behind};
 
+use memchr::memchr;
 use std::alloc::AllocError;
 
 /// The character that a letter stands for behind a backslash.
@@ -36,11 +37,21 @@ fn split_letter(text: &str) -> Option<(char, &str)>
     Some((character, &text[1..]))
 }
 
+/// Whether there is a backslash. A piece without one is its string.
+fn may_have_escapes(raw: &str) -> bool
+    ensures { result ≡ false → unescaped raw.now ≡ raw.now }
+{
+    memchr(b'\\', raw.as_bytes()).is_some()
+}
+
 /// How many bytes the string of a piece has.
 pub(crate) fn unescaped_len(raw: &str) -> usize
     ensures value { result ≡ length (unescaped raw.now) }
     ensures within { result ≤ length raw.now }
 {
+    if !may_have_escapes(raw) {
+        return raw.len();
+    }
     let mut len = 0;
     let mut rest = raw;
     while let Some((front, behind)) = rest.split_once('\\') {
@@ -60,6 +71,9 @@ pub(crate) fn unescaped_len(raw: &str) -> usize
 pub(crate) fn push_unescaped(text: &mut String, raw: &str) -> Result<(), AllocError>
     ensures { OnOk result (string_bytes text.new ≡ string_bytes text.old ++ unescaped raw.now) }
 {
+    if !may_have_escapes(raw) {
+        return text.push_str(raw);
+    }
     let mut rest = raw;
     while let Some((front, behind)) = rest.split_once('\\') {
         text.push_str(front)?;

@@ -123,9 +123,7 @@ impl<'a> Reader<'a> {
         ensures entries { OnOk result (self.new.entries ≡ self.old.entries) }
         ensures keys { OnOk result (self.new.keys ≡ self.old.keys) }
     {
-        let current = replace(&mut self.current, Unfinished::new(self.alloc));
-        self.current = current.with(self.alloc, line)?;
-        Ok(())
+        self.current.add(self.alloc, line)
     }
 
     /// Ends the last entry, at the end of the text.
@@ -248,12 +246,31 @@ impl<'a> Reader<'a> {
         requires { has_form_here self.old ≡ true }
         ensures { OnOk result (IsClosed self.old self.new) }
     {
-        let current = replace(&mut self.current, Unfinished::new(self.alloc));
-        let entry = current.into_entry(self.alloc)?;
-        let key = EntryKey::of(self.alloc, &entry.ctx, &entry.id)?;
+        let key = self.current.message.key(self.alloc)?;
         self.keys.insert(key)?;
-        self.entries.push(entry)?;
-        Ok(())
+        self.current.move_to(self.alloc, &mut self.entries)
+    }
+
+    /// Reads the lines of a text, and takes out the entries that they spell.
+    fn read_lines(&mut self, text: &'a str) -> Result<Vec<Entry>, PoFault>
+        requires first { Reads self.old no_lines }
+        requires fits { length text.now < 2 ^ 63 }
+        ensures ok { IfOk result (λ entries. (fault_from limits 1 no_lines (lines_of text.now) ≡ None) × (entries.items ≡ entries_of text.now)) }
+        ensures err { IfErr result (λ fault. (fault_from limits 1 no_lines (lines_of text.now) ≡ Some (fault.line, fault.kind)) ⊎ IsMemory fault) }
+    {
+        let mut lines = lex(text);
+        let mut line = 1;
+        while let Some(told) = lines.next() {
+            let token = told?;
+            if let Err(kind) = self.read_line(token.line) {
+                return Err(PoFault { line, kind });
+            }
+            line += 1;
+        }
+        match self.finish() {
+            Ok(()) => Ok(replace(&mut self.entries, Vec::new(self.alloc))),
+            Err(kind) => Err(PoFault { line, kind }),
+        }
     }
 }
 
@@ -282,19 +299,9 @@ fn read_text(alloc: Global, text: &str) -> Result<Vec<Entry>, PoFault>
     ensures err { IfErr result (λ fault. (fault_from limits 1 no_lines (lines_of text.now) ≡ Some (fault.line, fault.kind)) ⊎ IsMemory fault) }
 {
     let mut reader = Reader::new(alloc);
-    let mut lines = lex(text);
-    let mut line = 1;
-    while let Some(told) = lines.next() {
-        let token = told?;
-        if let Err(kind) = reader.read_line(token.line) {
-            return Err(PoFault { line, kind });
-        }
-        line += 1;
-    }
-    match reader.finish() {
-        Ok(()) => Ok(reader.entries),
-        Err(kind) => Err(PoFault { line, kind }),
-    }
+    let told = reader.read_lines(text);
+    drop(reader);
+    told
 }
 
 /// The catalogue that the bytes spell, as "The Format of PO Files" of the GNU gettext manual has it, within the limits: a text of

@@ -1,5 +1,5 @@
 //! The strings of a catalogue, and the forms of an entry. A value exists only within its limits.
-ghost use Rattle.std.specs.Prelude.{◌≡◌, ◌<◌, ◌≤◌, ◌+◌, ◌++◌, ◌∷◌, [], length, List, ℕ, IfOk, string_bytes, Some, None, true, nat_eq, if◌then◌else◌};
+ghost use Rattle.std.specs.Prelude.{◌≡◌, ◌<◌, ◌≤◌, ◌+◌, ◌++◌, ◌∷◌, [], length, List, ℕ, IfOk, OnOk, string_bytes, Some, None, true, nat_eq, if◌then◌else◌};
 ghost use Rattle.std.specs.List.{list_all};
 ghost use Rattle.std.specs.Cmp.{partial_equiv_from_equiv};
 ghost use Rattle.std.specs.Cmp.Lexicographic.{pointwise, nat_list_eq_equiv};
@@ -12,6 +12,7 @@ use crate::items::Items;
 use crate::pieces::push_unescaped;
 use std::alloc::{AllocError, Global};
 use std::marker::Model;
+use std::mem::replace;
 
 /// A string of a catalogue: Unicode text without U+0000 to U+0006 and U+000E to U+001F, of at most 65,536 bytes. The other
 /// control characters have escapes of their own.
@@ -47,20 +48,30 @@ impl PoString {
         requires bytes { list_all is_string_byte (unescaped raw.now) ≡ true }
         ensures { IfOk result (λ string. string ≡ unescaped raw.now) }
     {
-        let mut inner = String::new(alloc);
+        let mut inner = String::with_capacity(alloc, raw.len())?;
         push_unescaped(&mut inner, raw)?;
         Ok(PoString { inner })
     }
 
-    /// The string with that of a piece at its end.
-    pub(crate) fn with_piece(self, raw: &str) -> Result<PoString, AllocError>
-        requires short { length self + length (unescaped raw.now) ≤ 65536 }
-        requires bytes { list_all is_string_byte (unescaped raw.now) ≡ true }
-        ensures { IfOk result (λ string. string ≡ self ++ unescaped raw.now) }
+    /// No text. It takes no memory.
+    fn empty(alloc: Global) -> PoString
+        ensures { result ≡ [] }
     {
-        let PoString { mut inner } = self;
+        PoString {
+            inner: String::new(alloc),
+        }
+    }
+
+    /// Adds that of a piece at the end.
+    pub(crate) fn add_piece(&mut self, alloc: Global, raw: &str) -> Result<(), AllocError>
+        requires short { length self.old + length (unescaped raw.now) ≤ 65536 }
+        requires bytes { list_all is_string_byte (unescaped raw.now) ≡ true }
+        ensures { OnOk result (self.new ≡ self.old ++ unescaped raw.now) }
+    {
+        let mut inner = replace(&mut self.inner, String::new(alloc));
         push_unescaped(&mut inner, raw)?;
-        Ok(PoString { inner })
+        self.inner = inner;
+        Ok(())
     }
 
     /// The string as a slice.
@@ -133,15 +144,14 @@ impl Forms {
         Ok(Forms { strings })
     }
 
-    /// The forms with one more.
-    pub(crate) fn with(self, form: PoString) -> Result<Forms, AllocError>
-        requires { length self < 8 }
-        ensures { IfOk result (λ forms. forms ≡ self ++ form ∷ []) }
+    /// Adds one more.
+    pub(crate) fn add(&mut self, form: PoString) -> Result<(), AllocError>
+        requires { length self.old < 8 }
+        ensures { OnOk result (self.new ≡ self.old ++ form ∷ []) }
     {
         let _ = form.as_str();
-        let Forms { mut strings } = self;
-        strings.push(form)?;
-        Ok(Forms { strings })
+        self.strings.push(form)?;
+        Ok(())
     }
 
     /// The last form.
@@ -152,20 +162,19 @@ impl Forms {
         &strings[strings.len() - 1]
     }
 
-    /// The forms, the last with the string of a piece at its end.
-    pub(crate) fn with_piece(self, raw: &str) -> Result<Forms, AllocError>
-        requires short { (first : Text) × (length (last_text first self) + length (unescaped raw.now) ≤ 65536) }
+    /// Adds the string of a piece at the last one's end.
+    pub(crate) fn add_piece(&mut self, alloc: Global, raw: &str) -> Result<(), AllocError>
+        requires short { (first : Text) × (length (last_text first self.old) + length (unescaped raw.now) ≤ 65536) }
         requires bytes { list_all is_string_byte (unescaped raw.now) ≡ true }
-        ensures { IfOk result (λ forms. forms ≡ last_more self (unescaped raw.now)) }
+        ensures more { OnOk result (self.new ≡ last_more self.old (unescaped raw.now)) }
+        ensures were { is_forms self.old ≡ true }
     {
-        let Forms { strings } = self;
-        let mut strings = strings.into_vec();
-        if let Some(form) = strings.pop() {
-            strings.push(form.with_piece(raw)?)?;
-        }
-        Ok(Forms {
-            strings: Items::from_vec(strings),
-        })
+        let last = self.strings.as_slice().len() - 1;
+        let mut form = self.strings.replace_at(last, PoString::empty(alloc));
+        form.add_piece(alloc, raw)?;
+        let _ = form.as_str();
+        self.strings.replace_at(last, form);
+        Ok(())
     }
 
     /// The forms in order, form 0 first.

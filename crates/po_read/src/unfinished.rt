@@ -1,26 +1,26 @@
 //! The entry that may go on.
 
-ghost use Rattle.std.specs.Prelude.{◌≡◌, ◌≤◌, ◌++◌, [], not, true, false, None, nat_lt, is_some, if◌then◌else◌, IfOk, length};
+ghost use Rattle.std.specs.Prelude.{◌≡◌, ◌≤◌, ◌+◌, ◌++◌, ◌∷◌, [], not, true, None, nat_lt, IfOk, OnOk, length};
 ghost use Rattle.std.specs.List.{list_all};
 ghost use Rattle.po_lex.specs.Lines.{is_form, items_of, translator, extracted, reference, flags, previous, message};
 ghost use Rattle.po_lex.specs.Escapes.{unescaped};
 ghost use Rattle.po_lex.specs.Views.{line_view, part_view};
 ghost use Rattle.po_lex.specs.declared.fault.FaultKind.TheVariants as kinds;
 ghost use Rattle.po_read.specs.Strings.{is_string_byte};
-ghost use Rattle.po_read.specs.Entries.{previous_strings};
-ghost use Rattle.po_read.specs.Faults.{when, part_fault, last_keyword, previous_fault};
-ghost use Rattle.po_read.specs.Drafts.{draft_of, draft_last, draft_header, draft_end, draft_with, nothing, previous_end, previous_with, part_text, part_more, IsDigitPart, IsSoundLine};
+ghost use Rattle.po_read.specs.Faults.{when, part_fault};
+ghost use Rattle.po_read.specs.Drafts.{draft_of, draft_last, draft_header, draft_end, nothing, previous_end, part_text, part_more, IsDigitPart, IsSoundLine};
+ghost use Rattle.po_read.specs.declared.entry.Entry.{Entry};
 ghost use Rattle.po_read.specs.Views.{told};
 
 use crate::entry::{Entry, Previous};
 use crate::flags::Flags;
 use crate::items::Items;
-use crate::message::{Message, in_order};
+use crate::message::{Message, Strings, in_order};
 use crate::pieces::unescaped_len;
-use crate::string::PoString;
 use crate::text::Text;
 use po_lex::{FaultKind, Line, Part};
 use std::alloc::{AllocError, Global};
+use std::mem::replace;
 
 /// The most bytes that a string may have.
 const STRING_LIMIT: usize = 65_536;
@@ -104,15 +104,15 @@ impl<'a> Unfinished<'a> {
             | Line::Previous {
                 part: Part::Begins(_, raw),
                 ..
-            } => fits(unescaped_len(raw)),
+            } => fits(0, raw),
             Line::Message {
                 part: Part::Continues(raw),
                 ..
-            } if self.goes_on(line) => fits(self.message.last_len() + unescaped_len(raw)),
+            } if self.goes_on(line) => fits(self.message.last_len(), raw),
             Line::Previous {
                 part: Part::Continues(raw),
                 ..
-            } if self.goes_on(line) => fits(self.previous.last_len() + unescaped_len(raw)),
+            } if self.goes_on(line) => fits(self.previous.last_len(), raw),
             _ => Ok(()),
         }
     }
@@ -134,106 +134,96 @@ impl<'a> Unfinished<'a> {
         }
     }
 
-    /// The entry with one more line, which can follow.
-    pub(crate) fn with(self, alloc: Global, line: Line<'a>) -> Result<Unfinished<'a>, AllocError>
+    /// Adds one more line, which can follow.
+    pub(crate) fn add(&mut self, alloc: Global, line: Line<'a>) -> Result<(), AllocError>
         requires sound { IsSoundLine (line_view line) }
-        requires short { length_fault (so_far self) (line_view line) ≡ None }
-        requires follows { order_fault_here (so_far self) (line_view line) ≡ None }
-        ensures { IfOk result (λ unfinished. so_far unfinished ≡ with_line (so_far self.entry) (line_view line.entry)) }
+        requires short { length_fault (so_far self.old) (line_view line) ≡ None }
+        requires follows { order_fault_here (so_far self.old) (line_view line) ≡ None }
+        ensures { OnOk result (so_far self.new ≡ with_line (so_far self.old) (line_view line.entry)) }
     {
         match line {
-            Line::Blank => Ok(self),
-            Line::Translator(text) => self.with_translator(alloc, text),
-            Line::Extracted(text) => self.with_extracted(alloc, text),
-            Line::Reference(text) => self.with_reference(alloc, text),
-            Line::Flags(items) => self.with_flags(items),
-            Line::Previous { obsolete, part } => self.with_previous(alloc, obsolete, part),
-            Line::Message { obsolete, part } => self.with_message(alloc, obsolete, part),
+            Line::Blank => Ok(()),
+            Line::Translator(text) => self.add_translator(alloc, text),
+            Line::Extracted(text) => self.add_extracted(alloc, text),
+            Line::Reference(text) => self.add_reference(alloc, text),
+            Line::Flags(items) => self.add_flags(alloc, items),
+            Line::Previous { obsolete, part } => self.add_previous(alloc, obsolete, part),
+            Line::Message { obsolete, part } => self.add_message(alloc, obsolete, part),
         }
     }
 
-    fn with_translator(self, alloc: Global, text: &str) -> Result<Unfinished<'a>, AllocError>
-        ensures { IfOk result (λ unfinished. so_far unfinished ≡ with_line (so_far self.entry) (translator text.now)) }
+    fn add_translator(&mut self, alloc: Global, text: &str) -> Result<(), AllocError>
+        ensures { OnOk result (so_far self.new ≡ with_line (so_far self.old) (translator text.now)) }
     {
-        let mut unfinished = self;
-        unfinished.begun = true;
-        unfinished.translator.push(Text::from_text(alloc, text)?)?;
-        Ok(unfinished)
+        self.begun = true;
+        add_text(alloc, &mut self.translator, text)
     }
 
-    fn with_extracted(self, alloc: Global, text: &str) -> Result<Unfinished<'a>, AllocError>
-        ensures { IfOk result (λ unfinished. so_far unfinished ≡ with_line (so_far self.entry) (extracted text.now)) }
+    fn add_extracted(&mut self, alloc: Global, text: &str) -> Result<(), AllocError>
+        ensures { OnOk result (so_far self.new ≡ with_line (so_far self.old) (extracted text.now)) }
     {
-        let mut unfinished = self;
-        unfinished.begun = true;
-        unfinished.extracted.push(Text::from_text(alloc, text)?)?;
-        Ok(unfinished)
+        self.begun = true;
+        add_text(alloc, &mut self.extracted, text)
     }
 
-    fn with_reference(self, alloc: Global, text: &str) -> Result<Unfinished<'a>, AllocError>
-        ensures { IfOk result (λ unfinished. so_far unfinished ≡ with_line (so_far self.entry) (reference text.now)) }
+    fn add_reference(&mut self, alloc: Global, text: &str) -> Result<(), AllocError>
+        ensures { OnOk result (so_far self.new ≡ with_line (so_far self.old) (reference text.now)) }
     {
-        let mut unfinished = self;
-        unfinished.begun = true;
-        unfinished.references.push(Text::from_text(alloc, text)?)?;
-        Ok(unfinished)
+        self.begun = true;
+        add_text(alloc, &mut self.references, text)
     }
 
-    fn with_flags(self, items: &'a str) -> Result<Unfinished<'a>, AllocError>
-        ensures { IfOk result (λ unfinished. so_far unfinished ≡ with_line (so_far self.entry) (flags (items_of items.now))) }
+    fn add_flags(&mut self, alloc: Global, items: &'a str) -> Result<(), AllocError>
+        ensures { OnOk result (so_far self.new ≡ with_line (so_far self.old) (flags (items_of items.now))) }
     {
-        let mut unfinished = self;
-        unfinished.begun = true;
-        unfinished.flags = unfinished.flags.with_all(items)?;
-        Ok(unfinished)
+        self.begun = true;
+        let flags = replace(&mut self.flags, Flags::new(alloc)).with_all(items)?;
+        replace(&mut self.flags, flags);
+        Ok(())
     }
 
-    fn with_previous(
-        self,
+    fn add_previous(
+        &mut self,
         alloc: Global,
         obsolete: bool,
         part: Part<'a>,
-    ) -> Result<Unfinished<'a>, AllocError>
-        requires short { length (part_text (previous_end self.previous) (part_view part)) ≤ 65536 }
+    ) -> Result<(), AllocError>
+        requires short { length (part_text (previous_end self.old.previous) (part_view part)) ≤ 65536 }
         requires bytes { list_all is_string_byte (part_more (part_view part)) ≡ true }
-        ensures { IfOk result (λ unfinished. so_far unfinished ≡ with_line (so_far self.entry) (previous obsolete (part_view part.entry))) }
+        ensures { OnOk result (so_far self.new ≡ with_line (so_far self.old) (previous obsolete (part_view part.entry))) }
     {
-        let mut unfinished = self.marked(obsolete);
-        unfinished.previous = previous_with(alloc, unfinished.previous, part)?;
-        Ok(unfinished)
+        self.mark(obsolete);
+        self.previous.add(alloc, part)
     }
 
-    fn with_message(
-        self,
+    fn add_message(
+        &mut self,
         alloc: Global,
         obsolete: bool,
         part: Part<'a>,
-    ) -> Result<Unfinished<'a>, AllocError>
-        requires short { length (part_text (draft_end (draft_of self.message)) (part_view part)) ≤ 65536 }
+    ) -> Result<(), AllocError>
+        requires short { length (part_text (draft_end (draft_of self.old.message)) (part_view part)) ≤ 65536 }
         requires bytes { list_all is_string_byte (part_more (part_view part)) ≡ true }
-        requires follows { part_fault (draft_last (draft_of self.message)) (draft_header (draft_of self.message)) (part_view part) ≡ None }
+        requires follows { part_fault (draft_last (draft_of self.old.message)) (draft_header (draft_of self.old.message)) (part_view part) ≡ None }
         requires digit { IsDigitPart (part_view part) }
-        ensures { IfOk result (λ unfinished. so_far unfinished ≡ with_line (so_far self.entry) (message obsolete (part_view part.entry))) }
+        ensures { OnOk result (so_far self.new ≡ with_line (so_far self.old) (message obsolete (part_view part.entry))) }
     {
-        let mut unfinished = self.marked(obsolete);
-        unfinished.message = message_with(alloc, unfinished.message, part)?;
-        Ok(unfinished)
+        self.mark(obsolete);
+        self.message.add(alloc, part)
     }
 
-    /// The entry with one more mark.
-    fn marked(self, obsolete: bool) -> Unfinished<'a>
-        ensures value { so_far result ≡ with_mark (so_far self.entry) obsolete }
-        ensures message { result.message ≡ self.entry.message }
-        ensures previous { result.previous ≡ self.entry.previous }
+    /// Notes one more mark.
+    fn mark(&mut self, obsolete: bool)
+        ensures value { so_far self.new ≡ with_mark (so_far self.old) obsolete }
+        ensures message { self.new.message ≡ self.old.message }
+        ensures previous { self.new.previous ≡ self.old.previous }
     {
-        let mut unfinished = self;
-        unfinished.begun = true;
+        self.begun = true;
         if obsolete {
-            unfinished.obsolete = true;
+            self.obsolete = true;
         } else {
-            unfinished.unmarked = true;
+            self.unmarked = true;
         }
-        unfinished
     }
 
     /// Fault 5 if an entry was begun and has no form yet.
@@ -247,67 +237,68 @@ impl<'a> Unfinished<'a> {
         }
     }
 
-    /// The entry, which has a form.
-    pub(crate) fn into_entry(self, alloc: Global) -> Result<Entry, AllocError>
-        requires { is_form (draft_last (draft_of self.message)) ≡ true }
-        ensures { IfOk result (λ entry. IsEntry (so_far self.entry) entry) }
+    /// Moves the entry, which has a form, to the end of these: then there are no lines.
+    pub(crate) fn move_to(
+        &mut self,
+        alloc: Global,
+        entries: &mut Vec<Entry>,
+    ) -> Result<(), AllocError>
+        requires { is_form (draft_last (draft_of self.old.message)) ≡ true }
+        ensures moved { OnOk result ((entry : Entry) × IsEntry (so_far self.old) entry × (entries.new.items ≡ entries.old.items ++ entry ∷ [])) }
+        ensures rest { OnOk result (IsSoFar (so_far self.new) []) }
     {
-        let flags = self.flags.into_items(alloc)?;
-        let strings = self.message.into_strings(alloc)?;
-        Ok(Entry {
-            translator: self.translator,
-            extracted: self.extracted,
-            references: self.references,
+        let flags = replace(&mut self.flags, Flags::new(alloc)).into_items(alloc)?;
+        let strings = replace(&mut self.message, Message::Nothing).into_strings(alloc)?;
+        entries.push(self.take_rest(alloc, flags, strings))?;
+        Ok(())
+    }
+
+    /// Takes the entry out, with these flags and strings, where its own were taken.
+    fn take_rest(&mut self, alloc: Global, flags: Items<Text>, strings: Strings) -> Entry
+        requires flags { self.old.flags ≡ [] }
+        requires message { draft_of self.old.message ≡ nothing }
+        ensures comments { (result.translator ≡ self.old.translator) × (result.extracted ≡ self.old.extracted) × (result.references ≡ self.old.references) }
+        ensures previous { result.previous ≡ self.old.previous }
+        ensures obsolete { result.obsolete ≡ self.old.obsolete }
+        ensures flags { result.flags ≡ flags }
+        ensures strings { (result.ctx ≡ strings.ctx) × (result.id ≡ strings.id) × (result.plural ≡ strings.plural) × (result.forms ≡ strings.forms) }
+        ensures rest { IsSoFar (so_far self.new) [] }
+    {
+        self.begun = false;
+        self.unmarked = false;
+        Entry {
+            translator: replace(&mut self.translator, Items::new(alloc)),
+            extracted: replace(&mut self.extracted, Items::new(alloc)),
+            references: replace(&mut self.references, Items::new(alloc)),
             flags,
-            previous: self.previous,
+            previous: replace(&mut self.previous, Previous::none()),
             ctx: strings.ctx,
             id: strings.id,
             plural: strings.plural,
             forms: strings.forms,
-            obsolete: self.obsolete,
-        })
+            obsolete: replace(&mut self.obsolete, false),
+        }
     }
 }
 
-/// Fault 9, unless a string of this length is within the limit.
-fn fits(len: usize) -> Result<(), FaultKind>
-    ensures { told result ≡ when (nat_lt 65536 len) kinds.Limit }
+/// Fault 9, unless a string of this length with that of a piece behind it is within the limit.
+#[tactic(auto, using(crate::proofs::PieceCuts::unescaped_shorter))]
+fn fits(len: usize, raw: &str) -> Result<(), FaultKind>
+    requires { len ≤ 65536 }
+    ensures { told result ≡ when (nat_lt 65536 (len + length (unescaped raw.now))) kinds.Limit }
 {
-    if len <= STRING_LIMIT {
+    // A piece is no shorter than its string.
+    if len + raw.len() <= STRING_LIMIT || len + unescaped_len(raw) <= STRING_LIMIT {
         Ok(())
     } else {
         Err(FaultKind::Limit)
     }
 }
 
-/// The previous strings with one more part, which can follow.
-fn previous_with(alloc: Global, previous: Previous, part: Part<'_>) -> Result<Previous, AllocError>
-    requires short { length (part_text (previous_end previous) (part_view part)) ≤ 65536 }
-    requires bytes { list_all is_string_byte (part_more (part_view part)) ≡ true }
-    ensures { IfOk result (λ new. new ≡ previous_with previous (part_view part.entry)) }
+/// Adds a text at the end.
+fn add_text(alloc: Global, texts: &mut Items<Text>, text: &str) -> Result<(), AllocError>
+    ensures { OnOk result (texts.new ≡ texts.old ++ text.now ∷ []) }
 {
-    match part {
-        Part::Begins(keyword, raw) => {
-            let text = PoString::from_piece(alloc, raw)?;
-            Ok(previous.with_keyword(keyword, text))
-        }
-        Part::Continues(raw) => previous.with_more(raw),
-    }
-}
-
-/// The message with one more part, which can follow.
-fn message_with(alloc: Global, message: Message, part: Part<'_>) -> Result<Message, AllocError>
-    requires short { length (part_text (draft_end (draft_of message)) (part_view part)) ≤ 65536 }
-    requires bytes { list_all is_string_byte (part_more (part_view part)) ≡ true }
-    requires follows { part_fault (draft_last (draft_of message)) (draft_header (draft_of message)) (part_view part) ≡ None }
-    requires digit { IsDigitPart (part_view part) }
-    ensures { IfOk result (λ new. draft_of new ≡ draft_with (draft_of message) (part_view part.entry)) }
-{
-    match part {
-        Part::Begins(keyword, raw) => {
-            let text = PoString::from_piece(alloc, raw)?;
-            message.with_keyword(alloc, keyword, text)
-        }
-        Part::Continues(raw) => message.with_more(raw),
-    }
+    texts.push(Text::from_text(alloc, text)?)?;
+    Ok(())
 }

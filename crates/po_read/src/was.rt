@@ -1,20 +1,20 @@
 //! The previous strings of an entry that may go on.
 
-ghost use Rattle.std.specs.Prelude.{◌≡◌, ◌≤◌, ◌+◌, not, true, length, is_some, None, IfOk};
+ghost use Rattle.std.specs.Prelude.{◌≡◌, ◌≤◌, ◌+◌, not, true, length, is_some, None, OnOk};
 ghost use Rattle.std.specs.List.{list_all};
 ghost use Rattle.po_lex.specs.Escapes.{unescaped};
 ghost use Rattle.po_lex.specs.Views.{part_view};
 ghost use Rattle.po_read.specs.Entries.{previous_strings};
 ghost use Rattle.po_read.specs.Strings.{is_string_byte};
 ghost use Rattle.po_read.specs.Faults.{last_keyword, previous_fault};
-ghost use Rattle.po_read.specs.Drafts.{previous_end, previous_more, previous_keyword};
+ghost use Rattle.po_read.specs.Drafts.{previous_end, previous_more, previous_keyword, previous_with, part_text, part_more};
 ghost use Rattle.po_read.specs.Views.{told};
 
 use crate::entry::Previous;
 use crate::message::in_order;
 use crate::string::PoString;
 use po_lex::{FaultKind, Keyword, Part};
-use std::alloc::AllocError;
+use std::alloc::{AllocError, Global};
 
 impl Previous {
     /// No previous strings.
@@ -65,54 +65,46 @@ impl Previous {
         }
     }
 
-    /// The strings with one more.
-    pub(crate) fn with_keyword(self, keyword: Keyword, text: PoString) -> Previous
-        ensures { result ≡ previous_keyword self keyword text }
+    /// Adds one more part, which can follow.
+    pub(crate) fn add(&mut self, alloc: Global, part: Part<'_>) -> Result<(), AllocError>
+        requires short { length (part_text (previous_end self.old) (part_view part)) ≤ 65536 }
+        requires bytes { list_all is_string_byte (part_more (part_view part)) ≡ true }
+        ensures { OnOk result (self.new ≡ previous_with self.old (part_view part.entry)) }
     {
-        let Previous { ctx, id, plural } = self;
-        match keyword {
-            Keyword::Msgctxt => Previous {
-                ctx: Some(text),
-                id,
-                plural,
-            },
-            Keyword::Msgid => Previous {
-                ctx,
-                id: Some(text),
-                plural,
-            },
-            _ => Previous {
-                ctx,
-                id,
-                plural: Some(text),
-            },
+        match part {
+            Part::Begins(keyword, raw) => {
+                self.add_keyword(keyword, PoString::from_piece(alloc, raw)?);
+                Ok(())
+            }
+            Part::Continues(raw) => self.add_more(alloc, raw),
         }
     }
 
-    /// The strings, the last with the string of this piece at its end.
-    pub(crate) fn with_more(self, raw: &str) -> Result<Previous, AllocError>
-        requires short { length (previous_end self) + length (unescaped raw.now) ≤ 65536 }
-        requires bytes { list_all is_string_byte (unescaped raw.now) ≡ true }
-        ensures { IfOk result (λ previous. previous ≡ previous_more self (unescaped raw.now)) }
+    /// Adds one more string.
+    fn add_keyword(&mut self, keyword: Keyword, text: PoString)
+        ensures { self.new ≡ previous_keyword self.old keyword text }
     {
-        let Previous { ctx, id, plural } = self;
-        Ok(match (ctx, id, plural) {
-            (ctx, id, Some(plural)) => Previous {
-                ctx,
-                id,
-                plural: Some(plural.with_piece(raw)?),
-            },
-            (ctx, Some(id), None) => Previous {
-                ctx,
-                id: Some(id.with_piece(raw)?),
-                plural: None,
-            },
-            (Some(ctx), None, None) => Previous {
-                ctx: Some(ctx.with_piece(raw)?),
-                id: None,
-                plural: None,
-            },
-            (None, None, None) => Previous::none(),
-        })
+        match keyword {
+            Keyword::Msgctxt => self.ctx = Some(text),
+            Keyword::Msgid => self.id = Some(text),
+            _ => self.plural = Some(text),
+        }
+    }
+
+    /// Adds the string of this piece at the last one's end.
+    fn add_more(&mut self, alloc: Global, raw: &str) -> Result<(), AllocError>
+        requires short { length (previous_end self.old) + length (unescaped raw.now) ≤ 65536 }
+        requires bytes { list_all is_string_byte (unescaped raw.now) ≡ true }
+        ensures { OnOk result (self.new ≡ previous_more self.old (unescaped raw.now)) }
+    {
+        if let Some(plural) = &mut self.plural {
+            plural.add_piece(alloc, raw)
+        } else if let Some(id) = &mut self.id {
+            id.add_piece(alloc, raw)
+        } else if let Some(ctx) = &mut self.ctx {
+            ctx.add_piece(alloc, raw)
+        } else {
+            Ok(())
+        }
     }
 }

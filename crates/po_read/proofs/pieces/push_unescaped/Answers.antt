@@ -9,7 +9,7 @@ loop-front-preserved-in_ok-push-in-Some-split_letter c =
     let parts = split_parts 92 c.loop-front.rest.now c.split_once.result c.split_once.ensures.cases (lit< tt) in
     let cut = rw c.in-Some.is at parts in
     let cuts = cut_at c.loop-front.rest.now c.in-Some.front.now c.in-Some.behind.now cut in
-    record { utf8 = search rules; same = pushed_letter _ _ _ c.loop-front.rest.now c.in-Some.front.now c.in-Some.behind.now c.in-Some-split_letter.more.now _ c.in-Some-split_letter.character c.in_ok-push_str.ensures.bytes (c.in_ok-push-in-Some-split_letter.ensures.bytes ∙ ap (λ t. string_bytes c.push_str.new.self ++ t) (c.in_ok-push-in-Some-split_letter.ensures.ascii c.in-Some-split_letter.ensures.ascii)) cuts c.in-Some-split_letter.ensures.value c.loop-front.invariant.same }
+    record { utf8 = search rules; same = pushed_letter _ _ _ c.loop-front.rest.now c.in-Some.front.now c.in-Some.behind.now c.in-Some-split_letter.more.now _ c.in-Some-split_letter.character c.in_ok-push_str.ensures.bytes (c.in_ok-push-in-Some-split_letter.ensures.bytes ∙ ap (λ t. string_bytes c.push_str-in-Some.new.self ++ t) (c.in_ok-push-in-Some-split_letter.ensures.ascii c.in-Some-split_letter.ensures.ascii)) cuts c.in-Some-split_letter.ensures.value c.loop-front.invariant.same }
 
 pub loop-front-preserved : goal.loop-front-preserved
 loop-front-preserved c =
