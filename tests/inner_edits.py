@@ -3,7 +3,8 @@
 
     tests/inner_edits.py [CRATE..]
 
-The prover has to refuse each: `rt must-fail` tries them, with the folder in the place of must-fail/ until it ends.
+The prover has to refuse each: `rt must-fail` tries them, with the folder in the place of must-fail/ until it ends. The last line is
+'N refused, M not'.
 """
 import pathlib
 import subprocess
@@ -20,18 +21,32 @@ def put_back():
         aside.rename(aside.parent / "must-fail")
 
 
+def count_refused(names):
+    """Tries the crates' edits, prints what rt prints, and returns how many it refused."""
+    refused = 0
+    command = ["rt", "must-fail", *names]
+    with subprocess.Popen(command, cwd=CRATES.parent, stdout=subprocess.PIPE, text=True) as rt:
+        for line in rt.stdout:
+            print(line, end="", flush=True)
+            refused += ": refused, as it must be" in line
+    return refused
+
+
 def main(names):
     put_back()
     crates = sorted(it.parent for it in CRATES.glob("*/inner-edits") if not names or it.parent.name in names)
     if not crates:
         sys.exit(f"no edits of inner functions in: {' '.join(names)}")
+    edits = sum(len(list(it.glob("inner-edits/*.edit"))) for it in crates)
     try:
         for crate in crates:
             (crate / "must-fail").rename(crate / ASIDE)
             (crate / "inner-edits").rename(crate / "must-fail")
-        return subprocess.call(["rt", "must-fail", *[it.name for it in crates]], cwd=CRATES.parent)
+        refused = count_refused([it.name for it in crates])
     finally:
         put_back()
+    print(f"{refused} refused, {edits - refused} not")
+    return 1 if edits > refused else 0
 
 
 if __name__ == "__main__":
