@@ -1,6 +1,6 @@
 use Rattle.std.proofs.Common.{rules, Some, ◌≡◌, ℕ, ◌+◌, ◌-◌, ◌*◌, ◌<◌, ◌≤◌, length, Bool, true, false, nat_eq, List, [], ◌∷◌, ◌++◌, slice_index_or, slice_set, ap, arith}
 use Rattle.std.proofs.lemmas.Grind.{common_steps}
-use Rattle.units_tests.proofs.tests.SliceSourceByteSource.read.Goals as goal
+use Rattle.request_rows.proofs.streams.SliceSourceByteSource.read.Goals as goal
 
 one_given : (s r : List ℕ) → 1 ≤ length s → 0 < length r → s ≡ lib.ListN.take 1 (slice_set r 0 (slice_index_or s 0 0)) ++ lib.ListN.take (length s - 1) (lib.ListN.drop 1 s)
 one_given [] r h k = absurd (omega arith)

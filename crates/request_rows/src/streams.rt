@@ -1,0 +1,119 @@
+//! Sinks and sources over memory.
+ghost use Rattle.std.specs.Prelude.{Some};
+
+use crate::words::count;
+use std::alloc::Global;
+use units::{ByteSink, ByteSource, SinkFault, SourceFault};
+
+/// A sink over memory that takes one byte a write, until it is full.
+#[derive(Drop)]
+struct VecSink {
+    taken: Vec<u8>,
+    most: usize,
+    failed: u64,
+}
+
+impl ByteSink for VecSink {
+    ghost taken = { λ sink. Some sink.taken.items };
+
+    ghost failed = { λ sink. sink.failed };
+
+    fn write(&mut self, bytes: &[u8]) -> Result<usize, SinkFault> {
+        if self.taken.len() >= self.most || self.taken.push(bytes[0]).is_err() {
+            self.failed = self.failed.saturating_add(1);
+            return Err(SinkFault);
+        }
+        Ok(1)
+    }
+
+    fn failures(&self) -> u64 {
+        self.failed
+    }
+}
+
+/// A source over memory that gives one byte a read.
+#[derive(Drop)]
+struct SliceSource<'a> {
+    left: &'a [u8],
+}
+
+impl<'a> ByteSource for SliceSource<'a> {
+    ghost left = { λ source. Some source.left.now };
+
+    ghost failed = { λ source. 0 };
+
+    fn read(&mut self, room: &mut [u8]) -> Result<usize, SourceFault> {
+        match self.left {
+            [] => Ok(0),
+            [first, rest @ ..] => {
+                room[0] = *first;
+                self.left = rest;
+                Ok(1)
+            }
+        }
+    }
+
+    fn failures(&self) -> u64 {
+        0
+    }
+}
+
+fn write_told(told: &mut String, sink: &mut VecSink, bytes: &[u8]) -> Option<()> {
+    if bytes.is_empty() {
+        return None;
+    }
+    match sink.write(bytes) {
+        Ok(count) => write!(told, "{count}, ").ok(),
+        Err(SinkFault) => told.push_str("refused, ").ok(),
+    }
+}
+
+fn writes_told(told: &mut String, sink: &mut VecSink, texts: &str) -> Option<()> {
+    for text in texts.split('|') {
+        write_told(told, sink, text.as_bytes())?;
+    }
+    Some(())
+}
+
+fn end_told(told: &mut String, sink: &mut VecSink) -> Option<()> {
+    let flushed = if sink.flush().is_ok() {
+        "flushed"
+    } else {
+        "stuck"
+    };
+    let failures = sink.failures();
+    let taken = str::from_utf8(sink.taken.as_slice()).ok()?;
+    write!(told, "{flushed}, {failures} failed: {taken}").ok()
+}
+
+pub(crate) fn sink_told(alloc: Global, words: &str, texts: &str) -> Option<String> {
+    let mut told = String::new(alloc);
+    let mut sink = VecSink {
+        taken: Vec::new(alloc),
+        most: count(words, 1)?,
+        failed: 0,
+    };
+    writes_told(&mut told, &mut sink, texts)?;
+    end_told(&mut told, &mut sink)?;
+    Some(told)
+}
+
+fn read_one_told(told: &mut String, source: &mut SliceSource) -> Option<()> {
+    let mut room = [0u8; 4];
+    let came = source.read(&mut room).ok()?;
+    let text = str::from_utf8(room.get(..came)?).ok()?;
+    write!(told, "{came} {text}, ").ok()
+}
+
+pub(crate) fn source_told(alloc: Global, words: &str, text: &str) -> Option<String> {
+    let mut told = String::new(alloc);
+    let mut source = SliceSource {
+        left: text.as_bytes(),
+    };
+    for _ in 0..count(words, 1)? {
+        read_one_told(&mut told, &mut source)?;
+    }
+    let failures = source.failures();
+    write!(told, "{failures} failed").ok()?;
+    Some(told)
+}
