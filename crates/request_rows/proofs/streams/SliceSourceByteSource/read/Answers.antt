@@ -1,4 +1,4 @@
-use Rattle.std.proofs.Common.{rules, Some, ◌≡◌, ℕ, ◌+◌, ◌-◌, ◌*◌, ◌<◌, ◌≤◌, length, Bool, true, false, nat_eq, List, [], ◌∷◌, ◌++◌, slice_index_or, slice_set, ap, arith}
+use Rattle.std.proofs.Common.{Some, ◌≡◌, ℕ, ◌-◌, ◌<◌, ◌≤◌, length, List, [], ◌∷◌, ◌++◌, slice_index_or, slice_set, ap, arith}
 use Rattle.std.proofs.lemmas.Grind.{common_steps}
 use Rattle.request_rows.proofs.streams.SliceSourceByteSource.read.Goals as goal
 
