@@ -1,62 +1,77 @@
 #!/usr/bin/env python3
 """Runs one act of each kind with each of its growths refused in turn.
 
-Each test of crates/review_tests/src/tests/growths.rt decides one act. With a growth refused it either has no unit and no request
-to decide on ("before the decision"), or the decision answers want of memory and, decided once more, what it does with
-ample memory ("of the decision"). Never may it answer anything else.
+The rows are those of crates/unit_rows/stdin behind `# One act of each kind`. With a growth refused there either is no unit, no
+request, no row or no text of what came ("beside the decision"), or the decision answers want of memory and, made again, is what
+it is with ample memory ("of the decision"). Never may the act come to anything else.
 
-Usage: tests/growths/review.py        (from the top of the repository, after rt test in crates/review_tests; wants cc)
+Usage: tests/growths/review.py        (from the top of the repository, after rt run in crates/unit_rows; wants cc)
 """
 import os
-import re
 import subprocess
 import tempfile
 
-PROGRAM = os.path.join("crates", "review_tests", "out", "review_tests_tests")
-BEFORE = re.compile(r"error: (AllocError|AllocFailed \{ \.\. \}|Memory)\n")
-WITHIN = "a growth of the decision was refused\n"
+CRATE = os.path.join("crates", "unit_rows")
+PROGRAM = os.path.join(CRATE, "out", "unit_rows")
 
 
-def run(library, test, number):
+def rows():
+    """Who acts, and then a unit and an act on it, for each kind of act."""
+    lines = open(os.path.join(CRATE, "stdin")).read().splitlines()
+    first = next(i for i, line in enumerate(lines) if line.startswith("# One act of each kind")) + 1
+    ends = [i for i, line in enumerate(lines) if i > first and line.startswith("#")] + [len(lines)]
+    by, *others = lines[first : ends[0]]
+    pairs = list(zip(others[::2], others[1::2]))
+    if len({act.split(" ")[2].split("|")[0] for _, act in pairs}) != 8 or len(pairs) != 8:
+        raise SystemExit("not each kind of act: %r" % others)
+    return by, pairs
+
+
+def run(library, given, number):
     environment = dict(os.environ, LD_PRELOAD=library, FAIL_N=str(number))
-    done = subprocess.run([PROGRAM, test], capture_output=True, env=environment)
-    return done.returncode, done.stdout.decode() + done.stderr.decode()
+    done = subprocess.run([PROGRAM], input=given.encode(), capture_output=True, env=environment)
+    return done.returncode, done.stdout.decode(), done.stderr.decode()
 
 
-def kind_of(status, text):
-    if status == 0:
-        return "as ever"
-    if text.startswith(WITHIN):
-        return "of the decision"
-    if BEFORE.match(text):
-        return "before the decision"
-    return None
+def kind_of(outcome, unit, act):
+    """What came of a run, or None where it is none of what may come."""
+    wanted = act.split(" -> ")[1]
+    kinds = {
+        (0, "3 rows\n", ""): "as ever",
+        (0, "%s, not %s after want of memory\n3 rows\n" % (act, wanted), ""): "of the decision",
+        (0, "%s: unread\n3 rows\n" % act, ""): "beside the decision",
+        (0, "%s: unread\n%s: unread\n3 rows\n" % (unit, act), ""): "beside the decision",
+        (1, "", "Error: Kind(OutOfMemory)\n"): "beside the decision",
+    }
+    return kinds.get(outcome)
 
 
-def sweep(library, test):
-    counts = {"before the decision": 0, "of the decision": 0, "as ever": 0}
+def sweep(library, by, unit, act):
+    counts = {"beside the decision": 0, "of the decision": 0, "as ever": 0}
     number, quiet = 0, 0
     # Behind the last growth nothing is refused: fifty runs in a row are as ever.
     while quiet < 50:
         number += 1
-        outcome = run(library, test, number)
-        kind = kind_of(*outcome)
+        outcome = run(library, "".join(row + "\n" for row in (by, unit, act)), number)
+        kind = kind_of(outcome, unit, act)
         if kind is None:
-            raise SystemExit("%s, growth %d refused: %r" % (test, number, outcome))
+            raise SystemExit("%s, growth %d refused: %r" % (act, number, outcome))
         counts[kind] += 1
         quiet = quiet + 1 if kind == "as ever" else 0
     if counts["as ever"] != quiet or counts["of the decision"] == 0:
-        raise SystemExit("%s: %r" % (test, counts))
-    print("%s: %d growths before the decision, %d of it" % (test, counts["before the decision"], counts["of the decision"]))
+        raise SystemExit("%s: %r" % (act, counts))
+    print("%s: %d growths beside the decision, %d of it" % (act, counts["beside the decision"], counts["of the decision"]))
 
 
-with tempfile.TemporaryDirectory() as folder:
-    library = os.path.join(folder, "refuse.so")
-    source = os.path.join("tests", "growths", "refuse.c")
-    subprocess.run(["cc", "-O1", "-shared", "-fPIC", "-o", library, source, "-ldl"], check=True)
-    names = subprocess.run([PROGRAM, "--list"], capture_output=True, check=True).stdout.decode()
-    tests = re.findall(r"^(tests::growths::\w+): test$", names, re.M)
-    if len(tests) != 8:
-        raise SystemExit("not each kind of act: %r" % tests)
-    for test in tests:
-        sweep(library, test)
+def main():
+    by, pairs = rows()
+    with tempfile.TemporaryDirectory() as folder:
+        library = os.path.join(folder, "refuse.so")
+        source = os.path.join("tests", "growths", "refuse.c")
+        subprocess.run(["cc", "-O1", "-shared", "-fPIC", "-o", library, source, "-ldl"], check=True)
+        for unit, act in pairs:
+            sweep(library, by, unit, act)
+
+
+if __name__ == "__main__":
+    main()

@@ -1,5 +1,0 @@
-//! The tests of `template_update`, which see what its callers see.
-#![tactic(auto)]
-
-#[cfg(test)]
-mod tests;

@@ -1,0 +1,78 @@
+//! Decisions on a unit, and templates and texts of a language, as rows of data: reads rows from standard input, prints those
+//! that come to something else than they say, with what they come to, and at the end how many rows there were.
+//!
+//! A row is a deed and, behind ` -> `, what it comes to. A deed's words are parted by spaces, and its texts stand behind the
+//! first `|`. A line that begins with `#` is no row. A row that can't be read, or that memory is wanting for, is `unread`.
+//!
+//! Decisions:
+//!
+//!   by ROLE SUM MARK..                    who acts in the rows below, and under which policy: the sum of votes that accepts,
+//!                                         and the marks reviews, guests, voting, placeholders
+//!   unit STATE REVISION MARK..|FORM|..    the unit of the rows below, of the msgid `Hello`; its marks: obsolete, read-only,
+//!                                         suggested (`Servus`, as number 20, by ann), crowded (that with 10,000 votes against
+//!                                         it), plural (of the msgid `%d file`, which was another before)
+//!   NAME SEEN ACT                         what NAME does, who has seen the revision SEEN, to the unit that the rows above left. An
+//!                                         ACT is suggest NUMBER|FORM|.., for NUMBER, against NUMBER, unvote NUMBER,
+//!                                         accept NUMBER, dismiss NUMBER, translate|FORM|.., comment|LINE|.., approve, send-back
+//!   left                                  the numbers of the unit's suggestions, and its forms
+//!
+//! An act comes to a refusal, or to the unit's revision and state with what else the reply tells: `suggestion NUMBER SUM`,
+//! `voted SUM`, `accepted SUM`; `with previous` is said of a unit that keeps a previous msgid. A decision that memory is
+//! refused to is made once more: what comes of it then is told with `after want of memory`.
+//!
+//! Templates and texts, where PO stands for the lines of a PO text with `; ` between them:
+//!
+//!   template|PO                           the template of the rows below
+//!   units COUNT STATE REVISION MARK..|PO  the language's units in the rows below, each entry so many times; their mark: suggested
+//!   then|PO                               what the next template makes of the units, which are those of the rows below
+//!   load MARK..|PO                        the units that a language's text gives, likewise; the policy's mark: placeholders
+//!   strip|PO                              the template of a text: how many entries, and of each its comments and flags, its msgid
+//!                                         and its forms
+//!
+//! `then` and `load` come to the numbers of the reply and the first unit, or to `past a limit`.
+#![tactic(auto)]
+
+mod decisions;
+mod updates;
+mod words;
+
+use std::alloc::Global;
+use std::io;
+use words::{both_sides, word, words_and_texts};
+
+/// What a deed comes to. None where it can't be read, or memory is wanting.
+fn found(
+    alloc: Global,
+    decisions: &mut decisions::Stage,
+    updates: &mut updates::Stage,
+    deed: &str,
+) -> Option<String> {
+    let (words, texts) = words_and_texts(deed);
+    match word(words, 0) {
+        "template" | "units" | "then" | "load" | "strip" => {
+            updates::found(alloc, updates, words, texts.unwrap_or(""))
+        }
+        _ => decisions::found(alloc, decisions, words, texts),
+    }
+}
+
+fn main(rt: HostRuntime) -> io::Result<()> {
+    let alloc = rt.alloc();
+    let mut decisions = decisions::Stage::new(alloc);
+    let mut updates = updates::Stage::new(alloc);
+    let mut rows = 0u64;
+    for line in rt.lines(alloc) {
+        let line = line?;
+        if line.as_str().starts_with('#') {
+            continue;
+        }
+        rows = rows.saturating_add(1);
+        let (deed, wanted) = both_sides(line.as_str());
+        match found(alloc, &mut decisions, &mut updates, deed) {
+            Some(text) if text.as_str() == wanted => {}
+            Some(text) => println!(rt; "{line}, not {text}")?,
+            None => println!(rt; "{line}: unread")?,
+        }
+    }
+    println!(rt; "{rows} rows")
+}

@@ -1,0 +1,87 @@
+//! What a plan and a template tell.
+use po_read::{Entry, PoString, Text};
+use std::alloc::{AllocError, Global};
+use template_update::{Counts, Plan};
+use units::Unit;
+
+/// The reply's numbers, and the first unit.
+pub(super) fn plan_told(alloc: Global, plan: Option<&Plan>) -> Result<String, AllocError> {
+    let Some(plan) = plan else {
+        return String::from_str(alloc, "past a limit");
+    };
+    let mut text = counts_told(alloc, plan.counts)?;
+    if let Some(unit) = plan.units.as_slice().first() {
+        unit_told(&mut text, unit)?;
+    }
+    Ok(text)
+}
+
+fn counts_told(alloc: Global, counts: Counts) -> Result<String, AllocError> {
+    match counts {
+        Counts::Updated {
+            added,
+            changed,
+            kept,
+            obsolete,
+            revived,
+        } => format!(in alloc;
+            "{added} added, {changed} changed, {kept} kept, {obsolete} obsolete, {revived} revived"
+        ),
+        Counts::Loaded {
+            loaded,
+            missing,
+            obsolete,
+        } => format!(in alloc; "{loaded} loaded, {missing} missing, {obsolete} obsolete"),
+    }
+}
+
+fn unit_told(text: &mut String, unit: &Unit) -> Result<(), AllocError> {
+    let n = unit.revision.number();
+    let state = unit.state;
+    write!(text, ": {state:?} {n}")?;
+    if unit.obsolete {
+        text.push_str(" obsolete")?;
+    }
+    let suggestions = unit.suggestions.as_slice().len();
+    if suggestions > 0 {
+        write!(text, " suggestions {suggestions}")?;
+    }
+    if let Some(id) = &unit.previous.id {
+        let id = id.as_str();
+        write!(text, " was {id}")?;
+    }
+    forms_told(text, unit.forms.as_slice())
+}
+
+fn forms_told(text: &mut String, forms: &[PoString]) -> Result<(), AllocError> {
+    for form in forms {
+        let form = form.as_str();
+        write!(text, "|{form}")?;
+    }
+    Ok(())
+}
+
+fn texts_told(text: &mut String, mark: &str, texts: &[Text]) -> Result<(), AllocError> {
+    for one in texts {
+        let one = one.as_str();
+        write!(text, "{mark}{one} ")?;
+    }
+    Ok(())
+}
+
+/// How many entries there are, and of each its comments and flags, its msgid and its forms.
+pub(super) fn entries_told(alloc: Global, entries: &[Entry]) -> Result<String, AllocError> {
+    let mut text = format!(in alloc; "{}: ", entries.len())?;
+    for entry in entries {
+        texts_told(&mut text, "#", entry.translator.as_slice())?;
+        texts_told(&mut text, "#.", entry.extracted.as_slice())?;
+        texts_told(&mut text, "#,", entry.flags.as_slice())?;
+        if entry.previous.id.is_some() {
+            text.push_str("with previous ")?;
+        }
+        let id = entry.id.as_str();
+        write!(text, "{id}")?;
+        forms_told(&mut text, entry.forms.as_slice())?;
+    }
+    Ok(text)
+}
