@@ -1,0 +1,131 @@
+//! The entries of rows.
+ghost use Rattle.std.specs.Prelude.{◌≡◌, IfSome, true};
+ghost use Rattle.po_read.specs.Strings.{is_string};
+
+use crate::stage::Stage;
+use crate::texts::{around, plain};
+use po_read::{Catalogue, Entry, Forms, Items, PoString, Previous, Text, read};
+use std::alloc::Global;
+use std::mem::replace;
+
+fn string(alloc: Global, text: &str) -> Option<PoString>
+    ensures { IfSome result (λ s. is_string s ≡ true) }
+{
+    PoString::try_new(alloc, plain(alloc, text)?.as_str()).ok()?
+}
+
+/// The value of the first item of this name.
+fn value<'a>(items: &'a str, wanted: &str) -> Option<&'a str> {
+    for item in items.split("; ") {
+        let (name, value) = around(item, "=");
+        if name == wanted {
+            return Some(value);
+        }
+    }
+    None
+}
+
+fn forms(alloc: Global, items: &str) -> Option<Forms> {
+    let mut strings = Vec::new(alloc);
+    for item in items.split("; ") {
+        let (name, value) = around(item, "=");
+        if name == "msgstr" {
+            strings.push(string(alloc, value)?).ok()?;
+        }
+    }
+    Forms::try_new(strings)
+}
+
+/// An entry without comments, flags, context and previous strings. Nothing fails here: each way out past an entry half made is
+/// dear to prove.
+fn bare(alloc: Global, id: PoString, forms: Forms) -> Entry {
+    Entry {
+        translator: Items::new(alloc),
+        extracted: Items::new(alloc),
+        references: Items::new(alloc),
+        flags: Items::new(alloc),
+        previous: Previous {
+            ctx: None,
+            id: None,
+            plural: None,
+        },
+        ctx: None,
+        id,
+        plural: None,
+        forms,
+        obsolete: false,
+    }
+}
+
+fn put_text(alloc: Global, texts: &mut Items<Text>, value: &str) -> Option<()> {
+    let text = plain(alloc, value)?;
+    texts.push(Text::from_string(text)).ok()
+}
+
+fn put_string(place: &mut Option<PoString>, string: PoString) -> Option<()> {
+    *place = Some(string);
+    Some(())
+}
+
+/// Adds an item that is no msgid and no form.
+fn put_item(alloc: Global, entry: &mut Entry, name: &str, value: &str) -> Option<()> {
+    match name {
+        "#" => put_text(alloc, &mut entry.translator, value),
+        "#." => put_text(alloc, &mut entry.extracted, value),
+        "#:" => put_text(alloc, &mut entry.references, value),
+        "#," => put_text(alloc, &mut entry.flags, value),
+        "msgctxt" => put_string(&mut entry.ctx, string(alloc, value)?),
+        "msgid_plural" => put_string(&mut entry.plural, string(alloc, value)?),
+        "was msgctxt" => put_string(&mut entry.previous.ctx, string(alloc, value)?),
+        "was msgid" => put_string(&mut entry.previous.id, string(alloc, value)?),
+        "was msgid_plural" => put_string(&mut entry.previous.plural, string(alloc, value)?),
+        "obsolete" => {
+            entry.obsolete = true;
+            Some(())
+        }
+        _ => None,
+    }
+}
+
+fn put_items(alloc: Global, entry: &mut Entry, items: &str) -> Option<()> {
+    for item in items.split("; ") {
+        let (name, value) = around(item, "=");
+        if name != "msgid" && name != "msgstr" {
+            put_item(alloc, entry, name, value)?;
+        }
+    }
+    Some(())
+}
+
+/// Adds the entry of these items.
+pub(crate) fn put_entry(alloc: Global, stage: &mut Stage, items: &str) -> Option<String> {
+    let id = string(alloc, value(items, "msgid")?)?;
+    let forms = forms(alloc, items)?;
+    stage.entries.push(bare(alloc, id, forms)).ok()?;
+    put_items(alloc, stage.entries.last_mut()?, items)?;
+    Some(String::new(alloc))
+}
+
+fn entries_of(alloc: Global, bytes: &[u8]) -> Option<Vec<Entry>> {
+    match read(alloc, bytes) {
+        Ok(catalogue) => Some(catalogue.into_entries().into_vec()),
+        Err(_) => None,
+    }
+}
+
+/// Sets the entries to those of a text.
+pub(crate) fn put_entries(alloc: Global, stage: &mut Stage, bytes: &[u8]) -> Option<String> {
+    let entries = entries_of(alloc, bytes)?;
+    drop(replace(&mut stage.entries, entries));
+    Some(String::new(alloc))
+}
+
+/// How many entries the catalogue of the entries has.
+pub(crate) fn made(alloc: Global, stage: &mut Stage) -> Option<String> {
+    let entries = replace(&mut stage.entries, Vec::new(alloc));
+    match Catalogue::try_new(alloc, entries) {
+        Ok(Some(catalogue)) => format!(in alloc; "{}", catalogue.entries().len()).ok(),
+        Ok(None) => String::from_str(alloc, "refused").ok(),
+        Err(_) => None,
+    }
+}

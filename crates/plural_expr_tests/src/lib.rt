@@ -1,5 +1,0 @@
-//! The tests of `plural_expr`, which see what its callers see.
-#![tactic(auto)]
-
-#[cfg(test)]
-mod tests;
