@@ -1,0 +1,90 @@
+//! A desk's `run` and the plain program beside the desk.
+use crate::course::{Course, Sent, desk_opened};
+use crate::exports::exports;
+use crate::plain::plain_text;
+use crate::told::result_told;
+use office::Desk;
+use request_book::Request;
+use std::alloc::Global;
+
+/// The requests that weren't lost on their way.
+fn requests(alloc: Global, sent: &[Sent]) -> Option<Vec<Request>> {
+    let mut requests = Vec::new(alloc);
+    for one in sent.iter().filter(|one| !one.lost) {
+        requests
+            .push(Request::from_json(alloc, one.line.as_str()).ok()?)
+            .ok()?;
+    }
+    Some(requests)
+}
+
+/// What a run over all requests at once answers.
+fn run_replies(alloc: Global, desk: &mut Desk, sent: &[Sent]) -> Option<String> {
+    let requests = requests(alloc, sent)?;
+    let mut text = String::new(alloc);
+    for outcome in desk.run(&requests).ok()? {
+        let told = result_told(alloc, &outcome)?;
+        write!(text, "{told}; ").ok()?;
+    }
+    Some(text)
+}
+
+fn run_text(alloc: Global, desk: &mut Desk, sent: &[Sent]) -> Option<String> {
+    let replies = run_replies(alloc, desk, sent)?;
+    let exports = exports(alloc, desk, sent)?;
+    format!(in alloc; "{replies}{exports}").ok()
+}
+
+/// The same of a desk that was opened so.
+fn new_run_text(alloc: Global, course: &Course) -> Option<String> {
+    let mut desk = desk_opened(alloc, course.opening.as_str())?;
+    let text = run_text(alloc, &mut desk, &course.sent);
+    drop(desk);
+    text
+}
+
+/// What the desk answered.
+fn replies(alloc: Global, sent: &[Sent]) -> Option<String> {
+    let mut text = String::new(alloc);
+    for one in sent.iter().filter(|one| !one.lost) {
+        let reply = one.reply.as_str();
+        write!(text, "{reply}; ").ok()?;
+    }
+    Some(text)
+}
+
+/// Nothing where two texts are equal, else what was told.
+fn difference(alloc: Global, name: &str, told: &str, wanted: &str) -> Option<String> {
+    if told == wanted {
+        Some(String::new(alloc))
+    } else {
+        format!(in alloc; "{name}: {told}").ok()
+    }
+}
+
+fn run_difference(alloc: Global, course: &mut Course, replies: &str) -> Option<String> {
+    let exports = course.exports(alloc)?;
+    let wanted = format!(in alloc; "{replies}{exports}").ok()?;
+    let told = new_run_text(alloc, course)?;
+    difference(alloc, "run", told.as_str(), wanted.as_str())
+}
+
+fn plain_difference(alloc: Global, course: &mut Course, replies: &str) -> Option<String> {
+    let units = course.units(alloc)?;
+    let wanted = format!(in alloc; "{replies}{units}").ok()?;
+    let told = plain_text(alloc, course)?;
+    difference(alloc, "plainly", told.as_str(), wanted.as_str())
+}
+
+/// How many requests have the same replies and leave the same of each; or what is other.
+pub(crate) fn alike(alloc: Global, course: &mut Course) -> Option<String> {
+    let replies = replies(alloc, &course.sent)?;
+    let run = run_difference(alloc, course, replies.as_str())?;
+    let plain = plain_difference(alloc, course, replies.as_str())?;
+    let count = course.sent.iter().filter(|one| !one.lost).count();
+    if run.is_empty() && plain.is_empty() {
+        format!(in alloc; "{count} alike").ok()
+    } else {
+        format!(in alloc; "{run} {plain}").ok()
+    }
+}

@@ -1,0 +1,69 @@
+//! Exports of a desk.
+use crate::course::Sent;
+use crate::room::{Room, sink_with};
+use crate::told::receipt_told;
+use crate::words::code_in;
+use office::{Desk, ExportFault, ExportReceipt};
+use po_read::{Catalogue, read};
+use std::alloc::Global;
+use std::str;
+use units::Lang;
+
+/// The codes of the demo office's language and of those that the requests name.
+pub(crate) fn codes<'a>(alloc: Global, sent: &'a [Sent]) -> Option<Vec<&'a str>> {
+    let mut codes = Vec::new(alloc);
+    codes.push("de").ok()?;
+    for one in sent {
+        if let Some(code) = code_in(one.line.as_str()) {
+            if !codes.contains(&code) {
+                codes.push(code).ok()?;
+            }
+        }
+    }
+    Some(codes)
+}
+
+/// Exports a language into a sink.
+fn export_into(
+    alloc: Global,
+    desk: &mut Desk,
+    code: &str,
+    sink: &mut Room,
+) -> Option<Result<ExportReceipt, ExportFault>> {
+    let lang = Lang::try_new(alloc, code).ok()??;
+    Some(desk.export(&lang, sink))
+}
+
+/// The catalogue that a language's export spells: without an entry where the language isn't there.
+pub(crate) fn catalogue(alloc: Global, desk: &mut Desk, code: &str) -> Option<Catalogue> {
+    let mut sink = sink_with(alloc, usize::MAX);
+    let outcome = export_into(alloc, desk, code, &mut sink)?;
+    if outcome.is_err() {
+        return Some(Catalogue::empty(alloc));
+    }
+    read(alloc, &sink.taken).ok()
+}
+
+fn taken_told(alloc: Global, taken: &[u8]) -> Option<String> {
+    let text = str::from_utf8(taken).ok()?;
+    text.replace(alloc, "\n", "¶").ok()
+}
+
+/// What the export of a language into so much room is told as.
+pub(crate) fn exported(alloc: Global, desk: &mut Desk, code: &str, most: usize) -> Option<String> {
+    let mut sink = sink_with(alloc, most);
+    let outcome = export_into(alloc, desk, code, &mut sink)?;
+    let receipt = receipt_told(alloc, outcome, sink.taken.len())?;
+    let text = taken_told(alloc, &sink.taken)?;
+    format!(in alloc; "{receipt}|{text}").ok()
+}
+
+/// The exports of each language.
+pub(crate) fn exports(alloc: Global, desk: &mut Desk, sent: &[Sent]) -> Option<String> {
+    let mut text = String::new(alloc);
+    for code in codes(alloc, sent)? {
+        let more = exported(alloc, desk, code, usize::MAX)?;
+        write!(text, "{code} {more}; ").ok()?;
+    }
+    Some(text)
+}

@@ -1,0 +1,55 @@
+//! Deliveries to a desk as rows of data: reads rows from standard input, and prints those that come to something else than
+//! they say, and then how many rows there were. A request is a line of JSON, or the name of one.
+//!
+//!   NAME is REQUEST                  gives the request a name
+//!   open WHO                         opens a desk for the rows below: `demo`, or an office with this manager
+//!   REQUEST -> STATUS BODY           the desk's reply
+//!   many FROM TO REQUEST -> X        a request for each number from FROM up to TO, which stands for each @ in the request;
+//!                                    each gets the reply X, in whose body @ stands for the number too
+//!   lost REQUEST                     is lost on its way: only the plain program hears of it
+//!   again -> STATUS BODY             the last request once more; no export changes
+//!   over -> N as before              all N requests once more: each gets its first reply; no export changes
+//!   alike -> N alike                 a new desk's `run` over the N requests and the plain program give the same replies, and
+//!                                    leave the same exports and units
+//!   every A,B,.. C,D,.. .. -> N lists alike    the same of each list that takes one named request from each group
+//!   export LANG -> N bytes SHA|TEXT  the language's text, its length and its digest; a pilcrow stands for each LF
+//!   export LANG N -> X               the same into a sink that is full after N bytes
+//!   plain LANG ID -> X               the unit as the plain program leaves it
+//!   number FAULT -> N                the fault's number
+//!
+//! A delivery that is lost for want of memory is told as lost, which no row wants. A row that begins with `#` says nothing.
+#![tactic(auto)]
+
+mod alike;
+mod course;
+mod every;
+mod exports;
+mod many;
+mod numbers;
+mod plain;
+mod room;
+mod stage;
+mod told;
+mod units_told;
+mod words;
+
+use stage::{Stage, found};
+use std::io;
+use words::both_sides;
+
+fn main(rt: HostRuntime) -> io::Result<()> {
+    let alloc = rt.alloc();
+    let mut stage = Stage::new(alloc);
+    let mut rows = 0u64;
+    for line in rt.lines(alloc) {
+        let line = line?;
+        let (deed, wanted) = both_sides(line.as_str());
+        match found(alloc, &mut stage, deed) {
+            Some(text) if text.as_str() == wanted => {}
+            Some(text) => println!(rt; "{line}, not {text}")?,
+            None => println!(rt; "{line}: unread")?,
+        }
+        rows = rows.saturating_add(1);
+    }
+    println!(rt; "{rows} rows")
+}

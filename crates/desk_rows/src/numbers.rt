@@ -1,0 +1,21 @@
+//! The numbers of faults.
+use office::{ExportFault, Lost};
+use std::alloc::Global;
+
+fn number(name: &str) -> Option<u8> {
+    match name {
+        "NoLanguage" => Some(ExportFault::NoLanguage.number()),
+        "Device" => Some(ExportFault::Device.number()),
+        "Memory" => Some(ExportFault::Memory.number()),
+        "Disk" => Some(ExportFault::Disk.number()),
+        "Long" => Some(ExportFault::Long.number()),
+        "LostMemory" => Some(Lost::Memory.number()),
+        "LostDisk" => Some(Lost::Disk.number()),
+        _ => None,
+    }
+}
+
+pub(crate) fn number_of(alloc: Global, name: &str) -> Option<String> {
+    let number = number(name)?;
+    format!(in alloc; "{number}").ok()
+}

@@ -1,0 +1,87 @@
+//! What the rows above set, and what a row makes of it.
+use crate::alike::alike;
+use crate::course::{Course, opened};
+use crate::every::every_list;
+use crate::many::many;
+use crate::numbers::number_of;
+use crate::plain::plain_unit;
+use crate::words::{behind, word};
+use std::alloc::Global;
+
+/// A request's line under its name.
+#[derive(Drop)]
+struct Named {
+    name: String,
+    line: String,
+}
+
+/// The requests with names, and the courses so far: the last is that of the next row.
+#[derive(Drop)]
+pub(crate) struct Stage {
+    named: Vec<Named>,
+    courses: Vec<Course>,
+}
+
+impl Stage {
+    pub(crate) fn new(alloc: Global) -> Stage {
+        Stage {
+            named: Vec::new(alloc),
+            courses: Vec::new(alloc),
+        }
+    }
+
+    /// The line of a request: that with this name, or the text itself.
+    pub(crate) fn line(&self, alloc: Global, text: &str) -> Option<String> {
+        for named in self.named.iter().rev() {
+            if named.name.as_str() == text {
+                return named.line.clone().ok();
+            }
+        }
+        String::from_str(alloc, text).ok()
+    }
+
+    fn name(&mut self, alloc: Global, deed: &str) -> Option<String> {
+        let name = String::from_str(alloc, word(deed, 0)).ok()?;
+        let line = String::from_str(alloc, behind(behind(deed))).ok()?;
+        self.named.push(Named { name, line }).ok()?;
+        Some(String::new(alloc))
+    }
+
+    fn open(&mut self, alloc: Global, who: &str) -> Option<String> {
+        self.courses.push(opened(alloc, who)?).ok()?;
+        Some(String::new(alloc))
+    }
+}
+
+/// What a deed comes to: of a request the reply. None where it can't be read.
+pub(crate) fn found(alloc: Global, stage: &mut Stage, deed: &str) -> Option<String> {
+    match word(deed, 0) {
+        "#" => Some(String::new(alloc)),
+        "open" => stage.open(alloc, word(deed, 1)),
+        "every" => every_list(alloc, stage, behind(deed)),
+        "number" => number_of(alloc, word(deed, 1)),
+        _ if word(deed, 1) == "is" && !deed.starts_with('{') => stage.name(alloc, deed),
+        _ => on_course(alloc, stage, deed),
+    }
+}
+
+/// What a deed on the last course comes to.
+fn on_course(alloc: Global, stage: &mut Stage, deed: &str) -> Option<String> {
+    let kind = word(deed, 0);
+    let line = if kind == "lost" {
+        stage.line(alloc, behind(deed))?
+    } else {
+        stage.line(alloc, deed)?
+    };
+    let course = stage.courses.last_mut()?;
+    match kind {
+        "lost" => course.lose(alloc, line),
+        "again" => course.again(alloc),
+        "over" => course.over(alloc),
+        "alike" => alike(alloc, course),
+        "many" => many(alloc, course, deed),
+        "export" => course.export(alloc, word(deed, 1), word(deed, 2)),
+        "plain" => plain_unit(alloc, course, word(deed, 1), word(deed, 2)),
+        _ => course.deliver(alloc, line),
+    }
+}
