@@ -6,9 +6,10 @@ ghost use Rattle.units.specs.Changes.{set_role, with_policy};
 ghost use Rattle.request_book.specs.Book.{with_record};
 ghost use Rattle.office.specs.OfficeActs.{with_language, with_template};
 ghost use Rattle.office.specs.Rows.{headers_in, units_in, team_in};
-ghost use Rattle.office.specs.Befores.{at_places};
+ghost use Rattle.office.specs.Befores.{Units, LedTo, at_places};
 ghost use Rattle.office.specs.declared.lost.Lost.TheVariants.{Memory};
 
+use crate::before::Before;
 use crate::change::Change;
 use crate::languages::{Language, Languages};
 use crate::lost::Lost;
@@ -60,9 +61,34 @@ fn put_language(
     ensures no_header { OnErr result (headers_in languages.new.rows ≡ headers_in languages.old.rows) }
     ensures no_units { OnErr result (units_in units.new ≡ units_in units.old) }
 {
-    let befores = put_all(alloc, units, lang, more)?;
+    match put_all(alloc, units, lang, more) {
+        Ok(befores) => put_header(alloc, languages, units, lang, language, befores),
+        Err(refused) => {
+            drop(language);
+            Err(refused)
+        }
+    }
+}
+
+/// Puts a language in, whose units took the places of what stood there; or puts that back.
+fn put_header(
+    alloc: Global,
+    languages: &mut Languages,
+    units: &mut BTreeMap<Place, Unit>,
+    lang: &Lang,
+    language: Language,
+    befores: Vec<Before>,
+) -> Result<(), AllocError>
+    ensures headers { OnOk result (headers_in languages.new.rows ≡ maps.insert (headers_in languages.old.rows) lang.now language.header) }
+    ensures units { OnOk result (units_in units.new ≡ units_in units.old) }
+    ensures no_header { OnErr result (headers_in languages.new.rows ≡ headers_in languages.old.rows) }
+    ensures no_units { OnErr result ((was : Units) → LedTo was befores.items (units_in units.old) → units_in units.new ≡ was) }
+{
     match languages.insert(alloc, lang, language) {
-        Ok(()) => Ok(()),
+        Ok(()) => {
+            drop(befores);
+            Ok(())
+        }
         Err(refused) => {
             put_back(units, befores);
             Err(refused)
@@ -104,10 +130,16 @@ impl Tables {
         ensures memory { IfErr result (λ e. e ≡ Memory) }
     {
         match change {
-            Change::OneRole(name, role) => self.commit_role(alloc, row, &name, role),
+            Change::OneRole(name, role) => {
+                let done = self.commit_role(alloc, row, &name, role);
+                drop(name);
+                done
+            }
             Change::NewPolicy(policy) => self.commit_policy(row, policy),
             Change::NewLanguage(lang, language, plan) => {
-                self.commit_language(alloc, row, &lang, language, plan)
+                let done = self.commit_language(alloc, row, &lang, language, plan);
+                drop(lang);
+                done
             }
             Change::NewTemplate(template, plans) => {
                 self.commit_template(alloc, row, template, plans)
@@ -122,7 +154,8 @@ impl Tables {
         ensures err { OnErr result (meaning self.new ≡ meaning self.old) }
         ensures memory { IfErr result (λ e. e ≡ Memory) }
     {
-        self.records.insert(row.number, Kept::of(row))?;
+        let before = self.records.insert(row.number, Kept::of(row))?;
+        drop(before);
         Ok(())
     }
 
@@ -144,11 +177,12 @@ impl Tables {
         ensures memory { IfErr result (λ e. e ≡ Memory) }
     {
         let number = row.number;
-        self.records.insert(number, Kept::of(row))?;
+        let before = self.records.insert(number, Kept::of(row))?;
+        drop(before);
         match put_role(alloc, &mut self.team, name, role) {
             Ok(()) => Ok(()),
             Err(_) => {
-                let _ = self.records.remove(&number);
+                drop(self.records.remove(&number));
                 Err(Lost::Memory)
             }
         }
@@ -162,7 +196,8 @@ impl Tables {
         ensures err { OnErr result (meaning self.new ≡ meaning self.old) }
         ensures memory { IfErr result (λ e. e ≡ Memory) }
     {
-        self.records.insert(row.number, Kept::of(row))?;
+        let before = self.records.insert(row.number, Kept::of(row))?;
+        drop(before);
         put_policy(&mut self.units, &policy);
         self.policy = policy;
         Ok(())
@@ -187,7 +222,8 @@ impl Tables {
         ensures memory { IfErr result (λ e. e ≡ Memory) }
     {
         let number = row.number;
-        self.records.insert(number, Kept::of(row))?;
+        let before = self.records.insert(number, Kept::of(row))?;
+        drop(before);
         let Plan { units, counts: _ } = plan;
         match put_language(
             alloc,
@@ -199,7 +235,7 @@ impl Tables {
         ) {
             Ok(()) => Ok(()),
             Err(_) => {
-                let _ = self.records.remove(&number);
+                drop(self.records.remove(&number));
                 Err(Lost::Memory)
             }
         }
@@ -223,7 +259,8 @@ impl Tables {
     {
         let units = units_of_plans(alloc, plans)?;
         let template = Template::of(alloc, template)?;
-        self.records.insert(row.number, Kept::of(row))?;
+        let before = self.records.insert(row.number, Kept::of(row))?;
+        drop(before);
         self.units = units;
         self.template = template;
         Ok(())

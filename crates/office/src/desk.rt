@@ -1,6 +1,8 @@
 //! The desk: deliveries over the tables of one office.
-ghost use Rattle.std.specs.Prelude.{◌≡◌, ◌≢◌, [], ◌∷◌, IfOk, OnOk, OnErr, IfErr, IsTrue, is_none, option_map, All, length};
+ghost use Rattle.std.specs.Prelude.{◌≡◌, ◌≢◌, if◌then◌else◌, [], ◌∷◌, IfOk, OnOk, OnErr, IfErr, IsTrue, is_none, option_map, All, length};
 ghost use Rattle.std.specs.FinMap as maps;
+ghost use Rattle.po_read.specs.Texts.{text_eq};
+ghost use Rattle.replies.specs.Bodies.{number_used};
 ghost use Rattle.units.specs.Openings.{demo, opening};
 ghost use Rattle.request_book.specs.Acts.{content_text};
 ghost use Rattle.request_book.specs.declared.act.Act.TheVariants.{OnUnit};
@@ -26,7 +28,7 @@ use crate::tables::Tables;
 use po_read::{Duplicate, Text};
 use replies::used;
 use request_book::{Act, Class, Record, Reply, Request, canon, classify};
-use std::alloc::Global;
+use std::alloc::{AllocError, Global};
 use units::{ByteSink, Key, Lang, Memory, Name, UnitAct};
 
 /// A desk over the tables of one office, which stand in memory. Contracts see it as the office with its book of recorded
@@ -35,6 +37,22 @@ use units::{ByteSink, Key, Lang, Memory, Name, UnitAct};
 pub struct Desk {
     tables: Tables,
     alloc: Global,
+}
+
+/// The reply to a request with this content, by what is recorded under its number.
+fn reply_by(
+    alloc: Global,
+    content: &str,
+    recorded: &Option<Record>,
+) -> Result<Option<Reply>, AllocError>
+    ensures { IfOk result
+        (λ reply. reply ≡ option_map (λ row. if text_eq row.content content.now then row.reply else number_used) recorded.now) }
+{
+    match classify(content, recorded.as_ref()) {
+        Class::First => Ok(None),
+        Class::Repeat(reply) => Ok(Some(reply.duplicate()?)),
+        Class::NumberUsed => Ok(Some(used(alloc)?)),
+    }
 }
 
 impl Desk {
@@ -98,11 +116,9 @@ impl Desk {
         ensures memory { IfErr result (λ e. e ≡ Refused) }
     {
         let recorded = self.tables.record_of(&request.number)?;
-        match classify(content, recorded.as_ref()) {
-            Class::First => Ok(None),
-            Class::Repeat(reply) => Ok(Some(reply.duplicate()?)),
-            Class::NumberUsed => Ok(Some(used(self.alloc)?)),
-        }
+        let reply = reply_by(self.alloc, content, &recorded);
+        drop(recorded);
+        Ok(reply?)
     }
 
     /// Decides a request whose number is new.
@@ -152,13 +168,23 @@ impl Desk {
     {
         let OfficeOutcome { change, reply } = outcome;
         // Reply and record are made before the commit: nothing after it takes memory.
-        let row = Record {
-            number: request.number,
-            content,
-            reply: reply.duplicate()?,
-        };
-        self.tables.commit_office(self.alloc, row, change)?;
-        Ok(reply)
+        match reply.duplicate() {
+            Ok(first) => {
+                let row = Record {
+                    number: request.number,
+                    content,
+                    reply: first,
+                };
+                self.tables.commit_office(self.alloc, row, change)?;
+                Ok(reply)
+            }
+            Err(_) => {
+                drop(change);
+                drop(reply);
+                drop(content);
+                Err(Lost::Memory)
+            }
+        }
     }
 
     /// Decides and commits an act on a unit whose number is new.
@@ -181,13 +207,23 @@ impl Desk {
         let found = self.tables.view_of(lang, key, &request.caller)?;
         let Outcome { view, reply } = Outcome::of(self.alloc, found, request, act)?;
         // Reply and record are made before the commit: nothing after it takes memory.
-        let row = Record {
-            number: request.number,
-            content,
-            reply: reply.duplicate()?,
-        };
-        self.tables.commit_unit(row, lang, key, view)?;
-        Ok(reply)
+        match reply.duplicate() {
+            Ok(first) => {
+                let row = Record {
+                    number: request.number,
+                    content,
+                    reply: first,
+                };
+                self.tables.commit_unit(row, lang, key, view)?;
+                Ok(reply)
+            }
+            Err(_) => {
+                drop(view);
+                drop(reply);
+                drop(content);
+                Err(Lost::Memory)
+            }
+        }
     }
 
     /// Delivers requests in order, and answers a result for each. The tables are those of each request taken once, at the first

@@ -3,7 +3,7 @@
 ghost use Rattle.std.specs.Prelude.{◌≡◌, ◌++◌, IfOk, OnOk};
 ghost use Rattle.office.specs.Entries as spec;
 
-use po_read::{Duplicate, Entry, Items, Text};
+use po_read::{Duplicate, Entry, Forms, Items, PoString, Previous, Text};
 use std::alloc::{AllocError, Global};
 use units::{Unit, UnitState};
 
@@ -28,20 +28,76 @@ fn add_flags(all: &mut Vec<Text>, flags: &[Text]) -> Result<(), AllocError>
     Ok(())
 }
 
+/// What a unit gives to its entry.
+#[derive(Drop)]
+struct OfUnit {
+    translator: Items<Text>,
+    flags: Items<Text>,
+    previous: Previous,
+    forms: Forms,
+}
+
+impl OfUnit {
+    /// Copies, with the flags behind `fuzzy`.
+    fn of(alloc: Global, unit: &Unit, flags: &[Text]) -> Result<OfUnit, AllocError>
+        ensures translator { IfOk result (λ own. own.translator ≡ unit.now.comment) }
+        ensures flags { IfOk result (λ own. own.flags ≡ spec.flags_of unit.now flags.now) }
+        ensures previous { IfOk result (λ own. own.previous ≡ unit.now.previous) }
+        ensures forms { IfOk result (λ own. own.forms ≡ unit.now.forms) }
+    {
+        Ok(OfUnit {
+            translator: unit.comment.duplicate()?,
+            flags: flags_of(alloc, unit, flags)?,
+            previous: unit.previous.duplicate()?,
+            forms: unit.forms.duplicate()?,
+        })
+    }
+}
+
+/// The strings that say which message an entry is.
+#[derive(Drop)]
+struct Message {
+    ctx: Option<PoString>,
+    id: PoString,
+    plural: Option<PoString>,
+}
+
+impl Message {
+    fn of(
+        ctx: &Option<PoString>,
+        id: &PoString,
+        plural: &Option<PoString>,
+    ) -> Result<Message, AllocError>
+        ensures ctx { IfOk result (λ message. message.ctx ≡ ctx.now) }
+        ensures id { IfOk result (λ message. message.id ≡ id.now) }
+        ensures plural { IfOk result (λ message. message.plural ≡ plural.now) }
+    {
+        Ok(Message {
+            ctx: ctx.duplicate()?,
+            id: id.duplicate()?,
+            plural: plural.duplicate()?,
+        })
+    }
+}
+
 /// A template's entry with its unit.
 pub(crate) fn translated(alloc: Global, entry: &Entry, unit: &Unit) -> Result<Entry, AllocError>
     ensures { IfOk result (λ made. made ≡ spec.translated entry.now unit.now) }
 {
+    let extracted = entry.extracted.duplicate()?;
+    let references = entry.references.duplicate()?;
+    let message = Message::of(&entry.ctx, &entry.id, &entry.plural)?;
+    let own = OfUnit::of(alloc, unit, entry.flags.as_slice())?;
     Ok(Entry {
-        translator: unit.comment.duplicate()?,
-        extracted: entry.extracted.duplicate()?,
-        references: entry.references.duplicate()?,
-        flags: flags_of(alloc, unit, entry.flags.as_slice())?,
-        previous: unit.previous.duplicate()?,
-        ctx: entry.ctx.duplicate()?,
-        id: entry.id.duplicate()?,
-        plural: entry.plural.duplicate()?,
-        forms: unit.forms.duplicate()?,
+        translator: own.translator,
+        extracted,
+        references,
+        flags: own.flags,
+        previous: own.previous,
+        ctx: message.ctx,
+        id: message.id,
+        plural: message.plural,
+        forms: own.forms,
         obsolete: entry.obsolete,
     })
 }
@@ -50,16 +106,18 @@ pub(crate) fn translated(alloc: Global, entry: &Entry, unit: &Unit) -> Result<En
 pub(crate) fn obsolete_entry(alloc: Global, unit: &Unit) -> Result<Entry, AllocError>
     ensures { IfOk result (λ made. made ≡ spec.obsolete_entry unit.now) }
 {
+    let message = Message::of(&unit.key.ctx, &unit.key.id, &unit.plural)?;
+    let own = OfUnit::of(alloc, unit, &[])?;
     Ok(Entry {
-        translator: unit.comment.duplicate()?,
+        translator: own.translator,
         extracted: Items::new(alloc),
         references: Items::new(alloc),
-        flags: flags_of(alloc, unit, &[])?,
-        previous: unit.previous.duplicate()?,
-        ctx: unit.key.ctx.duplicate()?,
-        id: unit.key.id.duplicate()?,
-        plural: unit.plural.duplicate()?,
-        forms: unit.forms.duplicate()?,
+        flags: own.flags,
+        previous: own.previous,
+        ctx: message.ctx,
+        id: message.id,
+        plural: message.plural,
+        forms: own.forms,
         obsolete: true,
     })
 }

@@ -94,7 +94,9 @@ fn put_with_unit<W: ByteSink>(
     ensures { Exports W.taken W.failed w.old w.new sent.old sent.new (behind (with_its_unit (meaning tables.now).office lang.now entry.now)) result }
 {
     let made = with_its_unit(alloc, tables, lang, entry)?;
-    put(alloc, w, sent, b"\n", &made)
+    let result = put(alloc, w, sent, b"\n", &made);
+    drop(made);
+    result
 }
 
 fn with_its_unit(
@@ -150,7 +152,9 @@ fn put_unit<W: ByteSink>(
         return Ok(());
     }
     let made = obsolete_entry(alloc, unit)?;
-    put(alloc, w, sent, b"\n", &made)
+    let result = put(alloc, w, sent, b"\n", &made);
+    drop(made);
+    result
 }
 
 fn is_put_away(lang: &Lang, place: &Place, unit: &Unit) -> bool

@@ -68,8 +68,30 @@ impl Languages {
         ensures ok { OnOk result (headers_in self.new.rows ≡ maps.insert (headers_in self.old.rows) code.now language.header) }
         ensures err { OnErr result (self.new.rows.entries ≡ self.old.rows.entries) }
     {
-        let own = String::from_str(alloc, code.as_str())?;
-        self.rows.insert(own, language)?;
-        Ok(())
+        match String::from_str(alloc, code.as_str()) {
+            Ok(own) => self.insert_under(own, language),
+            Err(refused) => {
+                drop(language);
+                Err(refused)
+            }
+        }
+    }
+
+    /// Puts a language under a text that is a code.
+    fn insert_under(&mut self, own: String, language: Language) -> Result<(), AllocError>
+        requires { is_lang (string_bytes own) ≡ true }
+        ensures ok { OnOk result (headers_in self.new.rows ≡ maps.insert (headers_in self.old.rows) (string_bytes own) language.header) }
+        ensures err { OnErr result (self.new.rows.entries ≡ self.old.rows.entries) }
+    {
+        match self.rows.insert(own, language) {
+            Ok(before) => {
+                drop(before);
+                Ok(())
+            }
+            Err(refused) => {
+                drop(refused);
+                Err(AllocError)
+            }
+        }
     }
 }

@@ -25,9 +25,10 @@ impl OfficeOutcome {
     pub(crate) fn refused(alloc: Global, refusal: Refusal) -> Result<OfficeOutcome, Memory>
         ensures { IfOk result (λ outcome. outcome ≡ without_change (refused refusal)) }
     {
+        let reply = refused(alloc, refusal)?;
         Ok(OfficeOutcome {
             change: None,
-            reply: refused(alloc, refusal)?,
+            reply,
         })
     }
 
@@ -35,9 +36,10 @@ impl OfficeOutcome {
     pub(crate) fn refused_text(alloc: Global, fault: PoFault) -> Result<OfficeOutcome, Memory>
         ensures { IfOk result (λ outcome. outcome ≡ without_change (refused_with PoText (po_fault_fields (fault.line, fault.kind)))) }
     {
+        let reply = refused_text(alloc, fault)?;
         Ok(OfficeOutcome {
             change: None,
-            reply: refused_text(alloc, fault)?,
+            reply,
         })
     }
 
@@ -48,9 +50,10 @@ impl OfficeOutcome {
     ) -> Result<OfficeOutcome, Memory>
         ensures { IfOk result (λ outcome. outcome ≡ without_change (refused_with PluralFormsField (plural_fault_fields fault))) }
     {
+        let reply = refused_rule(alloc, fault)?;
         Ok(OfficeOutcome {
             change: None,
-            reply: refused_rule(alloc, fault)?,
+            reply,
         })
     }
 }

@@ -25,11 +25,16 @@ impl Outcome {
         ensures { IfOk result
             (λ outcome. outcome ≡ record { view = Some view; reply = done_of values }) }
     {
-        let reply = done(alloc, values)?;
-        Ok(Outcome {
-            view: Some(view),
-            reply,
-        })
+        match done(alloc, values) {
+            Ok(reply) => Ok(Outcome {
+                view: Some(view),
+                reply,
+            }),
+            Err(refused) => {
+                drop(view);
+                Err(Memory::from(refused))
+            }
+        }
     }
 
     /// Nothing changes.
@@ -96,6 +101,8 @@ impl Outcome {
         ensures { IfOk result
             (λ outcome. outcome ≡ outcome_of found request.now.caller request.now.number act.now) }
     {
-        Outcome::by(alloc, &found, request, act)
+        let outcome = Outcome::by(alloc, &found, request, act);
+        drop(found);
+        outcome
     }
 }

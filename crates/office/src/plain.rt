@@ -44,6 +44,7 @@ use replies::used;
 use request_book::{Act, Class, Record, Reply, Request, canon, classify};
 use std::alloc::{AllocError, Global};
 use std::collections::BTreeMap;
+use std::mem::replace;
 use template_update::Plan;
 use units::{Key, Lang, Memory, Name, Policy, Role, Unit, UnitAct, UnitView};
 use uuid::Uuid;
@@ -197,7 +198,7 @@ pub(crate) fn put_unit(units: &mut Vec<PlacedUnit>, place: Place, unit: Unit) ->
 {
     match place_in(units, &place) {
         Some(at) => {
-            units[at] = PlacedUnit { place, unit };
+            drop(replace(&mut units[at], PlacedUnit { place, unit }));
             Ok(())
         }
         None => {
@@ -258,17 +259,18 @@ impl PlainOffice {
         ensures rules { IfOk result (λ office. IsStart (plain_meaning office)) }
         ensures memory { IfErr result (λ e. e ≡ Refused) }
     {
+        let team = Vec::from_array(
+            alloc,
+            [Member {
+                name: manager.duplicate()?,
+                role: Role::Manager,
+            }],
+        )?;
         Ok(PlainOffice {
             template: Catalogue::empty(alloc),
             languages: Vec::new(alloc),
             units: Vec::new(alloc),
-            team: Vec::from_array(
-                alloc,
-                [Member {
-                    name: manager.duplicate()?,
-                    role: Role::Manager,
-                }],
-            )?,
+            team,
             policy: closed_policy(),
             records: Vec::new(alloc),
         })
@@ -354,8 +356,13 @@ impl PlainOffice {
         ensures { OnOk result (plain_meaning self.new
             ≡ record { office = written (plain_meaning self.old).office lang.now key.now view; book = with_record (plain_meaning self.old).book row }) }
     {
-        self.put_view(lang, key, view)?;
-        self.put_record(row)
+        match self.put_view(lang, key, view) {
+            Ok(()) => self.put_record(row),
+            Err(refused) => {
+                drop(row);
+                Err(refused)
+            }
+        }
     }
 
     /// Decides and commits an act on a unit whose number is new.
@@ -376,13 +383,23 @@ impl PlainOffice {
     {
         let found = self.found(lang, key, &request.caller)?;
         let Outcome { view, reply } = Outcome::of(alloc, found, request, act)?;
-        let row = Record {
-            number: request.number,
-            content,
-            reply: reply.duplicate()?,
-        };
-        self.commit(row, lang, key, view)?;
-        Ok(reply)
+        match reply.duplicate() {
+            Ok(first) => {
+                let row = Record {
+                    number: request.number,
+                    content,
+                    reply: first,
+                };
+                self.commit(row, lang, key, view)?;
+                Ok(reply)
+            }
+            Err(refused) => {
+                drop(view);
+                drop(reply);
+                drop(content);
+                Err(Memory::from(refused))
+            }
+        }
     }
 
     /// The lists as tables in maps, without the records.
@@ -473,6 +490,27 @@ impl PlainOffice {
         }
     }
 
+    /// Makes a change, if there is one, and writes the request's record.
+    fn commit_change(
+        &mut self,
+        alloc: Global,
+        row: Record,
+        change: Option<Change>,
+    ) -> Result<(), Memory>
+        requires possible { IsPossibleChange (plain_meaning self.old).office change }
+        requires new { IsTrue (is_none (maps.get (plain_meaning self.old).book row.number)) }
+        ensures { OnOk result (plain_meaning self.new
+            ≡ record { office = changed_by (plain_meaning self.old).office change; book = with_record (plain_meaning self.old).book row }) }
+    {
+        match self.put_change(alloc, change) {
+            Ok(()) => self.put_record(row),
+            Err(refused) => {
+                drop(row);
+                Err(refused)
+            }
+        }
+    }
+
     /// Commits what an office act whose number is new comes to.
     fn settle(
         &mut self,
@@ -488,14 +526,23 @@ impl PlainOffice {
             (λ reply. (plain_meaning self.new, reply) ≡ first_delivered (plain_meaning self.old) request.now) }
     {
         let OfficeOutcome { change, reply } = outcome;
-        let row = Record {
-            number: request.number,
-            content,
-            reply: reply.duplicate()?,
-        };
-        self.put_change(alloc, change)?;
-        self.put_record(row)?;
-        Ok(reply)
+        match reply.duplicate() {
+            Ok(first) => {
+                let row = Record {
+                    number: request.number,
+                    content,
+                    reply: first,
+                };
+                self.commit_change(alloc, row, change)?;
+                Ok(reply)
+            }
+            Err(refused) => {
+                drop(change);
+                drop(reply);
+                drop(content);
+                Err(Memory::from(refused))
+            }
+        }
     }
 
     /// Decides a request whose number is new.

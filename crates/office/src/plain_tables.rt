@@ -15,10 +15,14 @@ use units::{Role, Unit};
 fn copy_of_language(language: &Language) -> Result<Language, AllocError>
     ensures { IfOk result (λ copy. copy.header ≡ language.now.header) }
 {
-    Ok(Language {
-        header: language.header.duplicate()?,
-        rule: language.rule.duplicate()?,
-    })
+    let rule = language.rule.duplicate()?;
+    match language.header.duplicate() {
+        Ok(header) => Ok(Language { header, rule }),
+        Err(refused) => {
+            drop(rule);
+            Err(refused)
+        }
+    }
 }
 
 /// The languages, the last first: of those with one code the first stays.

@@ -25,13 +25,56 @@ fn replace(units: &mut BTreeMap<Place, Unit>, lang: &Lang, unit: Unit) -> Result
     ensures before { IfOk result (λ before. HadBefore (units_in units.old) before (units_in units.new)) }
     ensures err { OnErr result (units_in units.new ≡ units_in units.old) }
 {
-    let own = Place::of(lang, &unit.key)?;
-    let place = Place::of(lang, &unit.key)?;
-    let before = units.insert(place, unit)?;
-    Ok(Before {
-        place: own,
-        unit: before,
-    })
+    match two_places(lang, &unit.key) {
+        Ok((own, place)) => replace_at(units, own, place, unit),
+        Err(refused) => {
+            drop(unit);
+            Err(refused)
+        }
+    }
+}
+
+fn two_places(lang: &Lang, key: &Key) -> Result<(Place, Place), AllocError>
+    ensures lang { IfOk result (λ places. places.0.lang ≡ lang.now) }
+    ensures key { IfOk result (λ places. places.0.key.key ≡ key.now) }
+    ensures other_lang { IfOk result (λ places. places.1.lang ≡ lang.now) }
+    ensures other_key { IfOk result (λ places. places.1.key.key ≡ key.now) }
+{
+    let place = Place::of(lang, key)?;
+    match Place::of(lang, key) {
+        Ok(other) => Ok((place, other)),
+        Err(refused) => {
+            drop(place);
+            Err(refused)
+        }
+    }
+}
+
+/// Puts a unit at a place, and tells what stood there, at a place that is its own.
+fn replace_at(
+    units: &mut BTreeMap<Place, Unit>,
+    own: Place,
+    place: Place,
+    unit: Unit,
+) -> Result<Before, AllocError>
+    requires lang { own.lang ≡ place.lang }
+    requires key { own.key.key ≡ unit.key }
+    requires unit { place.key.key ≡ unit.key }
+    ensures ok { OnOk result (units_in units.new ≡ maps.insert (units_in units.old) (place.lang, unit.key) unit) }
+    ensures before { IfOk result (λ before. HadBefore (units_in units.old) before (units_in units.new)) }
+    ensures err { OnErr result (units_in units.new ≡ units_in units.old) }
+{
+    match units.insert(place, unit) {
+        Ok(before) => Ok(Before {
+            place: own,
+            unit: before,
+        }),
+        Err(refused) => {
+            drop(own);
+            drop(refused);
+            Err(AllocError)
+        }
+    }
 }
 
 /// Puts back what stood at a place.
@@ -41,11 +84,12 @@ fn put_one_back(units: &mut BTreeMap<Place, Unit>, before: Before)
     let Before { place, unit } = before;
     match unit {
         None => {
-            let _ = units.remove(&place);
+            drop(units.remove(&place));
+            drop(place);
         }
         // A unit stands there, so that it takes no memory.
         Some(unit) => {
-            let _ = units.insert(place, unit);
+            drop(units.insert(place, unit));
         }
     }
 }

@@ -7,7 +7,7 @@ use Rattle.office.proofs.plain.PlainOffice.opening.Goals as goal
 
 pub returns-clause-rules : goal.returns-clause-rules
 returns-clause-rules c =
-    let team = ap team_rows c.in_ok-from_array.ensures.items ∙ ap (λ name. team_rows (record { name = name; role = Manager } ∷ [])) c.in_ok-duplicate.ensures in
+    let team = ap team_rows c.in_ok-team.ensures.items ∙ ap (λ name. team_rows (record { name = name; role = Manager } ∷ [])) c.in_ok-duplicate.ensures in
     subst IsStart
     (λ i. record {
       office = record {

@@ -7,8 +7,8 @@ use Rattle.office.proofs.tables.Tables.commit_change.Goals as goal
 
 pub returns-in-OneRole-clause-ok : goal.returns-in-OneRole-clause-ok
 returns-in-OneRole-clause-ok c =
-    subst (λ (change : Change). OnOk c.commit_role.result (meaning c.commit_role.new.self
-    ≡ record { office = changed (meaning c.args.self.now).office change; book = with_record (meaning c.args.self.now).book c.args.row })) (sym c.in-OneRole.is) c.commit_role.ensures.ok
+    subst (λ (change : Change). OnOk c.commit_role-done.result (meaning c.commit_role-done.new.self
+    ≡ record { office = changed (meaning c.args.self.now).office change; book = with_record (meaning c.args.self.now).book c.args.row })) (sym c.in-OneRole.is) c.commit_role-done.ensures.ok
 
 pub commit_policy-requires : goal.commit_policy-requires
 commit_policy-requires c = record { within = subst (IsPossible (meaning c.args.self.now).office) c.in-NewPolicy.is c.requires.possible }
@@ -20,8 +20,8 @@ returns-in-NewPolicy-clause-ok c =
 
 pub returns-in-NewLanguage-clause-ok : goal.returns-in-NewLanguage-clause-ok
 returns-in-NewLanguage-clause-ok c =
-    subst (λ (change : Change). OnOk c.commit_language.result (meaning c.commit_language.new.self
-    ≡ record { office = changed (meaning c.args.self.now).office change; book = with_record (meaning c.args.self.now).book c.args.row })) (sym c.in-NewLanguage.is) c.commit_language.ensures.ok
+    subst (λ (change : Change). OnOk c.commit_language-done.result (meaning c.commit_language-done.new.self
+    ≡ record { office = changed (meaning c.args.self.now).office change; book = with_record (meaning c.args.self.now).book c.args.row })) (sym c.in-NewLanguage.is) c.commit_language-done.ensures.ok
 
 pub returns-in-NewTemplate-clause-ok : goal.returns-in-NewTemplate-clause-ok
 returns-in-NewTemplate-clause-ok c =

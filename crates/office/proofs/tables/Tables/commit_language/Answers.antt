@@ -13,11 +13,11 @@ returns-in-Ok-clause-ok c = λ i. record {
     headers = c.in-Ok.ensures.headers i;
     units = (c.in-Ok.ensures.units ∙ ap (λ us. fold (λ m e. maps.insert m e.0 e.1) (units_in c.args.self.now.units) (at_places c.args.lang.now us)) c.into_vec.ensures) i;
   };
-  book = one_more_record c.args.self.now c.insert.new.self c.of.result c.args.row c.in_ok-insert.ensures.entries c.of.ensures i;
+  book = one_more_record c.args.self.now c.insert.new.self c.of.result c.args.row c.in_ok-before.ensures.entries c.of.ensures i;
 }
 
 pub returns-in-Err-clause-err : goal.returns-in-Err-clause-err
 returns-in-Err-clause-err c =
     same_meaning c.args.self.now (record c.args.self.now { languages = c.put_language.new.languages; units = c.put_language.new.units; records = c.remove.new.self }) refl
     c.in-Err.ensures.no_header c.in-Err.ensures.no_units refl refl
-    (forgotten c.args.self.now c.insert.new.self c.remove.new.self c.args.row.number c.of.result c.requires.new c.in_ok-insert.ensures.entries c.remove.ensures.entries)
+    (forgotten c.args.self.now c.insert.new.self c.remove.new.self c.args.row.number c.of.result c.requires.new c.in_ok-before.ensures.entries c.remove.ensures.entries)

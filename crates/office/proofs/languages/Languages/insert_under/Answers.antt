@@ -4,14 +4,12 @@ use Rattle.std.specs.BTreeMap.{insert_entry}
 use Rattle.std.specs.Ordering.{match_ordering}
 use Rattle.std.specs.declared.cmp.Ordering.{Ordering}
 use Rattle.std.specs.declared.cmp.Ordering.TheVariants.{Less, Equal, Greater}
-use Rattle.std.specs.FinMap as maps
 use Rattle.po_read.specs.Texts.{text_cmp}
 use Rattle.units.specs.Limits.{is_lang}
 use Rattle.units.proofs.Orders.{text_total, text_IsAntisymmetric}
-use Rattle.office.specs.Rows.{headers_in}
 use Rattle.office.proofs.Views.{insert-viewed}
 use Rattle.office.proofs.Plans.{both_hold}
-use Rattle.office.proofs.languages.Languages.insert.Goals as goal
+use Rattle.office.proofs.languages.Languages.insert_under.Goals as goal
 
 both : (a b : Bool) → a ≡ true → b ≡ true → (a && b) ≡ true
 both true b p q = q
@@ -38,13 +36,12 @@ all_keys-after {K = K} {X = X} p (Err x) old more new put same before after = ap
 pub invariant_of-self : goal.invariant_of-self
 invariant_of-self c = record {
   coded = all_keys-after (λ k. is_lang (string_bytes k)) c.insert.result c.args.self.now.rows.entries
-      (insert_entry (λ x y. text_cmp (string_bytes x) (string_bytes y)) c.args.self.now.rows.entries c.in_ok-own.own c.args.language) c.insert.new.self.entries
+      (insert_entry (λ x y. text_cmp (string_bytes x) (string_bytes y)) c.args.self.now.rows.entries c.args.own c.args.language) c.insert.new.self.entries
       c.insert.ensures.entries c.insert.ensures.err c.args.self.now.coded
-      (all_keys-insert (λ k. is_lang (string_bytes k)) (λ x y. text_cmp (string_bytes x) (string_bytes y)) c.in_ok-own.own c.args.language c.args.self.now.rows.entries
-      (ap is_lang (c.in_ok-own.ensures.ok ∙ c.as_str.ensures.value) ∙ c.as_str.ensures.fits) c.args.self.now.coded);
+      (all_keys-insert (λ k. is_lang (string_bytes k)) (λ x y. text_cmp (string_bytes x) (string_bytes y)) c.args.own c.args.language c.args.self.now.rows.entries
+      c.requires c.args.self.now.coded);
 }
 
-pub returns-clause-ok : goal.returns-clause-ok
-returns-clause-ok c =
-    insert-viewed text_cmp string_bytes (λ language. language.header) text_total text_IsAntisymmetric c.args.self.now.rows c.insert.new.self c.in_ok-own.own c.args.language c.in_ok-insert.ensures.entries
-    ∙ ap (λ code. maps.insert (headers_in c.args.self.now.rows) code c.args.language.header) (c.in_ok-own.ensures.ok ∙ c.as_str.ensures.value)
+pub returns-in-Ok-clause-ok : goal.returns-in-Ok-clause-ok
+returns-in-Ok-clause-ok c =
+    insert-viewed text_cmp string_bytes (λ language. language.header) text_total text_IsAntisymmetric c.args.self.now.rows c.insert.new.self c.args.own c.args.language c.in-Ok.ensures.entries

@@ -2,12 +2,11 @@ use Rattle.std.proofs.Common.{List, String, string_bytes, ap}
 use Rattle.std.specs.FinMap as maps
 use Rattle.po_read.specs.Texts.{text_cmp}
 use Rattle.office.specs.declared.languages.Language.{Language}
-use Rattle.office.specs.Rows.{units_in}
 use Rattle.office.specs.Viewed.{viewed}
-use Rattle.office.proofs.commits.put_language.Goals as goal
+use Rattle.office.proofs.commits.put_header.Goals as goal
 
 pub returns-in-Err-clause-no_header : goal.returns-in-Err-clause-no_header
 returns-in-Err-clause-no_header c = ap (λ (rows : List (String _ × Language)). maps.from_entries {R = text_cmp} (viewed string_bytes (λ (language : Language). language.header) rows)) c.in-Err.ensures.err
 
 pub returns-in-Err-clause-no_units : goal.returns-in-Err-clause-no_units
-returns-in-Err-clause-no_units c = c.put_back.ensures (units_in c.args.units.now) c.in_ok-befores.ensures.before
+returns-in-Err-clause-no_units c = c.put_back.ensures
