@@ -17,6 +17,10 @@ import tempfile
 PROGRAM = os.path.join("crates", "cli", "out", "cli")
 REPLY = '200 {"revision":2,"state":"translated"}\n'
 MEMORY = '503 {"error":"memory"}\n'
+EXPORT = (
+    'msgid ""\nmsgstr ""\n"Content-Type: text/plain; charset=UTF-8\\n"\n'
+    '"Plural-Forms: nplurals=2; plural=n != 1;\\n"\n\nmsgid "Hello"\nmsgstr "Hallo"\n'
+)
 RULE = (
     "nplurals=3; plural=n%10==1 && n%100!=11 ? 0 : "
     "n%10>=2 && n%10<=4 && (n%100<10 || n%100>=20) ? 1 : 2;"
@@ -41,15 +45,15 @@ def not_begun(status, out, faults):
     return None
 
 
-def delivered(export, status, out, faults):
-    if (status, out, faults) == (0, REPLY * 3 + export, ""):
+def delivered(status, out, faults):
+    if (status, out, faults) == (0, REPLY * 3 + EXPORT, ""):
         return "as with ample memory"
     for place in range(3):
         replies = REPLY * place + MEMORY + REPLY * (2 - place)
-        if (status, out, faults) == (0, replies + export, ""):
+        if (status, out, faults) == (0, replies + EXPORT, ""):
             return "one line lost, the others as ever"
     rest = out[len(REPLY * 3):]
-    if out.startswith(REPLY * 3) and export.startswith(rest) and rest != export:
+    if out.startswith(REPLY * 3) and EXPORT.startswith(rest) and rest != EXPORT:
         if (status, faults) == (1, "export fault 3\n"):
             return "export fault 3"
     return not_begun(status, out, faults)
@@ -91,8 +95,7 @@ with tempfile.TemporaryDirectory() as folder:
     source = os.path.join("tests", "growths", "refuse.c")
     subprocess.run(["cc", "-O1", "-shared", "-fPIC", "-o", library, source, "-ldl"], check=True)
     line = open(os.path.join("crates", "cli", "stdin")).readline()
-    export = open(os.path.join("crates", "cli", "stdout")).read().replace(REPLY, "")
     words = ["deliver", "--demo", "--export", "de"]
-    sweep("deliver", library, words, (line * 3).encode(), lambda *outcome: delivered(export, *outcome))
+    sweep("deliver", library, words, (line * 3).encode(), delivered)
     sweep("plural", library, ["plural", RULE, "1", "5", "22"], b"", indexed)
     sweep("canon", library, ["canon"], SOURCE.encode(), printed)

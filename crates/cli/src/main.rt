@@ -1,24 +1,13 @@
 //! The program `office`.
 #![tactic(auto)]
 
-mod canon;
-mod deliver;
-mod lines;
-mod numbers;
-mod plural;
-mod streams;
-#[cfg(test)]
-mod testing;
 mod words;
 
-use canon::canon_text;
-use deliver::{FAILED, deliver_lines};
+use commands::{FAILED, Input, Output, canon_text, deliver_lines, plural_lines};
 use office::{Desk, Lost};
-use plural::plural_lines;
 use std::alloc::Global;
 use std::io::{self, BufWriter};
 use std::process::ExitCode;
-use streams::{Input, Output};
 use units::ByteSink;
 use words::{Asked, Deliver, Plural, read_words, words_status};
 

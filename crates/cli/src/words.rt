@@ -1,8 +1,8 @@
 //! The words of the command line.
 
-use crate::deliver::FAILED;
 use clap::error::ErrorKind;
 use clap::{Arg, ArgAction, ArgMatches, Command, Error, value_parser};
+use commands::FAILED;
 use std::alloc::{AllocError, Global};
 use units::{Lang, Name};
 

@@ -1,0 +1,61 @@
+//! What a row comes to.
+use crate::runs::status;
+use crate::streams::Streams;
+use crate::texts::{bytes_of, show};
+use crate::words::{has, words_and_text};
+use std::alloc::{AllocError, Global};
+
+/// What a deed comes to, with streams that give and take so many bytes at a time. None where it can't be read.
+pub(crate) fn found(
+    alloc: Global,
+    given: &mut Vec<u8>,
+    deed: &str,
+    piece: usize,
+) -> Option<String> {
+    if deed.starts_with('#') {
+        return Some(String::new(alloc));
+    }
+    let (words, text) = words_and_text(deed);
+    let Some(text) = text else {
+        return come(alloc, words, given.as_slice(), piece);
+    };
+    let bytes = bytes_of(alloc, text)?;
+    if words == "given" {
+        *given = bytes;
+        return Some(String::new(alloc));
+    }
+    come(alloc, words, bytes.as_slice(), piece)
+}
+
+/// What the words' command comes to with this text.
+fn come(alloc: Global, words: &str, text: &[u8], piece: usize) -> Option<String> {
+    let mut streams = Streams::new(alloc, words, text, piece);
+    let status = status(alloc, &mut streams, words, text)?;
+    let left = if has(words, "canon") {
+        streams.source.left()
+    } else {
+        0
+    };
+    told(alloc, status, &streams, left).ok()
+}
+
+fn told(
+    alloc: Global,
+    status: u8,
+    streams: &Streams<'_>,
+    left: usize,
+) -> Result<String, AllocError> {
+    let mut text = format!(in alloc; "{status}")?;
+    if !streams.output.bytes().is_empty() {
+        text.push(' ')?;
+        show(&mut text, streams.output.bytes())?;
+    }
+    if !streams.faults.bytes().is_empty() {
+        text.push_str(" told ")?;
+        show(&mut text, streams.faults.bytes())?;
+    }
+    if left > 0 {
+        write!(text, " left {left}")?;
+    }
+    Ok(text)
+}

@@ -1,0 +1,80 @@
+-- What comes of a text that was read.
+use Rattle.std.proofs.Common.{◌≡◌, ℕ, ◌-◌, ◌^◌, ◌<◌, ◌≤◌, List, [], ◌∷◌, ◌++◌, ◌⊎◌, inl, inr, Bool, true, false, Option, Some, None, Result, Ok, Err, MatchResult, length, refl, sym, ap, subst, ◌∙◌, append_assoc, append-nil, arith, nat_lt, length-append}
+use Rattle.std.specs.Prelude.{IfOk, IfErr}
+use Rattle.std.proofs.lemmas.Bool.Decides.{nat_tests}
+use Rattle.units.specs.Streams.{Took, TookBeginning, RoseOrStands, prepend_known, IsAtEnd, one_more}
+use Rattle.units.proofs.Taking.{append_known-nil}
+use Rattle.po_lex.specs.declared.fault.FaultKind.{FaultKind}
+use Rattle.po_lex.specs.declared.fault.FaultKind.TheVariants.{Memory}
+use Rattle.po_lex.specs.declared.fault.PoFault.{PoFault}
+use Rattle.po_read.specs.declared.entry.Entry.{Entry}
+use Rattle.po_read.specs.Spells.{Spells, IsWithin, limits}
+use Rattle.po_read.specs.Faults.{IsFault, too_long, not_utf8, at_line, at_end}
+use Rattle.po_read.specs.Views.{IsMemory}
+use Rattle.po_write.specs.Sending.{TookAll, TookPart}
+use Rattle.po_write.specs.Text.{text_of}
+use Rattle.commands.specs.CanonText.{read_limit, WasRead, WasGathered, po_fault_line, Writer, TakesAll, TakesPart, Canon, written, broke, told, unread}
+
+-- ---- reading
+
+pub nothing_read : (old : Option (List ℕ)) → old ≡ prepend_known [] old
+nothing_read None = refl
+nothing_read (Some xs) = refl
+
+pub read_more : (old mid new : Option (List ℕ)) (a b ab : List ℕ) → old ≡ prepend_known a mid → mid ≡ prepend_known b new → ab ≡ a ++ b → old ≡ prepend_known ab new
+read_more old mid None a b ab first second both = first ∙ ap (prepend_known a) second
+read_more old mid (Some xs) a b ab first second both = first ∙ ap (prepend_known a) second ∙ ap Some (sym (append_assoc a b xs) ∙ ap (λ t. t ++ xs) (sym both))
+
+-- ---- writing
+
+nothing : (w : Writer) → TakesAll w w []
+nothing w = record { taken = sym (append_known-nil w.taken); count = refl }
+
+pub spelled_is_written : (bytes : List ℕ) (c : List Entry) (f g : ℕ) (w0 w1 e : Writer) → Spells bytes c × IsWithin limits bytes c → Took w0.taken w1.taken (text_of c) → w1.failed ≡ w0.failed → Canon bytes f g w0 w1 e e 0
+spelled_is_written bytes c f g w0 w1 e s taken count = written c s.0 s.1 (record { taken = taken; count = count }) (nothing e) refl
+
+pub spelled_is_broken : (bytes : List ℕ) (c : List Entry) (f g : ℕ) (w0 w1 e : Writer) → Spells bytes c × IsWithin limits bytes c → TookBeginning w0.taken w1.taken (text_of c) → RoseOrStands w0.failed w1.failed → Canon bytes f g w0 w1 e e 1
+spelled_is_broken bytes c f g w0 w1 e s part rose = broke c s.0 s.1 (record { beginning = part; count = rose }) (nothing e) refl
+
+sent : {T F : Type 0} (e0 e1 : Writer) (text : List ℕ) (r : Result T F) → MatchResult r (λ _. TakesAll e0 e1 text) (λ _. TakesPart e0 e1 text) → TakesAll e0 e1 text ⊎ TakesPart e0 e1 text
+sent e0 e1 text (Ok x) h = inl h
+sent e0 e1 text (Err x) h = inr h
+
+pub fault_is_told : {T F : Type 0} (bytes : List ℕ) (fault : PoFault) (f g : ℕ) (w e0 e1 : Writer) (r : Result T F) → IsFault limits bytes (fault.line, fault.kind) ⊎ IsMemory fault
+    → MatchResult r (λ _. TakesAll e0 e1 (po_fault_line fault.line fault.kind)) (λ _. TakesPart e0 e1 (po_fault_line fault.line fault.kind)) → Canon bytes f g w w e0 e1 1
+fault_is_told bytes fault f g w e0 e1 r is h = told fault.line fault.kind is (nothing w) (sent e0 e1 (po_fault_line fault.line fault.kind) r h) refl
+
+pub memory_is_told : {T F : Type 0} (bytes : List ℕ) (f g : ℕ) (w e0 e1 : Writer) (r : Result T F) → MatchResult r (λ _. TakesAll e0 e1 (po_fault_line 0 Memory)) (λ _. TakesPart e0 e1 (po_fault_line 0 Memory)) → Canon bytes f g w w e0 e1 1
+memory_is_told bytes f g w e0 e1 r h = told 0 Memory (inr refl) (nothing w) (sent e0 e1 (po_fault_line 0 Memory) r h) refl
+
+-- ---- the whole text, of which no more was read than may be
+
+longer_fault : (got all : List ℕ) (line : ℕ) (kind : FaultKind) → limits.bytes < length got → length got ≤ length all → IsFault limits got (line, kind) → IsFault limits all (line, kind)
+longer_fault got all line kind long more (too_long h e) = too_long (omega arith) e
+longer_fault got all line kind long more (not_utf8 h u e) = absurd (omega arith)
+longer_fault got all line kind long more (at_line h u front at rest k cut p t e) = absurd (omega arith)
+longer_fault got all line kind long more (at_end h u k p t e) = absurd (omega arith)
+
+longer : (got all : List ℕ) (f g : ℕ) (w0 w1 e0 e1 : Writer) (status : ℕ) → limits.bytes < length got → length got ≤ length all → Canon got f g w0 w1 e0 e1 status → Canon all f g w0 w1 e0 e1 status
+longer got all f g w0 w1 e0 e1 status long more (written c s within a b t) = let few = within.bytes in absurd (omega arith)
+longer got all f g w0 w1 e0 e1 status long more (broke c s within a b t) = let few = within.bytes in absurd (omega arith)
+longer got all f g w0 w1 e0 e1 status long more (told line kind (inl is) a b t) = told line kind (inl (longer_fault got all line kind long more is)) a b t
+longer got all f g w0 w1 e0 e1 status long more (told line kind (inr is) a b t) = told line kind (inr is) a b t
+longer got all f g w0 w1 e0 e1 status long more (unread rose a b t) = unread rose a b t
+
+pub all_read : (all got : List ℕ) (old new : Option (List ℕ)) (f g : ℕ) (w0 w1 e0 e1 : Writer) (status : ℕ) → WasGathered old new got → old ≡ Some all → Canon got f g w0 w1 e0 e1 status → Canon all f g w0 w1 e0 e1 status
+all_read all got old None f g w0 w1 e0 e1 status h is canon = let wrong : Some all ≡ None = sym is ∙ h.read.cut in cc
+all_read all got old (Some rest) f g w0 w1 e0 e1 status h is canon =
+    let cut : all ≡ got ++ rest = cc (is, h.read.cut) in
+    by (nat_lt (length got) read_limit) refl cut
+  where
+    by : (t : Bool) → nat_lt (length got) read_limit ≡ t → all ≡ got ++ rest → Canon all f g w0 w1 e0 e1 status
+    by true few cut =
+        let less : length got < read_limit = grind (arith, nat_tests) in
+        let none : rest ≡ [] = h.all less in
+        let same : got ≡ all = sym (append-nil got) ∙ ap (λ t. got ++ t) (sym none) ∙ sym cut in
+        subst (λ t. Canon t f g w0 w1 e0 e1 status) same canon
+    by false many cut =
+        let long : limits.bytes < length got = grind (arith, nat_tests) in
+        let more : length got ≤ length all = omega (arith, ap length cut, length-append got rest) in
+        longer got all f g w0 w1 e0 e1 status long more canon

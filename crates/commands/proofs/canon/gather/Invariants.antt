@@ -1,0 +1,14 @@
+use Rattle.std.proofs.Common.{◌≡◌, ◌≤◌, ◌-◌, length, vec_len}
+use Rattle.units.specs.Streams.{prepend_known}
+use Rattle.commands.proofs.canon.gather.Given as goal
+
+-- what was read so far
+abbrev pub invariant-loop-room : goal.invariant-loop-room
+invariant-loop-room g l = record {
+  cut : g.R.ByteSource.left l.fn.source ≡ prepend_known l.bytes.items (g.R.ByteSource.left l.source);
+  count : g.R.ByteSource.failed l.source ≡ g.R.ByteSource.failed l.fn.source;
+  most : vec_len l.bytes ≤ 4194305;
+}
+
+abbrev pub decreases-loop-room : goal.decreases-loop-room
+decreases-loop-room g l = 4194305 - vec_len l.bytes
