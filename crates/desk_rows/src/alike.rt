@@ -1,7 +1,6 @@
-//! A desk's `run` and the plain program beside the desk.
+//! A desk's `run` beside single deliveries.
 use crate::course::{Course, Sent, desk_opened};
 use crate::exports::exports;
-use crate::plain::plain_text;
 use crate::told::result_told;
 use office::Desk;
 use request_book::Request;
@@ -53,38 +52,15 @@ fn replies(alloc: Global, sent: &[Sent]) -> Option<String> {
     Some(text)
 }
 
-/// Nothing where two texts are equal, else what was told.
-fn difference(alloc: Global, name: &str, told: &str, wanted: &str) -> Option<String> {
-    if told == wanted {
-        Some(String::new(alloc))
-    } else {
-        format!(in alloc; "{name}: {told}").ok()
-    }
-}
-
-fn run_difference(alloc: Global, course: &mut Course, replies: &str) -> Option<String> {
+/// How many requests have the same replies and leave the same exports in a run; or what is other.
+pub(crate) fn alike(alloc: Global, course: &mut Course) -> Option<String> {
+    let replies = replies(alloc, &course.sent)?;
     let exports = course.exports(alloc)?;
     let wanted = format!(in alloc; "{replies}{exports}").ok()?;
     let told = new_run_text(alloc, course)?;
-    difference(alloc, "run", told.as_str(), wanted.as_str())
-}
-
-fn plain_difference(alloc: Global, course: &mut Course, replies: &str) -> Option<String> {
-    let units = course.units(alloc)?;
-    let wanted = format!(in alloc; "{replies}{units}").ok()?;
-    let told = plain_text(alloc, course)?;
-    difference(alloc, "plainly", told.as_str(), wanted.as_str())
-}
-
-/// How many requests have the same replies and leave the same of each; or what is other.
-pub(crate) fn alike(alloc: Global, course: &mut Course) -> Option<String> {
-    let replies = replies(alloc, &course.sent)?;
-    let run = run_difference(alloc, course, replies.as_str())?;
-    let plain = plain_difference(alloc, course, replies.as_str())?;
-    let count = course.sent.iter().filter(|one| !one.lost).count();
-    if run.is_empty() && plain.is_empty() {
-        format!(in alloc; "{count} alike").ok()
-    } else {
-        format!(in alloc; "{run} {plain}").ok()
+    if told.as_str() != wanted.as_str() {
+        return format!(in alloc; "run: {told}").ok();
     }
+    let count = course.sent.iter().filter(|one| !one.lost).count();
+    format!(in alloc; "{count} alike").ok()
 }

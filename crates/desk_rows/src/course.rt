@@ -1,6 +1,5 @@
 //! A desk with the requests that it got so far.
 use crate::exports::{exported, exports};
-use crate::plain::units_text;
 use crate::told::result_told;
 use office::Desk;
 use request_book::Request;
@@ -89,10 +88,6 @@ impl Course {
 
     pub(crate) fn exports(&mut self, alloc: Global) -> Option<String> {
         exports(alloc, &mut self.desk, &self.sent)
-    }
-
-    pub(crate) fn units(&mut self, alloc: Global) -> Option<String> {
-        units_text(alloc, &mut self.desk, &self.sent)
     }
 
     pub(crate) fn export(&mut self, alloc: Global, code: &str, room: &str) -> Option<String> {

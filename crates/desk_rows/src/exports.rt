@@ -4,7 +4,6 @@ use crate::room::{Room, sink_with};
 use crate::told::receipt_told;
 use crate::words::code_in;
 use office::{Desk, ExportFault, ExportReceipt};
-use po_read::{Catalogue, read};
 use std::alloc::Global;
 use std::str;
 use units::Lang;
@@ -32,16 +31,6 @@ fn export_into(
 ) -> Option<Result<ExportReceipt, ExportFault>> {
     let lang = Lang::try_new(alloc, code).ok()??;
     Some(desk.export(&lang, sink))
-}
-
-/// The catalogue that a language's export spells: without an entry where the language isn't there.
-pub(crate) fn catalogue(alloc: Global, desk: &mut Desk, code: &str) -> Option<Catalogue> {
-    let mut sink = sink_with(alloc, usize::MAX);
-    let outcome = export_into(alloc, desk, code, &mut sink)?;
-    if outcome.is_err() {
-        return Some(Catalogue::empty(alloc));
-    }
-    read(alloc, &sink.taken).ok()
 }
 
 fn taken_told(alloc: Global, taken: &[u8]) -> Option<String> {

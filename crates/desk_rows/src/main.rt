@@ -6,15 +6,14 @@
 //!   REQUEST -> STATUS BODY           the desk's reply
 //!   many FROM TO REQUEST -> X        a request for each number from FROM up to TO, which stands for each @ in the request;
 //!                                    each gets the reply X, in whose body @ stands for the number too
-//!   lost REQUEST                     is lost on its way: only the plain program hears of it
+//!   lost REQUEST                     is lost on its way: the desk never hears of it
 //!   again -> STATUS BODY             the last request once more; no export changes
 //!   over -> N as before              all N requests once more: each gets its first reply; no export changes
-//!   alike -> N alike                 a new desk's `run` over the N requests and the plain program give the same replies, and
-//!                                    leave the same exports and units
+//!   alike -> N alike                 a new desk's `run` over the N requests that weren't lost gives the same replies, and leaves the
+//!                                    same exports
 //!   every A,B,.. C,D,.. .. -> N lists alike    the same of each list that takes one named request from each group
 //!   export LANG -> N bytes SHA|TEXT  the language's text, its length and its digest; a pilcrow stands for each LF
 //!   export LANG N -> X               the same into a sink that is full after N bytes
-//!   plain LANG ID -> X               the unit as the plain program leaves it
 //!   number FAULT -> N                the fault's number
 //!
 //! A delivery that is lost for want of memory is told as lost, which no row wants. A row that begins with `#` says nothing.
@@ -26,11 +25,9 @@ mod every;
 mod exports;
 mod many;
 mod numbers;
-mod plain;
 mod room;
 mod stage;
 mod told;
-mod units_told;
 mod words;
 
 use stage::{Stage, found};

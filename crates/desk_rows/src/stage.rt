@@ -4,7 +4,6 @@ use crate::course::{Course, opened};
 use crate::every::every_list;
 use crate::many::many;
 use crate::numbers::number_of;
-use crate::plain::plain_unit;
 use crate::words::{behind, word};
 use std::alloc::Global;
 
@@ -81,7 +80,6 @@ fn on_course(alloc: Global, stage: &mut Stage, deed: &str) -> Option<String> {
         "alike" => alike(alloc, course),
         "many" => many(alloc, course, deed),
         "export" => course.export(alloc, word(deed, 1), word(deed, 2)),
-        "plain" => plain_unit(alloc, course, word(deed, 1), word(deed, 2)),
         _ => course.deliver(alloc, line),
     }
 }

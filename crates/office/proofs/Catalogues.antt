@@ -1,5 +1,5 @@
 -- The text of a language's catalogue, cut into the pieces that are sent.
-use Rattle.std.proofs.Common.{◌≡◌, Bool, true, false, cond, not, ◌&&◌, List, [], ◌∷◌, ◌++◌, map, filter, refl, sym, ap, ◌∙◌}
+use Rattle.std.proofs.Common.{◌≡◌, Bool, true, false, cond, not, ◌&&◌, List, [], ◌∷◌, ◌++◌, map, filter, refl, ap, ◌∙◌}
 use Rattle.std.specs.Prelude.{flat_map}
 use Rattle.std.proofs.lemmas.Grind.{flat_map-append}
 use Rattle.std.specs.List.Sorted.{IsStrictlySortedBy}
@@ -12,13 +12,12 @@ use Rattle.po_write.proofs.Pushes.{text_of-cons}
 use Rattle.units.specs.Units.{all_empty}
 use Rattle.units.specs.Office.{Office, Place as OfficePlace, place_cmp, units_of}
 use Rattle.units.specs.declared.unit.Unit.{Unit}
-use Rattle.units.proofs.Orders.{place_total, place_IsAntisymmetric}
-use Rattle.office.specs.Entries.{catalogue_of, obsolete_entry}
-use Rattle.office.specs.Pieces.{behind, with_its_unit, unit_piece}
-use Rattle.office.specs.Viewed.{viewed}
-use Rattle.office.specs.declared.tables.Tables.{Tables}
-use Rattle.office.specs.Tables.{meaning, place_of}
-use Rattle.office.proofs.OrderedViews.{entries-viewed}
+use Rattle.units.specs.Orders.{place_total, place_IsAntisymmetric}
+use Rattle.deliveries.specs.ExportedEntries.{catalogue_of, obsolete_entry}
+use Rattle.deliveries.specs.EntryTexts.{behind, with_its_unit, unit_piece}
+use Rattle.office_maps.specs.declared.office_maps.OfficeMaps.{OfficeMaps}
+use Rattle.office_maps.specs.OfficeIn.{office_in, place_of}
+use Rattle.office_maps.proofs.OrderedViews.{entries-viewed}
 
 flat_map-map : {X Y A : Type 0} (f : Y → List A) (g : X → Y) (xs : List X) → flat_map f (map g xs) ≡ flat_map (λ x. f (g x)) xs
 flat_map-map f g [] = refl
@@ -58,8 +57,8 @@ text_cut office lang header =
 
 -- ---- the rows of the units, as the definitions see them
 
-pub unit_rows : (t : Tables) (lang : Text) → IsStrictlySortedBy (λ x y. place_cmp (place_of x) (place_of y)) (keys t.units)
-    → flat_map (λ e. unit_piece lang e.0.0 e.1) (entries (meaning t).office.units) ≡ flat_map (λ e. unit_piece lang e.0.lang e.1) t.units.entries
+pub unit_rows : (t : OfficeMaps) (lang : Text) → IsStrictlySortedBy (λ x y. place_cmp (place_of x) (place_of y)) (keys t.units)
+    → flat_map (λ e. unit_piece lang e.0.0 e.1) (entries (office_in t).units) ≡ flat_map (λ e. unit_piece lang e.0.lang e.1) t.units.entries
 unit_rows t lang h =
     ap (flat_map (λ e. unit_piece lang e.0.0 e.1)) (entries-viewed place_total place_IsAntisymmetric place_of (λ unit. unit) t.units h)
     ∙ flat_map-map (λ e. unit_piece lang e.0.0 e.1) (λ e. (place_of e.0, e.1)) t.units.entries

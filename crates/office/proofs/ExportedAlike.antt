@@ -6,10 +6,10 @@ use Rattle.units.specs.Office.{Office}
 use Rattle.units.specs.Streams.{Took}
 use Rattle.office.specs.declared.export.ExportReceipt.{ExportReceipt}
 use Rattle.office.specs.declared.faults.ExportFault.{ExportFault}
-use Rattle.office.specs.Export.{export_text}
+use Rattle.deliveries.specs.ExportText.{export_text}
 use Rattle.office.specs.Exports.{WasExported}
-use Rattle.office.specs.Promises.{ExportsTheSame}
-use Rattle.office.proofs.Swaps.{alike_after}
+use Rattle.deliveries.specs.AnyOrder.{ExportsTheSame}
+use Rattle.deliveries.proofs.commuting.Swaps.{alike_after}
 
 whole_taken : (text old new : Option (List ℕ)) (receipt : ExportReceipt) → WasExported text old new receipt → IsSomeAnd text (Took old new)
 whole_taken text old new receipt was = subst (λ (t : Option (List ℕ)). IsSomeAnd t (Took old new)) (sym was.is) was.taken

@@ -13,18 +13,18 @@ use Rattle.units.specs.Office.{Office, Place as OfficePlace, place_cmp}
 use Rattle.units.specs.Offices.{IsOffice}
 use Rattle.units.specs.Streams.{Took}
 use Rattle.units.specs.declared.unit.Unit.{Unit}
-use Rattle.units.proofs.Orders.{place_total, place_IsAntisymmetric}
+use Rattle.units.specs.Orders.{place_total, place_IsAntisymmetric}
 use Rattle.office.specs.declared.export.ExportReceipt.{ExportReceipt}
-use Rattle.office.specs.declared.place.Place.{Place}
-use Rattle.office.specs.declared.tables.Tables.{Tables}
-use Rattle.office.specs.Entries.{catalogue_of}
-use Rattle.office.specs.Export.{export_text}
+use Rattle.office_maps.specs.declared.place.Place.{Place}
+use Rattle.office_maps.specs.declared.office_maps.OfficeMaps.{OfficeMaps}
+use Rattle.deliveries.specs.ExportedEntries.{catalogue_of}
+use Rattle.deliveries.specs.ExportText.{export_text}
 use Rattle.office.specs.Exports.{WasExported}
-use Rattle.office.specs.Spelled.{HasStrings, TookSpelled, TookCatalogue}
-use Rattle.office.specs.Tables.{meaning, place_of}
-use Rattle.office.specs.Viewed.{viewed}
-use Rattle.office.proofs.OrderedViews.{entries-viewed}
-use Rattle.office.proofs.ExportedValid.{exported_valid}
+use Rattle.deliveries.specs.ExportSpelled.{HasStrings, TookSpelled, TookCatalogue}
+use Rattle.office_maps.specs.OfficeIn.{office_in, place_of}
+use Rattle.office_maps.specs.MapViews.{viewed}
+use Rattle.office_maps.proofs.OrderedViews.{entries-viewed}
+use Rattle.deliveries.proofs.exports.ExportedValid.{exported_valid}
 
 -- the rows of the tables, as the definitions see them
 abbrev HasStringsAt : OfficePlace × Unit → Type 0
@@ -50,10 +50,10 @@ by_header office lang old new receipt rules strings (Some header) there was =
     } in
     rw there took
 
-pub spells_its_catalogue : (t : Tables) (lang : Text) (old new : Option (List ℕ)) (receipt : ExportReceipt)
+pub spells_its_catalogue : (t : OfficeMaps) (lang : Text) (old new : Option (List ℕ)) (receipt : ExportReceipt)
     → IsStrictlySortedBy (λ x y. place_cmp (place_of x) (place_of y)) (keys t.units) → AllByRecursion (λ (e : Place × Unit). HasStrings e.1) t.units.entries
-    → WasExported (export_text (meaning t).office lang) old new receipt → IsOffice (meaning t).office → TookCatalogue (meaning t).office lang old new
+    → WasExported (export_text (office_in t) lang) old new receipt → IsOffice (office_in t) → TookCatalogue (office_in t) lang old new
 spells_its_catalogue t lang old new receipt ordered strings was rules =
-    by_header (meaning t).office lang old new receipt rules
+    by_header (office_in t) lang old new receipt rules
     (subst (AllByRecursion HasStringsAt) (sym (entries-viewed place_total place_IsAntisymmetric place_of (λ unit. unit) t.units ordered)) (viewed_strings t.units.entries strings))
-    (maps.get (meaning t).office.headers lang) refl was
+    (maps.get (office_in t).headers lang) refl was

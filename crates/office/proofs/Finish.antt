@@ -18,32 +18,32 @@ use Rattle.units.specs.Streams.{TookBeginning}
 use Rattle.office.specs.declared.sent.Sent.{Sent}
 use Rattle.office.specs.declared.faults.ExportFault.{ExportFault}
 use Rattle.office.specs.declared.faults.ExportFault.TheVariants as fault
-use Rattle.office.specs.declared.tables.Tables.{Tables}
-use Rattle.office.specs.declared.languages.Language.{Language}
-use Rattle.office.specs.Tables.{meaning, place_of}
-use Rattle.office.specs.Entries.{catalogue_of, translated}
-use Rattle.office.specs.Export.{export_text}
-use Rattle.office.specs.Pieces.{behind, with_its_unit, unit_piece}
+use Rattle.office_maps.specs.declared.office_maps.OfficeMaps.{OfficeMaps}
+use Rattle.deliveries.specs.declared.values.Language.{Language}
+use Rattle.office_maps.specs.OfficeIn.{office_in, place_of}
+use Rattle.deliveries.specs.ExportedEntries.{catalogue_of, translated}
+use Rattle.deliveries.specs.ExportText.{export_text}
+use Rattle.deliveries.specs.EntryTexts.{behind, with_its_unit, unit_piece}
 use Rattle.office.specs.Exports.{IsSent, SentAll, SentPart, Failed, IsTooLong, WasExported, WasCut}
-use Rattle.office.proofs.Meanings.{header_at, unit_at}
+use Rattle.office_maps.proofs.OfficeViews.{header_at, unit_at}
 use Rattle.office.proofs.Catalogues.{text_cut, unit_rows}
 
 -- the pieces of a language's text
-abbrev pub pieces : Tables → Text → Language → List ℕ
+abbrev pub pieces : OfficeMaps → Text → Language → List ℕ
 pieces t lang language =
     entry_text language.header
-    ++ (flat_map (λ entry. behind (with_its_unit (meaning t).office lang entry)) t.template.catalogue ++ flat_map (λ e. unit_piece lang e.0.0 e.1) (maps.entries (meaning t).office.units))
+    ++ (flat_map (λ entry. behind (with_its_unit (office_in t) lang entry)) t.template.catalogue ++ flat_map (λ e. unit_piece lang e.0.0 e.1) (maps.entries (office_in t).units))
 
-pub text_there : (t : Tables) (lang : Text) (language : Language) → Some language ≡ get_by (λ k. text_cmp lang (string_bytes k)) t.languages.rows → export_text (meaning t).office lang ≡ Some (pieces t lang language)
+pub text_there : (t : OfficeMaps) (lang : Text) (language : Language) → Some language ≡ get_by (λ k. text_cmp lang (string_bytes k)) t.languages.rows → export_text (office_in t) lang ≡ Some (pieces t lang language)
 text_there t lang language found =
-    ap (option_map (λ header. text_of (catalogue_of (meaning t).office lang header))) (header_at t lang ∙ sym (ap (option_map (λ l. l.header)) found))
-    ∙ ap (λ text. Some text) (text_cut (meaning t).office lang language.header)
+    ap (option_map (λ header. text_of (catalogue_of (office_in t) lang header))) (header_at t lang ∙ sym (ap (option_map (λ l. l.header)) found))
+    ∙ ap (λ text. Some text) (text_cut (office_in t) lang language.header)
 
-no_text : (t : Tables) (lang : Text) → None ≡ get_by (λ k. text_cmp lang (string_bytes k)) t.languages.rows → export_text (meaning t).office lang ≡ None
-no_text t lang none = ap (option_map (λ header. text_of (catalogue_of (meaning t).office lang header))) (header_at t lang ∙ sym (ap (option_map (λ l. l.header)) none))
+no_text : (t : OfficeMaps) (lang : Text) → None ≡ get_by (λ k. text_cmp lang (string_bytes k)) t.languages.rows → export_text (office_in t) lang ≡ None
+no_text t lang none = ap (option_map (λ header. text_of (catalogue_of (office_in t) lang header))) (header_at t lang ∙ sym (ap (option_map (λ l. l.header)) none))
 
-pub no_language : (t : Tables) (lang : Text) (taken : Option (List ℕ)) (failed : ℕ) → None ≡ get_by (λ k. text_cmp lang (string_bytes k)) t.languages.rows
-    → WasCut (export_text (meaning t).office lang) taken taken failed failed fault.NoLanguage
+pub no_language : (t : OfficeMaps) (lang : Text) (taken : Option (List ℕ)) (failed : ℕ) → None ≡ get_by (λ k. text_cmp lang (string_bytes k)) t.languages.rows
+    → WasCut (export_text (office_in t) lang) taken taken failed failed fault.NoLanguage
 no_language t lang taken failed none = let P : Option (List ℕ) → Type 0 = λ o. IsNone o in (subst P (sym (no_text t lang none)) refl, refl)
 
 pub was_cut : {t0 t1 : Option (List ℕ)} {f0 f1 : ℕ} {s0 : Sent} {whole : List ℕ} (text : Option (List ℕ)) (e : ExportFault) → text ≡ Some whole → IsSent s0 [] → SentPart t0 t1 f0 f1 s0 whole e → WasCut text t0 t1 f0 f1 e
@@ -69,17 +69,17 @@ was_exported {whole = whole} text sha is empty all digest =
     record { whole = whole; is = is; taken = all.taken; bytes = sent.bytes; within = sent.within; digest = digest whole sent.digest }
 
 -- the template's pieces, and those of what is put away
-pub template_cut : (t : Tables) (lang : Text) (entries : List Entry) (rest : List ℕ) → entries ≡ t.template.catalogue
-    → flat_map (λ entry. behind (with_its_unit (meaning t).office lang entry)) t.template.catalogue ++ rest ≡ flat_map (λ entry. behind (with_its_unit (meaning t).office lang entry)) entries ++ rest
-template_cut t lang entries rest same = ap (λ xs. flat_map (λ entry. behind (with_its_unit (meaning t).office lang entry)) xs ++ rest) (sym same)
+pub template_cut : (t : OfficeMaps) (lang : Text) (entries : List Entry) (rest : List ℕ) → entries ≡ t.template.catalogue
+    → flat_map (λ entry. behind (with_its_unit (office_in t) lang entry)) t.template.catalogue ++ rest ≡ flat_map (λ entry. behind (with_its_unit (office_in t) lang entry)) entries ++ rest
+template_cut t lang entries rest same = ap (λ xs. flat_map (λ entry. behind (with_its_unit (office_in t) lang entry)) xs ++ rest) (sym same)
 
-pub away_cut : (t : Tables) (lang : Text) → IsOrdered (λ x y. place_cmp (place_of x) (place_of y)) t.units
-    → flat_map (λ e. unit_piece lang e.0.0 e.1) (maps.entries (meaning t).office.units) ≡ flat_map (λ e. unit_piece lang e.0.lang e.1) t.units.entries ++ []
+pub away_cut : (t : OfficeMaps) (lang : Text) → IsOrdered (λ x y. place_cmp (place_of x) (place_of y)) t.units
+    → flat_map (λ e. unit_piece lang e.0.0 e.1) (maps.entries (office_in t).units) ≡ flat_map (λ e. unit_piece lang e.0.lang e.1) t.units.entries ++ []
 away_cut t lang ordered = unit_rows t lang ordered ∙ sym (append-nil (flat_map (λ e. unit_piece lang e.0.lang e.1) t.units.entries))
 
 -- what a look-up of the unit gives
-pub with_unit_found : (t : Tables) (lang own : Text) (key : Key) (entry : Entry) (found : Option Unit) → own ≡ lang → key ≡ key_of entry → found ≡ get_by (λ k. place_cmp (own, key) (place_of k)) t.units
-    → option_map_or (translated entry) found entry ≡ with_its_unit (meaning t).office lang entry
+pub with_unit_found : (t : OfficeMaps) (lang own : Text) (key : Key) (entry : Entry) (found : Option Unit) → own ≡ lang → key ≡ key_of entry → found ≡ get_by (λ k. place_cmp (own, key) (place_of k)) t.units
+    → option_map_or (translated entry) found entry ≡ with_its_unit (office_in t) lang entry
 with_unit_found t lang own key entry found same_lang same_key e =
     ap (λ o. option_map_or (translated entry) o entry)
     (e ∙ (λ i. get_by (λ k. place_cmp (same_lang i, same_key i) (place_of k)) t.units) ∙ sym (unit_at t (lang, key_of entry)))

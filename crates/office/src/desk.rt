@@ -7,24 +7,24 @@ ghost use Rattle.units.specs.Openings.{demo, opening};
 ghost use Rattle.request_book.specs.Acts.{content_text};
 ghost use Rattle.request_book.specs.declared.act.Act.TheVariants.{OnUnit};
 ghost use Rattle.office.specs.Tables.{meaning};
-ghost use Rattle.office.specs.Deliveries.{reply_from, first_delivered, left_by, answers_of, kept, lost_marks, told};
-ghost use Rattle.office.specs.Settled.{IsSettled};
-ghost use Rattle.office.specs.Step.{step};
-ghost use Rattle.office.specs.Starts.{IsStart};
-ghost use Rattle.office.specs.Export.{export_text};
+ghost use Rattle.deliveries.specs.Deliveries.{reply_from, first_delivered, left_by, answers_of, kept, lost_marks, told};
+ghost use Rattle.office_acts.specs.Settled.{IsSettled};
+ghost use Rattle.deliveries.specs.Step.{step};
+ghost use Rattle.deliveries.specs.OfficeRules.{KeepsRules};
+ghost use Rattle.deliveries.specs.ExportText.{export_text};
 ghost use Rattle.office.specs.Exports.{WasExported, WasCut};
-ghost use Rattle.office.specs.Promises.{IsLeftInAnyOrder, ExportsTheSame};
+ghost use Rattle.deliveries.specs.AnyOrder.{IsLeftInAnyOrder, ExportsTheSame};
 ghost use Rattle.units.specs.Offices.{IsOffice};
-ghost use Rattle.office.specs.Spelled.{TookCatalogue};
+ghost use Rattle.deliveries.specs.ExportSpelled.{TookCatalogue};
 ghost use Rattle.office.specs.declared.lost.Lost.TheVariants.{Memory as Refused};
 
 use crate::export::{ExportReceipt, export};
 use crate::faults::ExportFault;
 use crate::lost::Lost;
-use crate::office_acts::{set_language, set_policy, set_role, set_template};
-use crate::office_outcome::OfficeOutcome;
-use crate::outcome::Outcome;
 use crate::tables::Tables;
+use deliveries::Outcome;
+use office_acts::{OfficeOutcome, office_outcome, unit_outcome};
+use office_maps::OfficeMaps;
 use po_read::{Duplicate, Text};
 use replies::used;
 use request_book::{Act, Class, Record, Reply, Request, canon, classify};
@@ -64,10 +64,10 @@ impl Desk {
     /// `Memory` where a growth was refused.
     pub fn demo(alloc: Global) -> Result<Desk, Lost>
         ensures ok { IfOk result (λ desk. meaning_of desk ≡ record { office = demo; book = maps.empty }) }
-        ensures rules { IfOk result (λ desk. IsStart (meaning_of desk)) }
+        ensures rules { IfOk result (λ desk. KeepsRules (meaning_of desk)) }
         ensures memory { IfErr result (λ e. e ≡ Refused) }
     {
-        let tables = Tables::demo(alloc)?;
+        let tables = Tables::new(alloc, OfficeMaps::demo(alloc)?);
         Ok(Desk { tables, alloc })
     }
 
@@ -76,10 +76,10 @@ impl Desk {
     /// `Memory` where a growth was refused.
     pub fn opening(alloc: Global, manager: &Name) -> Result<Desk, Lost>
         ensures ok { IfOk result (λ desk. meaning_of desk ≡ record { office = opening manager.now; book = maps.empty }) }
-        ensures rules { IfOk result (λ desk. IsStart (meaning_of desk)) }
+        ensures rules { IfOk result (λ desk. KeepsRules (meaning_of desk)) }
         ensures memory { IfErr result (λ e. e ≡ Refused) }
     {
-        let tables = Tables::opening(alloc, manager)?;
+        let tables = Tables::new(alloc, OfficeMaps::opening(alloc, manager)?);
         Ok(Desk { tables, alloc })
     }
 
@@ -96,7 +96,7 @@ impl Desk {
         ensures refused { IfOk result
             (λ reply. reply.status ≢ 200 → (meaning_of self.new).office ≡ (meaning_of self.old).office) }
         // The rules of an office with its book are kept.
-        ensures rules { OnOk result (IsStart (meaning_of self.old) → IsStart (meaning_of self.new)) }
+        ensures rules { OnOk result (KeepsRules (meaning_of self.old) → KeepsRules (meaning_of self.new)) }
         ensures lost { OnErr result (meaning_of self.new ≡ meaning_of self.old) }
         ensures memory { IfErr result (λ e. e ≡ Refused) }
     {
@@ -132,20 +132,8 @@ impl Desk {
     {
         match &request.act {
             Act::OnUnit(lang, key, act) => self.deliver_unit_act(request, content, lang, key, act),
-            Act::SetTemplate(po) => {
-                let outcome = set_template(self.alloc, &self.tables, &request.caller, po)?;
-                self.settle(request, content, outcome)
-            }
-            Act::AddLanguage(lang, po) => {
-                let outcome = set_language(self.alloc, &self.tables, &request.caller, lang, po)?;
-                self.settle(request, content, outcome)
-            }
-            Act::SetRole(name, role) => {
-                let outcome = set_role(self.alloc, &self.tables, &request.caller, name, *role)?;
-                self.settle(request, content, outcome)
-            }
-            Act::SetPolicy(policy) => {
-                let outcome = set_policy(self.alloc, &self.tables, &request.caller, policy)?;
+            _ => {
+                let outcome = office_outcome(self.alloc, &self.tables.office, request)?;
                 self.settle(request, content, outcome)
             }
         }
@@ -205,7 +193,7 @@ impl Desk {
         ensures memory { IfErr result (λ e. e ≡ Refused) }
     {
         let found = self.tables.view_of(lang, key, &request.caller)?;
-        let Outcome { view, reply } = Outcome::of(self.alloc, found, request, act)?;
+        let Outcome { view, reply } = unit_outcome(self.alloc, found, request, act)?;
         // Reply and record are made before the commit: nothing after it takes memory.
         match reply.duplicate() {
             Ok(first) => {
@@ -242,7 +230,7 @@ impl Desk {
         ensures commuting { IfOk result (λ results.
             IsLeftInAnyOrder (meaning_of self.old) (meaning_of self.new) (kept requests.now (lost_marks results.items))) }
         // The rules of an office with its book are kept.
-        ensures rules { OnOk result (IsStart (meaning_of self.old) → IsStart (meaning_of self.new)) }
+        ensures rules { OnOk result (KeepsRules (meaning_of self.old) → KeepsRules (meaning_of self.new)) }
         ensures lost { IfOk result
             (λ results. All (λ answer. IfErr answer (λ e. e ≡ Refused)) results.items) }
         ensures err { OnErr result (meaning_of self.new ≡ meaning_of self.old) }
@@ -279,6 +267,6 @@ impl Desk {
         ensures commuting { OnOk result
             (ExportsTheSame (meaning_of self.old).office lang.now (W.taken w.old) (W.taken w.new)) }
     {
-        export(self.alloc, &self.tables, lang, w)
+        export(self.alloc, &self.tables.office, lang, w)
     }
 }

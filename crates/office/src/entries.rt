@@ -1,7 +1,7 @@
 //! The entries of a language's text.
 
 ghost use Rattle.std.specs.Prelude.{◌≡◌, ◌++◌, IfOk, OnOk};
-ghost use Rattle.office.specs.Entries as spec;
+ghost use Rattle.deliveries.specs.ExportedEntries as spec;
 
 use po_read::{Duplicate, Entry, Forms, Items, PoString, Previous, Text};
 use std::alloc::{AllocError, Global};

@@ -1,21 +1,21 @@
-//! The tables of a desk, in ordered maps. Contracts see them as the office with its book that they stand for.
+//! The tables of a desk: the office in ordered maps, and the records. Contracts see them as the office with its book that they
+//! stand for.
 
 ghost use Rattle.std.specs.Prelude.{◌≡◌, IfOk, OnOk, OnErr, IfErr, IsTrue, is_none, option_map};
 ghost use Rattle.std.specs.FinMap as maps;
 ghost use Rattle.request_book.specs.Book.{row_of, with_record};
-ghost use Rattle.units.specs.Office.{entry_of, role_of, view_of, with_unit};
+ghost use Rattle.units.specs.Office.{with_unit};
+ghost use Rattle.office_maps.specs.OfficeIn.{office_in};
 ghost use Rattle.office.specs.declared.lost.Lost.TheVariants.{Memory};
 
-use crate::found::Found;
-use crate::languages::Languages;
 use crate::lost::Lost;
-use crate::place::{OrderedKey, Place};
-use crate::template::Template;
-use po_read::{Duplicate, Entry, Text};
+use deliveries::{Change, Found};
+use office_maps::{OfficeMaps, Place};
+use po_read::{Duplicate, Text};
 use request_book::{Record, Reply};
-use std::alloc::AllocError;
+use std::alloc::{AllocError, Global};
 use std::collections::BTreeMap;
-use units::{Key, Lang, Name, Policy, Role, Unit, UnitView};
+use units::{Key, Lang, Name, Unit, UnitView};
 use uuid::Uuid;
 
 /// What is kept under a request's number: the text of its content and its first reply.
@@ -53,17 +53,24 @@ impl Kept {
 /// The tables.
 #[derive(Drop)]
 pub(crate) struct Tables {
-    pub(crate) template: Template,
-    pub(crate) languages: Languages,
-    pub(crate) units: BTreeMap<Place, Unit>,
-    pub(crate) team: BTreeMap<String, Role>,
-    pub(crate) policy: Policy,
+    pub(crate) office: OfficeMaps,
     pub(crate) records: BTreeMap<Uuid, Kept>,
 }
 
 impl Tables {
     ghost use Rattle.office.specs.Tables.{meaning, place_of};
-    ghost use Rattle.office.specs.Found.{found_of, written};
+    ghost use Rattle.deliveries.specs.UnitAccess.{found_of, with_view};
+    ghost use Rattle.deliveries.specs.OfficeChanges.{changed, changed_by, IsPossible, IsPossibleChange};
+
+    /// The tables of an office of which nothing is recorded.
+    pub(crate) fn new(alloc: Global, office: OfficeMaps) -> Tables
+        ensures { meaning result ≡ record { office = office_in office; book = maps.empty } }
+    {
+        Tables {
+            office,
+            records: BTreeMap::new(alloc),
+        }
+    }
 
     /// What is recorded under a number.
     pub(crate) fn record_of(&mut self, number: &Uuid) -> Result<Option<Record>, Lost>
@@ -88,46 +95,7 @@ impl Tables {
         ensures same { meaning self.new ≡ meaning self.old }
         ensures memory { IfErr result (λ e. e ≡ Memory) }
     {
-        let Some(language) = self.languages.get(lang) else {
-            return Ok(None);
-        };
-        Ok(Some(Found {
-            rule: language.rule.duplicate()?,
-            policy: self.policy,
-            role: self.role_of(name),
-            view: self.unit_of(lang, key)?,
-        }))
-    }
-
-    /// A caller's role.
-    pub(crate) fn role_of(&self, name: &Name) -> Role
-        ensures { result ≡ role_of (meaning self.now).office name.now }
-    {
-        self.team.get(name.as_str()).copied().unwrap_or(Role::Guest)
-    }
-
-    /// A copy of a unit with its template's entry.
-    fn unit_of(&self, lang: &Lang, key: &Key) -> Result<Option<UnitView>, AllocError>
-        ensures { IfOk result (λ view. view ≡ view_of (meaning self.now).office (lang.now, key.now)) }
-    {
-        let place = Place::of(lang, key)?;
-        match self.units.get(&place) {
-            Some(unit) => Ok(Some(UnitView {
-                unit: unit.duplicate()?,
-                source: self.source_of(&place.key)?,
-            })),
-            None => Ok(None),
-        }
-    }
-
-    /// A copy of the template's entry of a key.
-    fn source_of(&self, key: &OrderedKey) -> Result<Option<Entry>, AllocError>
-        ensures { IfOk result (λ entry. entry ≡ entry_of (meaning self.now).office.template key.now.key) }
-    {
-        match self.template.entry_of(key) {
-            Some(entry) => Ok(Some(entry.duplicate()?)),
-            None => Ok(None),
-        }
+        Ok(self.office.view_of(lang, key, name)?)
     }
 
     /// Writes a unit's new view, if there is one, and the request's record. What can fail comes first.
@@ -140,17 +108,26 @@ impl Tables {
     ) -> Result<(), Lost>
         requires new { IsTrue (is_none (maps.get (meaning self.old).book row.number)) }
         ensures ok { OnOk result (meaning self.new
-            ≡ record { office = written (meaning self.old).office lang.now key.now view; book = with_record (meaning self.old).book row }) }
+            ≡ record { office = with_view (meaning self.old).office lang.now key.now view; book = with_record (meaning self.old).book row }) }
         ensures err { OnErr result (meaning self.new ≡ meaning self.old) }
         ensures memory { IfErr result (λ e. e ≡ Memory) }
     {
         match view {
             Some(view) => self.commit_both(row, Place::of(lang, key)?, view.unit),
-            None => {
-                self.records.insert(row.number, Kept::of(row))?;
-                Ok(())
-            }
+            None => self.commit_record(row),
         }
+    }
+
+    /// Writes a record.
+    fn commit_record(&mut self, row: Record) -> Result<(), Lost>
+        ensures ok { OnOk result (meaning self.new
+            ≡ record { office = (meaning self.old).office; book = with_record (meaning self.old).book row }) }
+        ensures err { OnErr result (meaning self.new ≡ meaning self.old) }
+        ensures memory { IfErr result (λ e. e ≡ Memory) }
+    {
+        let before = self.records.insert(row.number, Kept::of(row))?;
+        drop(before);
+        Ok(())
     }
 
     /// Writes a unit and a record, or neither.
@@ -162,11 +139,53 @@ impl Tables {
         ensures memory { IfErr result (λ e. e ≡ Memory) }
     {
         let number = row.number;
-        self.records.insert(number, Kept::of(row))?;
-        match self.units.insert(place, unit) {
-            Ok(_) => Ok(()),
+        let before = self.records.insert(number, Kept::of(row))?;
+        drop(before);
+        match self.office.put_unit(place, unit) {
+            Ok(()) => Ok(()),
             Err(_) => {
-                let _ = self.records.remove(&number);
+                drop(self.records.remove(&number));
+                Err(Lost::Memory)
+            }
+        }
+    }
+
+    /// Writes what an office act changes, if it changes anything, and the request's record; or neither.
+    pub(crate) fn commit_office(
+        &mut self,
+        alloc: Global,
+        row: Record,
+        change: Option<Change>,
+    ) -> Result<(), Lost>
+        requires new { IsTrue (is_none (maps.get (meaning self.old).book row.number)) }
+        requires possible { IsPossibleChange (meaning self.old).office change }
+        ensures ok { OnOk result (meaning self.new
+            ≡ record { office = changed_by (meaning self.old).office change; book = with_record (meaning self.old).book row }) }
+        ensures err { OnErr result (meaning self.new ≡ meaning self.old) }
+        ensures memory { IfErr result (λ e. e ≡ Memory) }
+    {
+        match change {
+            None => self.commit_record(row),
+            Some(change) => self.commit_change(alloc, row, change),
+        }
+    }
+
+    /// Writes what an office act changes and the request's record, or neither.
+    fn commit_change(&mut self, alloc: Global, row: Record, change: Change) -> Result<(), Lost>
+        requires new { IsTrue (is_none (maps.get (meaning self.old).book row.number)) }
+        requires possible { IsPossible (meaning self.old).office change }
+        ensures ok { OnOk result (meaning self.new
+            ≡ record { office = changed (meaning self.old).office change; book = with_record (meaning self.old).book row }) }
+        ensures err { OnErr result (meaning self.new ≡ meaning self.old) }
+        ensures memory { IfErr result (λ e. e ≡ Memory) }
+    {
+        let number = row.number;
+        let before = self.records.insert(number, Kept::of(row))?;
+        drop(before);
+        match self.office.change(alloc, change) {
+            Ok(()) => Ok(()),
+            Err(_) => {
+                drop(self.records.remove(&number));
                 Err(Lost::Memory)
             }
         }

@@ -5,7 +5,7 @@ ghost use Rattle.std.specs.List.{AllByRecursion};
 ghost use Rattle.po_lex.specs.declared.line.Keyword.{Keyword};
 ghost use Rattle.po_read.specs.Entries.{optional};
 ghost use Rattle.po_read.specs.Valid.{IsString, AllStrings};
-ghost use Rattle.office.specs.Spelled.{HasStrings};
+ghost use Rattle.deliveries.specs.ExportSpelled.{HasStrings};
 
 use po_read::{Forms, PoString, Text};
 use units::Unit;

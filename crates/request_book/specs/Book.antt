@@ -19,7 +19,7 @@ abbrev pub Book : Type 0
 Book = maps.FinMap text_cmp Recorded
 
 -- what tables mean: an office and its book
-pub record Meaning : Type 0 where
+pub record OfficeWithBook : Type 0 where
   pub office : Office
   pub book : Book
 

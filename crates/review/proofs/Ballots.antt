@@ -7,7 +7,7 @@ use Rattle.units.specs.declared.unit.Suggestion.{Suggestion}
 use Rattle.units.specs.declared.unit.Unit.{Unit}
 use Rattle.units.specs.declared.votes.VoteValue.{VoteValue}
 use Rattle.units.specs.Units.{has_number, suggestion_of}
-use Rattle.units.proofs.Orders.{text_total}
+use Rattle.units.specs.Orders.{text_total}
 use Rattle.review.specs.UnitStep.{set_vote, with_vote}
 
 -- how many votes are left when the caller's is taken back, and how many there are with the caller's

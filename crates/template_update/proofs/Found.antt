@@ -9,7 +9,7 @@ use Rattle.std.proofs.lemmas.Cmp.{tied_itself, tied_back}
 use Rattle.std.proofs.lemmas.List.Folds.{find-append}
 use Rattle.units.specs.Units.{key_cmp}
 use Rattle.units.specs.declared.unit.Key.{Key}
-use Rattle.units.proofs.Orders.{place_IsAntisymmetric, key_total}
+use Rattle.units.specs.Orders.{place_IsAntisymmetric, key_total}
 use Rattle.template_update.specs.Views.{first_with, IsIndexOf}
 
 pub same_key : (x y : Key) → key_cmp x y ≡ Equal → x ≡ y

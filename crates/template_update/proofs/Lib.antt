@@ -1,4 +1,3 @@
-pub mod Compared
 pub mod Empties
 pub mod Found
 pub mod Listed

@@ -13,7 +13,7 @@ use Rattle.po_read.specs.Valid.{HasHeaderKey, IsHeader, HasHeaderFirst, HasUniqu
 use Rattle.units.specs.Units.{key_cmp, key_of}
 use Rattle.units.specs.Office.{entry_of}
 use Rattle.units.specs.declared.unit.Key.{Key}
-use Rattle.units.proofs.Orders.{key_total}
+use Rattle.units.specs.Orders.{key_total}
 use Rattle.template_update.proofs.Found.{same_key, equal}
 
 -- ---- lists

@@ -6,9 +6,9 @@ ghost use Rattle.std.specs.BTreeMap.{get_by};
 ghost use Rattle.units.specs.Units.{key_cmp};
 ghost use Rattle.template_update.specs.Views.{IsIndexOf};
 
-use crate::key::{KeyRef, Keyed};
 use std::alloc::{AllocError, Global};
 use std::collections::BTreeMap;
+use units::{KeyRef, Keyed};
 
 /// The first of a list for each key.
 #[derive(Drop)]

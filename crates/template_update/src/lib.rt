@@ -2,7 +2,6 @@
 #![tactic(auto)]
 
 mod index;
-mod key;
 mod loading;
 mod planning;
 mod plans;

@@ -10,7 +10,6 @@ ghost use Rattle.template_update.specs.Templates.{is_fuzzy};
 ghost use Rattle.template_update.specs.Views.{IsIndexOf};
 
 use crate::index::KeyIndex;
-use crate::key::Keyed;
 use crate::planning::within_limit;
 use crate::plans::{Counts, Plan};
 use crate::refit::{first_revision, new_unit, refit};
@@ -19,7 +18,7 @@ use checks::{Source, result_state};
 use plural_expr::PluralForms;
 use po_read::{Catalogue, Duplicate, Entry, Items};
 use std::alloc::{AllocError, Global};
-use units::{Key, Memory, Policy, Unit, UnitState, all_empty, has_flag, some_empty};
+use units::{Key, Keyed, Memory, Policy, Unit, UnitState, all_empty, has_flag, some_empty};
 
 /// An entry as a unit in a state, at revision 1.
 fn unit_of(

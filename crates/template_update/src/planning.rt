@@ -13,7 +13,6 @@ ghost use Rattle.template_update.specs.Steps.{HaveUpdates};
 ghost use Rattle.template_update.specs.Views.{IsIndexOf};
 
 use crate::index::KeyIndex;
-use crate::key::Keyed;
 use crate::plans::{Counts, Plan};
 use crate::refit::new_unit;
 use crate::update::{UnitUpdate, counts_of, updated_unit};
@@ -21,7 +20,7 @@ use crate::updates::UpdatedUnits;
 use plural_expr::PluralForms;
 use po_read::{Catalogue, Entry, Items};
 use std::alloc::{AllocError, Global};
-use units::{Memory, Unit};
+use units::{Keyed, Memory, Unit};
 
 /// How many units a language has at most, obsolete ones included.
 const MAX_UNITS: usize = 60_000;

@@ -3,23 +3,13 @@
 ghost use Rattle.std.specs.Prelude.{◌≡◌, ◌<◌, ◌≤◌, IfOk, replicate, []};
 ghost use Rattle.std.specs.Option.{option_copied};
 ghost use Rattle.po_read.specs.Texts.{maybe_text_eq};
-ghost use Rattle.units.specs.Units.{needed, no_previous};
+ghost use Rattle.units.specs.Units.{needed};
 ghost use Rattle.template_update.specs.Units as spec;
 
 use plural_expr::PluralForms;
 use po_read::{Duplicate, Entry, Forms, Items, PoString, Previous};
 use std::alloc::{AllocError, Global};
-use units::{Key, Revision, Unit, UnitState, all_empty};
-
-pub(crate) fn no_previous() -> Previous
-    ensures { result ≡ no_previous }
-{
-    Previous {
-        ctx: None,
-        id: None,
-        plural: None,
-    }
-}
+use units::{Key, Revision, Unit, UnitState, all_empty, no_previous};
 
 pub(crate) fn first_revision() -> Revision
     ensures { result ≡ 1 }

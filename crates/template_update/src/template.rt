@@ -7,10 +7,10 @@ ghost use Rattle.po_read.specs.Valid.{fuzzy};
 ghost use Rattle.units.specs.Offices.{IsTemplateEntry};
 ghost use Rattle.template_update.specs.Templates.{without_fuzzy, as_template, is_message, template_of};
 
-use crate::refit::{forms_of, no_previous};
+use crate::refit::forms_of;
 use po_read::{Catalogue, Duplicate, Entry, Items, Text};
 use std::alloc::{AllocError, Global};
-use units::Memory;
+use units::{Memory, no_previous};
 
 /// An entry with an empty msgid, no context, no plural and not obsolete.
 pub(crate) fn is_header(entry: &Entry) -> bool

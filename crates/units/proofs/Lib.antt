@@ -1,3 +1,4 @@
-pub mod Orders
 pub mod Taking
 pub mod Placing
+pub mod Compared
+pub mod KeyTexts

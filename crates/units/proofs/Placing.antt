@@ -15,7 +15,7 @@ use Rattle.units.specs.declared.votes.VoteValue.{VoteValue}
 use Rattle.units.specs.declared.votes.VoteValue.TheVariants.{Against, For}
 use Rattle.units.specs.Ballots.{StandsAfter, IsPlaceOf, IsNewPlaceOf, is_for, vote_eq}
 use Rattle.units.specs.Units.{vote_sum}
-use Rattle.units.proofs.Orders.{text_total, text_IsAntisymmetric}
+use Rattle.units.specs.Orders.{text_total, text_IsAntisymmetric}
 
 is_true : (b : Bool) → b ≡ true → T b
 is_true true e = tt

@@ -4,6 +4,8 @@ pub mod Ballots
 pub mod Coding
 pub mod Units
 pub mod Office
+pub mod Orders
+pub mod KeyTexts
 pub mod Changes
 pub mod Rules
 pub mod Offices

@@ -3,6 +3,7 @@
 
 mod comment;
 mod copies;
+mod keys;
 mod memory;
 mod names;
 mod states;
@@ -11,9 +12,10 @@ mod unit;
 mod votes;
 
 pub use comment::CommentLines;
+pub use keys::{KeyRef, Keyed, equal_texts};
 pub use memory::Memory;
 pub use names::{AcceptAt, Lang, Name, Revision};
-pub use states::{all_empty, has_flag, is_read_only, needed, some_empty};
+pub use states::{all_empty, has_flag, is_read_only, needed, no_previous, some_empty};
 pub use streams::{ByteSink, ByteSource, SinkFault, SourceFault};
 pub use unit::{
     Key, Policy, Refusal, Role, ShownState, Suggestion, Unit, UnitAct, UnitAction, UnitState,

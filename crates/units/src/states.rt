@@ -29,6 +29,17 @@ fn rank(role: Role) -> u8
     }
 }
 
+/// No previous strings: what a unit has that doesn't need editing.
+pub fn no_previous() -> Previous
+    ensures { result ≡ spec.no_previous }
+{
+    Previous {
+        ctx: None,
+        id: None,
+        plural: None,
+    }
+}
+
 /// Whether an entry of the template has a flag.
 pub fn has_flag(flag: &str, entry: &Entry) -> bool
     ensures { result ≡ spec.has_flag flag.now entry.now }

@@ -1,5 +1,5 @@
 use Rattle.office.specs.Tables.{meaning}
-use Rattle.office.proofs.UnitActs.{recorded_unit_act}
+use Rattle.deliveries.proofs.acts.UnitActs.{recorded_unit_act}
 use Rattle.office.proofs.desk.Desk.deliver_unit_act.Goals as goal
 
 pub returns-in_ok-commit_unit-in-Ok-clause-ok : goal.returns-in_ok-commit_unit-in-Ok-clause-ok

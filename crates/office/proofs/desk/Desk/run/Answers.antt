@@ -1,11 +1,11 @@
 use Rattle.std.proofs.Common.{◌≡◌, ℕ, ◌≤◌, List, Bool, ◌<◌, ◌+◌, take, length, vec_len, vec_capacity, arith, sym, ◌∙◌, ap, subst, length-append, length-take, IfErr}
 use Rattle.office.specs.declared.lost.Lost.TheVariants.{Memory}
 use Rattle.office.specs.Desk.{meaning_of}
-use Rattle.office.specs.Deliveries.{left_by, kept, lost_marks, after, IsRecordedIn}
-use Rattle.office.proofs.Running.{one_more, still_start, pushed, taken, longer, take-whole, one_more_all}
-use Rattle.office.proofs.Told.{any_order}
+use Rattle.deliveries.specs.Deliveries.{left_by, kept, lost_marks, after, IsRecordedIn}
+use Rattle.deliveries.proofs.retries.Running.{one_more, still_start, pushed, taken, longer, take-whole, one_more_all}
+use Rattle.deliveries.proofs.commuting.Told.{any_order}
 use Rattle.request_book.specs.declared.act.Request.{Request}
-use Rattle.request_book.specs.Book.{Meaning}
+use Rattle.request_book.specs.Book.{OfficeWithBook}
 use Rattle.office.proofs.desk.Desk.run.Goals as goal
 
 pub loop-request-preserved : goal.loop-request-preserved
@@ -31,7 +31,7 @@ loop-request-preserved c =
     }
 
 -- what the requests that weren't lost left
-left_at_end : (m now : Meaning) (requests : List Request) (i : ℕ) (marks : List Bool) → length requests ≤ i → now ≡ left_by m (kept (take i requests) marks) → now ≡ left_by m (kept requests marks)
+left_at_end : (m now : OfficeWithBook) (requests : List Request) (i : ℕ) (marks : List Bool) → length requests ≤ i → now ≡ left_by m (kept (take i requests) marks) → now ≡ left_by m (kept requests marks)
 left_at_end m now requests i marks all left = left ∙ ap (λ ys. left_by m (kept ys marks)) (take-whole i requests all)
 
 pub returns-clause-commuting : goal.returns-clause-commuting
@@ -39,7 +39,7 @@ returns-clause-commuting c = λ xs alike.
     let m = meaning_of c.args.self.now in
     let marks = lost_marks c.loop-request.results.items in
     let left = left_at_end m (meaning_of c.loop-request.self) c.args.requests.now c.loop-request.request-index marks (omega arith) c.loop-request.invariant.left in
-    subst (λ (l : Meaning). (l.office ≡ after m.office xs) × IsRecordedIn l.book m.office xs) (sym left) (any_order m (kept c.args.requests.now marks) xs alike)
+    subst (λ (l : OfficeWithBook). (l.office ≡ after m.office xs) × IsRecordedIn l.book m.office xs) (sym left) (any_order m (kept c.args.requests.now marks) xs alike)
 
 pub returns-clause-rules : goal.returns-clause-rules
 returns-clause-rules c = c.loop-request.invariant.rules

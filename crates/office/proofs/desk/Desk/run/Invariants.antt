@@ -1,7 +1,7 @@
 use Rattle.std.proofs.Common.{◌≡◌, ◌≤◌, take, length, vec_len, vec_capacity, All, IfErr}
 use Rattle.office.specs.Desk.{meaning_of}
-use Rattle.office.specs.Deliveries.{left_by, answers_of, told, kept, lost_marks}
-use Rattle.office.specs.Starts.{IsStart}
+use Rattle.deliveries.specs.Deliveries.{left_by, answers_of, told, kept, lost_marks}
+use Rattle.deliveries.specs.OfficeRules.{KeepsRules}
 use Rattle.office.specs.declared.lost.Lost.TheVariants.{Memory}
 use Rattle.office.proofs.desk.Desk.run.Given as goal
 
@@ -14,6 +14,6 @@ invariant-loop-request l =
       room : length l.requests ≤ vec_capacity l.results;
       left : meaning_of l.self ≡ left_by (meaning_of l.fn.self) done;
       answers : told l.results.items ≡ answers_of (meaning_of l.fn.self) done;
-      rules : IsStart (meaning_of l.fn.self) → IsStart (meaning_of l.self);
+      rules : KeepsRules (meaning_of l.fn.self) → KeepsRules (meaning_of l.self);
       lost : All (λ answer. IfErr answer (λ e. e ≡ Memory)) l.results.items;
     }

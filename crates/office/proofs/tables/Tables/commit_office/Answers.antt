@@ -1,7 +1,7 @@
 use Rattle.std.proofs.Common.{◌≡◌, Option, OnOk, sym, subst}
 use Rattle.request_book.specs.Book.{with_record}
-use Rattle.office.specs.declared.change.Change.{Change}
-use Rattle.office.specs.Changed.{changed_by, IsPossibleChange}
+use Rattle.deliveries.specs.declared.values.Change.{Change}
+use Rattle.deliveries.specs.OfficeChanges.{changed_by, IsPossibleChange}
 use Rattle.office.specs.Tables.{meaning}
 use Rattle.office.proofs.tables.Tables.commit_office.Goals as goal
 

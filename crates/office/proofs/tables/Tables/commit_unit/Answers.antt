@@ -1,14 +1,11 @@
-use Rattle.std.proofs.Common.{sym, ◌∙◌}
+use Rattle.std.proofs.Common.{◌≡◌, Option, OnOk, sym, subst}
+use Rattle.units.specs.declared.unit.UnitView.{UnitView}
 use Rattle.request_book.specs.Book.{with_record}
+use Rattle.deliveries.specs.UnitAccess.{with_view}
 use Rattle.office.specs.Tables.{meaning}
-use Rattle.office.specs.Found.{written}
-use Rattle.office.proofs.Meanings.{record-put}
 use Rattle.office.proofs.tables.Tables.commit_unit.Goals as goal
 
-pub returns-in_ok-insert-in-None-clause-ok : goal.returns-in_ok-insert-in-None-clause-ok
-returns-in_ok-insert-in-None-clause-ok c =
-    record-put c.args.self.now c.insert.new.self c.of-in-None.result c.args.row c.in_ok-insert-in-None.ensures.entries c.of-in-None.ensures
-    ∙ (λ i. record {
-      office = written (meaning c.args.self.now).office c.args.lang.now c.args.key.now (sym c.in-None.is i);
-      book = with_record (meaning c.args.self.now).book c.args.row;
-    })
+pub returns-in-None-clause-ok : goal.returns-in-None-clause-ok
+returns-in-None-clause-ok c =
+    subst (λ (view : Option UnitView). OnOk c.commit_record.result (meaning c.commit_record.new.self
+    ≡ record { office = with_view (meaning c.args.self.now).office c.args.lang.now c.args.key.now view; book = with_record (meaning c.args.self.now).book c.args.row })) (sym c.in-None.is) c.commit_record.ensures.ok

@@ -1,5 +1,5 @@
 use Rattle.std.proofs.Common.{Some, None, ap, ◌∙◌}
-use Rattle.office.proofs.Meanings.{row_at}
+use Rattle.office.proofs.Records.{row_at}
 use Rattle.office.proofs.tables.Tables.record_of.Goals as goal
 
 pub returns-in_ok-row-in-Some-clause-answer : goal.returns-in_ok-row-in-Some-clause-answer

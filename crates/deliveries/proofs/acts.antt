@@ -1,0 +1,2 @@
+pub mod OfficeEnds
+pub mod UnitActs

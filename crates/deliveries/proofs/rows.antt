@@ -1,0 +1,5 @@
+pub mod DemoRequests
+pub mod Rows
+pub mod ActRows
+pub mod LastRevision
+pub mod ExportRows

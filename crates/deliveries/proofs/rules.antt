@@ -1,0 +1,15 @@
+pub mod Numbers
+pub mod UnitRules
+pub mod Numbering
+pub mod Tallies
+pub mod Replaced
+pub mod Rebuilt
+pub mod Counted
+pub mod PlanRows
+pub mod TeamKept
+pub mod PolicyKept
+pub mod LanguageKept
+pub mod TemplateKept
+pub mod KeptRules
+pub mod Demo
+pub mod StartLemmas

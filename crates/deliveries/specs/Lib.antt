@@ -1,0 +1,14 @@
+pub mod OfficeRules
+pub mod ExportedEntries
+pub mod ExportText
+pub mod EntryTexts
+pub mod OfficeActs
+pub mod OfficeChanges
+pub mod UnitAccess
+pub mod UnitOutcomes
+pub mod Step
+pub mod Deliveries
+pub mod AnyOrder
+pub mod ExportSpelled
+pub mod RuleSets
+pub mod Laws

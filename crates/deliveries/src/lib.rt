@@ -1,0 +1,10 @@
+//! What deliveries leave and what they are answered: the definitions, the laws over them, and the values that they speak of.
+#![tactic(auto)]
+
+mod laws;
+mod values;
+
+pub use laws::{
+    alike_by_swaps, either_order, equal_exports, run_goes_on, unit_act_leaves_the_rest,
+};
+pub use values::{Change, Found, Language, Outcome};

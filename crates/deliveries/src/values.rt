@@ -1,0 +1,50 @@
+//! What an act reads and what it comes to.
+
+ghost use Rattle.std.specs.Prelude.{◌≡◌, Ok, Some};
+ghost use Rattle.std.proofs.Props.{props};
+ghost use Rattle.units.specs.Rules.{rule_in};
+ghost use Rattle.deliveries.specs.RuleSets.{Rule-set, PluralFault-set};
+
+use plural_expr::PluralForms;
+use po_read::{Catalogue, Entry};
+use request_book::Reply;
+use template_update::Plan;
+use units::{Lang, Name, Policy, Role, UnitView};
+
+/// A language: its header entry, and the plural rule of the header.
+#[derive(Drop)]
+pub struct Language {
+    pub header: Entry,
+    pub rule: PluralForms,
+    pub ghost ruled: { rule_in (Some header) ≡ Ok rule } by { Prim.hlevel (props, Rule-set, PluralFault-set) },
+}
+
+/// What an act on a unit needs to know: of its language the plural rule, of the office its policy, of the caller the role, and of
+/// the unit its view, if it is there.
+#[derive(Drop)]
+pub struct Found {
+    pub rule: PluralForms,
+    pub policy: Policy,
+    pub role: Role,
+    pub view: Option<UnitView>,
+}
+
+/// What an act on a unit comes to: the unit's new view, unless the act is refused, and the reply.
+#[derive(Drop)]
+pub struct Outcome {
+    pub view: Option<UnitView>,
+    pub reply: Reply,
+}
+
+/// What an office act changes.
+#[derive(Drop)]
+pub enum Change {
+    /// The name has this role; as a guest it isn't in the team.
+    OneRole(Name, Role),
+    /// The policy is this one, and no unit stays approved where it has no reviews.
+    NewPolicy(Policy),
+    /// A language comes with its units.
+    NewLanguage(Lang, Language, Plan),
+    /// The template is this one, and each language has the units of its plan.
+    NewTemplate(Catalogue, Vec<(Lang, Plan)>),
+}

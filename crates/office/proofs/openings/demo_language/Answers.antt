@@ -1,5 +1,0 @@
-use Rattle.office.proofs.Demo.{ruled}
-use Rattle.office.proofs.openings.demo_language.Goals as goal
-
-pub invariant_of-result : goal.invariant_of-result
-invariant_of-result c = record { ruled = ruled c.in_ok-header.header c.in_ok-rule.rule c.in_ok-header.ensures c.in_ok-rule.ensures.rule }

@@ -1,0 +1,10 @@
+pub mod Views
+pub mod OrderedViews
+pub mod Places
+pub mod FoundLemmas
+pub mod OfficeViews
+pub mod UnitRows
+pub mod AfterChanges
+pub mod Ranges
+pub mod Teams
+pub mod Plans

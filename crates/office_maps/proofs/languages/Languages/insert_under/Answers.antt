@@ -1,0 +1,47 @@
+use Rattle.std.proofs.Common.{◌≡◌, Bool, true, false, ◌&&◌, List, [], ◌∷◌, Result, Ok, Err, OnOk, OnErr, string_bytes, refl, ap, ◌∙◌}
+use Rattle.std.specs.List.{list_all}
+use Rattle.std.specs.BTreeMap.{insert_entry}
+use Rattle.std.specs.Ordering.{match_ordering}
+use Rattle.std.specs.declared.cmp.Ordering.{Ordering}
+use Rattle.std.specs.declared.cmp.Ordering.TheVariants.{Less, Equal, Greater}
+use Rattle.po_read.specs.Texts.{text_cmp}
+use Rattle.units.specs.Limits.{is_lang}
+use Rattle.units.specs.Orders.{text_total, text_IsAntisymmetric}
+use Rattle.office_maps.proofs.Views.{insert-viewed}
+use Rattle.office_maps.proofs.Plans.{both_hold}
+use Rattle.office_maps.proofs.languages.Languages.insert_under.Goals as goal
+
+both : (a b : Bool) → a ≡ true → b ≡ true → (a && b) ≡ true
+both true b p q = q
+both false b p q = cc
+
+-- what holds of all keys, and of one more, holds of all keys then
+all_keys-insert : {K X : Type 0} (p : K → Bool) (cmp : K → K → Ordering) (k : K) (v : X) (es : List (K × X)) → p k ≡ true → list_all (λ (e : K × X). p e.0) es ≡ true
+    → list_all (λ (e : K × X). p e.0) (insert_entry cmp es k v) ≡ true
+all_keys-insert {K} {X} p cmp k v [] own all = both (p k) true own refl
+all_keys-insert {K} {X} p cmp k v (e ∷ es) own all =
+    let parts = both_hold (p e.0) (list_all (λ (x : K × X). p x.0) es) all in
+    elim (cmp k e.0) as (λ r. list_all (λ (x : K × X). p x.0) (match_ordering r ((k, v) ∷ e ∷ es) ((e.0, v) ∷ es) (e ∷ insert_entry cmp es k v)) ≡ true) [
+      | Less ↦ both (p k) (list_all (λ (x : K × X). p x.0) (e ∷ es)) own all
+      | Equal ↦ all
+      | Greater ↦ both (p e.0) (list_all (λ (x : K × X). p x.0) (insert_entry cmp es k v)) parts.0 (all_keys-insert p cmp k v es own parts.1)
+    ]
+
+-- after a call that put an entry in, or left the entries as they were
+all_keys-after : {T E K X : Type 0} (p : K → Bool) (r : Result T E) (old more new : List (K × X)) → OnOk r (new ≡ more) → OnErr r (new ≡ old)
+    → list_all (λ (e : K × X). p e.0) old ≡ true → list_all (λ (e : K × X). p e.0) more ≡ true → list_all (λ (e : K × X). p e.0) new ≡ true
+all_keys-after {K = K} {X = X} p (Ok x) old more new put same before after = ap (λ (es : List (K × X)). list_all (λ (e : K × X). p e.0) es) put ∙ after
+all_keys-after {K = K} {X = X} p (Err x) old more new put same before after = ap (λ (es : List (K × X)). list_all (λ (e : K × X). p e.0) es) same ∙ before
+
+pub invariant_of-self : goal.invariant_of-self
+invariant_of-self c = record {
+  coded = all_keys-after (λ k. is_lang (string_bytes k)) c.insert.result c.args.self.now.rows.entries
+      (insert_entry (λ x y. text_cmp (string_bytes x) (string_bytes y)) c.args.self.now.rows.entries c.args.own c.args.language) c.insert.new.self.entries
+      c.insert.ensures.entries c.insert.ensures.err c.args.self.now.coded
+      (all_keys-insert (λ k. is_lang (string_bytes k)) (λ x y. text_cmp (string_bytes x) (string_bytes y)) c.args.own c.args.language c.args.self.now.rows.entries
+      c.requires c.args.self.now.coded);
+}
+
+pub returns-in-Ok-clause-ok : goal.returns-in-Ok-clause-ok
+returns-in-Ok-clause-ok c =
+    insert-viewed text_cmp string_bytes (λ language. language.header) text_total text_IsAntisymmetric c.args.self.now.rows c.insert.new.self c.args.own c.args.language c.in-Ok.ensures.entries

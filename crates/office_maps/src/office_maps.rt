@@ -1,0 +1,76 @@
+//! An office in ordered maps. Contracts see it as the office that it stands for.
+
+ghost use Rattle.std.specs.Prelude.{◌≡◌, IfOk};
+ghost use Rattle.units.specs.Office.{entry_of, role_of, view_of};
+
+use crate::languages::Languages;
+use crate::place::{OrderedKey, Place};
+use crate::template::Template;
+use deliveries::Found;
+use po_read::{Duplicate, Entry};
+use std::alloc::AllocError;
+use std::collections::BTreeMap;
+use units::{Key, Lang, Name, Policy, Role, Unit, UnitView};
+
+/// An office: its template, its languages, their units at their places, its team and its policy.
+#[derive(Drop)]
+pub struct OfficeMaps {
+    pub template: Template,
+    pub languages: Languages,
+    pub units: BTreeMap<Place, Unit>,
+    pub team: BTreeMap<String, Role>,
+    pub policy: Policy,
+}
+
+impl OfficeMaps {
+    ghost use Rattle.office_maps.specs.OfficeIn.{office_in, place_of};
+    ghost use Rattle.deliveries.specs.UnitAccess.{found_of};
+
+    /// What an act on a unit needs to know; nothing where the language isn't there.
+    ///
+    /// `AllocError` where a growth was refused.
+    pub fn view_of(&self, lang: &Lang, key: &Key, name: &Name) -> Result<Option<Found>, AllocError>
+        ensures { IfOk result (λ r. r ≡ found_of (office_in self.now) lang.now key.now name.now) }
+    {
+        let Some(language) = self.languages.get(lang) else {
+            return Ok(None);
+        };
+        Ok(Some(Found {
+            rule: language.rule.duplicate()?,
+            policy: self.policy,
+            role: self.role_of(name),
+            view: self.unit_of(lang, key)?,
+        }))
+    }
+
+    /// A caller's role: who isn't in the team is a guest.
+    pub fn role_of(&self, name: &Name) -> Role
+        ensures { result ≡ role_of (office_in self.now) name.now }
+    {
+        self.team.get(name.as_str()).copied().unwrap_or(Role::Guest)
+    }
+
+    /// A copy of a unit with its template's entry.
+    fn unit_of(&self, lang: &Lang, key: &Key) -> Result<Option<UnitView>, AllocError>
+        ensures { IfOk result (λ view. view ≡ view_of (office_in self.now) (lang.now, key.now)) }
+    {
+        let place = Place::of(lang, key)?;
+        match self.units.get(&place) {
+            Some(unit) => Ok(Some(UnitView {
+                unit: unit.duplicate()?,
+                source: self.source_of(&place.key)?,
+            })),
+            None => Ok(None),
+        }
+    }
+
+    /// A copy of the template's entry of a key.
+    fn source_of(&self, key: &OrderedKey) -> Result<Option<Entry>, AllocError>
+        ensures { IfOk result (λ entry. entry ≡ entry_of (office_in self.now).template key.now.key) }
+    {
+        match self.template.entry_of(key) {
+            Some(entry) => Ok(Some(entry.duplicate()?)),
+            None => Ok(None),
+        }
+    }
+}

@@ -1,0 +1,229 @@
+//! The offices that a desk may open with.
+
+ghost use Rattle.std.specs.Prelude.{◌≡◌, [], ◌∷◌, Ok, true, codes, IfOk};
+ghost use Rattle.std.specs.FinMap as maps;
+ghost use Rattle.po_read.specs.Texts.{text_cmp};
+ghost use Rattle.plural_expr.specs.Faults.{reading_of};
+ghost use Rattle.units.specs.declared.unit.Role.TheVariants.{Manager};
+ghost use Rattle.office_maps.specs.Rows.{headers_in, units_in, team_in};
+ghost use Rattle.po_read.specs.Strings.{is_string};
+ghost use Rattle.units.specs.Openings as opens;
+
+use crate::languages::Languages;
+use crate::office_maps::OfficeMaps;
+use crate::place::{OrderedKey, Place};
+use crate::template::Template;
+use deliveries::Language;
+use plural_expr::{PluralFault, PluralForms};
+use po_read::{Catalogue, Entry, Forms, Items, PoString};
+use std::alloc::{AllocError, Global};
+use std::collections::BTreeMap;
+use units::{
+    AcceptAt, Key, Lang, Memory, Name, Policy, Revision, Role, Unit, UnitState, no_previous,
+};
+
+const DEMO_HEADER: &str =
+    "Content-Type: text/plain; charset=UTF-8\nPlural-Forms: nplurals=2; plural=n != 1;\n";
+
+const DEMO_RULE: &str = "nplurals=2; plural=n != 1;";
+
+/// A policy that allows nothing but translations.
+fn closed_policy() -> Policy
+    ensures { result ≡ opens.closed_policy }
+{
+    Policy {
+        reviews: false,
+        guests_suggest: false,
+        voting: false,
+        accept_at: AcceptAt::try_new(0).unwrap(),
+        placeholders: false,
+        line_ends: false,
+    }
+}
+
+fn string(alloc: Global, text: &str) -> Result<PoString, AllocError>
+    requires { is_string text.now ≡ true }
+    ensures { IfOk result (λ string. string ≡ text.now) }
+{
+    match PoString::try_new(alloc, text)? {
+        Some(string) => Ok(string),
+        None => unreachable!(),
+    }
+}
+
+fn one_form(alloc: Global, text: &str) -> Result<Forms, AllocError>
+    requires { is_string text.now ≡ true }
+    ensures { IfOk result (λ forms. forms ≡ text.now ∷ []) }
+{
+    let mut strings = Vec::new(alloc);
+    strings.push(string(alloc, text)?)?;
+    match Forms::try_new(strings) {
+        Some(forms) => Ok(forms),
+        None => unreachable!(),
+    }
+}
+
+/// An entry with a msgid and one form.
+fn plain_entry(alloc: Global, id: &str, form: &str) -> Result<Entry, AllocError>
+    requires id { is_string id.now ≡ true }
+    requires form { is_string form.now ≡ true }
+    ensures { IfOk result (λ entry. entry ≡ opens.plain_entry id.now form.now) }
+{
+    Ok(Entry {
+        translator: Items::new(alloc),
+        extracted: Items::new(alloc),
+        references: Items::new(alloc),
+        flags: Items::new(alloc),
+        previous: no_previous(),
+        ctx: None,
+        id: string(alloc, id)?,
+        plural: None,
+        forms: one_form(alloc, form)?,
+        obsolete: false,
+    })
+}
+
+fn demo_lang(alloc: Global) -> Result<Lang, AllocError>
+    ensures { IfOk result (λ lang. lang ≡ codes "de") }
+{
+    match Lang::try_new(alloc, "de")? {
+        Some(lang) => Ok(lang),
+        None => unreachable!(),
+    }
+}
+
+/// The key of the message `Hello`.
+fn demo_key(alloc: Global) -> Result<Key, AllocError>
+    ensures { IfOk result (λ key. key ≡ opens.demo_unit.key) }
+{
+    Ok(Key {
+        ctx: None,
+        id: string(alloc, "Hello")?,
+    })
+}
+
+fn demo_place(alloc: Global) -> Result<Place, AllocError>
+    ensures lang { IfOk result (λ place. place.lang ≡ codes "de") }
+    ensures key { IfOk result (λ place. place.key.key ≡ opens.demo_unit.key) }
+{
+    Ok(Place {
+        lang: demo_lang(alloc)?,
+        key: OrderedKey {
+            key: demo_key(alloc)?,
+        },
+    })
+}
+
+fn demo_unit(alloc: Global) -> Result<Unit, AllocError>
+    ensures { IfOk result (λ unit. unit ≡ opens.demo_unit) }
+{
+    Ok(Unit {
+        key: demo_key(alloc)?,
+        plural: None,
+        forms: one_form(alloc, "")?,
+        state: UnitState::Untranslated,
+        obsolete: false,
+        revision: Revision::try_new(1).unwrap(),
+        comment: Items::new(alloc),
+        previous: no_previous(),
+        suggestions: Items::new(alloc),
+    })
+}
+
+fn demo_rule(alloc: Global) -> Result<PluralForms, Memory>
+    ensures { IfOk result (λ rule. reading_of (codes "nplurals=2; plural=n != 1;") ≡ Ok rule) }
+{
+    match PluralForms::parse(alloc, DEMO_RULE) {
+        Ok(rule) => Ok(rule),
+        Err(fault) => match fault {
+            PluralFault::Memory => Err(Memory::from(AllocError)),
+            _ => unreachable!(),
+        },
+    }
+}
+
+fn demo_language(alloc: Global) -> Result<Language, Memory>
+    ensures { IfOk result (λ language. language.header ≡ opens.plain_entry [] opens.demo_header) }
+{
+    let header = plain_entry(alloc, "", DEMO_HEADER)?;
+    let rule = demo_rule(alloc)?;
+    Ok(Language { header, rule })
+}
+
+fn demo_units(alloc: Global) -> Result<BTreeMap<Place, Unit>, AllocError>
+    ensures { IfOk result (λ units. units_in units ≡ opens.demo.units) }
+{
+    let mut units = BTreeMap::new(alloc);
+    units.insert(demo_place(alloc)?, demo_unit(alloc)?)?;
+    Ok(units)
+}
+
+fn demo_languages(alloc: Global) -> Result<Languages, Memory>
+    ensures { IfOk result (λ languages. headers_in languages.rows ≡ opens.demo.headers) }
+{
+    let mut languages = Languages::new(alloc);
+    languages.insert(alloc, &demo_lang(alloc)?, demo_language(alloc)?)?;
+    Ok(languages)
+}
+
+/// A team of one manager.
+fn team_of(alloc: Global, manager: &str) -> Result<BTreeMap<String, Role>, AllocError>
+    ensures { IfOk result (λ team. team_in team ≡ maps.insert {R = text_cmp} maps.empty manager.now Manager) }
+{
+    let mut team = BTreeMap::new(alloc);
+    team.insert(String::from_str(alloc, manager)?, Role::Manager)?;
+    Ok(team)
+}
+
+fn demo_team(alloc: Global) -> Result<BTreeMap<String, Role>, AllocError>
+    ensures { IfOk result (λ team. team_in team ≡ opens.demo.team) }
+{
+    let mut team = team_of(alloc, "root")?;
+    team.insert(String::from_str(alloc, "ann")?, Role::Translator)?;
+    Ok(team)
+}
+
+fn demo_catalogue(alloc: Global) -> Result<Catalogue, AllocError>
+    ensures { IfOk result (λ catalogue. catalogue ≡ opens.demo.template) }
+{
+    let entries = Vec::from_array(alloc, [plain_entry(alloc, "Hello", "")?])?;
+    match Catalogue::try_new(alloc, entries)? {
+        Some(catalogue) => Ok(catalogue),
+        None => unreachable!(),
+    }
+}
+
+impl OfficeMaps {
+    ghost use Rattle.office_maps.specs.OfficeIn.{office_in};
+
+    /// An office with one manager and nothing else.
+    ///
+    /// `Memory` where a growth was refused.
+    pub fn opening(alloc: Global, manager: &Name) -> Result<OfficeMaps, Memory>
+        ensures { IfOk result (λ office. office_in office ≡ opens.opening manager.now) }
+    {
+        Ok(OfficeMaps {
+            template: Template::of(alloc, Catalogue::empty(alloc))?,
+            languages: Languages::new(alloc),
+            units: BTreeMap::new(alloc),
+            team: team_of(alloc, manager.as_str())?,
+            policy: closed_policy(),
+        })
+    }
+
+    /// The demo office: the manager `root` and the translator `ann`, and the language `de` with the message `Hello`, which has no
+    /// translation yet.
+    ///
+    /// `Memory` where a growth was refused.
+    pub fn demo(alloc: Global) -> Result<OfficeMaps, Memory>
+        ensures { IfOk result (λ office. office_in office ≡ opens.demo) }
+    {
+        Ok(OfficeMaps {
+            template: Template::of(alloc, demo_catalogue(alloc)?)?,
+            languages: demo_languages(alloc)?,
+            units: demo_units(alloc)?,
+            team: demo_team(alloc)?,
+            policy: closed_policy(),
+        })
+    }
+}
