@@ -1,0 +1,12 @@
+pub mod RowMaps
+pub mod ApartRows
+pub mod Comparisons
+pub mod Columns
+pub mod PlainQueries
+pub mod PutRows
+pub mod RemovedRows
+pub mod RenewedRows
+pub mod Writes
+pub mod Upserts
+pub mod KeptCommits
+pub mod Transactions

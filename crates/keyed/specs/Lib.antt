@@ -1,0 +1,4 @@
+pub mod RowMaps
+pub mod ApartRows
+pub mod PlainQueries
+pub mod Upserts

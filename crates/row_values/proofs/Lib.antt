@@ -1,0 +1,5 @@
+mod ReadBack
+mod Readers
+mod Exact
+mod Keys
+pub mod rows

@@ -1,0 +1,194 @@
+//! The columns of a language: its header, and the value of the header's plural rule.
+ghost use Rattle.std.specs.Prelude.{◌≡◌, [], ◌∷◌, true, Ok, Err, Some, None, IfOk, OnOk, IfErr};
+ghost use Rattle.std.specs.Option.{option_copied};
+ghost use Rattle.serde_json.specs.View.{view};
+ghost use Rattle.po_read.specs.Strings.{is_forms};
+ghost use Rattle.units.specs.Rules.{plural_field, rule_in};
+ghost use Rattle.row_values.specs.Faults.{Gives};
+ghost use Rattle.plural_expr.specs.Faults.{reading_of};
+ghost use Rattle.row_values.specs.Readings.{comments_of, header_with, header_of, header_read};
+ghost use Rattle.row_values.specs.Written.{header_string, header_data, header_text, IsHeaderEntry};
+ghost use Rattle.row_values.specs.declared.fault.RowFault.TheVariants.{Malformed, Memory};
+
+use crate::fault::RowFault;
+use crate::names::string_from;
+use crate::previous::{previous_in, previous_value};
+use crate::values::{compact, item, string_in, texts_in, texts_value, value_from};
+use plural_expr::{PluralFault, PluralForms};
+use po_read::{Entry, Forms, Items, PoString, Previous, Text, field_value};
+use serde_json::Value;
+use std::alloc::{AllocError, Global};
+
+/// The column of a header entry: a compact JSON list of its translator's comments, extracted comments, references, flags, previous
+/// strings and its string.
+pub fn header_column(alloc: Global, header: &Entry) -> Result<Text, AllocError>
+    ensures { IfOk result (λ column. column ≡ header_text header.now) }
+{
+    let value = header_value(alloc, header)?;
+    compact(alloc, &value)
+}
+
+fn header_value(alloc: Global, header: &Entry) -> Result<Value, AllocError>
+    ensures { IfOk result (λ v. view v ≡ header_data header.now) }
+{
+    let mut list = Vec::new(alloc);
+    list.push(texts_value(alloc, header.translator.as_slice())?)?;
+    list.push(texts_value(alloc, header.extracted.as_slice())?)?;
+    list.push(texts_value(alloc, header.references.as_slice())?)?;
+    list.push(texts_value(alloc, header.flags.as_slice())?)?;
+    list.push(previous_value(alloc, &header.previous)?)?;
+    list.push(Value::try_from_str(alloc, string_of(header))?)?;
+    Ok(Value::Array(list))
+}
+
+/// The string of a header, its one form.
+fn string_of(header: &Entry) -> &str
+    ensures { result.now ≡ header_string header.now }
+{
+    match header.forms.as_slice() {
+        [form, ..] => form.as_str(),
+        [] => "",
+    }
+}
+
+/// The header entry that a column stands for.
+pub fn header_from(alloc: Global, column: &str) -> Result<Entry, RowFault>
+    ensures ok { IfOk result (λ header. column.now ≡ header_text header) }
+    ensures fits { IfOk result IsHeaderEntry }
+    ensures back { (header : Entry) → IsHeaderEntry header → column.now ≡ header_text header → Gives result header }
+{
+    header_read_from(alloc, column)
+}
+
+fn header_read_from(alloc: Global, column: &str) -> Result<Entry, RowFault>
+    ensures ok { IfOk result (λ header. header_read column.now ≡ Some header) }
+    ensures fits { IfOk result IsHeaderEntry }
+    ensures malformed { result ≡ Err Malformed → header_read column.now ≡ None }
+{
+    let value = value_from(alloc, column)?;
+    let header = header_in(alloc, &value)?;
+    let written = header_column(alloc, &header)?;
+    if written.as_str() == column {
+        Ok(header)
+    } else {
+        Err(RowFault::Malformed)
+    }
+}
+
+fn header_in(alloc: Global, value: &Value) -> Result<Entry, RowFault>
+    ensures ok { IfOk result (λ header. header_of (view value.now) ≡ Some header) }
+    ensures fits { IfOk result IsHeaderEntry }
+    ensures malformed { result ≡ Err Malformed → header_of (view value.now) ≡ None }
+{
+    let comments = comments_in(alloc, value)?;
+    let previous = previous_in(alloc, item(value, 4)?)?;
+    let form = string_in(alloc, item(value, 5)?)?;
+    let strings = header_strings(alloc, form)?;
+    Ok(header_with(comments, previous, strings))
+}
+
+/// The comments and flags of a header.
+#[derive(Drop)]
+struct HeaderComments {
+    translator: Items<Text>,
+    extracted: Items<Text>,
+    references: Items<Text>,
+    flags: Items<Text>,
+}
+
+fn comments_in(alloc: Global, value: &Value) -> Result<HeaderComments, RowFault>
+    ensures ok { IfOk result (λ comments. comments_of (view value.now) ≡ Some comments) }
+    ensures malformed { result ≡ Err Malformed → comments_of (view value.now) ≡ None }
+{
+    let translator = texts_in(alloc, item(value, 0)?)?;
+    let extracted = texts_in(alloc, item(value, 1)?)?;
+    let references = texts_in(alloc, item(value, 2)?)?;
+    let flags = texts_in(alloc, item(value, 3)?)?;
+    Ok(HeaderComments {
+        translator,
+        extracted,
+        references,
+        flags,
+    })
+}
+
+/// The msgid and the forms of a header.
+#[derive(Drop)]
+struct HeaderStrings {
+    id: PoString,
+    forms: Forms,
+}
+
+/// A header's msgid is empty, and its string is its one form.
+fn header_strings(alloc: Global, form: PoString) -> Result<HeaderStrings, RowFault>
+    ensures ok { IfOk result (λ strings. strings ≡ record { id = []; forms = form ∷ [] }) }
+    ensures fits { IfOk result (λ strings. is_forms strings.forms ≡ true) }
+    ensures memory { IfErr result (λ e. e ≡ Memory) }
+{
+    let id = string_from(alloc, "")?;
+    let _ = form.as_str();
+    let mut forms = Vec::new(alloc);
+    forms.push(form)?;
+    match Forms::try_new(forms) {
+        Some(forms) => Ok(HeaderStrings { id, forms }),
+        None => Err(RowFault::Malformed),
+    }
+}
+
+fn header_with(comments: HeaderComments, previous: Previous, strings: HeaderStrings) -> Entry
+    requires { strings.id ≡ [] }
+    ensures { result ≡ record (header_with comments previous []) { forms = strings.forms } }
+{
+    Entry {
+        translator: comments.translator,
+        extracted: comments.extracted,
+        references: comments.references,
+        flags: comments.flags,
+        previous,
+        ctx: None,
+        id: strings.id,
+        plural: None,
+        forms: strings.forms,
+        obsolete: false,
+    }
+}
+
+/// The column of a header's plural rule: the value of the header's field `Plural-Forms`, if it has one.
+pub fn rule_column(header: &Entry) -> Option<&str>
+    ensures { option_copied result ≡ plural_field (Some header.now) }
+{
+    match header.forms.as_slice() {
+        [form, ..] => field_value(form.as_str(), "Plural-Forms"),
+        [] => None,
+    }
+}
+
+/// The plural rule that a column stands for beside its header: the header's rule, where the column is the value of the header's
+/// field `Plural-Forms` and is a plural rule.
+pub fn rule_from(alloc: Global, header: &Entry, column: &str) -> Result<PluralForms, RowFault>
+    ensures ok { IfOk result (λ rule. rule_in (Some header.now) ≡ Ok rule) }
+    ensures is_field { OnOk result (plural_field (Some header.now) ≡ Some column.now) }
+    ensures back { (rule : PluralForms) → plural_field (Some header.now) ≡ Some column.now → rule_in (Some header.now) ≡ Ok rule → Gives result rule }
+{
+    match rule_column(header) {
+        Some(field) => if field == column {
+            rule_of(alloc, field)
+        } else {
+            Err(RowFault::Malformed)
+        },
+        None => Err(RowFault::Malformed),
+    }
+}
+
+fn rule_of(alloc: Global, field: &str) -> Result<PluralForms, RowFault>
+    ensures ok { IfOk result (λ rule. reading_of field.now ≡ Ok rule) }
+    ensures back { (rule : PluralForms) → reading_of field.now ≡ Ok rule → Gives result rule }
+{
+    match PluralForms::parse(alloc, field) {
+        Ok(rule) => Ok(rule),
+        Err(fault) => match fault {
+            PluralFault::Memory => Err(RowFault::Memory),
+            _ => Err(RowFault::Malformed),
+        },
+    }
+}
