@@ -1,0 +1,5 @@
+pub mod Places
+pub mod NumberLemmas
+pub mod PlaceSets
+pub mod WaitingLemmas
+pub mod Rows

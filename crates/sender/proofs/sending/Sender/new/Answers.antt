@@ -1,0 +1,63 @@
+use Rattle.std.proofs.Common.{◌≡◌, ℕ, List, ◌∷◌, [], ◌++◌, take, length, arith, refl, sym, ◌∙◌, ap, subst, None}
+use Rattle.std.proofs.lemmas.List.{length-take-le, take_all}
+use Rattle.std.proofs.lemmas.Option.{slice_get_read}
+use Rattle.std.specs.Map.{lookup}
+use Rattle.std.specs.BTreeMap.{get, is_at}
+use Rattle.units.specs.Office.{Place, place_cmp}
+use Rattle.request_book.specs.declared.act.Request.{Request}
+use Rattle.sender.specs.declared.exchange.Exchange.{Exchange}
+use Rattle.sender.specs.Sending.{unanswered}
+use Rattle.sender.specs.NumberIndex.{IsNumberIndex}
+use Rattle.sender.specs.Waiting.{IsWaiting}
+use Rattle.sender.proofs.NumberLemmas.{one_more, unanswered-more, distinct_numbers, stands_twice, some_place, none_place, length-unanswered, empty_index}
+use Rattle.sender.proofs.sending.Sender.new.Goals as goal
+
+pub returns-then-is_some-clause-twice : goal.returns-then-is_some-clause-twice
+returns-then-is_some-clause-twice c = λ _ distinct.
+    let requests = c.args.requests.now in
+    let i = c.loop-place.place in
+    let x = c.index-requests-place.result in
+    let index = subst (λ (es : List Exchange). IsNumberIndex es c.loop-place.places) c.loop-place.invariant.so_far c.loop-place.invariant.index in
+    let before = some_place _ _ _ c.in_ok-insert.ensures.old c.is_some.ensures c.if-is_some.true in
+    stands_twice requests c.loop-place.places i before.0 x index (slice_get_read requests (length requests) i x refl c.loop-place-test.true c.index-requests-place.is) before.1 distinct
+
+pub loop-place-preserved : goal.loop-place-preserved
+loop-place-preserved c =
+    let requests = c.args.requests.now in
+    let i = c.loop-place.place in
+    let x = c.index-requests-place.result in
+    let inv = c.loop-place.invariant in
+    let made : Exchange = record { request = x; reply = None } in
+    let new = none_place _ _ _ c.in_ok-insert.ensures.old c.is_some.ensures c.if-is_some.false in
+    let pushed : c.push.new.self.items ≡ c.loop-place.exchanges.items ++ made ∷ [] =
+    c.in_ok-push.ensures.items ∙ ap (λ (copy : Request). c.loop-place.exchanges.items ++ (record { request = copy; reply = None }) ∷ []) c.in_ok-copied.ensures in
+    let more = unanswered-more requests i x c.loop-place-test.true c.index-requests-place.is in
+    let count : length c.loop-place.exchanges.items ≡ i = ap length inv.so_far ∙ (length-unanswered (take i requests) ∙ length-take-le i requests (omega arith)) in
+    record {
+      so_far = pushed ∙ (ap (λ (es : List Exchange). es ++ made ∷ []) inv.so_far ∙ sym more);
+      index = subst (λ (es : List Exchange). IsNumberIndex es c.insert.new.self) (sym pushed)
+          (one_more c.loop-place.exchanges.items c.loop-place.places c.insert.new.self made inv.index new (rw count c.in_ok-insert.ensures.updates));
+      waits = subst (λ (es : List Exchange). IsWaiting es c.add.new.self (get place_cmp c.add.new.numbers)) (sym pushed) (c.in_ok-add.ensures c.loop-place.exchanges.items count inv.waits);
+    }
+
+pub returns-clause-distinct : goal.returns-clause-distinct
+returns-clause-distinct c =
+    let requests = c.args.requests.now in
+    let inv = c.loop-place.invariant in
+    let all = ap (λ (rs : List Request). unanswered rs) (take_all c.loop-place.place requests (omega arith)) in
+    distinct_numbers requests c.loop-place.places (subst (λ (es : List Exchange). IsNumberIndex es c.loop-place.places) (inv.so_far ∙ all) inv.index)
+
+pub loop-place-init : goal.loop-place-init
+loop-place-init c = record {
+  so_far = c.new-exchanges.ensures.items;
+  index = empty_index c.new-exchanges.result.items c.new-places.result c.new-exchanges.ensures.items c.new-places.ensures.empty;
+  waits = subst (λ (es : List Exchange). IsWaiting es c.new-waiting.result (get place_cmp c.new-numbers.result)) (sym c.new-exchanges.ensures.items)
+      (c.new-waiting.ensures (get place_cmp c.new-numbers.result) (λ unit. ap (λ (entries : List (Place × ℕ)). lookup (is_at (place_cmp unit)) entries) c.new-numbers.ensures.empty));
+}
+
+pub invariant_of-result : goal.invariant_of-result
+invariant_of-result c = record {
+  numbers = c.loop-place.invariant.index;
+  number_of = get place_cmp c.loop-place.numbers;
+  waits = c.loop-place.invariant.waits;
+}

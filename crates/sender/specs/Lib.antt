@@ -1,0 +1,6 @@
+pub mod Faults
+pub mod Sending
+pub mod NumberIndex
+pub mod PlaceSets
+pub mod Waiting
+pub mod Kept

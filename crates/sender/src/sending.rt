@@ -1,0 +1,111 @@
+//! The sender.
+
+ghost use Rattle.std.specs.Prelude.{◌≡◌, Err, IfOk, OnOk, option_map};
+ghost use Rattle.sender.specs.Sending.{HasDistinctNumbers, unanswered, is_ready, hear, held as reply_held, is_finished};
+ghost use Rattle.sender.specs.declared.fault.SenderFault.TheVariants.{Twice};
+
+use crate::exchange::{Exchange, copied};
+use crate::fault::SenderFault;
+use crate::waiting::Waiting;
+use request_book::{Reply, Request};
+use std::alloc::Global;
+use std::collections::BTreeMap;
+use std::marker::Model;
+use uuid::Uuid;
+
+/// Requests in their order, each with a place for its reply. A request may be sent when it is ready, and again until its reply is
+/// held: what the sender then holds is what the office answers when each request comes once and in order.
+#[derive(Drop)]
+pub struct Sender {
+    exchanges: Vec<Exchange>,
+    places: BTreeMap<Uuid, usize>,
+    waiting: Waiting,
+}
+
+impl Model for Sender {
+    ghost use Rattle.sender.specs.Sending.{Sending};
+    ghost use Rattle.sender.specs.Kept.{IsKept};
+
+    ghost Value = { Sending };
+
+    ghost view = { λ s. s.exchanges.items };
+
+    ghost invariant = { λ s. IsKept s.exchanges.items s.places s.waiting };
+}
+
+impl Sender {
+    /// A sender of these requests, which holds no reply yet. It copies the requests and makes a place for each reply: no other call
+    /// takes memory.
+    ///
+    /// `Twice` where a number stands twice; `Memory` where a growth was refused.
+    pub fn new(alloc: Global, requests: &[Request]) -> Result<Sender, SenderFault>
+        ensures ok { IfOk result (λ sender. sender ≡ unanswered requests.now) }
+        ensures distinct { OnOk result (HasDistinctNumbers requests.now) }
+        ensures twice { result ≡ Err Twice → ¬ HasDistinctNumbers requests.now }
+    {
+        let mut exchanges = Vec::new(alloc);
+        let mut places = BTreeMap::new(alloc);
+        let mut waiting = Waiting::new(alloc);
+        let mut numbers = BTreeMap::new(alloc);
+        for (place, request) in requests.iter().enumerate() {
+            if places.insert(request.number, place)?.is_some() {
+                return Err(SenderFault::Twice);
+            }
+            waiting.add(alloc, &mut numbers, place, request)?;
+            exchanges.push(Exchange {
+                request: copied(request)?,
+                reply: None,
+            })?;
+        }
+        Ok(Sender {
+            exchanges,
+            places,
+            waiting,
+        })
+    }
+
+    /// Whether the request at this place may be sent: it is unanswered, and clashes with no earlier unanswered one. Past the end
+    /// nothing may be sent. Takes no memory.
+    pub fn ready(&self, place: usize) -> bool
+        ensures { result ≡ is_ready self.now place }
+    {
+        match self.exchanges.get(place) {
+            Some(exchange) => exchange.reply.is_none() && self.waiting.is_free(place),
+            None => false,
+        }
+    }
+
+    /// Takes a reply to a number. It is held for the request with this number, unless one is; a reply to a strange number is
+    /// ignored. Takes no memory.
+    pub fn on_reply(&mut self, number: Uuid, reply: Reply)
+        ensures { self.new ≡ hear number reply self.old }
+    {
+        match self.places.get(&number) {
+            Some(place) => {
+                let place = *place;
+                self.exchanges[place].hold(reply);
+                self.waiting.remove(place);
+            },
+            None => {},
+        }
+    }
+
+    /// The reply that is held for the request at this place; none past the end. Takes no memory.
+    pub fn held(&self, place: usize) -> Option<&Reply>
+        ensures { option_map (λ reply. reply.now) result ≡ reply_held self.now place }
+    {
+        match self.exchanges.get(place) {
+            Some(exchange) => exchange.reply.as_ref(),
+            None => None,
+        }
+    }
+
+    /// Whether all replies are held. Takes no memory.
+    pub fn finished(&self) -> bool
+        ensures { result ≡ is_finished self.now }
+    {
+        self.exchanges
+            .iter()
+            .all(|exchange| exchange.reply.is_some())
+    }
+}

@@ -1,0 +1,4 @@
+pub mod OneDelivery
+pub mod Earlier
+pub mod Reached
+pub mod Calls
