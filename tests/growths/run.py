@@ -3,7 +3,8 @@
 
 `office deliver`, over three times the same line: either all is as with ample memory; or one line is answered
 `503 {"error":"memory"}`, the others and the export as ever; or the export ends in fault 3 behind a beginning of its text;
-or the office can't be opened; or the words can't be read. `office plural` likewise, with `plural fault 6`, and `office
+or the office can't be opened; or the words can't be read. A line past the limit is answered `400` whichever growth was
+refused while it was gathered, and a line within it `400` or `503`. `office plural` likewise, with `plural fault 6`, and `office
 canon`, with `po line L kind 10`.
 
 Usage: tests/growths/run.py        (from the top of the repository, after ./office --version has built the program; wants cc)
@@ -17,6 +18,8 @@ import tempfile
 PROGRAM = os.path.join("crates", "cli", "out", "cli")
 REPLY = '200 {"revision":2,"state":"translated"}\n'
 MEMORY = '503 {"error":"memory"}\n'
+MALFORMED = '400 {"error":"malformed"}\n'
+LIMIT = 5_500_000
 EXPORT = (
     'msgid ""\nmsgstr ""\n"Content-Type: text/plain; charset=UTF-8\\n"\n'
     '"Plural-Forms: nplurals=2; plural=n != 1;\\n"\n\nmsgid "Hello"\nmsgstr "Hallo"\n'
@@ -59,6 +62,17 @@ def delivered(status, out, faults):
     return not_begun(status, out, faults)
 
 
+def at_the_limit(status, out, faults):
+    ample = MALFORMED + MALFORMED + REPLY
+    if (status, out, faults) == (0, ample, ""):
+        return "as with ample memory"
+    if (status, out, faults) == (0, MALFORMED + MEMORY + REPLY, ""):
+        return "the line at the limit unread"
+    if (status, out, faults) == (0, MALFORMED + MALFORMED + MEMORY, ""):
+        return "the last line lost"
+    return not_begun(status, out, faults)
+
+
 def indexed(status, out, faults):
     if (status, out, faults) == (0, "1 0\n5 2\n22 1\n", ""):
         return "as with ample memory"
@@ -97,5 +111,7 @@ with tempfile.TemporaryDirectory() as folder:
     line = open(os.path.join("crates", "cli", "stdin")).readline()
     words = ["deliver", "--demo", "--export", "de"]
     sweep("deliver", library, words, (line * 3).encode(), delivered)
+    long_lines = b" " * (LIMIT + 1) + b"\n" + b" " * LIMIT + b"\n" + line.encode()
+    sweep("long lines", library, words[:2], long_lines, at_the_limit)
     sweep("plural", library, ["plural", RULE, "1", "5", "22"], b"", indexed)
     sweep("canon", library, ["canon"], SOURCE.encode(), printed)

@@ -4,10 +4,11 @@
 mod words;
 
 use commands::{FAILED, Input, Output, canon_text, deliver_lines, plural_lines};
-use office::{Desk, Lost};
+use office::Desk;
 use std::alloc::Global;
 use std::io::{self, BufWriter};
 use std::process::ExitCode;
+use store::{Lost, PlainTables};
 use units::ByteSink;
 use words::{Asked, Deliver, Plural, read_words, words_status};
 
@@ -32,12 +33,9 @@ fn run(rt: &HostRuntime) -> io::Result<u8> {
     }
 }
 
-fn open(alloc: Global, options: &Deliver) -> Result<Desk, Lost> {
-    if options.demo {
-        Desk::demo(alloc)
-    } else {
-        Desk::opening(alloc, &options.manager)
-    }
+fn open(alloc: Global, options: &Deliver) -> Result<Desk<PlainTables>, Lost> {
+    let tables = PlainTables::new(alloc, &options.start)?;
+    Ok(Desk::new(alloc, tables))
 }
 
 fn deliver_standard(rt: &HostRuntime, options: &Deliver) -> io::Result<u8> {

@@ -4,6 +4,7 @@ use clap::error::ErrorKind;
 use clap::{Arg, ArgAction, ArgMatches, Command, Error, value_parser};
 use commands::FAILED;
 use std::alloc::{AllocError, Global};
+use store::Start;
 use units::{Lang, Name};
 
 /// What the words ask for.
@@ -17,10 +18,8 @@ pub(crate) enum Asked<'a> {
 /// The options of `deliver`.
 #[derive(Drop)]
 pub(crate) struct Deliver {
-    /// Who manages an office that opens empty.
-    pub(crate) manager: Name,
-    /// Whether the demo office opens in its place.
-    pub(crate) demo: bool,
+    /// The office that opens: empty with one manager, or the demo office.
+    pub(crate) start: Start,
     /// The language to export at the end.
     pub(crate) export: Option<Lang>,
 }
@@ -149,11 +148,13 @@ fn deliver_options(alloc: Global, found: &ArgMatches<'_>) -> Result<Deliver, Err
     let Some(manager) = Name::try_new(alloc, name)? else {
         return wrong_value(alloc, NO_NAME);
     };
-    Ok(Deliver {
-        manager,
-        demo: found.get_flag("demo"),
-        export: lang_option(alloc, found.get_str("export"))?,
-    })
+    let export = lang_option(alloc, found.get_str("export"))?;
+    let start = if found.get_flag("demo") {
+        Start::Demo
+    } else {
+        Start::Opening(manager)
+    };
+    Ok(Deliver { start, export })
 }
 
 fn lang_option(alloc: Global, value: Option<&str>) -> Result<Option<Lang>, Error> {

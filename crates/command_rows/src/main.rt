@@ -5,6 +5,7 @@
 //!   deliver OFFICE; LINES -> X              delivers the lines to the demo office (`demo`), or to one that opens empty, and
 //!                                           whose manager has this name
 //!   deliver OFFICE export LANG; LINES -> X  and then exports the language
+//!   export OFFICE; LANG -> X                exports the language of such an office, and tells the receipt
 //!   plural N..; RULE -> X                   prints the numbers of the rule's forms
 //!   given; TEXT                             the text of those rows below that have none of their own
 //!

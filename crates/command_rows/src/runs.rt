@@ -1,9 +1,10 @@
 //! The command of a row.
 use crate::streams::Streams;
 use crate::words::{behind, has};
-use commands::{canon_text, deliver_lines, plural_lines};
+use commands::{canon_text, deliver_lines, export_text, plural_lines};
 use office::Desk;
 use std::alloc::Global;
+use store::{PlainTables, Start};
 use units::{Lang, Name};
 
 /// The exit status of the words' command over these streams. None where the words can't be read.
@@ -15,6 +16,8 @@ pub(crate) fn status(
 ) -> Option<u8> {
     if let Some(office) = behind(words, "deliver") {
         deliver(alloc, streams, office, behind(words, "export"))
+    } else if let Some(office) = behind(words, "export") {
+        export(alloc, streams, office, text)
     } else if has(words, "plural") {
         plural(alloc, streams, words, text)
     } else if has(words, "canon") {
@@ -29,12 +32,18 @@ pub(crate) fn status(
     }
 }
 
-fn desk(alloc: Global, office: &str) -> Option<Desk> {
+fn start(alloc: Global, office: &str) -> Option<Start> {
     if office == "demo" {
-        return Desk::demo(alloc).ok();
+        return Some(Start::Demo);
     }
-    let manager = Name::try_new(alloc, office).ok()??;
-    Desk::opening(alloc, &manager).ok()
+    Some(Start::Opening(Name::try_new(alloc, office).ok()??))
+}
+
+fn desk(alloc: Global, office: &str) -> Option<Desk<PlainTables>> {
+    let start = start(alloc, office)?;
+    let tables = PlainTables::new(alloc, &start).ok();
+    drop(start);
+    Some(Desk::new(alloc, tables?))
 }
 
 fn lang(alloc: Global, word: Option<&str>) -> Option<Option<Lang>> {
@@ -61,6 +70,15 @@ fn deliver(
         lang.as_ref(),
     );
     drop(desk);
+    Some(status)
+}
+
+fn export(alloc: Global, streams: &mut Streams<'_>, office: &str, code: &[u8]) -> Option<u8> {
+    let lang = Lang::try_new(alloc, str::from_utf8(code).ok()?).ok()??;
+    let mut desk = desk(alloc, office)?;
+    let status = export_text(&mut desk, &lang, &mut streams.output, &mut streams.faults);
+    drop(desk);
+    drop(lang);
     Some(status)
 }
 

@@ -3,7 +3,6 @@ use Rattle.std.proofs.Common.{◌≡◌, ℕ, ◌-◌, ◌^◌, ◌<◌, ◌≤�
 use Rattle.std.specs.Prelude.{IfOk, IfErr}
 use Rattle.std.proofs.lemmas.Bool.Decides.{nat_tests}
 use Rattle.units.specs.Streams.{Took, TookBeginning, RoseOrStands, prepend_known, IsAtEnd, one_more}
-use Rattle.units.proofs.Taking.{append_known-nil}
 use Rattle.po_lex.specs.declared.fault.FaultKind.{FaultKind}
 use Rattle.po_lex.specs.declared.fault.FaultKind.TheVariants.{Memory}
 use Rattle.po_lex.specs.declared.fault.PoFault.{PoFault}
@@ -13,22 +12,13 @@ use Rattle.po_read.specs.Faults.{IsFault, too_long, not_utf8, at_line, at_end}
 use Rattle.po_read.specs.Views.{IsMemory}
 use Rattle.po_write.specs.Sending.{TookAll, TookPart}
 use Rattle.po_write.specs.Text.{text_of}
+use Rattle.commands.proofs.Streaming.{took_none, all_or_part}
 use Rattle.commands.specs.CanonText.{read_limit, WasRead, WasGathered, po_fault_line, Writer, TakesAll, TakesPart, Canon, written, broke, told, unread}
-
--- ---- reading
-
-pub nothing_read : (old : Option (List ℕ)) → old ≡ prepend_known [] old
-nothing_read None = refl
-nothing_read (Some xs) = refl
-
-pub read_more : (old mid new : Option (List ℕ)) (a b ab : List ℕ) → old ≡ prepend_known a mid → mid ≡ prepend_known b new → ab ≡ a ++ b → old ≡ prepend_known ab new
-read_more old mid None a b ab first second both = first ∙ ap (prepend_known a) second
-read_more old mid (Some xs) a b ab first second both = first ∙ ap (prepend_known a) second ∙ ap Some (sym (append_assoc a b xs) ∙ ap (λ t. t ++ xs) (sym both))
 
 -- ---- writing
 
 nothing : (w : Writer) → TakesAll w w []
-nothing w = record { taken = sym (append_known-nil w.taken); count = refl }
+nothing w = took_none w.taken w.failed
 
 pub spelled_is_written : (bytes : List ℕ) (c : List Entry) (f g : ℕ) (w0 w1 e : Writer) → Spells bytes c × IsWithin limits bytes c → Took w0.taken w1.taken (text_of c) → w1.failed ≡ w0.failed → Canon bytes f g w0 w1 e e 0
 spelled_is_written bytes c f g w0 w1 e s taken count = written c s.0 s.1 (record { taken = taken; count = count }) (nothing e) refl
@@ -36,16 +26,12 @@ spelled_is_written bytes c f g w0 w1 e s taken count = written c s.0 s.1 (record
 pub spelled_is_broken : (bytes : List ℕ) (c : List Entry) (f g : ℕ) (w0 w1 e : Writer) → Spells bytes c × IsWithin limits bytes c → TookBeginning w0.taken w1.taken (text_of c) → RoseOrStands w0.failed w1.failed → Canon bytes f g w0 w1 e e 1
 spelled_is_broken bytes c f g w0 w1 e s part rose = broke c s.0 s.1 (record { beginning = part; count = rose }) (nothing e) refl
 
-sent : {T F : Type 0} (e0 e1 : Writer) (text : List ℕ) (r : Result T F) → MatchResult r (λ _. TakesAll e0 e1 text) (λ _. TakesPart e0 e1 text) → TakesAll e0 e1 text ⊎ TakesPart e0 e1 text
-sent e0 e1 text (Ok x) h = inl h
-sent e0 e1 text (Err x) h = inr h
-
 pub fault_is_told : {T F : Type 0} (bytes : List ℕ) (fault : PoFault) (f g : ℕ) (w e0 e1 : Writer) (r : Result T F) → IsFault limits bytes (fault.line, fault.kind) ⊎ IsMemory fault
     → MatchResult r (λ _. TakesAll e0 e1 (po_fault_line fault.line fault.kind)) (λ _. TakesPart e0 e1 (po_fault_line fault.line fault.kind)) → Canon bytes f g w w e0 e1 1
-fault_is_told bytes fault f g w e0 e1 r is h = told fault.line fault.kind is (nothing w) (sent e0 e1 (po_fault_line fault.line fault.kind) r h) refl
+fault_is_told bytes fault f g w e0 e1 r is h = told fault.line fault.kind is (nothing w) (all_or_part e0 e1 (po_fault_line fault.line fault.kind) r h) refl
 
 pub memory_is_told : {T F : Type 0} (bytes : List ℕ) (f g : ℕ) (w e0 e1 : Writer) (r : Result T F) → MatchResult r (λ _. TakesAll e0 e1 (po_fault_line 0 Memory)) (λ _. TakesPart e0 e1 (po_fault_line 0 Memory)) → Canon bytes f g w w e0 e1 1
-memory_is_told bytes f g w e0 e1 r h = told 0 Memory (inr refl) (nothing w) (sent e0 e1 (po_fault_line 0 Memory) r h) refl
+memory_is_told bytes f g w e0 e1 r h = told 0 Memory (inr refl) (nothing w) (all_or_part e0 e1 (po_fault_line 0 Memory) r h) refl
 
 -- ---- the whole text, of which no more was read than may be
 

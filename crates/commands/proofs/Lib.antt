@@ -1,3 +1,10 @@
 pub mod PluralLemmas
 pub mod Ends
+pub mod Streaming
 pub mod CanonLemmas
+pub mod Going
+pub mod Cutting
+pub mod Gathered
+pub mod Reading
+pub mod Exporting
+pub mod Finishing

@@ -8,8 +8,8 @@ use Rattle.po_lex.specs.Kinds.{fault_number}
 use Rattle.po_read.specs.declared.entry.Entry.{Entry}
 use Rattle.po_read.specs.Spells.{Spells, IsWithin, limits}
 use Rattle.po_read.specs.Faults.{IsFault}
-use Rattle.po_write.specs.Sending.{TookAll, TookPart}
 use Rattle.po_write.specs.Text.{text_of}
+pub use Rattle.commands.specs.Writers.{Writer, writer_at, TakesAll, TakesPart}
 
 -- the most bytes that are read: one more than a PO text may have
 abbrev pub read_limit : ℕ
@@ -28,21 +28,6 @@ pub record WasGathered (old new : Option (List ℕ)) (bytes : List ℕ) : Type 0
 -- a line `po line L kind K`
 abbrev pub po_fault_line : ℕ → FaultKind → List ℕ
 po_fault_line line kind = codes "po line " ++ (decimal line ++ (codes " kind " ++ (decimal (fault_number kind) ++ 10 ∷ [])))
-
--- a writer: what it took, where that is known, and how often it failed
-pub record Writer : Type 0 where
-  pub taken : Option (List ℕ)
-  pub failed : ℕ
-
-abbrev pub writer_at : {W : Type 0} → (W → Option (List ℕ)) → (W → ℕ) → W → Writer
-writer_at taken failed w = record { taken = taken w; failed = failed w }
-
-abbrev pub TakesAll : Writer → Writer → List ℕ → Type 0
-TakesAll old new text = TookAll old.taken new.taken old.failed new.failed text
-
--- a beginning, after which a write failed
-abbrev pub TakesPart : Writer → Writer → List ℕ → Type 0
-TakesPart old new text = TookPart old.taken new.taken old.failed new.failed text
 
 -- What came of a text, on the output, on the second output and in the exit status:
 pub data Canon (bytes : List ℕ) (reads_failed_old reads_failed_new : ℕ) (w_old w_new e_old e_new : Writer) (status : ℕ) : Type 0 where

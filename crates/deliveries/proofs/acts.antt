@@ -1,2 +1,3 @@
 pub mod OfficeEnds
 pub mod UnitActs
+pub mod Possible

@@ -1,4 +1,5 @@
 pub mod OfficeRules
+pub mod OneProof
 pub mod ExportedEntries
 pub mod ExportText
 pub mod EntryTexts

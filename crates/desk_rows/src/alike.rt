@@ -5,6 +5,7 @@ use crate::told::result_told;
 use office::Desk;
 use request_book::Request;
 use std::alloc::Global;
+use store::PlainTables;
 
 /// The requests that weren't lost on their way.
 fn requests(alloc: Global, sent: &[Sent]) -> Option<Vec<Request>> {
@@ -18,7 +19,7 @@ fn requests(alloc: Global, sent: &[Sent]) -> Option<Vec<Request>> {
 }
 
 /// What a run over all requests at once answers.
-fn run_replies(alloc: Global, desk: &mut Desk, sent: &[Sent]) -> Option<String> {
+fn run_replies(alloc: Global, desk: &mut Desk<PlainTables>, sent: &[Sent]) -> Option<String> {
     let requests = requests(alloc, sent)?;
     let mut text = String::new(alloc);
     for outcome in desk.run(&requests).ok()? {
@@ -28,7 +29,7 @@ fn run_replies(alloc: Global, desk: &mut Desk, sent: &[Sent]) -> Option<String> 
     Some(text)
 }
 
-fn run_text(alloc: Global, desk: &mut Desk, sent: &[Sent]) -> Option<String> {
+fn run_text(alloc: Global, desk: &mut Desk<PlainTables>, sent: &[Sent]) -> Option<String> {
     let replies = run_replies(alloc, desk, sent)?;
     let exports = exports(alloc, desk, sent)?;
     format!(in alloc; "{replies}{exports}").ok()

@@ -4,6 +4,7 @@ use crate::told::result_told;
 use office::Desk;
 use request_book::Request;
 use std::alloc::Global;
+use store::{PlainTables, Start};
 use units::Name;
 
 /// A request's line, and the first reply to it, if it wasn't lost on its way.
@@ -18,20 +19,27 @@ pub(crate) struct Sent {
 #[derive(Drop)]
 pub(crate) struct Course {
     pub(crate) opening: String,
-    pub(crate) desk: Desk,
+    pub(crate) desk: Desk<PlainTables>,
     pub(crate) sent: Vec<Sent>,
 }
 
-/// The demo office's desk, or that of an office with this manager alone.
-pub(crate) fn desk_opened(alloc: Global, who: &str) -> Option<Desk> {
+/// The demo office, or one with this manager alone.
+fn start(alloc: Global, who: &str) -> Option<Start> {
     if who == "demo" {
-        return Desk::demo(alloc).ok();
+        return Some(Start::Demo);
     }
-    let manager = Name::try_new(alloc, who).ok()??;
-    Desk::opening(alloc, &manager).ok()
+    Some(Start::Opening(Name::try_new(alloc, who).ok()??))
 }
 
-fn course_of(alloc: Global, opening: String, desk: Desk) -> Course {
+/// A desk over the tables of this office.
+pub(crate) fn desk_opened(alloc: Global, who: &str) -> Option<Desk<PlainTables>> {
+    let start = start(alloc, who)?;
+    let tables = PlainTables::new(alloc, &start).ok();
+    drop(start);
+    Some(Desk::new(alloc, tables?))
+}
+
+fn course_of(alloc: Global, opening: String, desk: Desk<PlainTables>) -> Course {
     Course {
         opening,
         desk,
@@ -48,7 +56,7 @@ pub(crate) fn opened(alloc: Global, who: &str) -> Option<Course> {
 }
 
 /// The desk's reply to a line.
-fn answered(alloc: Global, desk: &mut Desk, line: &str) -> Option<String> {
+fn answered(alloc: Global, desk: &mut Desk<PlainTables>, line: &str) -> Option<String> {
     let request = Request::from_json(alloc, line).ok()?;
     let outcome = desk.deliver(&request);
     drop(request);
@@ -56,7 +64,7 @@ fn answered(alloc: Global, desk: &mut Desk, line: &str) -> Option<String> {
 }
 
 /// Sends the lines once more: how many there are, or the first whose reply is another than before.
-fn repeated(alloc: Global, desk: &mut Desk, sent: &[Sent]) -> Option<String> {
+fn repeated(alloc: Global, desk: &mut Desk<PlainTables>, sent: &[Sent]) -> Option<String> {
     let mut count = 0u64;
     for one in sent.iter().filter(|one| !one.lost) {
         let line = one.line.as_str();

@@ -6,6 +6,7 @@ use crate::words::code_in;
 use office::{Desk, ExportFault, ExportReceipt};
 use std::alloc::Global;
 use std::str;
+use store::PlainTables;
 use units::Lang;
 
 /// The codes of the demo office's language and of those that the requests name.
@@ -25,7 +26,7 @@ pub(crate) fn codes<'a>(alloc: Global, sent: &'a [Sent]) -> Option<Vec<&'a str>>
 /// Exports a language into a sink.
 fn export_into(
     alloc: Global,
-    desk: &mut Desk,
+    desk: &mut Desk<PlainTables>,
     code: &str,
     sink: &mut Room,
 ) -> Option<Result<ExportReceipt, ExportFault>> {
@@ -39,7 +40,12 @@ fn taken_told(alloc: Global, taken: &[u8]) -> Option<String> {
 }
 
 /// What the export of a language into so much room is told as.
-pub(crate) fn exported(alloc: Global, desk: &mut Desk, code: &str, most: usize) -> Option<String> {
+pub(crate) fn exported(
+    alloc: Global,
+    desk: &mut Desk<PlainTables>,
+    code: &str,
+    most: usize,
+) -> Option<String> {
     let mut sink = sink_with(alloc, most);
     let outcome = export_into(alloc, desk, code, &mut sink)?;
     let receipt = receipt_told(alloc, outcome, sink.taken.len())?;
@@ -48,7 +54,11 @@ pub(crate) fn exported(alloc: Global, desk: &mut Desk, code: &str, most: usize) 
 }
 
 /// The exports of each language.
-pub(crate) fn exports(alloc: Global, desk: &mut Desk, sent: &[Sent]) -> Option<String> {
+pub(crate) fn exports(
+    alloc: Global,
+    desk: &mut Desk<PlainTables>,
+    sent: &[Sent],
+) -> Option<String> {
     let mut text = String::new(alloc);
     for code in codes(alloc, sent)? {
         let more = exported(alloc, desk, code, usize::MAX)?;

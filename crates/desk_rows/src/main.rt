@@ -14,12 +14,15 @@
 //!   every A,B,.. C,D,.. .. -> N lists alike    the same of each list that takes one named request from each group
 //!   export LANG -> N bytes SHA|TEXT  the language's text, its length and its digest; a pilcrow stands for each LF
 //!   export LANG N -> X               the same into a sink that is full after N bytes
+//!   unit LANG|ID -> TEXT             a unit as callers see it, or `fault N`; a context stands behind a further bar
+//!   stats LANG -> TEXT               a language's counts, or `fault N`
 //!   number FAULT -> N                the fault's number
 //!
 //! A delivery that is lost for want of memory is told as lost, which no row wants. A row that begins with `#` says nothing.
 #![tactic(auto)]
 
 mod alike;
+mod asked;
 mod course;
 mod every;
 mod exports;

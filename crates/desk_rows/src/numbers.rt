@@ -1,6 +1,7 @@
 //! The numbers of faults.
-use office::{ExportFault, Lost};
+use office::{ExportFault, QueryFault};
 use std::alloc::Global;
+use store::Lost;
 
 fn number(name: &str) -> Option<u8> {
     match name {
@@ -9,6 +10,10 @@ fn number(name: &str) -> Option<u8> {
         "Memory" => Some(ExportFault::Memory.number()),
         "Disk" => Some(ExportFault::Disk.number()),
         "Long" => Some(ExportFault::Long.number()),
+        "AskedNoLanguage" => Some(QueryFault::NoLanguage.number()),
+        "AskedNoUnit" => Some(QueryFault::NoUnit.number()),
+        "AskedMemory" => Some(QueryFault::Memory.number()),
+        "AskedDisk" => Some(QueryFault::Disk.number()),
         "LostMemory" => Some(Lost::Memory.number()),
         "LostDisk" => Some(Lost::Disk.number()),
         _ => None,

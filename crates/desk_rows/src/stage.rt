@@ -1,5 +1,6 @@
 //! What the rows above set, and what a row makes of it.
 use crate::alike::alike;
+use crate::asked::{stats_told, unit_told};
 use crate::course::{Course, opened};
 use crate::every::every_list;
 use crate::many::many;
@@ -80,6 +81,8 @@ fn on_course(alloc: Global, stage: &mut Stage, deed: &str) -> Option<String> {
         "alike" => alike(alloc, course),
         "many" => many(alloc, course, deed),
         "export" => course.export(alloc, word(deed, 1), word(deed, 2)),
+        "unit" => unit_told(alloc, &mut course.desk, behind(deed)),
+        "stats" => stats_told(alloc, &mut course.desk, word(deed, 1)),
         _ => course.deliver(alloc, line),
     }
 }

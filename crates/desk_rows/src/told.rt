@@ -1,7 +1,8 @@
 //! What replies and faults are told as.
-use office::{ExportFault, ExportReceipt, Lost};
+use office::{ExportFault, ExportReceipt};
 use request_book::Reply;
 use std::alloc::Global;
+use store::Lost;
 
 pub(crate) fn reply_told(alloc: Global, reply: &Reply) -> Option<String> {
     let status = reply.status();

@@ -1,7 +1,7 @@
-pub mod Records
-pub mod Settling
-pub mod Sendings
-pub mod Catalogues
-pub mod Finish
-pub mod ExportedAlike
-pub mod ExportedSpelled
+pub mod Committed
+pub mod Stopped
+pub mod Ran
+pub mod Sent
+pub mod Exported
+pub mod CatalogueValid
+pub mod Spelled

@@ -1,4 +1,6 @@
+pub mod Runs
+pub mod Checksums
+pub mod Strings
+pub mod Sendings
 pub mod Faults
-pub mod Tables
-pub mod Desk
 pub mod Exports

@@ -1,10 +1,11 @@
-//! Why an export failed.
+//! Why an export failed, and why a question has no answer.
 
 use std::alloc::{AllocError, AllocFailed};
+use tables::{EachFault, Lost};
 use thiserror::Error;
+use units::Memory;
 
-/// Why an export failed. After `Device`, `Memory` and `Long` the writer has taken a beginning of the text, and after
-/// `NoLanguage` nothing.
+/// Why an export failed. After `NoLanguage` the writer has taken nothing, and after the others a beginning of the text.
 #[derive(Clone, Copy, Debug, Drop, PartialEq, Eq, Error)]
 pub enum ExportFault {
     /// The language isn't there.
@@ -36,24 +37,103 @@ impl ExportFault {
     }
 }
 
-impl From<AllocError> for ExportFault {
+/// Why an entry's text was not sent on.
+#[derive(Clone, Copy, Debug, Drop, PartialEq, Eq)]
+pub(crate) enum SendFault {
+    Device,
+    Memory,
+    Long,
+}
+
+impl<T: Drop> From<AllocFailed<T>> for SendFault {
     ghost use Rattle.std.specs.Prelude.{◌≡◌};
-    ghost use Rattle.office.specs.declared.faults.ExportFault.TheVariants.{Memory};
+    ghost use Rattle.office.specs.declared.faults.SendFault.TheVariants.{Memory};
 
     ghost from_gives = { λ _ e. e ≡ Memory };
 
-    fn from(_refused: AllocError) -> ExportFault {
-        ExportFault::Memory
+    fn from(_refused: AllocFailed<T>) -> SendFault {
+        SendFault::Memory
     }
 }
 
-impl<T: Drop> From<AllocFailed<T>> for ExportFault {
+impl From<EachFault<SendFault>> for ExportFault {
     ghost use Rattle.std.specs.Prelude.{◌≡◌};
-    ghost use Rattle.office.specs.declared.faults.ExportFault.TheVariants.{Memory};
+    ghost use Rattle.office.specs.Faults.{fault_of};
+
+    ghost from_gives = { λ each e. e ≡ fault_of each };
+
+    fn from(fault: EachFault<SendFault>) -> ExportFault {
+        match fault {
+            EachFault::NoTables(Lost::Memory) => ExportFault::Memory,
+            EachFault::NoTables(Lost::Disk) => ExportFault::Disk,
+            EachFault::NoSink(SendFault::Device) => ExportFault::Device,
+            EachFault::NoSink(SendFault::Memory) => ExportFault::Memory,
+            EachFault::NoSink(SendFault::Long) => ExportFault::Long,
+        }
+    }
+}
+
+/// Why a question about the office has no answer.
+#[derive(Clone, Copy, Debug, Drop, PartialEq, Eq, Error)]
+pub enum QueryFault {
+    /// The language isn't there.
+    #[error("no such language")]
+    NoLanguage = 1,
+    /// The language is there without the unit.
+    #[error("no such unit")]
+    NoUnit = 2,
+    /// A growth was refused.
+    #[error("out of memory")]
+    Memory = 3,
+    /// The disk failed under the tables. Tables in memory never answer it.
+    #[error("the disk failed")]
+    Disk = 4,
+}
+
+impl QueryFault {
+    ghost use Rattle.std.specs.Prelude.{◌≡◌};
+    ghost use Rattle.office.specs.Faults.{query_fault_number};
+
+    /// The fault's number.
+    pub fn number(self) -> u8
+        ensures { result ≡ query_fault_number self }
+    {
+        self as u8
+    }
+}
+
+impl From<Lost> for QueryFault {
+    ghost use Rattle.std.specs.Prelude.{◌≡◌};
+    ghost use Rattle.office.specs.Faults.{query_fault_of};
+
+    ghost from_gives = { λ lost e. e ≡ query_fault_of lost };
+
+    fn from(lost: Lost) -> QueryFault {
+        match lost {
+            Lost::Memory => QueryFault::Memory,
+            Lost::Disk => QueryFault::Disk,
+        }
+    }
+}
+
+impl From<AllocError> for QueryFault {
+    ghost use Rattle.std.specs.Prelude.{◌≡◌};
+    ghost use Rattle.office.specs.declared.faults.QueryFault.TheVariants.{Memory};
 
     ghost from_gives = { λ _ e. e ≡ Memory };
 
-    fn from(_refused: AllocFailed<T>) -> ExportFault {
-        ExportFault::Memory
+    fn from(_refused: AllocError) -> QueryFault {
+        QueryFault::Memory
+    }
+}
+
+impl From<Memory> for QueryFault {
+    ghost use Rattle.std.specs.Prelude.{◌≡◌};
+    ghost use Rattle.office.specs.declared.faults.QueryFault.TheVariants.{Memory};
+
+    ghost from_gives = { λ _ e. e ≡ Memory };
+
+    fn from(_refused: Memory) -> QueryFault {
+        QueryFault::Memory
     }
 }

@@ -1,16 +1,15 @@
 //! The desk: requests, each decided once, over the tables of one office.
 #![tactic(auto)]
 
+mod checksum;
+mod delivery;
 mod desk;
-mod entries;
 mod export;
+mod export_sink;
 mod faults;
-mod lost;
-mod sent;
-mod tables;
-mod texts;
+mod questions;
+mod strings;
 
 pub use desk::Desk;
 pub use export::ExportReceipt;
-pub use faults::ExportFault;
-pub use lost::Lost;
+pub use faults::{ExportFault, QueryFault};

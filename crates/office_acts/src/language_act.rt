@@ -1,6 +1,7 @@
 //! What a language with its text comes to.
 
-ghost use Rattle.std.specs.Prelude.{◌≡◌, Ok, Some, IfOk};
+ghost use Rattle.std.specs.Prelude.{◌≡◌, Ok, Some, IfOk, false};
+ghost use Rattle.std.specs.FinMap as maps;
 ghost use Rattle.units.specs.Rules.{rule_in};
 ghost use Rattle.deliveries.specs.OfficeActs as spec;
 ghost use Rattle.office_acts.specs.Settled.{IsSettled};
@@ -29,7 +30,8 @@ fn load_language(
     header: &Entry,
     rule: PluralForms,
 ) -> Result<OfficeOutcome, Memory>
-    requires { rule_in (Some header.now) ≡ Ok rule }
+    requires rule { rule_in (Some header.now) ≡ Ok rule }
+    requires new { maps.contains_key (office_in office.now).headers lang.now ≡ false }
     ensures { IfOk result
         (λ outcome. IsSettled (office_in office.now) outcome (spec.with_rule (office_in office.now) lang.now text.now header.now rule)) }
 {
@@ -63,6 +65,7 @@ fn add_language(
     lang: &Lang,
     text: &Catalogue,
 ) -> Result<OfficeOutcome, Memory>
+    requires new { maps.contains_key (office_in office.now).headers lang.now ≡ false }
     ensures { IfOk result
         (λ outcome. IsSettled (office_in office.now) outcome (spec.of_entries (office_in office.now) lang.now text.now)) }
 {

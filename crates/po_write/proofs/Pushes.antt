@@ -2,11 +2,14 @@
 use Rattle.std.proofs.Common.{◌≡◌, List, [], ◌∷◌, ◌++◌, ℕ, ◌+◌, ◌<◌, ◌≤◌, Bool, true, false, not, Option, refl, sym, ◌∙◌, ap, append_assoc, subst, length, drop, get_or, nat_lt, arith}
 use Rattle.std.specs.Prelude.{flat_map}
 use Rattle.std.proofs.lemmas.List.{append-nil}
-use Rattle.units.specs.Streams.{Took, TookBeginning}
-use Rattle.units.proofs.Taking.{took_both, took_then_beginning, beginning_of_longer}
+use Rattle.units.specs.Streams.{Took, TookBeginning, RoseOrStands}
+use Rattle.units.proofs.Taking.{append_known-nil, took_both, took_then_beginning, beginning_of_longer}
 use Rattle.po_read.specs.declared.entry.Entry.{Entry}
 use Rattle.po_read.specs.Texts.{is_empty}
+use Rattle.po_write.specs.Pushed.{HasPushed, HasBroken}
+use Rattle.po_write.specs.Sending.{TookAll, TookPart}
 use Rattle.po_write.specs.Text.{entry_text, text_of, separated}
+use Rattle.po_write.specs.Views.{Writing}
 use Rattle.po_write.proofs.Pieces.{next_left, all_gone}
 
 -- The text of a list with one more entry is the text, a blank line where there was an entry, and the entry.
@@ -77,3 +80,40 @@ push_broke start now new begun es e fs same before part =
     (beginning_of_longer start new (text_of (es ++ e ∷ [])) longer.0
     (subst P (ap (λ b. text_of es ++ separated b (entry_text e)) same ∙ sym (text_of-snoc es e))
     (took_then_beginning start now new (text_of es) (separated begun (entry_text e)) before part)))
+
+-- ---- a writer that entries are pushed onto
+
+has_entry : (es : List Entry) (e : Entry) → true ≡ not (is_empty (es ++ e ∷ []))
+has_entry [] e = refl
+has_entry (f ∷ es) e = refl
+
+-- nothing was pushed
+pub pushed_nothing : {W : Type 0} (taken : W → Option (List ℕ)) (failed : W → ℕ) (sink : W) (writer : Writing W) → writer ≡ record { sink = sink; begun = false; failed = false } → HasPushed taken failed sink writer []
+unfolding text_of
+pushed_nothing taken failed sink writer is =
+    subst (λ w. HasPushed taken failed sink w []) (sym is) (record { text = record { taken = sym (append_known-nil (taken sink)); count = refl }; begun = refl; unbroken = refl })
+
+-- one entry more
+pub pushed_next : {W : Type 0} (taken : W → Option (List ℕ)) (failed : W → ℕ) (sink : W) (old new : Writing W) (es : List Entry) (e : Entry) → HasPushed taken failed sink old es
+    → TookAll (taken old.sink) (taken new.sink) (failed old.sink) (failed new.sink) (separated old.begun (entry_text e)) → new.begun ≡ true → new.failed ≡ false
+    → HasPushed taken failed sink new (es ++ e ∷ [])
+pushed_next taken failed sink old new es e has all begun unbroken = record {
+  text = record {
+    taken = pushed_one_more (taken sink) (taken old.sink) (taken new.sink) old.begun es e has.begun has.text.taken all.taken;
+    count = all.count ∙ has.text.count;
+  };
+  begun = begun ∙ has_entry es e;
+  unbroken = unbroken;
+}
+
+-- one entry more, and its push failed
+pub broken_next : {W : Type 0} (taken : W → Option (List ℕ)) (failed : W → ℕ) (sink : W) (old new : Writing W) (es : List Entry) (e : Entry) → HasPushed taken failed sink old es
+    → TookPart (taken old.sink) (taken new.sink) (failed old.sink) (failed new.sink) (separated old.begun (entry_text e)) → new.failed ≡ true
+    → HasBroken taken failed sink new (es ++ e ∷ [])
+broken_next taken failed sink old new es e has part broken = record {
+  text = record {
+    beginning = push_broke (taken sink) (taken old.sink) (taken new.sink) old.begun es e [] has.begun has.text.taken part.beginning;
+    count = let P : ℕ → Type 0 = λ f. RoseOrStands f (failed new.sink) in subst P has.text.count part.count;
+  };
+  broken = broken;
+}

@@ -1,8 +1,11 @@
 //! Entries, written one by one.
 
-ghost use Rattle.std.specs.Prelude.{◌≡◌, ◌≢◌, ◌↔◌, OnOk, OnErr, IsTrue, IsOk, Err, true, false};
+ghost use Rattle.std.specs.Prelude.{◌≡◌, ◌≢◌, ◌↔◌, List, [], ◌∷◌, ◌++◌, MatchResult, OnOk, OnErr, IsTrue, IsOk, Err, true, false};
 ghost use Rattle.units.specs.Streams.{Took, TookBeginning, RoseOrStands};
-ghost use Rattle.po_write.specs.Text.{entry_text, separated};
+ghost use Rattle.po_read.specs.declared.entry.Entry.{Entry as EntryValue};
+ghost use Rattle.po_write.specs.Pushed.{HasPushed, HasBroken};
+ghost use Rattle.po_write.specs.Sending.{Sends};
+ghost use Rattle.po_write.specs.Text.{entry_text, separated, text_of};
 ghost use Rattle.po_write.specs.Views.{Writing};
 
 use crate::fault::WriteFault;
@@ -29,7 +32,8 @@ impl<W> Model for CatalogueWriter<W> {
 impl<W: ByteSink> CatalogueWriter<W> {
     /// A writer to whose sink no entry was written yet.
     pub fn new(sink: W) -> Self
-        ensures { result ≡ record { sink = sink; begun = false; failed = false } }
+        ensures state { result ≡ record { sink = sink; begun = false; failed = false } }
+        ensures pushed { HasPushed W.taken W.failed sink result [] }
     {
         CatalogueWriter {
             sink,
@@ -50,6 +54,12 @@ impl<W: ByteSink> CatalogueWriter<W> {
             (separated self.old.begun (entry_text entry.now))) }
         ensures err_state { OnErr result (self.new.failed ≡ true) }
         ensures device { result ≡ Err WriteFault.Device → RoseOrStands (W.failed self.old.sink) (W.failed self.new.sink) }
+
+        // Of all entries that were pushed the sink took the text; where this push is the first to fail, a beginning of it.
+        ensures pushed { (sink : W) (es : List EntryValue) → HasPushed W.taken W.failed sink self.old es →
+            MatchResult result
+            (λ _. HasPushed W.taken W.failed sink self.new (es ++ entry.now ∷ []))
+            (λ _. HasBroken W.taken W.failed sink self.new (es ++ entry.now ∷ [])) }
 
         ensures failed { (result ≡ Err WriteFault.Failed) ↔ IsTrue self.old.failed }
         ensures stays { IsTrue self.old.failed → self.new ≡ self.old }
@@ -75,6 +85,11 @@ impl<W: ByteSink> CatalogueWriter<W> {
         ensures sink { result.0 ≡ self.sink }
         ensures done { IsOk result.1 ↔ (self.failed ≡ false) }
         ensures failed { self.failed ≡ true → result.1 ≡ Err WriteFault.Failed }
+        // The text of all entries that were pushed, or a beginning of it up to the entry whose push failed.
+        ensures whole { (sink : W) (es : List EntryValue) → HasPushed W.taken W.failed sink self es →
+            Sends W.taken W.failed sink result.0 (text_of es) result.1 }
+        ensures part { (sink : W) (es : List EntryValue) → HasBroken W.taken W.failed sink self es →
+            Sends W.taken W.failed sink result.0 (text_of es) result.1 }
     {
         let CatalogueWriter {
             sink,

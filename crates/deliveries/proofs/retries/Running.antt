@@ -15,17 +15,17 @@ module _ {E : Type 0} where
   lost_marks-last [] r = refl
   lost_marks-last (s ∷ rs) r = ap (λ ms. is_lost s ∷ ms) (lost_marks-last rs r)
 
-  told-ok : (rs : List (Result Reply E)) (reply : Reply) → told (rs ++ Ok reply ∷ []) ≡ told rs ++ reply ∷ []
+  pub told-ok : (rs : List (Result Reply E)) (reply : Reply) → told (rs ++ Ok reply ∷ []) ≡ told rs ++ reply ∷ []
   told-ok [] reply = refl
   told-ok (Ok s ∷ rs) reply = ap (λ xs. s ∷ xs) (told-ok rs reply)
   told-ok (Err e ∷ rs) reply = told-ok rs reply
 
-  told-err : (rs : List (Result Reply E)) (e : E) → told (rs ++ Err e ∷ []) ≡ told rs
+  pub told-err : (rs : List (Result Reply E)) (e : E) → told (rs ++ Err e ∷ []) ≡ told rs
   told-err [] e = refl
   told-err (Ok s ∷ rs) e = ap (λ xs. s ∷ xs) (told-err rs e)
   told-err (Err d ∷ rs) e = told-err rs e
 
-  kept-ok : (xs : List Request) (rs : List (Result Reply E)) (x : Request) (reply : Reply) → length xs ≡ length rs →
+  pub kept-ok : (xs : List Request) (rs : List (Result Reply E)) (x : Request) (reply : Reply) → length xs ≡ length rs →
       kept (xs ++ x ∷ []) (lost_marks (rs ++ Ok reply ∷ [])) ≡ kept xs (lost_marks rs) ++ x ∷ []
   kept-ok [] [] x reply e = refl
   kept-ok [] (r ∷ rs) x reply e = absurd (omega arith)
@@ -33,7 +33,7 @@ module _ {E : Type 0} where
   kept-ok (y ∷ xs) (Ok r ∷ rs) x reply e = ap (λ zs. y ∷ zs) (kept-ok xs rs x reply (omega arith))
   kept-ok (y ∷ xs) (Err r ∷ rs) x reply e = kept-ok xs rs x reply (omega arith)
 
-  kept-err : (xs : List Request) (rs : List (Result Reply E)) (x : Request) (d : E) → length xs ≡ length rs →
+  pub kept-err : (xs : List Request) (rs : List (Result Reply E)) (x : Request) (d : E) → length xs ≡ length rs →
       kept (xs ++ x ∷ []) (lost_marks (rs ++ Err d ∷ [])) ≡ kept xs (lost_marks rs)
   kept-err [] [] x d e = refl
   kept-err [] (r ∷ rs) x d e = absurd (omega arith)

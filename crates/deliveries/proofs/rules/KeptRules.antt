@@ -36,7 +36,7 @@ use Rattle.request_book.specs.Acts.{IsAct, IsRequest, lines_in}
 use Rattle.request_book.specs.Book.{Book, OfficeWithBook, Recorded, recorded_as}
 use Rattle.replies.specs.Bodies.{Stepped, refuse}
 use Rattle.deliveries.specs.OfficeActs.{managed, template_step, language_step, team_step, policy_step}
-use Rattle.deliveries.specs.Deliveries.{left_by}
+use Rattle.deliveries.specs.Deliveries.{left_by, first_delivered}
 use Rattle.deliveries.specs.OfficeRules.{KeepsRules}
 use Rattle.deliveries.proofs.rules.LanguageKept.{language_kept}
 use Rattle.deliveries.proofs.rules.Numbering.{AreFewer, numbers_at, fewer_distinct}
@@ -330,3 +330,7 @@ kept_rules m x given start = by_known (is_known m.book [] x) refl
     by_known : (c : Bool) → is_known m.book [] x ≡ c → KeepsRules (left_by m (x ∷ []))
     by_known true e = subst KeepsRules (sym (left_by-last m [] x true e)) start
     by_known false e = subst KeepsRules (sym (left_by-last m [] x false e)) (one_more m x given (fresh_number m [] x e) start)
+
+-- what the first delivery of a new number leaves
+pub first_keeps : (m : OfficeWithBook) (x : Request) → IsRequest x → maps.get m.book x.number ≡ None → KeepsRules m → KeepsRules (first_delivered m x).0
+first_keeps m x given fresh start = one_more m x given fresh start

@@ -1,7 +1,7 @@
 use Rattle.std.proofs.Common.{◌≡◌, ◌≤◌, ℕ, List, ◌++◌, take, length, vec_len, refl, arith, length-append, length-take}
 use Rattle.std.proofs.lemmas.Grind.{common_steps}
 use Rattle.commands.specs.CanonText.{WasRead, read_limit}
-use Rattle.commands.proofs.CanonLemmas.{read_more}
+use Rattle.commands.proofs.Streaming.{read_more}
 use Rattle.commands.proofs.canon.gather.Goals as goal
 
 pub returns-then-is_err-clause-read : goal.returns-then-is_err-clause-read
@@ -11,7 +11,7 @@ returns-then-is_err-clause-read g c =
     let more = take c.in-Ok.count c.read_some.new.room in (
       before ++ more,
       record {
-        cut = read_more (g.R.ByteSource.left c.args.source.now) (g.R.ByteSource.left c.loop-room.source) (g.R.ByteSource.left c.read_some.new.source) before more _ inv.cut c.in-Ok.ensures.ok refl;
+        cut = read_more (g.R.ByteSource.left c.args.source.now) (g.R.ByteSource.left c.loop-room.source) (g.R.ByteSource.left c.read_some.new.source) before more inv.cut c.in-Ok.ensures.ok;
         most = grind (arith, common_steps);
       },
     )

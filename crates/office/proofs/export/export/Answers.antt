@@ -1,44 +1,60 @@
-use Rattle.std.proofs.Common.{refl}
-use Rattle.office.proofs.Sendings.{begin, more, broke, whole_sent}
-use Rattle.office.proofs.Finish.{text_there, no_language, cut_off, was_exported, template_cut, away_cut}
-use Rattle.office.proofs.ExportedSpelled.{spells_its_catalogue}
+use Rattle.std.proofs.Common.{rules, refl, subst, sym}
+use Rattle.deliveries.specs.ExportText.{export_text}
+use Rattle.deliveries.specs.OfficeRules.{KeepsRules}
+use Rattle.tables.specs.Entries.{entries_of}
+use Rattle.office.specs.declared.export.ExportReceipt.{ExportReceipt}
+use Rattle.office.specs.declared.faults.ExportFault.TheVariants as fault
+use Rattle.office.specs.Exports.{WasExported, WasCut}
+use Rattle.office.specs.Faults.{fault_of}
+use Rattle.office.proofs.Exported.{text_there, all_exported, none_exported, sink_cut, passed_on}
+use Rattle.office.proofs.Spelled.{spells_its_catalogue, exports_the_same}
 use Rattle.office.proofs.export.export.Goals as goal
 
-pub returns-in_default-clause-err : goal.returns-in_default-clause-err
-returns-in_default-clause-err g c =
-    no_language c.args.office.now c.args.lang.now _ (g.W.ByteSink.failed c.args.w.now) c.in_default.ensures
+pub returns-in_err-each_entry-clause-err : goal.returns-in_err-each_entry-clause-err
+returns-in_err-each_entry-clause-err g c = λ honest.
+    let text = export_text (g.T.Tables.means c.args.tables.now).office c.args.lang.now in
+    let taken = g.W.ByteSink.taken in
+    let failed = g.W.ByteSink.failed in
+    let now = c.each_entry.new.sink.w.now in
+    let old = c.args.w.now in
+    let each = c.in_err-each_entry.field-0.0 in
+    let cut : WasCut text (taken old) (taken now) (failed old) (failed now) (fault_of each) =
+    subst (λ t. WasCut t (taken old) (taken now) (failed old) (failed now) (fault_of each)) (sym (text_there (g.T.Tables.means c.args.tables.now).office c.args.lang.now))
+    (sink_cut (λ s. s.w.ghost_name) (λ s. taken s.w.now) (λ s. failed s.w.now) (λ s. s.checksum) (λ s. s.begun) _ _ _ each refl c.new.ensures (c.in_err-each_entry.ensures.cut honest)) in
+    passed_on (taken old) (failed old) text c.from_residual.result (fault_of each) (search rules) (search rules) c.from_residual.ensures.1 cut
 
-pub returns-in_err-put-clause-err : goal.returns-in_err-put-clause-err
-returns-in_err-put-clause-err g c =
-    cut_off _ c.from_residual.result c.in_err-put.field-0.0 c.from_residual.ensures.1
-    (text_there c.args.office.now c.args.lang.now c.in-Some.language.now c.in-Some.ensures)
-    c.new-sent.ensures (broke _ (begin _ _ _ refl) refl c.in_err-put.ensures)
-
-pub returns-in_err-put_template-clause-err : goal.returns-in_err-put_template-clause-err
-returns-in_err-put_template-clause-err g c =
-    cut_off _ c.from_residual-in_err-put_template.result c.in_err-put_template.field-0.0 c.from_residual-in_err-put_template.ensures.1
-    (text_there c.args.office.now c.args.lang.now c.in-Some.language.now c.in-Some.ensures)
-    c.new-sent.ensures
-    (broke _ (more (begin _ _ _ refl) refl c.in_ok-put.ensures) (template_cut c.args.office.now c.args.lang.now c.entries.result.now _ c.entries.ensures.value) c.in_err-put_template.ensures)
-
-pub returns-in_err-put_obsolete-clause-err : goal.returns-in_err-put_obsolete-clause-err
-returns-in_err-put_obsolete-clause-err g c =
-    cut_off _ c.from_residual-in_err-put_obsolete.result c.in_err-put_obsolete.field-0.0 c.from_residual-in_err-put_obsolete.ensures.1
-    (text_there c.args.office.now c.args.lang.now c.in-Some.language.now c.in-Some.ensures)
-    c.new-sent.ensures
-    (broke _ (more (more (begin _ _ _ refl) refl c.in_ok-put.ensures) (template_cut c.args.office.now c.args.lang.now c.entries.result.now _ c.entries.ensures.value) c.in_ok-put_template.ensures)
-    (away_cut c.args.office.now c.args.lang.now c.in_err-put_obsolete.ensures.ordered) c.in_err-put_obsolete.ensures.sent)
+pub returns-then-not-begun-clause-err : goal.returns-then-not-begun-clause-err
+returns-then-not-begun-clause-err g c = λ honest.
+    let office = (g.T.Tables.means c.args.tables.now).office in
+    let lang = c.args.lang.now in
+    let taken = g.W.ByteSink.taken in
+    let failed = g.W.ByteSink.failed in
+    let now = c.each_entry.new.sink.w.now in
+    let old = c.args.w.now in
+    let was : WasCut (export_text office lang) (taken old) (taken now) (failed old) (failed now) fault.NoLanguage =
+    subst (λ text. WasCut text (taken old) (taken now) (failed old) (failed now) fault.NoLanguage) (sym (text_there office lang))
+    (none_exported (entries_of office lang) c.if-not-begun.true (c.in_ok-each_entry.ensures.all honest).1) in
+    search rules
 
 pub returns-clause-text : goal.returns-clause-text
-returns-clause-text g c =
-    was_exported _ c.finalize.result
-    (text_there c.args.office.now c.args.lang.now c.in-Some.language.now c.in-Some.ensures)
-    c.new-sent.ensures
-    (whole_sent (more (more (more (begin _ _ _ refl) refl c.in_ok-put.ensures) (template_cut c.args.office.now c.args.lang.now c.entries.result.now _ c.entries.ensures.value) c.in_ok-put_template.ensures)
-    (away_cut c.args.office.now c.args.lang.now c.in_ok-put_obsolete.ensures.ordered) c.in_ok-put_obsolete.ensures.sent) refl)
-    c.finalize.ensures
+returns-clause-text g c = λ honest.
+    let office = (g.T.Tables.means c.args.tables.now).office in
+    let lang = c.args.lang.now in
+    let old = g.W.ByteSink.taken c.args.w.now in
+    let now = g.W.ByteSink.taken c.each_entry.new.sink.w.now in
+    let receipt : ExportReceipt = record { bytes = c.each_entry.new.sink.checksum.bytes; sha256 = c.finalize.result } in
+    let was : WasExported (export_text office lang) old now receipt =
+    subst (λ text. WasExported text old now receipt) (sym (text_there office lang))
+    (all_exported (entries_of office lang) c.finalize.result c.new.ensures c.if-not-begun.false (c.in_ok-each_entry.ensures.all honest).1 c.finalize.ensures) in
+    subst (λ t. WasExported (export_text office lang) old t receipt) (search rules) was
 
 pub returns-clause-spelled : goal.returns-clause-spelled
-returns-clause-spelled g c =
-    spells_its_catalogue c.args.office.now c.args.lang.now (g.W.ByteSink.taken c.args.w.now) (g.W.ByteSink.taken c.put_obsolete.new.w) _
-    c.in_ok-put_obsolete.ensures.ordered c.in_ok-put_obsolete.ensures.strings (returns-clause-text g c)
+returns-clause-spelled g c = λ honest.
+    let whole = c.in_ok-each_entry.ensures.kept.open_still honest in
+    let keeps = subst KeepsRules (c.each_entry.ensures.same honest whole) (g.met.T.Tables.rules c.each_entry.new.self honest whole) in
+    spells_its_catalogue (g.T.Tables.means c.args.tables.now).office c.args.lang.now (g.W.ByteSink.taken c.args.w.now) _ _ keeps.office
+    (c.in_ok-each_entry.ensures.all honest).1.strings (returns-clause-text g c honest)
+
+pub returns-clause-commuting : goal.returns-clause-commuting
+returns-clause-commuting g c = λ honest.
+    exports_the_same (g.T.Tables.means c.args.tables.now).office c.args.lang.now (g.W.ByteSink.taken c.args.w.now) _ _ (returns-clause-text g c honest)

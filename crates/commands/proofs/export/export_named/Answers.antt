@@ -1,0 +1,23 @@
+use Rattle.std.proofs.Common.{◌≡◌, refl, ap}
+use Rattle.std.specs.Prelude.{option_map}
+use Rattle.commands.specs.DeliverLines.{unnamed, written, faulted}
+use Rattle.commands.proofs.Streaming.{took_none}
+use Rattle.commands.proofs.Exporting.{still_exported, text_taken, fault_told}
+use Rattle.commands.proofs.export.export_named.Goals as goal
+
+pub returns-in-None-clause-exported : goal.returns-in-None-clause-exported
+returns-in-None-clause-exported g c = unnamed (ap (option_map _) c.in-None.is) (took_none _ _) (took_none _ _) refl
+
+pub returns-in-Ok-clause-exported : goal.returns-in-Ok-clause-exported
+returns-in-Ok-clause-exported g c =
+    let done = c.in-Ok.ensures in
+    written c.in-Some.lang.now (ap (option_map _) c.in-Some.is)
+    (λ h. text_taken _ _ _ _ (still_exported _ _ (g.T.Tables.means c.args.desk.now) (g.T.Tables.means c.export.new.self) c.in-Some.lang.now _ _ _ done.kept.open_still done.same done.text h))
+    (took_none _ _) refl
+
+pub returns-in-Err-clause-exported : goal.returns-in-Err-clause-exported
+returns-in-Err-clause-exported g c =
+    let cut = c.in-Err.ensures in
+    faulted c.in-Some.lang.now (ap (option_map _) c.in-Some.is)
+    (fault_told (g.T.Tables.means c.args.desk.now) (g.T.Tables.means c.export.new.self) c.in-Err.fault cut.same cut.err c.tell_fault.ensures.told)
+    c.tell_fault.ensures.status

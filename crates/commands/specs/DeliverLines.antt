@@ -1,0 +1,87 @@
+-- What comes of `office deliver`: the lines of a text, what each is answered, and behind the answers the text of a language. This
+-- project's own rule.
+use Rattle.std.specs.Prelude.{◌≡◌, ◌≤◌, ◌-◌, ◌^◌, ℕ, List, [], ◌++◌, length, Option, Some, None, IsSomeAnd}
+use Rattle.po_read.specs.Texts.{Text}
+use Rattle.units.specs.Office.{Office}
+use Rattle.units.specs.Streams.{Took, RoseOrStands}
+use Rattle.request_book.specs.Book.{OfficeWithBook}
+use Rattle.deliveries.specs.ExportText.{export_text}
+use Rattle.commands.specs.Writers.{Writer, TakesAll, TakesPart}
+use Rattle.commands.specs.TextLines.{AreLinesOf}
+use Rattle.commands.specs.Exchanges.{Exchange, HasDelivered, Answered}
+use Rattle.commands.specs.ExportLines.{EndedWithFault}
+
+-- ---- lines and their answers
+
+-- All lines of a text were answered,
+pub record AllAnswered (Did : List Exchange → Type 0) (Wrote : List ℕ → Type 0) (text : List ℕ) : Type 0 where
+  pub lines : List (List ℕ)
+  pub are : AreLinesOf text lines
+  pub answered : Answered Did Wrote lines
+
+-- or only the first of them.
+pub record SomeAnswered (Did : List Exchange → Type 0) (Wrote : List ℕ → Type 0) (text : List ℕ) : Type 0 where
+  pub lines : List (List ℕ)
+  pub are : AreLinesOf text lines
+  pub front : List (List ℕ)
+  pub back : List (List ℕ)
+  pub cut : lines ≡ front ++ back
+  pub answered : Answered Did Wrote front
+
+-- A stream failed: which, and what was written of the answers till then.
+pub data Stopped (text : List ℕ) (reads_failed_old reads_failed_new : ℕ) (old new : Writer) (answers : List ℕ) : Type 0 where
+  no_source : RoseOrStands reads_failed_old reads_failed_new → TakesAll old new answers
+      → Stopped text reads_failed_old reads_failed_new old new answers
+  no_sink : TakesPart old new answers
+      → Stopped text reads_failed_old reads_failed_new old new answers
+  -- there are more reads than a number counts
+  endless : 2 ^ 64 - 1 ≤ length text → TakesAll old new answers
+      → Stopped text reads_failed_old reads_failed_new old new answers
+
+-- ---- the text of a language
+
+-- What came of an export, on the two outputs and in the exit status:
+pub data Exported (Honest Whole : Type 0) (office : Office) (lang : Option Text) (out_old out_new faults_old faults_new : Writer) (status : ℕ) : Type 0 where
+  -- no language is named;
+  unnamed : lang ≡ None → TakesAll out_old out_new [] → TakesAll faults_old faults_new [] → status ≡ 0
+      → Exported Honest Whole office lang out_old out_new faults_old faults_new status
+  -- or its text was written;
+  written : (named : Text) → lang ≡ Some named → (Honest → IsSomeAnd (export_text office named) (Took out_old.taken out_new.taken))
+      → TakesAll faults_old faults_new [] → status ≡ 0
+      → Exported Honest Whole office lang out_old out_new faults_old faults_new status
+  -- or there is a fault.
+  faulted : (named : Text) → lang ≡ Some named → EndedWithFault Honest Whole office named out_old out_new faults_old faults_new → status ≡ 1
+      → Exported Honest Whole office lang out_old out_new faults_old faults_new status
+
+-- ---- the whole
+
+-- A writer took the answers, and then what an export made of it; at last it handed on what it held back, or failed to.
+pub record TookBehind (Exports Flushed : Writer → Writer → Type 0) (old new : Writer) (text : List ℕ) : Type 0 where
+  pub answered : Writer
+  pub exported : Writer
+  pub answers : TakesAll old answered text
+  pub export : Exports answered exported
+  pub flush : Flushed exported new
+
+abbrev pub HandsOn : Writer → Writer → Type 0
+HandsOn old new = TakesAll old new []
+
+abbrev pub HoldsBack : Writer → Writer → Type 0
+HoldsBack old new = TakesPart old new []
+
+-- What came of a text, at the desk, on the outputs and in the exit status:
+pub data Delivered (Honest Whole : Type 0) (before after : OfficeWithBook) (lang : Option Text) (text : List ℕ) (reads_failed_old reads_failed_new : ℕ)
+    (replies_old replies_new faults_old faults_new : Writer) (status : ℕ) : Type 0 where
+  -- each line was answered, and the language exported behind the answers;
+  done : AllAnswered (HasDelivered Honest Whole before after)
+      (TookBehind (λ old new. Exported Honest Whole after.office lang old new faults_old faults_new status) HandsOn replies_old replies_new) text
+      → Delivered Honest Whole before after lang text reads_failed_old reads_failed_new replies_old replies_new faults_old faults_new status
+  -- or the writer held back some of that;
+  held : (exit : ℕ) → AllAnswered (HasDelivered Honest Whole before after)
+      (TookBehind (λ old new. Exported Honest Whole after.office lang old new faults_old faults_new exit) HoldsBack replies_old replies_new) text
+      → status ≡ 1
+      → Delivered Honest Whole before after lang text reads_failed_old reads_failed_new replies_old replies_new faults_old faults_new status
+  -- or a stream failed behind the first lines.
+  stopped : SomeAnswered (HasDelivered Honest Whole before after) (Stopped text reads_failed_old reads_failed_new replies_old replies_new) text
+      → TakesAll faults_old faults_new [] → status ≡ 1
+      → Delivered Honest Whole before after lang text reads_failed_old reads_failed_new replies_old replies_new faults_old faults_new status

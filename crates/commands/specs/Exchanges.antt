@@ -1,0 +1,94 @@
+-- Requests a line each, and their answers a line each: what came of a line, the bytes that tell it, and what reached the desk.
+-- This project's own rule.
+use Rattle.std.specs.Prelude.{◌≡◌, ◌≤◌, ℕ, List, [], ◌∷◌, ◌++◌, length, flat_map, codes, decimal, Result, Ok, Err, IsUtf8, ⊤}
+use Rattle.request_book.specs.Acts.{IsRequestText}
+use Rattle.request_book.specs.declared.act.Request.{Request}
+use Rattle.request_book.specs.Replies.{Reply}
+use Rattle.request_book.specs.Book.{OfficeWithBook}
+use Rattle.tables.specs.declared.faults.Lost.{Lost}
+use Rattle.tables.specs.declared.faults.Lost.TheVariants.{Memory, Disk}
+use Rattle.office.specs.Runs.{HasRun}
+
+-- ---- a line, and what came of it
+
+pub data Exchange : Type 0 where
+  -- the line is a request's, with its reply, or it is lost
+  asked : Request → Result Reply Lost → Exchange
+  -- it is no request's, or too long
+  malformed : Exchange
+  -- there was no memory to read it
+  unread : Exchange
+
+-- how many bytes a line has at most, its line end aside
+abbrev pub line_limit : ℕ
+line_limit = 5500000
+
+abbrev pub IsLine : List ℕ → Exchange → Type 0
+IsLine line (asked request result) = (length line ≤ line_limit) × IsUtf8 line × IsRequestText line request
+IsLine line malformed = length line ≤ line_limit → IsUtf8 line → (request : Request) → IsRequestText line request → ⊥
+IsLine line unread = length line ≤ line_limit
+
+-- one for one
+abbrev pub AreLines : List (List ℕ) → List Exchange → Type 0
+AreLines [] [] = ⊤
+AreLines [] (x ∷ xs) = ⊥
+AreLines (line ∷ lines) [] = ⊥
+AreLines (line ∷ lines) (x ∷ xs) = IsLine line x × AreLines lines xs
+
+-- ---- what is written
+
+-- `STATUS BODY`
+abbrev pub reply_line : Reply → List ℕ
+reply_line reply = decimal reply.status ++ (codes " " ++ (reply.body ++ codes "\n"))
+
+abbrev pub lost_line : Lost → List ℕ
+lost_line Memory = codes "503 {\"error\":\"memory\"}\n"
+lost_line Disk = codes "507 {\"error\":\"disk\"}\n"
+
+abbrev pub result_line : Result Reply Lost → List ℕ
+result_line (Ok reply) = reply_line reply
+result_line (Err lost) = lost_line lost
+
+abbrev pub malformed_line : List ℕ
+malformed_line = codes "400 {\"error\":\"malformed\"}\n"
+
+abbrev pub exchange_line : Exchange → List ℕ
+exchange_line (asked request result) = result_line result
+exchange_line malformed = malformed_line
+exchange_line unread = lost_line Memory
+
+-- ---- what reached the desk
+
+abbrev pub requests_of : List Exchange → List Request
+requests_of [] = []
+requests_of (asked request result ∷ xs) = request ∷ requests_of xs
+requests_of (malformed ∷ xs) = requests_of xs
+requests_of (unread ∷ xs) = requests_of xs
+
+abbrev pub results_of : List Exchange → List (Result Reply Lost)
+results_of [] = []
+results_of (asked request result ∷ xs) = result ∷ results_of xs
+results_of (malformed ∷ xs) = results_of xs
+results_of (unread ∷ xs) = results_of xs
+
+-- what the tables mean, and what was told, is what the requests of the lines leave and are told, the lost ones struck out
+abbrev pub HasDelivered : (Honest Whole : Type 0) → OfficeWithBook → OfficeWithBook → List Exchange → Type 0
+HasDelivered Honest Whole before after xs = HasRun Honest Whole before after (requests_of xs) (results_of xs)
+
+-- whatever was delivered before, these came behind it
+abbrev pub GoesOn : (Honest Whole StillHonest StillWhole : Type 0) → OfficeWithBook → OfficeWithBook → List Exchange → Type 0
+GoesOn Honest Whole StillHonest StillWhole old new more =
+    (start : OfficeWithBook) (done : List Exchange) → HasDelivered Honest Whole start old done → HasDelivered StillHonest StillWhole start new (done ++ more)
+
+-- the same of tables, by the words that their type has for itself
+abbrev pub Delivers : {S : Type 0} → (S → Type 0) → (S → Type 0) → (S → OfficeWithBook) → S → S → List Exchange → Type 0
+Delivers is_honest is_whole means old new = GoesOn (is_honest old) (is_whole old) (is_honest new) (is_whole new) (means old) (means new)
+
+-- ---- lines that were answered
+
+-- These lines were taken in order: what came of each, what that did to the desk, and what was written.
+pub record Answered (Did : List Exchange → Type 0) (Wrote : List ℕ → Type 0) (lines : List (List ℕ)) : Type 0 where
+  pub exchanges : List Exchange
+  pub are : AreLines lines exchanges
+  pub did : Did exchanges
+  pub wrote : Wrote (flat_map exchange_line exchanges)

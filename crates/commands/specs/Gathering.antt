@@ -1,0 +1,63 @@
+-- How lines are gathered from the pieces of a stream and answered on the way. This project's own words, for the code's own steps.
+use Rattle.std.specs.Prelude.{◌≡◌, ◌<◌, ℕ, List, ◌++◌, length, flat_map, true, false, Bool, Option, IfSome, Result, MatchResult}
+use Rattle.std.specs.List.{AllByRecursion}
+use Rattle.units.specs.Streams.{prepend_known, IsAtEnd}
+use Rattle.commands.specs.declared.lines.Gathered.{Gathered}
+use Rattle.commands.specs.declared.lines.Gathered.TheVariants.{Whole, TooLong, NoMemory}
+use Rattle.commands.specs.declared.lines.Line.{Line}
+use Rattle.commands.specs.TextLines.{HasNoEnd, with_end, IsCut}
+use Rattle.commands.specs.Exchanges.{Exchange, line_limit, Answered}
+use Rattle.commands.specs.Writers.{Writer, TakesAll}
+use Rattle.commands.specs.DeliverLines.{AllAnswered, SomeAnswered, Stopped, HandsOn, HoldsBack}
+
+-- what is known of bytes by how they were gathered, how many they are, and which were kept
+abbrev pub IsGathered : Gathered → ℕ → List ℕ → List ℕ → Type 0
+IsGathered Whole count kept text = (kept ≡ text) × (count ≡ length text)
+IsGathered TooLong count kept text = line_limit < length text
+IsGathered NoMemory count kept text = count ≡ length text
+
+-- a line that so far has these bytes
+abbrev pub Gathers : Line → List ℕ → Type 0
+Gathers line text = IsGathered line.gathered line.count line.bytes.items text
+
+-- The text's ended lines were answered, and the line is gathered of what stands behind them.
+pub record Passed (Did : List Exchange → Type 0) (Wrote : List ℕ → Type 0) (text : List ℕ) (line : Line) : Type 0 where
+  pub lines : List (List ℕ)
+  pub rest : List ℕ
+  pub cut : IsCut text lines rest
+  pub gathers : Gathers line rest
+  pub answered : Answered Did Wrote lines
+
+-- Only the first of the text's ended lines were taken.
+pub record BrokeOff (Did : List Exchange → Type 0) (Wrote : List ℕ → Type 0) (text : List ℕ) : Type 0 where
+  pub lines : List (List ℕ)
+  pub rest : List ℕ
+  pub whole : text ≡ flat_map with_end lines ++ rest
+  pub each : AllByRecursion HasNoEnd lines
+  pub answered : Answered Did Wrote lines
+
+-- A piece was read behind what was begun, or the end was found.
+pub record ReadOn (left_old left_new : Option (List ℕ)) (failed_old failed_new : ℕ) (Did : List Exchange → Type 0) (Wrote : List ℕ → Type 0) (begun : List ℕ) (line : Line) (more : Bool) : Type 0 where
+  pub piece : List ℕ
+  pub read : left_old ≡ prepend_known piece left_new
+  pub count : failed_new ≡ failed_old
+  pub some : more ≡ true → 0 < length piece
+  pub end : more ≡ false → IsAtEnd left_new
+  pub passed : Passed Did Wrote (begun ++ piece) line
+
+-- A stream failed.
+pub record ReadOff (left_old left_new : Option (List ℕ)) (Did : List Exchange → Type 0) (Wrote : List ℕ → Type 0) (begun : List ℕ) : Type 0 where
+  pub piece : List ℕ
+  pub read : left_old ≡ prepend_known piece left_new
+  pub broke : BrokeOff Did Wrote (begun ++ piece)
+
+-- What came of the text that a source gives, by whether a stream failed.
+pub record LinesAnswered {T E : Type 0} (Did : List Exchange → Type 0) (left_old : Option (List ℕ)) (reads_failed_old reads_failed_new : ℕ) (old new : Writer) (result : Result T E) : Type 0 where
+  pub text : List ℕ
+  pub given : IfSome left_old (λ all. text ≡ all)
+  pub outcome : MatchResult result (λ _. AllAnswered Did (TakesAll old new) text) (λ _. SomeAnswered Did (Stopped text reads_failed_old reads_failed_new old new) text)
+
+-- An export, with its exit status, and then the writer handed on what it held back, or failed to.
+pub data Finished (Exports : Writer → Writer → ℕ → Type 0) (old new : Writer) (status : ℕ) : Type 0 where
+  flushed : (mid : Writer) → Exports old mid status → HandsOn mid new → Finished Exports old new status
+  held : (mid : Writer) (exit : ℕ) → Exports old mid exit → HoldsBack mid new → status ≡ 1 → Finished Exports old new status

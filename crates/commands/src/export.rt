@@ -1,0 +1,114 @@
+//! The PO text of a language, and what is told of it on the second output.
+ghost use Rattle.std.specs.Prelude.{◌≡◌, ◌≤◌, ◌⊎◌, [], option_map};
+ghost use Rattle.hex.specs.Hex.{encode_lower};
+ghost use Rattle.po_write.specs.Sending.{Sends};
+ghost use Rattle.commands.specs.Writers.{writer_at, TakesAll, TakesPart};
+ghost use Rattle.commands.specs.ExportLines.{export_fault_line, receipt_line, Printed};
+ghost use Rattle.commands.specs.DeliverLines.{Exported};
+
+use crate::numbers::send_number;
+use office::{Desk, ExportFault, ExportReceipt};
+use po_write::send;
+use tables::Tables;
+use units::{ByteSink, Lang, SinkFault};
+
+/// Exit status of a run that did what it was asked for.
+pub const DONE: u8 = 0;
+
+/// Exit status after a named fault, or after a stream that failed.
+pub const FAILED: u8 = 1;
+
+/// Hands on what the writer holds back: a client that waits for it gets it.
+pub(crate) fn flush<W: ByteSink>(w: &mut W) -> Result<(), SinkFault>
+    ensures { Sends W.taken W.failed w.old w.new [] result }
+{
+    w.flush()
+}
+
+/// Writes the line of a fault.
+fn send_export_fault<E: ByteSink>(e: &mut E, fault: ExportFault) -> Result<(), SinkFault>
+    ensures { Sends E.taken E.failed e.old e.new (export_fault_line fault) result }
+{
+    send(e, b"export fault ")?;
+    send_number(e, fault.number())?;
+    send(e, b"\n")?;
+    flush(e)
+}
+
+/// Tells a fault, and answers the exit status.
+fn tell_fault<E: ByteSink>(e: &mut E, fault: ExportFault) -> u8
+    ensures told { TakesAll (writer_at E.taken E.failed e.old) (writer_at E.taken E.failed e.new) (export_fault_line fault)
+        ⊎ TakesPart (writer_at E.taken E.failed e.old) (writer_at E.taken E.failed e.new) (export_fault_line fault) }
+    ensures status { result ≡ 1 }
+{
+    let _ = send_export_fault(e, fault);
+    FAILED
+}
+
+/// Writes the text of the language, if one is named; a fault is told on the second output.
+pub(crate) fn export_named<T: Tables, W: ByteSink, E: ByteSink>(
+    desk: &mut Desk<T>,
+    w: &mut W,
+    e: &mut E,
+    lang: Option<&Lang>,
+) -> u8
+    ensures exported { Exported (T.is_honest desk.new) (T.is_whole desk.new) (T.means desk.new).office (option_map (λ named. named.now) lang.entry)
+        (writer_at W.taken W.failed w.old) (writer_at W.taken W.failed w.new) (writer_at E.taken E.failed e.old) (writer_at E.taken E.failed e.new) result }
+    ensures honest { T.is_honest desk.new → T.is_honest desk.old }
+    ensures whole { T.is_honest desk.new → T.is_whole desk.new → T.is_whole desk.old }
+    ensures same { T.is_honest desk.new → T.is_whole desk.new → T.means desk.new ≡ T.means desk.old }
+{
+    match lang {
+        None => DONE,
+        Some(lang) => match desk.export(lang, w) {
+            Ok(_receipt) => DONE,
+            Err(fault) => tell_fault(e, fault),
+        },
+    }
+}
+
+/// The digits of a digest.
+fn digest_digits(sha256: [u8; 32]) -> [u8; 64]
+    ensures { result ≡ encode_lower sha256 }
+{
+    let mut digits = [0u8; 64];
+    // There is room for them.
+    let _fits = hex::encode_to_slice(sha256, &mut digits);
+    digits
+}
+
+/// Writes the line of a receipt.
+fn send_receipt<E: ByteSink>(e: &mut E, receipt: ExportReceipt) -> Result<(), SinkFault>
+    ensures { Sends E.taken E.failed e.old e.new (receipt_line receipt) result }
+{
+    send(e, b"bytes ")?;
+    send_number(e, receipt.bytes)?;
+    send(e, b" sha256 ")?;
+    send(e, &digest_digits(receipt.sha256))?;
+    send(e, b"\n")
+}
+
+/// Prints the PO text of a language, and then a line `bytes B sha256 H` on the second output, its length and its SHA-256 digest in
+/// lower case; or, where the export failed, a line `export fault K` there.
+///
+/// Answers the exit status: 0, or 1 where the export or a stream failed. What the writer holds back stays with it.
+pub fn export_text<T: Tables, W: ByteSink, E: ByteSink>(
+    desk: &mut Desk<T>,
+    lang: &Lang,
+    w: &mut W,
+    e: &mut E,
+) -> u8
+    ensures printed { Printed (T.is_honest desk.new) (T.is_whole desk.new) (T.means desk.new).office lang.now
+        (writer_at W.taken W.failed w.old) (writer_at W.taken W.failed w.new) (writer_at E.taken E.failed e.old) (writer_at E.taken E.failed e.new) result }
+    ensures status { result ≤ 1 }
+    // The tables are as they were.
+    ensures same { T.is_honest desk.new → T.is_whole desk.new → T.means desk.new ≡ T.means desk.old }
+{
+    match desk.export(lang, w) {
+        Ok(receipt) => match send_receipt(e, receipt) {
+            Ok(()) => DONE,
+            Err(_) => FAILED,
+        },
+        Err(fault) => tell_fault(e, fault),
+    }
+}

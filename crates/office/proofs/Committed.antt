@@ -1,0 +1,91 @@
+-- What was read, decided and committed is what the delivery of a new number leaves, and keeps the rules.
+use Rattle.std.proofs.Common.{◌≡◌, ◌∙◌, sym, ap, subst, Option, Some, None, IsTrue, refl}
+use Rattle.std.specs.Prelude.{is_none, option_map, [], ◌∷◌}
+use Rattle.std.specs.FinMap as maps
+use Rattle.po_read.specs.Texts.{Text}
+use Rattle.units.specs.Office.{Office}
+use Rattle.units.specs.declared.unit.Key.{Key}
+use Rattle.units.specs.declared.unit.UnitAct.{UnitAct}
+use Rattle.units.specs.declared.unit.UnitView.{UnitView}
+use Rattle.request_book.specs.declared.act.Act.TheVariants.{OnUnit}
+use Rattle.request_book.specs.declared.act.Request.{Request}
+use Rattle.request_book.specs.declared.book.Record.{Record}
+use Rattle.request_book.specs.Replies.{Reply}
+use Rattle.request_book.specs.Acts.{IsRequest, content_text}
+use Rattle.request_book.specs.Book.{OfficeWithBook, Recorded, with_record}
+use Rattle.replies.specs.Bodies.{Stepped}
+use Rattle.deliveries.specs.declared.values.Found.{Found}
+use Rattle.deliveries.specs.UnitAccess.{found_of, with_view}
+use Rattle.deliveries.specs.UnitOutcomes.{outcome_of}
+use Rattle.deliveries.specs.OfficeChanges.{changed_by}
+use Rattle.deliveries.specs.OfficeRules.{KeepsRules}
+use Rattle.deliveries.specs.Step.{step}
+use Rattle.deliveries.specs.Deliveries.{first_delivered, left_by, reply_from}
+use Rattle.deliveries.proofs.acts.UnitActs.{recorded_unit_act}
+use Rattle.deliveries.proofs.retries.Delivered.{first_time, IsDelivery}
+use Rattle.deliveries.proofs.rules.KeptRules.{kept_rules}
+use Rattle.office_acts.specs.declared.outcome.OfficeOutcome.{OfficeOutcome}
+use Rattle.office_acts.specs.Settled.{IsSettled}
+
+-- ---- a new number
+
+not_known : (o : Option Recorded) (x : Request) → IsTrue (is_none o) → None ≡ option_map (λ recorded. reply_from recorded x) o
+not_known None x fresh = refl
+not_known (Some recorded) x fresh = cc
+
+first_keeps : (m : OfficeWithBook) (x : Request) → IsRequest x → IsTrue (is_none (maps.get m.book x.number)) → KeepsRules m → KeepsRules (first_delivered m x).0
+first_keeps m x given fresh start =
+    let leaves : (first_delivered m x).0 ≡ left_by m (x ∷ []) =
+    IsDelivery.tables (first_time m m (first_delivered m x).0 x (first_delivered m x).1 refl (not_known (maps.get m.book x.number) x fresh) refl) in
+    subst KeepsRules (sym leaves) (kept_rules m x given start)
+
+-- ---- an act on a unit
+
+-- what was found, decided and committed is the step with its record
+pub unit_act_delivered : (old mid new : OfficeWithBook) (request : Request) (lang : Text) (key : Key) (act : UnitAct) (found : Option Found) (view : Option UnitView) (reply : Reply) (content : Text) (row : Record) →
+    request.act ≡ OnUnit lang key act → mid ≡ old → found ≡ found_of old.office lang key request.caller →
+    record { view = view; reply = reply } ≡ outcome_of found request.caller request.number act →
+    content ≡ content_text request → row ≡ record { number = request.number; content = content; reply = reply } →
+    new ≡ record { office = with_view mid.office lang key view; book = with_record mid.book row } →
+    ◌≡◌ {A = OfficeWithBook × Reply} (new, reply) (first_delivered old request)
+unit_act_delivered old mid new request lang key act found view reply content row is same answer decides text made commits =
+    recorded_unit_act old mid new request lang key act found view reply reply content is same answer decides refl text
+    (commits ∙ ap (λ (r : Record). record { office = with_view mid.office lang key view; book = with_record mid.book r }) made)
+
+-- and keeps the rules
+pub unit_act_keeps : (old mid : OfficeWithBook) (request : Request) (lang : Text) (key : Key) (act : UnitAct) (found : Option Found) (view : Option UnitView) (reply : Reply) (content : Text) (row : Record) →
+    request.act ≡ OnUnit lang key act → mid ≡ old → found ≡ found_of old.office lang key request.caller →
+    record { view = view; reply = reply } ≡ outcome_of found request.caller request.number act →
+    content ≡ content_text request → row ≡ record { number = request.number; content = content; reply = reply } →
+    IsRequest request → IsTrue (is_none (maps.get old.book request.number)) → KeepsRules old →
+    KeepsRules (record { office = with_view mid.office lang key view; book = with_record mid.book row })
+unit_act_keeps old mid request lang key act found view reply content row is same answer decides text made given fresh start =
+    subst KeepsRules (sym (ap (λ (p : OfficeWithBook × Reply). p.0) (unit_act_delivered old mid _ request lang key act found view reply content row is same answer decides text made refl)))
+    (first_keeps old request given fresh start)
+
+-- ---- an act on the office
+
+-- what was decided at the office at hand and committed is the step with its record
+pub office_act_delivered : (old mid new : OfficeWithBook) (office : Office) (request : Request) (outcome : OfficeOutcome) (content : Text) (row : Record) →
+    mid ≡ old → office ≡ mid.office → IsSettled office outcome (step office request) →
+    content ≡ content_text request → row ≡ record { number = request.number; content = content; reply = outcome.reply } →
+    new ≡ record { office = changed_by mid.office outcome.change; book = with_record mid.book row } →
+    ◌≡◌ {A = OfficeWithBook × Reply} (new, outcome.reply) (first_delivered old request)
+office_act_delivered old mid new office request outcome content row same at_hand settles text made commits =
+    let was : office ≡ old.office = at_hand ∙ ap (λ (m : OfficeWithBook). m.office) same in
+    let steps : ◌≡◌ {A = Stepped} (changed_by old.office outcome.change, outcome.reply) (step old.office request) =
+    IsSettled.is (subst (λ (o : Office). IsSettled o outcome (step o request)) was settles) in
+    let now : new ≡ record { office = (step old.office request).0; book = with_record old.book (record { number = request.number; content = content_text request; reply = (step old.office request).1 }) } =
+    commits ∙ ((λ i. record { office = changed_by (same i).office outcome.change; book = with_record (same i).book (made i) })
+    ∙ (λ i. record { office = (steps i).0; book = with_record old.book (record { number = request.number; content = text i; reply = (steps i).1 }) })) in
+    λ i. (now i, (steps i).1)
+
+-- and keeps the rules
+pub office_act_keeps : (old mid : OfficeWithBook) (office : Office) (request : Request) (outcome : OfficeOutcome) (content : Text) (row : Record) →
+    mid ≡ old → office ≡ mid.office → IsSettled office outcome (step office request) →
+    content ≡ content_text request → row ≡ record { number = request.number; content = content; reply = outcome.reply } →
+    IsRequest request → IsTrue (is_none (maps.get old.book request.number)) → KeepsRules old →
+    KeepsRules (record { office = changed_by mid.office outcome.change; book = with_record mid.book row })
+office_act_keeps old mid office request outcome content row same at_hand settles text made given fresh start =
+    subst KeepsRules (sym (ap (λ (p : OfficeWithBook × Reply). p.0) (office_act_delivered old mid _ office request outcome content row same at_hand settles text made refl)))
+    (first_keeps old request given fresh start)

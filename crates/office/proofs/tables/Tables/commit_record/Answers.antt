@@ -1,9 +1,0 @@
-use Rattle.office.specs.Tables.{meaning}
-use Rattle.office.proofs.Records.{one_more_record}
-use Rattle.office.proofs.tables.Tables.commit_record.Goals as goal
-
-pub returns-clause-ok : goal.returns-clause-ok
-returns-clause-ok c = λ i. record {
-  office = (meaning c.args.self.now).office;
-  book = one_more_record c.args.self.now c.insert.new.self c.of.result c.args.row c.in_ok-before.ensures.entries c.of.ensures i;
-}

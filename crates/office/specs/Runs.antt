@@ -1,0 +1,21 @@
+-- What requests with their results left and were told, over tables of which something is said only while they are honest and whole.
+-- This project's own rule.
+use Rattle.std.specs.Prelude.{◌≡◌, List, [], ◌∷◌, ◌++◌, Result}
+use Rattle.request_book.specs.declared.act.Request.{Request}
+use Rattle.request_book.specs.Replies.{Reply}
+use Rattle.request_book.specs.Book.{OfficeWithBook}
+use Rattle.deliveries.specs.Deliveries.{left_by, answers_of, told, kept, lost_marks}
+
+-- Retries act once: the tables mean what the requests leave, the lost ones struck out, and the others got their one reply. A later
+-- reply shows that the tables were whole before it, so what was told needs honest tables alone.
+pub record HasRun {E : Type 0} (Honest Whole : Type 0) (old now : OfficeWithBook) (requests : List Request) (results : List (Result Reply E)) : Type 0 where
+  pub left : Honest → Whole → now ≡ left_by old (kept requests (lost_marks results))
+  pub answers : Honest → told results ≡ answers_of old (kept requests (lost_marks results))
+
+-- What is left by a beginning of the requests: the lost ones are struck out, but its last one is recorded, whatever its result.
+pub record IsLeftByBeginning {E : Type 0} (old : OfficeWithBook) (requests : List Request) (results : List (Result Reply E)) (now : OfficeWithBook) : Type 0 where
+  pub front : List Request
+  pub last : Request
+  pub rest : List Request
+  pub whole : requests ≡ front ++ last ∷ rest
+  pub left : now ≡ left_by old (kept front (lost_marks results) ++ last ∷ [])

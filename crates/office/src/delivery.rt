@@ -1,0 +1,162 @@
+//! One delivery over any tables: a look into the book, and for a new number the decision and its commit.
+ghost use Rattle.std.specs.Prelude.{◌≡◌, if◌then◌else◌, true, IfOk, IfSome, OnErr, IsTrue, is_none, option_map};
+ghost use Rattle.std.specs.FinMap as maps;
+ghost use Rattle.po_read.specs.Texts.{text_eq};
+ghost use Rattle.replies.specs.Bodies.{number_used};
+ghost use Rattle.request_book.specs.Acts.{IsRequest, content_text};
+ghost use Rattle.request_book.specs.Clash.{is_office_act};
+ghost use Rattle.request_book.specs.declared.act.Act.TheVariants.{OnUnit};
+ghost use Rattle.deliveries.specs.Deliveries.{reply_from, first_delivered};
+ghost use Rattle.tables.specs.Stops.{Nothing};
+ghost use Rattle.tables.specs.Kept.{IsKept};
+ghost use Rattle.tables.specs.declared.faults.Lost.TheVariants.{Disk};
+
+use deliveries::Outcome;
+use office_acts::{OfficeOutcome, office_outcome, unit_outcome};
+use po_read::{Duplicate, Text};
+use replies::used;
+use request_book::{Act, Class, Record, Reply, Request, classify};
+use std::alloc::{AllocError, Global};
+use tables::{Lost, Tables};
+use units::{Key, Lang, UnitAct};
+
+/// The reply to a request with this content, by what is recorded under its number, if anything is.
+fn reply_by(
+    alloc: Global,
+    content: &str,
+    recorded: &Option<Record>,
+) -> Result<Option<Reply>, AllocError>
+    ensures { IfOk result
+        (λ reply. reply ≡ option_map (λ row. if text_eq row.content content.now then row.reply else number_used) recorded.now) }
+{
+    match classify(content, recorded.as_ref()) {
+        Class::First => Ok(None),
+        Class::Repeat(reply) => Ok(Some(reply.duplicate()?)),
+        Class::NumberUsed => Ok(Some(used(alloc)?)),
+    }
+}
+
+/// The reply to a request whose number is recorded.
+pub(crate) fn known<T: Tables>(
+    alloc: Global,
+    tables: &mut T,
+    request: &Request,
+    content: &str,
+) -> Result<Option<Reply>, Lost>
+    requires { content.now ≡ content_text request.now }
+    ensures answer { T.is_honest tables.new → IfOk result
+        (λ reply. reply ≡ option_map (λ recorded. reply_from recorded request.now) (maps.get (T.means tables.old).book request.now.number)) }
+    ensures same { T.is_honest tables.new → T.is_whole tables.new → T.means tables.new ≡ T.means tables.old }
+    ensures kept { IsKept T.is_honest T.is_whole T.means T.may_leave T.is_stopped tables.old tables.new result Disk Nothing }
+{
+    let recorded = tables.record_of(&request.number)?;
+    let reply = reply_by(alloc, content, &recorded);
+    drop(recorded);
+    Ok(reply?)
+}
+
+/// The record of a request: its number, its content, and a copy of its reply.
+fn record_with(request: &Request, content: Text, reply: &Reply) -> Option<Record>
+    ensures { IfSome result
+        (λ row. row ≡ record { number = request.now.number; content = content; reply = reply.now }) }
+{
+    match reply.duplicate() {
+        Ok(reply) => Some(Record {
+            number: request.number,
+            content,
+            reply,
+        }),
+        Err(_) => None,
+    }
+}
+
+/// Decides and commits an act on a unit whose number is new. Reply and record are made before the commit: nothing after it takes
+/// memory.
+fn deliver_unit_act<T: Tables>(
+    alloc: Global,
+    tables: &mut T,
+    request: &Request,
+    content: Text,
+    lang: &Lang,
+    key: &Key,
+    act: &UnitAct,
+) -> Result<Reply, Lost>
+    requires act { request.now.act ≡ OnUnit lang.now key.now act.now }
+    requires new { T.is_honest tables.old → IsTrue (is_none (maps.get (T.means tables.old).book request.now.number)) }
+    requires content { content ≡ content_text request.now }
+    requires limits { IsRequest request.now }
+    ensures ok { T.is_honest tables.new → IfOk result
+        (λ reply. (T.means tables.new, reply) ≡ first_delivered (T.means tables.old) request.now) }
+    ensures lost { T.is_honest tables.new → T.is_whole tables.new → OnErr result (T.means tables.new ≡ T.means tables.old) }
+    ensures kept { IsKept T.is_honest T.is_whole T.means T.may_leave T.is_stopped tables.old tables.new result Disk
+        (λ m. m ≡ (first_delivered (T.means tables.old) request.now).0) }
+{
+    let found = tables.view_of(lang, key, &request.caller)?;
+    let Outcome { view, reply } = unit_outcome(alloc, found, request, act)?;
+    let row = match record_with(request, content, &reply) {
+        Some(row) => row,
+        None => {
+            drop(view);
+            drop(reply);
+            return Err(Lost::Memory);
+        }
+    };
+    tables.commit_unit(row, lang, key, view)?;
+    Ok(reply)
+}
+
+/// Decides and commits an act on the office whose number is new. Reply and record are made before the commit: nothing after it
+/// takes memory.
+fn deliver_office_act<T: Tables>(
+    alloc: Global,
+    tables: &mut T,
+    request: &Request,
+    content: Text,
+) -> Result<Reply, Lost>
+    requires act { is_office_act request.now.act ≡ true }
+    requires new { T.is_honest tables.old → IsTrue (is_none (maps.get (T.means tables.old).book request.now.number)) }
+    requires content { content ≡ content_text request.now }
+    requires limits { IsRequest request.now }
+    ensures ok { T.is_honest tables.new → IfOk result
+        (λ reply. (T.means tables.new, reply) ≡ first_delivered (T.means tables.old) request.now) }
+    ensures lost { T.is_honest tables.new → T.is_whole tables.new → OnErr result (T.means tables.new ≡ T.means tables.old) }
+    ensures kept { IsKept T.is_honest T.is_whole T.means T.may_leave T.is_stopped tables.old tables.new result Disk
+        (λ m. m ≡ (first_delivered (T.means tables.old) request.now).0) }
+{
+    tables.office_rows()?;
+    let OfficeOutcome { change, reply } = office_outcome(alloc, tables.office(), request)?;
+    let row = match record_with(request, content, &reply) {
+        Some(row) => row,
+        None => {
+            drop(change);
+            drop(reply);
+            return Err(Lost::Memory);
+        }
+    };
+    tables.commit_office(row, change)?;
+    Ok(reply)
+}
+
+/// Decides and commits a request whose number is new.
+pub(crate) fn deliver_first<T: Tables>(
+    alloc: Global,
+    tables: &mut T,
+    request: &Request,
+    content: Text,
+) -> Result<Reply, Lost>
+    requires new { T.is_honest tables.old → IsTrue (is_none (maps.get (T.means tables.old).book request.now.number)) }
+    requires content { content ≡ content_text request.now }
+    requires limits { IsRequest request.now }
+    ensures ok { T.is_honest tables.new → IfOk result
+        (λ reply. (T.means tables.new, reply) ≡ first_delivered (T.means tables.old) request.now) }
+    ensures lost { T.is_honest tables.new → T.is_whole tables.new → OnErr result (T.means tables.new ≡ T.means tables.old) }
+    ensures kept { IsKept T.is_honest T.is_whole T.means T.may_leave T.is_stopped tables.old tables.new result Disk
+        (λ m. m ≡ (first_delivered (T.means tables.old) request.now).0) }
+{
+    match &request.act {
+        Act::OnUnit(lang, key, act) => {
+            deliver_unit_act(alloc, tables, request, content, lang, key, act)
+        }
+        _ => deliver_office_act(alloc, tables, request, content),
+    }
+}

@@ -1,0 +1,36 @@
+use Rattle.std.proofs.Common.{◌≡◌, ◌∙◌, ◌++◌, [], ◌∷◌, sym, ap, refl, true, false}
+use Rattle.po_read.specs.Texts.{text_eq}
+use Rattle.std.specs.Map.Iter.{deref_pair}
+use Rattle.std.proofs.lemmas.Bool.{not-true, not-false}
+use Rattle.std.proofs.lemmas.Map.Iter.{rest_more, rest_all}
+use Rattle.office_maps.specs.LanguageUnits.{taken}
+use Rattle.store.specs.Handing.{obsolete_entries}
+use Rattle.store.proofs.Handings.{begin, more, whole, stopped, no_room}
+use Rattle.store.proofs.EntriesCut.{next_obsolete}
+use Rattle.store.proofs.LanguageUnits.{starts, next_other, none_next}
+use Rattle.store.proofs.handing.hand_obsolete.Goals as goal
+
+pub returns-in_default : goal.returns-in_default
+returns-in_default g c = no_room g.S.EntrySink.Refuses (begin g.met.S.EntrySink.none c.args.sink.now refl)
+
+pub loop-place-init : goal.loop-place-init
+loop-place-init g c =
+    begin g.met.S.EntrySink.none c.args.sink.now
+    (ap obsolete_entries (sym (starts c.args.office.now.units c.args.lang.now c.in-Ok.first c.into_iter-place-iterator.result c.in-Ok.ensures.lang c.in-Ok.ensures.key
+    c.range-place-items.ensures.ordered (c.into_iter-place-iterator.ensures.into_iter_gives ∙ c.range-place-items.ensures.between tt))))
+
+pub returns-in_err-hand_unit : goal.returns-in_err-hand_unit
+returns-in_err-hand_unit g c =
+    let own : text_eq c.args.lang.now c.in-Some.place.now.lang ≡ true = not-false (text_eq c.args.lang.now c.in-Some.place.now.lang) (sym c.ne.ensures ∙ c.if-ne.false) in
+    stopped g.S.EntrySink.Refuses g.met.S.EntrySink.more _ c.from_residual.result c.in_err-hand_unit.field-0.0 c.from_residual.ensures.1 c.loop-place.invariant
+    (next_obsolete c.args.lang.now (c.in-Some.place.now, c.in-Some.unit.now) c.loop-place.place-iterator c.next.new.self
+    (rest_more deref_pair c.loop-place.place-iterator c.next.new.self c.next.result (c.in-Some.place, c.in-Some.unit) c.in-Some.is c.next.ensures.steps) own)
+    c.in_err-hand_unit.ensures
+
+pub loop-place-preserved : goal.loop-place-preserved
+loop-place-preserved g c =
+    let own : text_eq c.args.lang.now c.in-Some.place.now.lang ≡ true = not-false (text_eq c.args.lang.now c.in-Some.place.now.lang) (sym c.ne.ensures ∙ c.if-ne.false) in
+    more g.met.S.EntrySink.more c.loop-place.invariant
+    (next_obsolete c.args.lang.now (c.in-Some.place.now, c.in-Some.unit.now) c.loop-place.place-iterator c.next.new.self
+    (rest_more deref_pair c.loop-place.place-iterator c.next.new.self c.next.result (c.in-Some.place, c.in-Some.unit) c.in-Some.is c.next.ensures.steps) own)
+    c.in_ok-hand_unit.ensures

@@ -1,0 +1,5 @@
+pub mod Meanings
+pub mod Starts
+pub mod Seen
+pub mod Handing
+pub mod Counting

@@ -1,0 +1,111 @@
+//! How many units of a language are in each state.
+
+ghost use Rattle.std.specs.Prelude.{◌≡◌, [], ◌∷◌, IfOk};
+ghost use Rattle.units.specs.Units as spec;
+ghost use Rattle.units.specs.Office.{entry_of, units_of};
+ghost use Rattle.units.specs.Offices.{IsOffice};
+ghost use Rattle.office_maps.specs.OfficeIn.{office_in};
+ghost use Rattle.tables.specs.Counts.{counts_in, counts_of};
+ghost use Rattle.store.specs.Counting.{none_counted, plus, one_more, AreWithin};
+
+use crate::places::first_place;
+use office_maps::{OfficeMaps, OrderedKey, Place, Template};
+use std::alloc::{AllocError, Global};
+use tables::Counts;
+use units::{Lang, ShownState, Unit, has_flag};
+
+fn none_counted() -> Counts
+    ensures { result ≡ none_counted }
+{
+    Counts {
+        approved: 0,
+        needs_editing: 0,
+        obsolete: 0,
+        read_only: 0,
+        suggestions: 0,
+        translated: 0,
+        untranslated: 0,
+    }
+}
+
+/// Whether the template's entry of a key has the flag `read-only`.
+fn is_read_only(template: &Template, key: &OrderedKey) -> bool
+    ensures { result ≡ spec.is_read_only (entry_of template.now.catalogue key.now.key) }
+{
+    match template.entry_of(key) {
+        Some(entry) => has_flag("read-only", entry),
+        None => false,
+    }
+}
+
+/// What callers see as the state of a unit.
+fn shown_state(template: &Template, place: &Place, unit: &Unit) -> ShownState
+    requires key { unit.now.key ≡ place.now.key.key }
+    ensures { result ≡ spec.shown_state (entry_of template.now.catalogue unit.now.key) unit.now }
+{
+    if is_read_only(template, &place.key) {
+        ShownState::ReadOnly
+    } else {
+        unit.shown_state(&None)
+    }
+}
+
+fn add_shown(counts: &mut Counts, state: ShownState)
+    requires room { AreWithin counts.old }
+    ensures { counts.new ≡ one_more state counts.old }
+{
+    match state {
+        ShownState::Untranslated => counts.untranslated += 1,
+        ShownState::NeedsEditing => counts.needs_editing += 1,
+        ShownState::Translated => counts.translated += 1,
+        ShownState::Approved => counts.approved += 1,
+        ShownState::ReadOnly => counts.read_only += 1,
+    }
+}
+
+/// Adds a unit.
+fn add(counts: &mut Counts, template: &Template, place: &Place, unit: &Unit)
+    requires key { unit.now.key ≡ place.now.key.key }
+    requires room { AreWithin (plus counts.old (counts_in template.now.catalogue (unit.now ∷ []))) }
+    ensures { counts.new ≡ plus counts.old (counts_in template.now.catalogue (unit.now ∷ [])) }
+{
+    if unit.obsolete {
+        counts.obsolete += 1;
+        return;
+    }
+    counts.suggestions += unit.suggestions.as_slice().len();
+    add_shown(counts, shown_state(template, place, unit));
+}
+
+/// The counts of a language's units.
+fn count_units(alloc: Global, office: &OfficeMaps, lang: &Lang) -> Result<Counts, AllocError>
+    requires rules { IsOffice (office_in office.now) }
+    ensures { IfOk result
+        (λ counts. counts ≡ counts_in (office_in office.now).template (units_of (office_in office.now) lang.now)) }
+{
+    let first = first_place(alloc, lang)?;
+    let mut counts = none_counted();
+    for (place, unit) in office.units.range(first..) {
+        if *lang != place.lang {
+            break;
+        }
+        add(&mut counts, &office.template, place, unit);
+    }
+    Ok(counts)
+}
+
+/// How many units of a language callers see in each state; nothing where the language isn't there. It is one walk over the
+/// language's units, and copies none.
+pub(crate) fn counts(
+    alloc: Global,
+    office: &OfficeMaps,
+    lang: &Lang,
+) -> Result<Option<Counts>, AllocError>
+    requires rules { IsOffice (office_in office.now) }
+    ensures { IfOk result (λ counts. counts ≡ counts_of (office_in office.now) lang.now) }
+{
+    if !office.has_language(lang) {
+        return Ok(None);
+    }
+    Ok(Some(count_units(alloc, office, lang)?))
+}

@@ -1,0 +1,16 @@
+//! Tables of an office with its book, in ordered maps.
+#![tactic(auto)]
+
+mod access;
+mod counting;
+mod entries;
+mod handing;
+mod maps;
+mod places;
+mod plain;
+mod start;
+
+pub use entries::{obsolete_entry, translated};
+pub use plain::PlainTables;
+pub use start::Start;
+pub use tables::{Counts, EachFault, EntrySink, Lost, Tables};

@@ -1,0 +1,186 @@
+//! An office in ordered maps, with the records of its requests. Contracts see them as the office with its book that they stand
+//! for.
+
+ghost use Rattle.std.specs.Prelude.{◌≡◌, IfOk, OnOk, OnErr, IfErr, IsTrue, is_none, option_map};
+ghost use Rattle.std.specs.FinMap as maps;
+ghost use Rattle.request_book.specs.Book.{row_of, with_record};
+ghost use Rattle.units.specs.Office.{with_unit};
+ghost use Rattle.office_maps.specs.OfficeIn.{office_in};
+ghost use Rattle.tables.specs.declared.faults.Lost.TheVariants.{Memory};
+
+use deliveries::{Change, Found};
+use office_maps::{OfficeMaps, Place};
+use po_read::{Duplicate, Text};
+use request_book::{Record, Reply};
+use std::alloc::{AllocError, Global};
+use std::collections::BTreeMap;
+use tables::Lost;
+use units::{Key, Lang, Name, Unit, UnitView};
+use uuid::Uuid;
+
+/// What is kept under a request's number: the text of its content and its first reply.
+#[derive(Drop)]
+pub(crate) struct Kept {
+    content: Text,
+    reply: Reply,
+}
+
+impl Kept {
+    ghost use Rattle.store.specs.Meanings.{recorded_of};
+
+    /// What is kept of a row.
+    pub(crate) fn of(row: Record) -> Kept
+        ensures { recorded_of result ≡ record { content = row.content; reply = row.reply } }
+    {
+        Kept {
+            content: row.content,
+            reply: row.reply,
+        }
+    }
+
+    /// A copy of what is kept, as the row of its number.
+    fn row(&self, number: &Uuid) -> Result<Record, AllocError>
+        ensures { IfOk result (λ row. row ≡ row_of number.now (recorded_of self.now)) }
+    {
+        Ok(Record {
+            number: *number,
+            content: self.content.duplicate()?,
+            reply: self.reply.duplicate()?,
+        })
+    }
+}
+
+/// The office, and what is kept under each number.
+#[derive(Drop)]
+pub(crate) struct Maps {
+    pub(crate) office: OfficeMaps,
+    pub(crate) records: BTreeMap<Uuid, Kept>,
+}
+
+impl Maps {
+    ghost use Rattle.store.specs.Meanings.{meaning, place_of};
+    ghost use Rattle.deliveries.specs.UnitAccess.{found_of, with_view};
+    ghost use Rattle.deliveries.specs.OfficeChanges.{changed, changed_by, IsPossible, IsPossibleChange};
+
+    /// An office of which nothing is recorded.
+    pub(crate) fn new(alloc: Global, office: OfficeMaps) -> Maps
+        ensures { meaning result ≡ record { office = office_in office; book = maps.empty } }
+    {
+        Maps {
+            office,
+            records: BTreeMap::new(alloc),
+        }
+    }
+
+    /// What is recorded under a number.
+    pub(crate) fn record_of(&self, number: &Uuid) -> Result<Option<Record>, Lost>
+        ensures answer { IfOk result (λ r. r ≡ option_map (row_of number.now) (maps.get (meaning self.now).book number.now)) }
+        ensures memory { IfErr result (λ e. e ≡ Memory) }
+    {
+        match self.records.get(number) {
+            Some(kept) => Ok(Some(kept.row(number)?)),
+            None => Ok(None),
+        }
+    }
+
+    /// What a unit act needs to know; nothing where the language isn't there.
+    pub(crate) fn view_of(&self, lang: &Lang, key: &Key, name: &Name) -> Result<Option<Found>, Lost>
+        ensures answer { IfOk result (λ r. r ≡ found_of (meaning self.now).office lang.now key.now name.now) }
+        ensures memory { IfErr result (λ e. e ≡ Memory) }
+    {
+        Ok(self.office.view_of(lang, key, name)?)
+    }
+
+    /// Writes a unit's new view, if there is one, and the request's record. What can fail comes first.
+    pub(crate) fn commit_unit(
+        &mut self,
+        row: Record,
+        lang: &Lang,
+        key: &Key,
+        view: Option<UnitView>,
+    ) -> Result<(), Lost>
+        requires new { IsTrue (is_none (maps.get (meaning self.old).book row.number)) }
+        ensures ok { OnOk result (meaning self.new
+            ≡ record { office = with_view (meaning self.old).office lang.now key.now view; book = with_record (meaning self.old).book row }) }
+        ensures err { OnErr result (meaning self.new ≡ meaning self.old) }
+        ensures memory { IfErr result (λ e. e ≡ Memory) }
+    {
+        match view {
+            Some(view) => self.commit_both(row, Place::of(lang, key)?, view.unit),
+            None => self.commit_record(row),
+        }
+    }
+
+    /// Writes a record.
+    fn commit_record(&mut self, row: Record) -> Result<(), Lost>
+        ensures ok { OnOk result (meaning self.new
+            ≡ record { office = (meaning self.old).office; book = with_record (meaning self.old).book row }) }
+        ensures err { OnErr result (meaning self.new ≡ meaning self.old) }
+        ensures memory { IfErr result (λ e. e ≡ Memory) }
+    {
+        let before = self.records.insert(row.number, Kept::of(row))?;
+        drop(before);
+        Ok(())
+    }
+
+    /// Writes a unit and a record, or neither.
+    fn commit_both(&mut self, row: Record, place: Place, unit: Unit) -> Result<(), Lost>
+        requires new { IsTrue (is_none (maps.get (meaning self.old).book row.number)) }
+        ensures ok { OnOk result (meaning self.new
+            ≡ record { office = with_unit (meaning self.old).office (place_of place) unit; book = with_record (meaning self.old).book row }) }
+        ensures err { OnErr result (meaning self.new ≡ meaning self.old) }
+        ensures memory { IfErr result (λ e. e ≡ Memory) }
+    {
+        let number = row.number;
+        let before = self.records.insert(number, Kept::of(row))?;
+        drop(before);
+        match self.office.put_unit(place, unit) {
+            Ok(()) => Ok(()),
+            Err(_) => {
+                drop(self.records.remove(&number));
+                Err(Lost::Memory)
+            }
+        }
+    }
+
+    /// Writes what an office act changes, if it changes anything, and the request's record; or neither.
+    pub(crate) fn commit_office(
+        &mut self,
+        alloc: Global,
+        row: Record,
+        change: Option<Change>,
+    ) -> Result<(), Lost>
+        requires new { IsTrue (is_none (maps.get (meaning self.old).book row.number)) }
+        requires possible { IsPossibleChange (meaning self.old).office change }
+        ensures ok { OnOk result (meaning self.new
+            ≡ record { office = changed_by (meaning self.old).office change; book = with_record (meaning self.old).book row }) }
+        ensures err { OnErr result (meaning self.new ≡ meaning self.old) }
+        ensures memory { IfErr result (λ e. e ≡ Memory) }
+    {
+        match change {
+            None => self.commit_record(row),
+            Some(change) => self.commit_change(alloc, row, change),
+        }
+    }
+
+    /// Writes what an office act changes and the request's record, or neither.
+    fn commit_change(&mut self, alloc: Global, row: Record, change: Change) -> Result<(), Lost>
+        requires new { IsTrue (is_none (maps.get (meaning self.old).book row.number)) }
+        requires possible { IsPossible (meaning self.old).office change }
+        ensures ok { OnOk result (meaning self.new
+            ≡ record { office = changed (meaning self.old).office change; book = with_record (meaning self.old).book row }) }
+        ensures err { OnErr result (meaning self.new ≡ meaning self.old) }
+        ensures memory { IfErr result (λ e. e ≡ Memory) }
+    {
+        let number = row.number;
+        let before = self.records.insert(number, Kept::of(row))?;
+        drop(before);
+        match self.office.change(alloc, change) {
+            Ok(()) => Ok(()),
+            Err(_) => {
+                drop(self.records.remove(&number));
+                Err(Lost::Memory)
+            }
+        }
+    }
+}

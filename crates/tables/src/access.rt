@@ -1,0 +1,127 @@
+//! Tables of an office with its book.
+ghost use Rattle.std.specs.Prelude.{◌≡◌, Bool, IfOk, OnOk, OnErr, IfErr, IsTrue, option_map, is_none};
+ghost use Rattle.std.specs.FinMap as maps;
+ghost use Rattle.request_book.specs.Book.{OfficeWithBook, row_of, with_record};
+ghost use Rattle.deliveries.specs.UnitAccess.{found_of, with_view};
+ghost use Rattle.deliveries.specs.OfficeChanges.{changed_by, IsPossibleChange};
+ghost use Rattle.deliveries.specs.OfficeRules.{KeepsRules};
+ghost use Rattle.tables.specs.Stops.{Nothing};
+ghost use Rattle.tables.specs.Kept.{IsKept};
+ghost use Rattle.tables.specs.Sinks.{WasCutShort};
+ghost use Rattle.tables.specs.Entries.{entries_of};
+ghost use Rattle.tables.specs.Counts.{counts_of};
+ghost use Rattle.office_maps.specs.OfficeIn.{office_in};
+ghost use Rattle.tables.specs.declared.faults.Lost.TheVariants.{Disk};
+ghost use Rattle.tables.specs.declared.faults.EachFault.TheVariants.{NoTables};
+
+use crate::counts::Counts;
+use crate::faults::{EachFault, Lost};
+use crate::sink::EntrySink;
+use deliveries::{Change, Found};
+use office_maps::OfficeMaps;
+use request_book::Record;
+use units::{Key, Lang, Name, UnitView};
+use uuid::Uuid;
+
+/// Tables of an office with its book.
+///
+/// Each call says what it answers or writes, what the tables mean then, and by `IsKept` what it keeps, whatever it answers. What it
+/// answers holds while the disk returns what was written; what the tables mean then, while no failure has shut the store. An error
+/// is `Memory` where a growth was refused, and `Disk` where the disk failed: then the tables are stopped, and answer `Disk` to each
+/// further call.
+pub trait Tables: Drop {
+    /// So far the disk has returned what was written.
+    ghost is_honest: { Self → Type 0 };
+
+    /// No failure has shut the store.
+    ghost is_whole: { Self → Type 0 };
+
+    /// The office with its book that they stand for; of tables that aren't whole it says nothing.
+    ghost means: { Self → OfficeWithBook };
+
+    /// What an opening after a stop at this moment may find.
+    ghost may_leave: { Self → OfficeWithBook → Type 0 };
+
+    /// Whether they answer `Disk` until they are opened again.
+    ghost is_stopped: { Self → Bool };
+
+    /// The office is at hand, as `office` shows it.
+    ghost is_loaded: { Self → Type 0 };
+
+    /// Whether they answer `Disk` until they are opened again.
+    fn stopped(&self) -> bool
+        ensures { result ≡ is_stopped self.now };
+
+    /// What is recorded under a request's number: its content and its first reply.
+    fn record_of(&mut self, number: &Uuid) -> Result<Option<Record>, Lost>
+        ensures answer { is_honest self.new → IfOk result (λ r. r ≡ option_map (row_of number.now) (maps.get (means self.old).book number.now)) }
+        ensures same { is_honest self.new → is_whole self.new → means self.new ≡ means self.old }
+        ensures kept { IsKept is_honest is_whole means may_leave is_stopped self.old self.new result Disk Nothing };
+
+    /// What an act on a unit needs to know: the language's plural rule, the policy, the caller's role, and the unit's view, if there
+    /// is one. Nothing where the language isn't there.
+    fn view_of(&mut self, lang: &Lang, key: &Key, name: &Name) -> Result<Option<Found>, Lost>
+        ensures answer { is_honest self.new → IfOk result (λ r. r ≡ found_of (means self.old).office lang.now key.now name.now) }
+        ensures same { is_honest self.new → is_whole self.new → means self.new ≡ means self.old }
+        ensures kept { IsKept is_honest is_whole means may_leave is_stopped self.old self.new result Disk Nothing };
+
+    /// Reads what acts on the office need: team, policy, template, headers and units. `office` then shows it.
+    fn office_rows(&mut self) -> Result<(), Lost>
+        ensures loaded { OnOk result (is_loaded self.new) }
+        ensures same { is_honest self.new → is_whole self.new → means self.new ≡ means self.old }
+        ensures kept { IsKept is_honest is_whole means may_leave is_stopped self.old self.new result Disk Nothing };
+
+    /// The office that was read, in maps; it isn't copied.
+    fn office(&self) -> &OfficeMaps
+        requires loaded { is_loaded self.now }
+        ensures { is_honest self.now → is_whole self.now → office_in result.now ≡ (means self.now).office };
+
+    /// Writes a request's record and its unit's new view, if it has one; or neither. The number must be new, and what the commit
+    /// leaves must keep the rules.
+    fn commit_unit(
+        &mut self,
+        row: Record,
+        lang: &Lang,
+        key: &Key,
+        view: Option<UnitView>,
+    ) -> Result<(), Lost>
+        requires new { is_honest self.old → IsTrue (is_none (maps.get (means self.old).book row.number)) }
+        requires rules { is_honest self.old → KeepsRules (record { office = with_view (means self.old).office lang.now key.now view; book = with_record (means self.old).book row }) }
+        ensures done { is_honest self.new → OnOk result (means self.new ≡ record { office = with_view (means self.old).office lang.now key.now view; book = with_record (means self.old).book row }) }
+        ensures same { is_honest self.new → is_whole self.new → OnErr result (means self.new ≡ means self.old) }
+        ensures kept { IsKept is_honest is_whole means may_leave is_stopped self.old self.new result Disk
+            (λ m. m ≡ record { office = with_view (means self.old).office lang.now key.now view; book = with_record (means self.old).book row }) };
+
+    /// Writes a request's record and what its act changes, if it changes anything; or neither. The number must be new, the change
+    /// possible, and what the commit leaves must keep the rules.
+    fn commit_office(&mut self, row: Record, change: Option<Change>) -> Result<(), Lost>
+        requires new { is_honest self.old → IsTrue (is_none (maps.get (means self.old).book row.number)) }
+        requires possible { is_honest self.old → IsPossibleChange (means self.old).office change }
+        requires rules { is_honest self.old → KeepsRules (record { office = changed_by (means self.old).office change; book = with_record (means self.old).book row }) }
+        ensures done { is_honest self.new → OnOk result (means self.new ≡ record { office = changed_by (means self.old).office change; book = with_record (means self.old).book row }) }
+        ensures same { is_honest self.new → is_whole self.new → OnErr result (means self.new ≡ means self.old) }
+        ensures kept { IsKept is_honest is_whole means may_leave is_stopped self.old self.new result Disk
+            (λ m. m ≡ record { office = changed_by (means self.old).office change; book = with_record (means self.old).book row }) };
+
+    /// Hands the entries of a language to a sink: its header, the template's entries in order, each with its unit, and the obsolete
+    /// units that have a translation, in the order of their keys. None where the language isn't there. After a fault the sink has
+    /// taken a beginning of them.
+    fn each_entry<S: EntrySink>(
+        &mut self,
+        lang: &Lang,
+        sink: &mut S,
+    ) -> Result<(), EachFault<S::Refusal>>
+        ensures all { is_honest self.new → OnOk result (S.Took sink.old (entries_of (means self.old).office lang.now) sink.new) }
+        ensures cut { is_honest self.new → IfErr result (WasCutShort S.Took S.Refuses sink.old sink.new (entries_of (means self.old).office lang.now)) }
+        ensures same { is_honest self.new → is_whole self.new → means self.new ≡ means self.old }
+        ensures kept { IsKept is_honest is_whole means may_leave is_stopped self.old self.new result (NoTables Disk) Nothing };
+
+    /// How many units of a language callers see in each state; nothing where the language isn't there.
+    fn counts(&mut self, lang: &Lang) -> Result<Option<Counts>, Lost>
+        ensures answer { is_honest self.new → IfOk result (λ r. r ≡ counts_of (means self.old).office lang.now) }
+        ensures same { is_honest self.new → is_whole self.new → means self.new ≡ means self.old }
+        ensures kept { IsKept is_honest is_whole means may_leave is_stopped self.old self.new result Disk Nothing };
+
+    /// The rules of an office with its book hold.
+    ghost rules: { (t : Self) → is_honest t → is_whole t → KeepsRules (means t) };
+}
