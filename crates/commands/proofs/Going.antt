@@ -45,9 +45,9 @@ pub stays : (Honest Whole : Type 0) (m : OfficeWithBook) (xs : List Exchange) �
 stays Honest Whole m xs no_request no_result = λ start done ran.
     rw (requests-append done xs, results-append done xs, no_request, no_result, append-nil (requests_of done), append-nil (results_of done)) ran
 
-pub goes_further : (H0 W0 H1 W1 H2 W2 : Type 0) (m0 m1 m2 : OfficeWithBook) (xs ys : List Exchange) → GoesOn H0 W0 H1 W1 m0 m1 xs → GoesOn H1 W1 H2 W2 m1 m2 ys → GoesOn H0 W0 H2 W2 m0 m2 (xs ++ ys)
-goes_further H0 W0 H1 W1 H2 W2 m0 m1 m2 xs ys first then = λ start done ran.
-    let P : List Exchange → Type 0 = λ zs. HasRun H2 W2 start m2 (requests_of zs) (results_of zs) in
+pub goes_further : (Honest0 Whole0 Honest1 Whole1 Honest2 Whole2 : Type 0) (m0 m1 m2 : OfficeWithBook) (xs ys : List Exchange) → GoesOn Honest0 Whole0 Honest1 Whole1 m0 m1 xs → GoesOn Honest1 Whole1 Honest2 Whole2 m1 m2 ys → GoesOn Honest0 Whole0 Honest2 Whole2 m0 m2 (xs ++ ys)
+goes_further Honest0 Whole0 Honest1 Whole1 Honest2 Whole2 m0 m1 m2 xs ys first then = λ start done ran.
+    let P : List Exchange → Type 0 = λ zs. HasRun Honest2 Whole2 start m2 (requests_of zs) (results_of zs) in
     subst P (append_assoc done xs ys) (then start (done ++ xs) (first start done ran))
 
 -- ---- what is answered

@@ -1,1 +1,1 @@
-pub mod ExportedValid
+pub mod CatalogueValid

@@ -1,26 +1,13 @@
 -- When a language's exported text spells its catalogue: the relation of the GNU gettext manual ("The Format of PO Files") between
 -- a text and the catalogue that it spells. Which entries the catalogue has is this project's own rule.
-use Rattle.std.specs.Prelude.{◌≡◌, ℕ, List, ◌∷◌, ◌++◌, Option, Some, option_map, IsSomeAnd, IsUtf8}
-use Rattle.std.specs.List.{AllByRecursion}
+use Rattle.std.specs.Prelude.{◌≡◌, ℕ, List, Option, option_map, IsSomeAnd}
 use Rattle.std.specs.FinMap as maps
-use Rattle.po_lex.specs.declared.line.Keyword.TheVariants.{Msgctxt, Msgid, MsgidPlural}
-use Rattle.po_read.specs.Entries.{optional, previous_strings}
 use Rattle.po_read.specs.Spells.{Spells}
 use Rattle.po_read.specs.Texts.{Text}
-use Rattle.po_read.specs.Valid.{IsString, AllStrings}
 use Rattle.po_read.specs.declared.entry.Entry.{Entry}
 use Rattle.units.specs.Office.{Office}
 use Rattle.units.specs.Streams.{Took}
-use Rattle.units.specs.declared.unit.Key.{Key}
-use Rattle.units.specs.declared.unit.Unit.{Unit}
 use Rattle.deliveries.specs.ExportedEntries.{catalogue_of}
-
--- What the types of a unit's texts keep: its comment lines are Unicode text, the rest are strings of a catalogue.
-pub record HasStrings (unit : Unit) : Type 0 where
-  pub comment : AllByRecursion (λ line. IsUtf8 line) unit.comment
-  pub key : AllStrings IsString (optional Msgctxt unit.key.ctx ++ ((Msgid, unit.key.id) ∷ optional MsgidPlural unit.plural))
-  pub forms : AllByRecursion IsString unit.forms
-  pub previous : AllStrings IsString (previous_strings unit.previous)
 
 -- What a sink took spells the catalogue, and no other.
 pub record TookSpelled (old new : Option (List ℕ)) (catalogue : List Entry) : Type 0 where

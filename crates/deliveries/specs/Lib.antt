@@ -3,6 +3,7 @@ pub mod OneProof
 pub mod ExportedEntries
 pub mod ExportText
 pub mod EntryTexts
+pub mod EntryStrings
 pub mod OfficeActs
 pub mod OfficeChanges
 pub mod UnitAccess

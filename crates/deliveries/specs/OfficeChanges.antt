@@ -24,6 +24,13 @@ changed_by office change = option_map_or (changed office) change office
 abbrev pub AreWithin : Office → Policy → Type 0
 AreWithin office policy = list_any (λ e. nat_lt revision_limit e.1.revision) (under policy (maps.entries office.units)) ≡ false
 
+-- what an office in memory asks of a change: under a policy no unit passes the last revision
+abbrev pub StaysWithin : Office → Change → Type 0
+StaysWithin office (OneRole name role) = ⊤
+StaysWithin office (NewPolicy policy) = AreWithin office policy
+StaysWithin office (NewLanguage lang language plan) = ⊤
+StaysWithin office (NewTemplate template plans) = ⊤
+
 -- What a commit of a change asks: under a policy no unit passes the last revision, a new language isn't there yet, and the plans of a
 -- template are one for each language, in their order.
 abbrev pub IsPossible : Office → Change → Type 0

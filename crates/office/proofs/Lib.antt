@@ -3,5 +3,4 @@ pub mod Stopped
 pub mod Ran
 pub mod Sent
 pub mod Exported
-pub mod CatalogueValid
 pub mod Spelled

@@ -19,12 +19,12 @@ use Rattle.deliveries.proofs.commuting.Swaps.{alike_after}
 use Rattle.tables.specs.Entries.{entries_of}
 use Rattle.office.specs.declared.export.ExportReceipt.{ExportReceipt}
 use Rattle.office.specs.Exports.{WasExported}
-use Rattle.office.specs.Strings.{HasStrings}
-use Rattle.office.proofs.CatalogueValid.{catalogue_valid}
+use Rattle.deliveries.specs.EntryStrings.{HasEntryStrings}
+use Rattle.deliveries.proofs.exports.CatalogueValid.{catalogue_valid}
 
 -- the language is there, with this header, or it isn't
 by_header : (office : Office) (lang : Text) (old new : Option (List ℕ)) (receipt : ExportReceipt) → IsOffice office
-    → (header : Option Entry) → maps.get office.headers lang ≡ header → AllByRecursion HasStrings (option_map_or (catalogue_of office lang) header [])
+    → (header : Option Entry) → maps.get office.headers lang ≡ header → AllByRecursion HasEntryStrings (option_map_or (catalogue_of office lang) header [])
     → WasExported (option_map (λ h. text_of (catalogue_of office lang h)) header) old new receipt → IsSomeAnd (option_map (catalogue_of office lang) header) (TookSpelled old new)
 by_header office lang old new receipt rules None there strings was = let wrong : None ≡ Some was.whole = was.is in cc
 by_header office lang old new receipt rules (Some header) there strings was =
@@ -38,7 +38,7 @@ by_header office lang old new receipt rules (Some header) there strings was =
       only = λ other s. no_other catalogue other valid s;
     }
 
-pub spells_its_catalogue : (office : Office) (lang : Text) (old new : Option (List ℕ)) (receipt : ExportReceipt) → IsOffice office → AllByRecursion HasStrings (entries_of office lang)
+pub spells_its_catalogue : (office : Office) (lang : Text) (old new : Option (List ℕ)) (receipt : ExportReceipt) → IsOffice office → AllByRecursion HasEntryStrings (entries_of office lang)
     → WasExported (export_text office lang) old new receipt → TookCatalogue office lang old new
 spells_its_catalogue office lang old new receipt rules strings was = by_header office lang old new receipt rules (maps.get office.headers lang) refl strings was
 

@@ -1,6 +1,5 @@
 pub mod Runs
 pub mod Checksums
-pub mod Strings
 pub mod Sendings
 pub mod Faults
 pub mod Exports

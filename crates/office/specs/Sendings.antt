@@ -10,7 +10,7 @@ use Rattle.po_read.proofs.Sound.{all_both}
 use Rattle.po_read.specs.declared.entry.Entry.{Entry}
 use Rattle.po_write.specs.Text.{entry_text, separated}
 use Rattle.office.specs.Checksums.{IsChecksum}
-use Rattle.office.specs.Strings.{HasStrings}
+use Rattle.deliveries.specs.EntryStrings.{HasEntryStrings}
 use Rattle.office.specs.declared.checksum.Checksum.{Checksum}
 use Rattle.office.specs.declared.faults.SendFault.{SendFault}
 use Rattle.office.specs.declared.faults.SendFault.TheVariants as fault
@@ -55,7 +55,7 @@ begun_after begun (e ∷ es) = true
 pub record TookEntries (taken_old taken_new : Option (List ℕ)) (failed_old failed_new : ℕ) (old new : Checksum) (begun_old begun_new : Bool) (es : List Entry) : Type 0 where
   pub sent : SentAll taken_old taken_new failed_old failed_new old new (added_text begun_old es)
   pub begun : begun_new ≡ begun_after begun_old es
-  pub strings : AllByRecursion HasStrings es
+  pub strings : AllByRecursion HasEntryStrings es
 
 -- ---- no entry, and more of them
 
@@ -95,5 +95,5 @@ pub took-more : (t0 t1 t2 : Option (List ℕ)) (f0 f1 f2 : ℕ) (s0 s1 s2 : Chec
 took-more t0 t1 t2 f0 f1 f2 s0 s1 s2 b0 b1 b2 xs ys first then = record {
   sent = subst (SentAll t0 t2 f0 f2 s0 s2) (ap (λ b. added_text b0 xs ++ added_text b ys) first.begun ∙ sym (added-append b0 xs ys)) (sent_both first.sent then.sent);
   begun = then.begun ∙ (ap (λ b. begun_after b ys) first.begun ∙ sym (begun-append b0 xs ys));
-  strings = all_both HasStrings xs ys first.strings then.strings;
+  strings = all_both HasEntryStrings xs ys first.strings then.strings;
 }

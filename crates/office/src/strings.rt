@@ -6,7 +6,7 @@ ghost use Rattle.std.specs.List.{AllByRecursion};
 ghost use Rattle.po_lex.specs.declared.line.Keyword.{Keyword};
 ghost use Rattle.po_read.specs.Entries.{optional};
 ghost use Rattle.po_read.specs.Valid.{IsString, AllStrings};
-ghost use Rattle.office.specs.Strings.{HasStrings};
+ghost use Rattle.deliveries.specs.EntryStrings.{HasEntryStrings};
 
 use po_read::{Entry, Forms, PoString, Text};
 
@@ -42,7 +42,7 @@ fn are_texts(lines: &[Text])
 
 /// The types of the texts that a translator writes, and of those that say which message the entry is.
 pub(crate) fn has_strings(entry: &Entry)
-    ensures { HasStrings entry.now }
+    ensures { HasEntryStrings entry.now }
 {
     are_texts(entry.translator.as_slice());
     is_string_if_there(&entry.ctx);

@@ -94,7 +94,7 @@ fn put_header(
 impl OfficeMaps {
     ghost use Rattle.units.specs.Office.{with_unit};
     ghost use Rattle.office_maps.specs.OfficeIn.{office_in, place_of};
-    ghost use Rattle.deliveries.specs.OfficeChanges.{changed, AreWithin, IsPossible};
+    ghost use Rattle.deliveries.specs.OfficeChanges.{changed, AreWithin, StaysWithin};
 
     /// Puts a unit at a place, instead of what stood there.
     ///
@@ -119,7 +119,7 @@ impl OfficeMaps {
     ///
     /// `Memory` where a growth was refused; then nothing changed.
     pub fn change(&mut self, alloc: Global, change: Change) -> Result<(), Memory>
-        requires possible { IsPossible (office_in self.old) change }
+        requires within { StaysWithin (office_in self.old) change }
         ensures ok { OnOk result (office_in self.new ≡ changed (office_in self.old) change) }
         ensures err { OnErr result (office_in self.new ≡ office_in self.old) }
     {

@@ -16,11 +16,8 @@ sound : is_ok (reading_of (codes "nplurals=2; plural=n != 1;")) ≡ true
 unfolding reading_of values_fault rule_of rule_at operand_at behind tokens_behind token_at value_of
 sound = refl
 
-clash : true ≡ false → ⊥
-clash e = cc
-
 pub no_fault : (fault : PluralFault) → reading_of (codes "nplurals=2; plural=n != 1;") ≡ Err fault → ⊥
-no_fault fault e = clash (sym sound ∙ ap is_ok e)
+no_fault fault e = let wrong : true ≡ false = sym sound ∙ ap is_ok e in cc
 
 field : field_value (codes "Plural-Forms") demo_header ≡ Some (codes "nplurals=2; plural=n != 1;")
 unfolding field_value lines_of

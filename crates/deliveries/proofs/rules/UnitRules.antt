@@ -12,6 +12,7 @@ use Rattle.po_lex.specs.Lines.{is_comment_text}
 use Rattle.po_read.specs.Texts.{Text, text_cmp, text_eq}
 use Rattle.po_read.specs.declared.entry.Previous.{Previous}
 use Rattle.plural_expr.specs.Values.{Rule}
+use Rattle.template_update.proofs.Listed.{clash}
 use Rattle.units.specs.Limits.{is_comment_line, is_comment_lines, revision_limit, suggestion_limit, vote_limit}
 use Rattle.units.specs.Units.{needed, is_approved, is_needs_editing, no_previous, has_number, suggestion_of, without_suggestion}
 use Rattle.units.specs.Offices.{IsUnit}
@@ -48,9 +49,6 @@ none_applies (t ∷ ts) e = by_test t.0 refl e (none_applies ts)
 not_false : (b : Bool) → not b ≡ false → b ≡ true
 not_false true e = refl
 not_false false e = cc
-
-clash : {A : Type 0} (b : Bool) → b ≡ false → b ≡ true → A
-clash b e t = let wrong : true ≡ false = sym t ∙ e in cc
 
 -- ---- how a unit's new value stands to the old one
 

@@ -31,21 +31,13 @@ use Rattle.units.specs.Offices.{IsOffice, IsUnit, IsTemplateEntry}
 use Rattle.units.specs.Rules.{rule_at, rule_in, rule_of_field, plural_field}
 use Rattle.units.specs.declared.unit.Key.{Key}
 use Rattle.units.specs.declared.unit.Unit.{Unit}
+use Rattle.template_update.proofs.Listed.{clash, all_from, all_mapped, each_one, tied_keys, other_key, pair_of, found_each}
 use Rattle.units.specs.Orders.{key_total, place_total, place_IsAntisymmetric}
 use Rattle.deliveries.specs.ExportedEntries.{flags_of, translated, obsolete_entry, catalogue_of}
 use Rattle.deliveries.specs.EntryTexts.{with_its_unit}
-use Rattle.office.specs.Strings.{HasStrings}
+use Rattle.deliveries.specs.EntryStrings.{HasEntryStrings}
 
 -- ---- lists
-
--- what holds of each element by two facts
-pub all_from : {X : Type 0} (P Q R : X → Type 0) → ((x : X) → P x → Q x → R x) → (xs : List X) → AllByRecursion P xs → AllByRecursion Q xs → AllByRecursion R xs
-all_from P Q R f [] p q = tt
-all_from P Q R f (x ∷ xs) p q = (f x p.0 q.0, all_from P Q R f xs p.1 q.1)
-
-all_mapped : {X Y : Type 0} (P : Y → Type 0) (f : X → Y) (xs : List X) → AllByRecursion (λ x. P (f x)) xs → AllByRecursion P (map f xs)
-all_mapped P f [] h = tt
-all_mapped P f (x ∷ xs) h = (h.0, all_mapped P f xs h.1)
 
 mapped_all : {X Y : Type 0} (P : Y → Type 0) (f : X → Y) (xs : List X) → AllByRecursion P (map f xs) → AllByRecursion (λ x. P (f x)) xs
 mapped_all P f [] h = tt
@@ -59,13 +51,6 @@ all_listed : {X : Type 0} (P : X → Type 0) (xs : List X) → All P xs → AllB
 all_listed P [] h = tt
 all_listed P (x ∷ xs) h = (h 0 x (omega arith), all_listed P xs (λ k d lt. h (suc k) d (omega arith)))
 
-each_one : {X : Type 0} (P : X → Type 0) → ((x : X) → P x) → (xs : List X) → AllByRecursion P xs
-each_one P f [] = tt
-each_one P f (x ∷ xs) = (f x, each_one P f xs)
-
-clash : {A : Type 0} (b : Bool) → b ≡ false → b ≡ true → A
-clash b e t = absurd (false≢true (sym e ∙ t))
-
 -- ---- keys
 
 tied : (r : Ordering) → is_eq r ≡ true → r ≡ Equal
@@ -73,30 +58,8 @@ tied Less e = cc
 tied Equal e = refl
 tied Greater e = cc
 
-same_key : (a b : Key) → eq_by_cmp key_cmp a b ≡ true → a ≡ b
-same_key a b e = ap (λ (p : Place). p.1) (place_IsAntisymmetric ([], a) ([], b) (tied (key_cmp a b) e))
-
-other_key : (a b : Key) → a ≢ b → eq_by_cmp key_cmp a b ≡ false
-other_key a b differs = by (eq_by_cmp key_cmp a b) refl
-  where
-    by : (t : Bool) → eq_by_cmp key_cmp a b ≡ t → t ≡ false
-    by true e = absurd (differs (same_key a b e))
-    by false e = refl
-
-abbrev pair_of : Key → EntryKey
-pair_of key = (key.ctx, key.id)
-
 key_back : (a b : Key) → pair_of a ≡ pair_of b → a ≡ b
 key_back a b same = λ i. record { ctx = (same i).0; id = (same i).1 }
-
--- each entry of a list without equal keys is found at its key
-found_each : (xs : List Entry) → HasUniqueKeys xs → AllByRecursion (λ e. entry_of xs (key_of e) ≡ Some e) xs
-found_each [] u = tt
-found_each (x ∷ xs) u = (
-  ap (λ t. cond t (Some x) (entry_of xs (key_of x))) ((eq_by_cmp_equiv key_total).refl (key_of x)),
-  all_from (λ e. entry_key e ≢ entry_key x) (λ e. entry_of xs (key_of e) ≡ Some e) (λ e. entry_of (x ∷ xs) (key_of e) ≡ Some e)
-      (λ e differs there. ap (λ t. cond t (Some x) (entry_of xs (key_of e))) (other_key (key_of e) (key_of x) (λ same. differs (ap pair_of same))) ∙ there) xs u.0 (found_each xs u.1),
-)
 
 -- ---- counts of forms
 
@@ -177,7 +140,7 @@ flags_valid unit flags each distinct none = by (is_needs_editing unit.state)
 comment_valid : (comment : List Text) → AllByRecursion (λ line. IsUtf8 line) comment → AllByRecursion (λ line. IsTrue (is_comment_text line)) comment → AllByRecursion IsCommentLine comment
 comment_valid comment utf8 commented = all_from (λ line. IsUtf8 line) (λ line. IsTrue (is_comment_text line)) IsCommentLine (λ line u h. (u, h)) comment utf8 commented
 
-translated_valid : (office : Office) (lang : Text) (entry : Entry) (unit : Unit) → IsValidEntry entry → IsTemplateEntry entry → HasStrings (translated entry unit)
+translated_valid : (office : Office) (lang : Text) (entry : Entry) (unit : Unit) → IsValidEntry entry → IsTemplateEntry entry → HasEntryStrings (translated entry unit)
     → AllByRecursion (λ line. IsTrue (is_comment_text line)) unit.comment → IsCounted (rule_at office lang)
     → length unit.forms ≡ needed (rule_at office lang) unit.plural → unit.plural ≡ entry.plural → IsValidEntry (translated entry unit)
 translated_valid office lang entry unit valid plain texts commented counted forms plural =
@@ -194,7 +157,7 @@ translated_valid office lang entry unit valid plain texts commented counted form
       single = λ none. forms ∙ ap (needed (rule_at office lang)) (plural ∙ none);
     }
 
-obsolete_valid : (unit : Unit) (rule : Rule) → IsUnit rule unit → HasStrings (obsolete_entry unit) → unit.obsolete ≡ true → IsValidEntry (obsolete_entry unit)
+obsolete_valid : (unit : Unit) (rule : Rule) → IsUnit rule unit → HasEntryStrings (obsolete_entry unit) → unit.obsolete ≡ true → IsValidEntry (obsolete_entry unit)
 obsolete_valid unit rule is texts obsolete =
     let away = is.put_away obsolete in
     record {
@@ -228,7 +191,7 @@ template_keys (e ∷ es) h plain = ((λ key. clash (is_header e) plain.0.plain (
 
 -- what stands in the catalogue for a template's entry
 record Stands (office : Office) (lang : Text) (entry : Entry) : Type 0 where
-  valid : HasStrings (with_its_unit office lang entry) → IsValidEntry (with_its_unit office lang entry)
+  valid : HasEntryStrings (with_its_unit office lang entry) → IsValidEntry (with_its_unit office lang entry)
   same : entry_key (with_its_unit office lang entry) ≡ entry_key entry
 
 stands : (office : Office) (lang : Text) (header : Entry) → IsOffice office → maps.get office.headers lang ≡ Some header → IsCounted (rule_at office lang)
@@ -238,7 +201,7 @@ stands office lang header rules there counted entry valid plain found =
     let is = rules.each (lang, key_of entry) unit.0 unit.1 in
     let made : with_its_unit office lang entry ≡ translated entry unit.0 = ap (λ u. option_map_or (translated entry) u entry) unit.1 in
     record {
-      valid = λ texts. subst IsValidEntry (sym made) (translated_valid office lang entry unit.0 valid plain (subst HasStrings made texts) is.commented counted (is.current unit.2).0 unit.3);
+      valid = λ texts. subst IsValidEntry (sym made) (translated_valid office lang entry unit.0 valid plain (subst HasEntryStrings made texts) is.commented counted (is.current unit.2).0 unit.3);
       same = ap entry_key made;
     }
 
@@ -404,7 +367,7 @@ header_key header h = by header.ctx header.id (first (is_none header.ctx) (is_em
     by None (b ∷ id) c i = cc
     by (Some ctx) id c i = cc
 
-pub catalogue_valid : (office : Office) (lang : Text) (header : Entry) → IsOffice office → AllByRecursion HasStrings (catalogue_of office lang header) → maps.get office.headers lang ≡ Some header
+pub catalogue_valid : (office : Office) (lang : Text) (header : Entry) → IsOffice office → AllByRecursion HasEntryStrings (catalogue_of office lang header) → maps.get office.headers lang ≡ Some header
     → IsValid (catalogue_of office lang header)
 unfolding catalogue_of
 catalogue_valid office lang header rules strings there =
@@ -414,7 +377,7 @@ catalogue_valid office lang header rules strings there =
     let template = map made office.template in
     let away = away_of lang (maps.entries office.units) in
     let standing = all_stand office lang header rules there counted in
-    let texts = parted HasStrings template away strings.1 in
+    let texts = parted HasEntryStrings template away strings.1 in
     let same = all_from (Stands office lang) (λ e. Prim.Unit {0}) (λ e. entry_key (made e) ≡ entry_key e) (λ e s none. s.same) office.template standing (each_one (λ e. Prim.Unit {0}) (λ e. tt) office.template) in
     let plain = all_listed IsTemplateEntry office.template rules.template_plain in
     let template_named : AllByRecursion (λ e. HasHeaderKey e → ⊥) template = all_mapped (λ e. HasHeaderKey e → ⊥) made office.template
@@ -425,9 +388,9 @@ catalogue_valid office lang header rules strings there =
       each = (
         ruled.1.each.0,
         all_both IsValidEntry template away
-            (all_mapped IsValidEntry made office.template (all_from (Stands office lang) (λ e. HasStrings (made e)) (λ e. IsValidEntry (made e)) (λ e s h. s.valid h) office.template standing (mapped_all HasStrings made office.template texts.0)))
-            (all_from (λ e. HasStrings e → IsValidEntry e) HasStrings IsValidEntry (λ e f h. f h) away
-            (away_each office lang (λ e. HasStrings e → IsValidEntry e) (λ unit at obsolete texts. obsolete_valid unit (rule_at office lang) (rules.each (lang, unit.key) unit at) texts obsolete) rules) texts.1),
+            (all_mapped IsValidEntry made office.template (all_from (Stands office lang) (λ e. HasEntryStrings (made e)) (λ e. IsValidEntry (made e)) (λ e s h. s.valid h) office.template standing (mapped_all HasEntryStrings made office.template texts.0)))
+            (all_from (λ e. HasEntryStrings e → IsValidEntry e) HasEntryStrings IsValidEntry (λ e f h. f h) away
+            (away_each office lang (λ e. HasEntryStrings e → IsValidEntry e) (λ unit at obsolete texts. obsolete_valid unit (rule_at office lang) (rules.each (lang, unit.key) unit at) texts obsolete) rules) texts.1),
       );
       unique = (
         all_from (λ e. HasHeaderKey e → ⊥) (λ e. Prim.Unit {0}) (λ e. entry_key e ≢ entry_key header) (λ e none t both. none (both ∙ header_key header ruled.0)) (template ++ away) named (each_one (λ e. Prim.Unit {0}) (λ e. tt) (template ++ away)),

@@ -7,7 +7,7 @@ use Rattle.po_read.specs.Valid.{IsString, AllStrings}
 use Rattle.po_read.specs.declared.entry.Entry.{Entry}
 
 -- Translator comments are Unicode text; context, msgid, msgid_plural, forms and previous strings are strings of a catalogue.
-pub record HasStrings (entry : Entry) : Type 0 where
+pub record HasEntryStrings (entry : Entry) : Type 0 where
   pub translator : AllByRecursion (λ line. IsUtf8 line) entry.translator
   pub key : AllStrings IsString (optional Msgctxt entry.ctx ++ ((Msgid, entry.id) ∷ optional MsgidPlural entry.plural))
   pub forms : AllByRecursion IsString entry.forms
