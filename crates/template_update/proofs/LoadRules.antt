@@ -1,5 +1,5 @@
 -- The units that a language's first text gives keep the rules of units.
-use Rattle.std.proofs.Common.{◌≡◌, ◌+◌, ◌≤◌, ℕ, List, [], ◌∷◌, ◌++◌, Bool, true, false, cond, not, ◌&&◌, ◌||◌, Option, Some, None, is_some, refl, sym, ◌∙◌, ap, subst, length, map, arith, lit≤}
+use Rattle.std.proofs.Common.{◌≡◌, ◌≤◌, List, [], ◌∷◌, ◌++◌, Bool, true, false, cond, not, ◌&&◌, ◌||◌, Option, Some, None, is_some, refl, sym, ◌∙◌, ap, subst, length, map, arith, lit≤}
 use Rattle.std.specs.Prelude.{IsSome, count_by}
 use Rattle.std.specs.List.{list_any, AllByRecursion}
 use Rattle.std.specs.Ordering.{eq_by_cmp}
@@ -12,7 +12,7 @@ use Rattle.po_read.specs.Texts.{Text}
 use Rattle.po_read.specs.Valid.{IsValid, IsValidEntry, HasHeaderKey, HasUniqueKeys, IsCommentLine}
 use Rattle.plural_expr.specs.Values.{Rule}
 use Rattle.units.specs.Limits.{unit_limit}
-use Rattle.units.specs.Units.{key_cmp, key_of, no_previous, all_empty, some_empty, is_approved, is_needs_editing}
+use Rattle.units.specs.Units.{key_cmp, key_of, no_previous, all_empty, some_empty, is_approved}
 use Rattle.units.specs.Office.{entry_of}
 use Rattle.units.specs.Offices.{IsUnit}
 use Rattle.units.specs.declared.unit.Key.{Key}
@@ -25,7 +25,7 @@ use Rattle.template_update.specs.declared.plans.Counts.TheVariants as counted
 use Rattle.template_update.specs.Templates.{is_fuzzy}
 use Rattle.template_update.specs.Units.{new_unit, refit}
 use Rattle.template_update.specs.Loads.{unit_of, editing_if, is_untranslated_in, loaded_state, loaded_unit, unit_by, is_in, is_leftover, leftover, leftovers, load_of}
-use Rattle.template_update.proofs.Listed.{clash, all_from, all_joined, all_kept, all_mapped, all_imply, found_one, found_each, entry_key, pair_of, key_itself, unheaded, is_named}
+use Rattle.template_update.proofs.Listed.{clash, all_from, all_joined, all_kept, all_mapped, all_imply, found_one, found_each, entry_key, pair_of, unheaded, is_named}
 use Rattle.template_update.proofs.PlanRules.{Refits, refits, IsReady, refitted, new_rules, within}
 
 -- how a loaded unit stands to the template

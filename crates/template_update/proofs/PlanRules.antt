@@ -1,6 +1,6 @@
 -- What a new template makes of a language's units keeps the rules of units.
 use Rattle.std.proofs.Common.{◌≡◌, ◌+◌, ◌≤◌, ℕ, List, [], ◌∷◌, ◌++◌, Bool, true, false, cond, not, ◌&&◌, ◌||◌, nat_le, Option, Some, None, refl, sym, ◌∙◌, ap, subst, length, map, inl, inr, All, IsTrue, arith, lit≤}
-use Rattle.std.specs.Prelude.{◌⊎◌, ◌==◌, IsSome, filter}
+use Rattle.std.specs.Prelude.{◌⊎◌, ◌==◌, IsSome}
 use Rattle.std.specs.Bool.{beq}
 use Rattle.std.specs.List.{list_any, list_all, AllByRecursion}
 use Rattle.std.specs.Ordering.{eq_by_cmp}
@@ -23,7 +23,6 @@ use Rattle.units.specs.declared.unit.Unit.{Unit}
 use Rattle.units.specs.declared.unit.Suggestion.{Suggestion}
 use Rattle.template_update.specs.declared.plans.Plan.{Plan}
 use Rattle.template_update.specs.declared.plans.Counts.{Counts}
-use Rattle.template_update.specs.declared.update.UnitUpdate.{UnitUpdate}
 use Rattle.template_update.specs.declared.update.UnitUpdate.TheVariants.{Changed, Kept, Gone, Revived, Untouched}
 use Rattle.template_update.specs.Units.{new_unit, is_useless, emptied, reworded, refit, has_revision, within_limits}
 use Rattle.template_update.specs.Updates.{is_changed, update_of, still_suggested, put_away, taken_back, updated_by, updated, updated_unit, counts_of, is_known, added, plan_of}

@@ -12,13 +12,36 @@ ghost use Rattle.template_update.specs.Views.{IsIndexOf};
 use crate::index::KeyIndex;
 use crate::planning::within_limit;
 use crate::plans::{Counts, Plan};
-use crate::refit::{first_revision, new_unit, refit};
+use crate::refit::{first_revision, key_of, new_unit, refit};
 use crate::template::is_header;
 use checks::{Source, result_state};
 use plural_expr::PluralForms;
-use po_read::{Catalogue, Duplicate, Entry, Items};
+use po_read::{Catalogue, Duplicate, Entry, Forms, Items, PoString, Previous, Text};
 use std::alloc::{AllocError, Global};
-use units::{Key, Keyed, Memory, Policy, Unit, UnitState, all_empty, has_flag, some_empty};
+use units::{Keyed, Memory, Policy, Unit, UnitState, all_empty, has_flag, some_empty};
+
+/// What a unit takes of an entry besides its key.
+#[derive(Drop)]
+struct Message {
+    plural: Option<PoString>,
+    forms: Forms,
+    comment: Items<Text>,
+    previous: Previous,
+}
+
+fn message_of(entry: &Entry) -> Result<Message, AllocError>
+    ensures plural { IfOk result (λ own. own.plural ≡ entry.now.plural) }
+    ensures forms { IfOk result (λ own. own.forms ≡ entry.now.forms) }
+    ensures comment { IfOk result (λ own. own.comment ≡ entry.now.translator) }
+    ensures previous { IfOk result (λ own. own.previous ≡ entry.now.previous) }
+{
+    Ok(Message {
+        plural: entry.plural.duplicate()?,
+        forms: entry.forms.duplicate()?,
+        comment: entry.translator.duplicate()?,
+        previous: entry.previous.duplicate()?,
+    })
+}
 
 /// An entry as a unit in a state, at revision 1.
 fn unit_of(
@@ -29,18 +52,17 @@ fn unit_of(
 ) -> Result<Unit, AllocError>
     ensures { IfOk result (λ unit. unit ≡ spec.unit_of state obsolete entry.now) }
 {
+    let key = key_of(entry)?;
+    let message = message_of(entry)?;
     let unit = Unit {
-        key: Key {
-            ctx: entry.ctx.duplicate()?,
-            id: entry.id.duplicate()?,
-        },
-        plural: entry.plural.duplicate()?,
-        forms: entry.forms.duplicate()?,
+        key,
+        plural: message.plural,
+        forms: message.forms,
         state,
         obsolete,
         revision: first_revision(),
-        comment: entry.translator.duplicate()?,
-        previous: entry.previous.duplicate()?,
+        comment: message.comment,
+        previous: message.previous,
         suggestions: Items::new(alloc),
     };
     Ok(unit.in_state(state))

@@ -9,7 +9,7 @@ ghost use Rattle.units.specs.Office.{entry_of};
 ghost use Rattle.template_update.specs.Units.{new_unit};
 ghost use Rattle.template_update.specs.Updates.{added, plan_of};
 ghost use Rattle.template_update.specs.Moves.{updated_within};
-ghost use Rattle.template_update.specs.Steps.{HaveUpdates};
+ghost use Rattle.template_update.specs.Steps.{AreUpdated, HaveUpdates};
 ghost use Rattle.template_update.specs.Views.{IsIndexOf};
 
 use crate::index::KeyIndex;
@@ -51,21 +51,17 @@ fn update_units<'a>(
     ensures { IfOk result (λ done. (was will : List EntryValue) → IsIndexOf key_of was present.now.found → IsIndexOf key_of will next.now.found →
         HaveUpdates was will rule.now units.now done) }
 {
-    let mut all = Vec::new(alloc);
-    let mut updates = Vec::new(alloc);
+    let mut done = UpdatedUnits {
+        units: Vec::new(alloc),
+        updates: Vec::new(alloc),
+    };
     for unit in units {
         match update_one(alloc, rule, present, next, unit)? {
             None => return Ok(None),
-            Some((update, after)) => {
-                updates.push(update)?;
-                all.push(after)?;
-            }
+            Some((update, after)) => done.push(update, after)?,
         }
     }
-    Ok(Some(UpdatedUnits {
-        units: all,
-        updates,
-    }))
+    Ok(Some(done))
 }
 
 /// Adds units for the entries whose keys are new to the language.
@@ -103,6 +99,43 @@ pub(crate) fn within_limit(units: Vec<Unit>, counts: Counts) -> Option<Plan>
     }
 }
 
+/// The units afterwards, by the entries of the present template and of the new one. None where a revision would pass its limit.
+fn updated_units<'a>(
+    alloc: Global,
+    present: &'a [Entry],
+    units: &'a [Unit],
+    next: &'a [Entry],
+    rule: &PluralForms,
+) -> Result<Option<UpdatedUnits>, AllocError>
+    ensures { IfOk result (λ done. HaveUpdates present.now next.now rule.now units.now done) }
+{
+    let before = KeyIndex::of(alloc, present)?;
+    let after = KeyIndex::of(alloc, next)?;
+    update_units(alloc, rule, &before, &after, units)
+}
+
+/// The plan of these updated units and of those for the entries whose keys are new to the language.
+fn with_new<'a>(
+    alloc: Global,
+    rule: &PluralForms,
+    units: &'a [Unit],
+    next: &'a [Entry],
+    done: UpdatedUnits,
+) -> Result<Option<Plan>, AllocError>
+    ensures { IfOk result (λ plan. (present : List EntryValue) → AreUpdated present next.now rule.now units.now done.units.items done.updates.items →
+        plan ≡ plan_of present units.now next.now rule.now) }
+{
+    let known = KeyIndex::of(alloc, units)?;
+    let UpdatedUnits {
+        units: before,
+        updates,
+    } = done;
+    let count = before.len();
+    let all = add_new(alloc, rule, &known, next, before)?;
+    let counts = counts_of(all.len() - count, &updates);
+    Ok(within_limit(all, counts))
+}
+
 pub(crate) fn plan_of<'a>(
     alloc: Global,
     present: &'a [Entry],
@@ -112,20 +145,11 @@ pub(crate) fn plan_of<'a>(
 ) -> Result<Option<Plan>, AllocError>
     ensures { IfOk result (λ plan. plan ≡ plan_of present.now units.now next.now rule.now) }
 {
-    let was = KeyIndex::of(alloc, present)?;
-    let will = KeyIndex::of(alloc, next)?;
-    let Some(updated) = update_units(alloc, rule, &was, &will, units)? else {
-        return Ok(None);
-    };
-    let UpdatedUnits {
-        units: before,
-        updates,
-    } = updated;
-    let known = KeyIndex::of(alloc, units)?;
-    let count = before.len();
-    let all = add_new(alloc, rule, &known, next, before)?;
-    let counts = counts_of(all.len() - count, &updates);
-    Ok(within_limit(all, counts))
+    let updated = updated_units(alloc, present, units, next, rule)?;
+    match updated {
+        None => Ok(None),
+        Some(done) => with_new(alloc, rule, units, next, done),
+    }
 }
 
 /// What a new template makes of one language's units: of the present template, all units of the language, the new template and the

@@ -1,9 +1,10 @@
 //! Units under a template's msgid_plural.
 
-ghost use Rattle.std.specs.Prelude.{◌≡◌, ◌<◌, ◌≤◌, IfOk, replicate, []};
+ghost use Rattle.std.specs.Prelude.{◌≡◌, ◌<◌, ◌≤◌, IfOk, Some, replicate, []};
 ghost use Rattle.std.specs.Option.{option_copied};
 ghost use Rattle.po_read.specs.Texts.{maybe_text_eq};
-ghost use Rattle.units.specs.Units.{needed};
+ghost use Rattle.units.specs.Units.{in_state, key_of, needed};
+ghost use Rattle.units.specs.declared.unit.UnitState.TheVariants.{NeedsEditing, Untranslated};
 ghost use Rattle.template_update.specs.Units as spec;
 
 use plural_expr::PluralForms;
@@ -65,17 +66,47 @@ pub(crate) fn copied(string: Option<&PoString>) -> Result<Option<PoString>, Allo
     }
 }
 
+/// A msgid_plural, and empty forms for it.
+#[derive(Drop)]
+struct EmptyMessage {
+    plural: Option<PoString>,
+    forms: Forms,
+}
+
+fn empty_message(
+    alloc: Global,
+    rule: &PluralForms,
+    plural: Option<&PoString>,
+) -> Result<EmptyMessage, AllocError>
+    ensures plural { IfOk result (λ empty. empty.plural ≡ option_copied plural.entry) }
+    ensures forms { IfOk result (λ empty. empty.forms ≡ spec.empty_forms rule.now (option_copied plural.entry)) }
+{
+    Ok(EmptyMessage {
+        forms: empty_forms(alloc, rule, plural)?,
+        plural: copied(plural)?,
+    })
+}
+
+/// The key of an entry, as its unit has it.
+pub(crate) fn key_of(entry: &Entry) -> Result<Key, AllocError>
+    ensures { IfOk result (λ key. key ≡ key_of entry.now) }
+{
+    Ok(Key {
+        ctx: entry.ctx.duplicate()?,
+        id: entry.id.duplicate()?,
+    })
+}
+
 /// A unit that nobody has worked on.
 pub(crate) fn new_unit(alloc: Global, rule: &PluralForms, entry: &Entry) -> Result<Unit, AllocError>
     ensures { IfOk result (λ unit. unit ≡ spec.new_unit rule.now entry.now) }
 {
+    let key = key_of(entry)?;
+    let empty = empty_message(alloc, rule, entry.plural.as_ref())?;
     Ok(Unit {
-        key: Key {
-            ctx: entry.ctx.duplicate()?,
-            id: entry.id.duplicate()?,
-        },
-        plural: entry.plural.duplicate()?,
-        forms: empty_forms(alloc, rule, entry.plural.as_ref())?,
+        key,
+        plural: empty.plural,
+        forms: empty.forms,
         state: UnitState::Untranslated,
         obsolete: false,
         revision: first_revision(),
@@ -121,25 +152,75 @@ fn emptied(
 ) -> Result<Unit, AllocError>
     ensures { IfOk result (λ new. new ≡ spec.emptied rule.now (option_copied plural.entry) unit) }
 {
+    match empty_message(alloc, rule, plural) {
+        Ok(empty) => Ok(with_empty(empty, unit)),
+        Err(refused) => {
+            drop(unit);
+            Err(refused)
+        }
+    }
+}
+
+/// The unit with this msgid_plural and these forms, which are empty.
+fn with_empty(empty: EmptyMessage, unit: Unit) -> Unit
+    ensures { result ≡ in_state Untranslated (record unit { plural = empty.plural; forms = empty.forms }) }
+{
     let mut unit = unit;
-    unit.forms = empty_forms(alloc, rule, plural)?;
-    unit.plural = copied(plural)?;
-    Ok(unit.in_state(UnitState::Untranslated))
+    unit.forms = empty.forms;
+    unit.plural = empty.plural;
+    unit.in_state(UnitState::Untranslated)
+}
+
+/// Another msgid_plural, and what the key and the msgid_plural were before.
+#[derive(Drop)]
+struct Wording {
+    plural: Option<PoString>,
+    previous: Previous,
+}
+
+/// What the unit's key and msgid_plural are.
+fn previous_of(unit: &Unit) -> Result<Previous, AllocError>
+    ensures { IfOk result (λ previous. previous ≡ record { ctx = unit.now.key.ctx; id = Some unit.now.key.id; plural = unit.now.plural }) }
+{
+    Ok(Previous {
+        ctx: unit.key.ctx.duplicate()?,
+        id: Some(unit.key.id.duplicate()?),
+        plural: unit.plural.duplicate()?,
+    })
+}
+
+fn wording_of(plural: Option<&PoString>, unit: &Unit) -> Result<Wording, AllocError>
+    ensures plural { IfOk result (λ wording. wording.plural ≡ option_copied plural.entry) }
+    ensures previous { IfOk result (λ wording. wording.previous ≡ record { ctx = unit.now.key.ctx; id = Some unit.now.key.id; plural = unit.now.plural }) }
+{
+    Ok(Wording {
+        previous: previous_of(unit)?,
+        plural: copied(plural)?,
+    })
+}
+
+/// The unit with this wording, for which its forms need editing.
+fn with_wording(wording: Wording, unit: Unit) -> Unit
+    ensures { result ≡ record unit { plural = wording.plural; state = NeedsEditing; previous = wording.previous } }
+{
+    let mut unit = unit;
+    unit.previous = wording.previous;
+    unit.plural = wording.plural;
+    unit.state = UnitState::NeedsEditing;
+    unit
 }
 
 /// The unit's forms under another msgid_plural, for which they need editing.
 fn reworded(plural: Option<&PoString>, unit: Unit) -> Result<Unit, AllocError>
     ensures { IfOk result (λ new. new ≡ spec.reworded (option_copied plural.entry) unit) }
 {
-    let mut unit = unit;
-    unit.previous = Previous {
-        ctx: unit.key.ctx.duplicate()?,
-        id: Some(unit.key.id.duplicate()?),
-        plural: unit.plural.duplicate()?,
-    };
-    unit.plural = copied(plural)?;
-    unit.state = UnitState::NeedsEditing;
-    Ok(unit)
+    match wording_of(plural, &unit) {
+        Ok(wording) => Ok(with_wording(wording, unit)),
+        Err(refused) => {
+            drop(unit);
+            Err(refused)
+        }
+    }
 }
 
 /// The unit under a msgid_plural: without its forms where they can't be kept, needing editing where the msgid_plural is another,

@@ -1,6 +1,6 @@
 //! The template that a PO text gives.
 
-ghost use Rattle.std.specs.Prelude.{◌≡◌, All, IfOk, []};
+ghost use Rattle.std.specs.Prelude.{◌≡◌, ◌∷◌, All, IfOk, []};
 ghost use Rattle.po_read.specs.Entries.{is_header};
 ghost use Rattle.po_read.specs.Texts.{text_eq};
 ghost use Rattle.po_read.specs.Valid.{fuzzy};
@@ -8,7 +8,7 @@ ghost use Rattle.units.specs.Offices.{IsTemplateEntry};
 ghost use Rattle.template_update.specs.Templates.{without_fuzzy, as_template, is_message, template_of};
 
 use crate::refit::forms_of;
-use po_read::{Catalogue, Duplicate, Entry, Items, Text};
+use po_read::{Catalogue, Duplicate, Entry, Forms, Items, PoString, Text};
 use std::alloc::{AllocError, Global};
 use units::{Memory, no_previous};
 
@@ -44,20 +44,65 @@ fn without_fuzzy(alloc: Global, flags: &[Text]) -> Result<Items<Text>, AllocErro
     Ok(kept)
 }
 
-/// The entry without what belongs to a translation; one empty form stands for its forms.
-fn as_template(alloc: Global, entry: &Entry) -> Result<Entry, AllocError>
-    ensures { IfOk result (λ own. own ≡ as_template entry.now) }
+/// The comments and flags of a template's entry.
+#[derive(Drop)]
+struct Comments {
+    extracted: Items<Text>,
+    references: Items<Text>,
+    flags: Items<Text>,
+}
+
+fn comments_of(alloc: Global, entry: &Entry) -> Result<Comments, AllocError>
+    ensures extracted { IfOk result (λ own. own.extracted ≡ entry.now.extracted) }
+    ensures references { IfOk result (λ own. own.references ≡ entry.now.references) }
+    ensures flags { IfOk result (λ own. own.flags ≡ without_fuzzy entry.now.flags) }
 {
-    Ok(Entry {
-        translator: Items::new(alloc),
+    Ok(Comments {
         extracted: entry.extracted.duplicate()?,
         references: entry.references.duplicate()?,
         flags: without_fuzzy(alloc, entry.flags.as_slice())?,
-        previous: no_previous(),
+    })
+}
+
+/// The strings of a template's entry.
+#[derive(Drop)]
+struct Strings {
+    ctx: Option<PoString>,
+    id: PoString,
+    plural: Option<PoString>,
+    forms: Forms,
+}
+
+fn strings_of(alloc: Global, entry: &Entry) -> Result<Strings, AllocError>
+    ensures ctx { IfOk result (λ own. own.ctx ≡ entry.now.ctx) }
+    ensures id { IfOk result (λ own. own.id ≡ entry.now.id) }
+    ensures plural { IfOk result (λ own. own.plural ≡ entry.now.plural) }
+    ensures forms { IfOk result (λ own. own.forms ≡ [] ∷ []) }
+{
+    Ok(Strings {
         ctx: entry.ctx.duplicate()?,
         id: entry.id.duplicate()?,
         plural: entry.plural.duplicate()?,
         forms: forms_of(alloc, 1)?,
+    })
+}
+
+/// The entry without what belongs to a translation; one empty form stands for its forms.
+fn as_template(alloc: Global, entry: &Entry) -> Result<Entry, AllocError>
+    ensures { IfOk result (λ own. own ≡ as_template entry.now) }
+{
+    let comments = comments_of(alloc, entry)?;
+    let strings = strings_of(alloc, entry)?;
+    Ok(Entry {
+        translator: Items::new(alloc),
+        extracted: comments.extracted,
+        references: comments.references,
+        flags: comments.flags,
+        previous: no_previous(),
+        ctx: strings.ctx,
+        id: strings.id,
+        plural: strings.plural,
+        forms: strings.forms,
         obsolete: entry.obsolete,
     })
 }

@@ -1,27 +1,21 @@
-use Rattle.std.proofs.Common.{◌≡◌, ◌-◌, length, map, subst, ap, ◌∙◌, arith}
-use Rattle.std.proofs.lemmas.List.{length-append, length-map}
-use Rattle.template_update.specs.Units.{new_unit}
-use Rattle.template_update.specs.Updates.{added, counts_of}
-use Rattle.template_update.specs.Steps.{HaveUpdates}
-use Rattle.template_update.proofs.Updating.{no_plan, the_plan}
+use Rattle.std.proofs.Common.{◌≡◌, List, subst}
+use Rattle.std.proofs.lemmas.Result.{IfOk-weaker}
+use Rattle.po_read.specs.declared.entry.Entry.{Entry}
+use Rattle.template_update.specs.Updates.{plan_of}
+use Rattle.template_update.specs.Steps.{AreUpdated, HaveUpdates}
+use Rattle.template_update.proofs.Updating.{no_plan}
 use Rattle.template_update.proofs.planning.plan_of.Goals as goal
 
-pub returns-in_default : goal.returns-in_default
-returns-in_default c =
+pub returns-in-None : goal.returns-in-None
+returns-in-None c =
     no_plan c.args.present.now c.args.next.now c.args.rule.now c.args.units.now
-    (subst (HaveUpdates c.args.present.now c.args.next.now c.args.rule.now c.args.units.now) c.in_default.is
-    (c.in_ok-updated.ensures c.args.present.now c.args.next.now c.in_ok-was.ensures c.in_ok-will.ensures))
+    (subst (HaveUpdates c.args.present.now c.args.next.now c.args.rule.now c.args.units.now) c.in-None.is c.in_ok-updated.ensures)
 
-pub returns : goal.returns
-returns c =
-    let more = map (new_unit c.args.rule.now) (added c.args.units.now c.args.next.now) in
-    let joined = c.in_ok-all.ensures.units c.args.units.now c.in_ok-known.ensures in
-    let count : c.len.result - c.len-count.result ≡ length (added c.args.units.now c.args.next.now) =
-    omega (arith, c.len.ensures, c.len-count.ensures, ap length joined, length-append c.in-Some.updated.units.items more, length-map (added c.args.units.now c.args.next.now) (new_unit c.args.rule.now)) in
-    the_plan c.args.present.now c.args.next.now c.args.rule.now c.args.units.now c.in-Some.updated.units.items c.in-Some.updated.updates.items c.in_ok-all.all.items
-    (c.len.result - c.len-count.result) c.counts_of-counts.result c.within_limit.result
-    (subst (HaveUpdates c.args.present.now c.args.next.now c.args.rule.now c.args.units.now) c.in-Some.is
-    (c.in_ok-updated.ensures c.args.present.now c.args.next.now c.in_ok-was.ensures c.in_ok-will.ensures))
-    joined count
-    (c.counts_of-counts.ensures ∙ ap (counts_of (c.len.result - c.len-count.result)) c.deref.ensures.value)
-    c.within_limit.ensures
+pub returns-in-Some : goal.returns-in-Some
+returns-in-Some c =
+    IfOk-weaker c.with_new.result
+    (λ plan. (present : List Entry) → AreUpdated present c.args.next.now c.args.rule.now c.args.units.now c.in-Some.done.units.items c.in-Some.done.updates.items →
+    plan ≡ plan_of present c.args.units.now c.args.next.now c.args.rule.now)
+    (λ plan. plan ≡ plan_of c.args.present.now c.args.units.now c.args.next.now c.args.rule.now)
+    (λ plan made. made c.args.present.now (subst (HaveUpdates c.args.present.now c.args.next.now c.args.rule.now c.args.units.now) c.in-Some.is c.in_ok-updated.ensures))
+    c.with_new.ensures

@@ -10,7 +10,7 @@ returns-in-None c was will i j =
 
 pub loop-unit-preserved : goal.loop-unit-preserved
 loop-unit-preserved c was will i j =
-    updated_more was will c.args.rule.now (take c.loop-unit.unit-index c.args.units.now) c.unit-item.result c.loop-unit.all.items c.loop-unit.updates.items (c.in-Some.update, c.in-Some.after)
-    _ c.push-in-Some.new.self.items c.push.new.self.items (c.loop-unit.invariant was will i j) (sym c.in-Some.is ∙ c.in_ok-update_one.ensures was will i j)
+    updated_more was will c.args.rule.now (take c.loop-unit.unit-index c.args.units.now) c.unit-item.result c.loop-unit.done.units.items c.loop-unit.done.updates.items (c.in-Some.update, c.in-Some.after)
+    _ c.push.new.self.units.items c.push.new.self.updates.items (c.loop-unit.invariant was will i j) (sym c.in-Some.is ∙ c.in_ok-update_one.ensures was will i j)
     (next_taken c.args.units.now c.loop-unit.unit-index c.unit-item.result c.loop-unit-test.true c.unit-item.is)
-    c.in_ok-push-in-Some-2.ensures.items c.in_ok-push-in-Some.ensures.items
+    c.in_ok-push-in-Some.ensures.units c.in_ok-push-in-Some.ensures.updates

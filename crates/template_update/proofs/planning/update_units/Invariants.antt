@@ -7,4 +7,4 @@ use Rattle.template_update.proofs.planning.update_units.Given as goal
 
 abbrev pub invariant-loop-unit : goal.invariant-loop-unit
 invariant-loop-unit l = (was will : List Entry) → IsIndexOf key_of was l.present.found → IsIndexOf key_of will l.next.found →
-    AreUpdated was will l.rule (take l.unit-index l.units) l.all.items l.updates.items
+    AreUpdated was will l.rule (take l.unit-index l.units) l.done.units.items l.done.updates.items
