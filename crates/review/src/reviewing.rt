@@ -45,7 +45,7 @@ pub(crate) fn approve(
         return Ok(Decision::Refused(Refusal::PastLimit));
     };
     let unit = in_state_at(unit, UnitState::Approved, revision)?;
-    Ok(done_plainly(view, unit)?)
+    done_plainly(view, unit)
 }
 
 /// Decides to ask for another translation.
@@ -67,5 +67,5 @@ pub(crate) fn send_back(view: &UnitView, policy: &Policy) -> Result<Decision, Me
         return Ok(Decision::Refused(Refusal::PastLimit));
     };
     let unit = in_state_at(unit, UnitState::NeedsEditing, revision)?;
-    Ok(done_plainly(view, unit)?)
+    done_plainly(view, unit)
 }

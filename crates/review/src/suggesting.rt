@@ -2,6 +2,7 @@
 ghost use Rattle.std.specs.Prelude.{◌≡◌, IfOk, List, ℕ};
 ghost use Rattle.plural_expr.specs.Values.{Rule};
 ghost use Rattle.units.specs.declared.unit.Policy.{Policy as PolicyValue};
+ghost use Rattle.std.specs.FinMap as maps;
 ghost use Rattle.review.specs.UnitStep as spec;
 
 use crate::decision::{Decision, Values};
@@ -11,6 +12,25 @@ use po_read::{Duplicate, Forms};
 use std::alloc::{AllocError, Global};
 use units::{Memory, Name, Refusal, Suggestion, Unit, UnitAction, UnitView, Votes, all_empty};
 use uuid::Uuid;
+
+/// A suggestion without votes.
+fn new_suggestion(
+    alloc: Global,
+    caller: &Name,
+    number: Uuid,
+    forms: &Forms,
+) -> Result<Suggestion, AllocError>
+    ensures { IfOk result (λ s. s ≡ record { number = number; suggester = caller.now; forms = forms.now; votes = maps.empty }) }
+{
+    let suggester = caller.duplicate()?;
+    let forms = forms.duplicate()?;
+    Ok(Suggestion {
+        number,
+        suggester,
+        forms,
+        votes: Votes::new(alloc),
+    })
+}
 
 /// The unit with a suggestion more, the last, without votes.
 fn with_suggestion(
@@ -22,15 +42,10 @@ fn with_suggestion(
 ) -> Result<Unit, AllocError>
     ensures { IfOk result (λ u. u ≡ spec.with_suggestion caller.now number forms.now unit.now) }
 {
-    let mut unit = unit.duplicate()?;
-    let suggestion = Suggestion {
-        number,
-        suggester: caller.duplicate()?,
-        forms: forms.duplicate()?,
-        votes: Votes::new(alloc),
-    };
-    unit.suggestions.push(suggestion)?;
-    Ok(unit)
+    let suggestion = new_suggestion(alloc, caller, number, forms)?;
+    let mut suggestions = unit.suggestions.duplicate()?;
+    suggestions.push(suggestion)?;
+    with_suggestions(unit, suggestions)
 }
 
 /// Decides to take a suggestion.
@@ -61,7 +76,7 @@ pub(crate) fn suggest(
         votes: 1,
     };
     let unit = with_suggestion(alloc, unit, caller, number, forms)?;
-    Ok(done(view, unit, values)?)
+    done(view, unit, values)
 }
 
 /// Decides to remove a suggestion.
@@ -74,5 +89,5 @@ pub(crate) fn dismiss(alloc: Global, view: &UnitView, named: Uuid) -> Result<Dec
     }
     let others = other_suggestions(alloc, &view.unit, named)?;
     let unit = with_suggestions(&view.unit, others)?;
-    Ok(done_plainly(view, unit)?)
+    done_plainly(view, unit)
 }

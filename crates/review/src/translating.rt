@@ -13,9 +13,11 @@ use crate::judging::state_of;
 use crate::suggestions::{find_suggestion, other_suggestions};
 use crate::units_after::{done_plainly, next_revision, with_forms, with_suggestions};
 use plural_expr::PluralForms;
-use po_read::{Duplicate, Forms};
-use std::alloc::Global;
-use units::{CommentLines, Memory, Policy, Refusal, Unit, UnitAction, UnitState, UnitView};
+use po_read::{Duplicate, Forms, Items, Text};
+use std::alloc::{AllocError, Global};
+use units::{
+    CommentLines, Memory, Policy, Refusal, Revision, Unit, UnitAction, UnitState, UnitView,
+};
 use uuid::Uuid;
 
 /// Whether forms that give this state would change nothing.
@@ -44,8 +46,9 @@ pub(crate) fn translate(
     let Some(revision) = next_revision(unit) else {
         return Ok(Decision::Refused(Refusal::PastLimit));
     };
-    let unit = with_forms(unit.duplicate()?, forms.duplicate()?, state, revision);
-    Ok(done_plainly(view, unit)?)
+    let forms = forms.duplicate()?;
+    let unit = with_forms(unit.duplicate()?, forms, state, revision);
+    done_plainly(view, unit)
 }
 
 /// The unit once it has accepted its suggestion with this number and these forms, where there is a revision for it.
@@ -65,9 +68,10 @@ pub(crate) fn after_acceptance(
         return Ok(None);
     };
     let state = state_of(alloc, policy, rule, view, forms)?;
+    let forms = forms.duplicate()?;
     let others = other_suggestions(alloc, &view.unit, named)?;
     let unit = with_suggestions(&view.unit, others)?;
-    Ok(Some(with_forms(unit, forms.duplicate()?, state, revision)))
+    Ok(Some(with_forms(unit, forms, state, revision)))
 }
 
 /// Decides to accept a suggestion.
@@ -88,7 +92,30 @@ pub(crate) fn accept(
     let Some(unit) = after else {
         return Ok(Decision::Refused(Refusal::PastLimit));
     };
-    Ok(done_plainly(view, unit)?)
+    done_plainly(view, unit)
+}
+
+fn put_comment(unit: Unit, lines: Items<Text>, revision: Revision) -> Unit
+    ensures { result ≡ record unit { comment = lines; revision = revision } }
+{
+    let mut unit = unit;
+    unit.comment = lines;
+    unit.revision = revision;
+    unit
+}
+
+/// The unit with these comment lines and at this revision.
+fn with_comment(unit: &Unit, lines: &CommentLines, revision: Revision) -> Result<Unit, AllocError>
+    ensures { IfOk result (λ u. u ≡ record unit.now { comment = lines.now; revision = revision }) }
+{
+    let lines = lines.as_items().duplicate()?;
+    match unit.duplicate() {
+        Ok(copy) => Ok(put_comment(copy, lines, revision)),
+        Err(refused) => {
+            drop(lines);
+            Err(refused)
+        }
+    }
 }
 
 /// Decides to replace the unit's comment lines.
@@ -102,8 +129,6 @@ pub(crate) fn comment(view: &UnitView, lines: &CommentLines) -> Result<Decision,
     let Some(revision) = next_revision(&view.unit) else {
         return Ok(Decision::Refused(Refusal::PastLimit));
     };
-    let mut unit = view.unit.duplicate()?;
-    unit.comment = lines.as_items().duplicate()?;
-    unit.revision = revision;
-    Ok(done_plainly(view, unit)?)
+    let unit = with_comment(&view.unit, lines, revision)?;
+    done_plainly(view, unit)
 }

@@ -10,9 +10,9 @@ use crate::suggestions::{
     find_suggestion, is_full_of_votes, is_same_vote, sum_of, voted_suggestions,
 };
 use crate::translating::after_acceptance;
-use crate::units_after::{done, revision_of, with_suggestions};
+use crate::units_after::{done, in_view, revision_of, with_suggestions};
 use plural_expr::PluralForms;
-use po_read::{Duplicate, Forms};
+use po_read::Forms;
 use std::alloc::{AllocError, Global};
 use units::{Memory, Name, Policy, Refusal, UnitAction, UnitState, UnitView, VoteValue};
 use uuid::Uuid;
@@ -36,10 +36,8 @@ fn with_vote(
     ensures { IfOk result (λ v. v ≡ record view.now { unit = spec.with_vote named caller.now value view.now.unit }) }
 {
     let suggestions = voted_suggestions(alloc, &view.unit, named, caller, value)?;
-    Ok(UnitView {
-        unit: with_suggestions(&view.unit, suggestions)?,
-        source: view.source.duplicate()?,
-    })
+    let unit = with_suggestions(&view.unit, suggestions)?;
+    in_view(view, unit)
 }
 
 /// The vote is taken, and nothing is accepted by it.
@@ -81,7 +79,7 @@ fn accepted(
         state: unit.shown_state(&voted.source),
         votes,
     };
-    Ok(done(voted, unit, values)?)
+    done(voted, unit, values)
 }
 
 /// Decides to take a vote.
@@ -112,7 +110,9 @@ pub(crate) fn vote(
     let voted = with_vote(alloc, view, named, caller, value)?;
     let votes = sum_of(&voted.unit, named);
     if is_due(policy, votes, voted.unit.state) {
-        accepted(alloc, &voted, rule, policy, named, &suggestion.forms, votes)
+        let decision = accepted(alloc, &voted, rule, policy, named, &suggestion.forms, votes);
+        drop(voted);
+        decision
     } else {
         Ok(taken(voted, votes))
     }

@@ -19,5 +19,5 @@ returns-then-is_due c =
     if_ok-follows
     (Accepts a.policy.now a.rule.now a.caller.now [] a.view.now a.named suggestion found a.value c.in_ok-voted.voted _)
     (λ d. (number : List ℕ) → d ≡ decision_by_act a.policy.now a.rule.now a.caller.now number a.view.now (Vote a.named a.value))
-    c.accepted.result c.accepted.ensures
+    c.accepted-decision.result c.accepted-decision.ensures
     (λ d accepts number. vote-accepted a.policy.now a.rule.now a.caller.now number a.view.now a.named suggestion found a.value c.in_ok-voted.voted _ c.in_ok-voted.ensures summed c.if-not-policy.false room other due d accepts)
