@@ -1,0 +1,28 @@
+-- The members were put in the order of their keys.
+use Rattle.std.proofs.Common.{ap}
+use Rattle.serde_json.specs.View.{members_view}
+use Rattle.request_book.proofs.PutLemmas.{puts_unit}
+use Rattle.request_book.proofs.written.unit_map.Goals as goal
+
+pub returns-clause-value : goal.returns-clause-value
+returns-clause-value c =
+    rw (
+      c.in_ok-put_vote.ensures,
+      c.in_ok-put_number-2.ensures.value,
+      c.suggestion_in.ensures,
+      c.in_ok-put.ensures.ok,
+      c.from.ensures,
+      c.number.ensures.value,
+      c.in_ok-put_number.ensures.value,
+      c.in_ok-put_lines.ensures.value,
+      c.in_ok-put_text-3.ensures,
+      c.as_str-2.ensures.value,
+      c.in_ok-put_text-2.ensures,
+      c.as_str.ensures.value,
+      c.in_ok-put_forms.ensures.value,
+      c.in_ok-put_context.ensures.value,
+      c.in_ok-put_caller.ensures.value,
+      c.in_ok-put_text.ensures,
+      c.action_word.ensures,
+      c.new-map.ensures.empty,
+    ) (puts_unit _ _ _ _ _ _ _ _ _ _ _)
