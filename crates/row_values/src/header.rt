@@ -1,19 +1,21 @@
 //! The columns of a language: its header, and the value of the header's plural rule.
-ghost use Rattle.std.specs.Prelude.{◌≡◌, [], ◌∷◌, true, Ok, Err, Some, None, IfOk, OnOk, IfErr};
+ghost use Rattle.std.specs.Prelude.{◌≡◌, [], ◌∷◌, true, Ok, Err, Some, None, IfOk, OnOk, IfErr, option_and_then, length};
 ghost use Rattle.std.specs.Option.{option_copied};
-ghost use Rattle.serde_json.specs.View.{view};
+ghost use Rattle.serde_json.specs.Read.{read};
+ghost use Rattle.serde_json.specs.Data.{array};
+ghost use Rattle.serde_json.specs.View.{view, items_view};
 ghost use Rattle.po_read.specs.Strings.{is_forms};
 ghost use Rattle.units.specs.Rules.{plural_field, rule_in};
 ghost use Rattle.row_values.specs.Faults.{Gives};
 ghost use Rattle.plural_expr.specs.Faults.{reading_of};
-ghost use Rattle.row_values.specs.Readings.{comments_of, header_with, header_of, header_read};
-ghost use Rattle.row_values.specs.Written.{header_string, header_data, header_text, IsHeaderEntry};
+ghost use Rattle.row_values.specs.Readings.{comments_of, item_as, previous_of, header_with, header_of, header_read};
+ghost use Rattle.row_values.specs.Written.{header_string, header_data, header_text, ArePrevious, IsHeaderEntry};
 ghost use Rattle.row_values.specs.declared.fault.RowFault.TheVariants.{Malformed, Memory};
 
 use crate::fault::RowFault;
 use crate::names::string_from;
 use crate::previous::{previous_in, previous_value};
-use crate::values::{compact, item, string_in, texts_in, texts_value, value_from};
+use crate::values::{compact, item, string_in, texts_at, texts_value, value_from};
 use plural_expr::{PluralFault, PluralForms};
 use po_read::{Entry, Forms, Items, PoString, Previous, Text, field_value};
 use serde_json::Value;
@@ -32,13 +34,27 @@ fn header_value(alloc: Global, header: &Entry) -> Result<Value, AllocError>
     ensures { IfOk result (λ v. view v ≡ header_data header.now) }
 {
     let mut list = Vec::new(alloc);
+    match put_header(alloc, &mut list, header) {
+        Ok(()) => Ok(Value::Array(list)),
+        Err(refused) => {
+            drop(list);
+            Err(refused)
+        }
+    }
+}
+
+/// Puts what a header's column holds into a list.
+fn put_header(alloc: Global, list: &mut Vec<Value>, header: &Entry) -> Result<(), AllocError>
+    requires { list.old.items ≡ [] }
+    ensures { OnOk result (array (items_view list.new.items) ≡ header_data header.now) }
+{
     list.push(texts_value(alloc, header.translator.as_slice())?)?;
     list.push(texts_value(alloc, header.extracted.as_slice())?)?;
     list.push(texts_value(alloc, header.references.as_slice())?)?;
     list.push(texts_value(alloc, header.flags.as_slice())?)?;
     list.push(previous_value(alloc, &header.previous)?)?;
     list.push(Value::try_from_str(alloc, string_of(header))?)?;
-    Ok(Value::Array(list))
+    Ok(())
 }
 
 /// The string of a header, its one form.
@@ -65,14 +81,35 @@ fn header_read_from(alloc: Global, column: &str) -> Result<Entry, RowFault>
     ensures fits { IfOk result IsHeaderEntry }
     ensures malformed { result ≡ Err Malformed → header_read column.now ≡ None }
 {
-    let value = value_from(alloc, column)?;
-    let header = header_in(alloc, &value)?;
-    let written = header_column(alloc, &header)?;
-    if written.as_str() == column {
-        Ok(header)
-    } else {
-        Err(RowFault::Malformed)
+    let header = header_parsed(alloc, column)?;
+    match header_column(alloc, &header) {
+        Ok(written) => {
+            let same = written.as_str() == column;
+            drop(written);
+            if same {
+                Ok(header)
+            } else {
+                drop(header);
+                Err(RowFault::Malformed)
+            }
+        }
+        Err(_) => {
+            drop(header);
+            Err(RowFault::Memory)
+        }
     }
+}
+
+/// The header in the JSON of a column, which may be written in another way.
+fn header_parsed(alloc: Global, column: &str) -> Result<Entry, RowFault>
+    ensures ok { IfOk result (λ header. option_and_then header_of (read column.now) ≡ Some header) }
+    ensures fits { IfOk result IsHeaderEntry }
+    ensures malformed { result ≡ Err Malformed → option_and_then header_of (read column.now) ≡ None }
+{
+    let value = value_from(alloc, column)?;
+    let header = header_in(alloc, &value);
+    drop(value);
+    header
 }
 
 fn header_in(alloc: Global, value: &Value) -> Result<Entry, RowFault>
@@ -81,10 +118,48 @@ fn header_in(alloc: Global, value: &Value) -> Result<Entry, RowFault>
     ensures malformed { result ≡ Err Malformed → header_of (view value.now) ≡ None }
 {
     let comments = comments_in(alloc, value)?;
+    match strings_in(alloc, value) {
+        Ok((previous, strings)) => Ok(header_with(comments, previous, strings)),
+        Err(fault) => {
+            drop(comments);
+            Err(fault)
+        }
+    }
+}
+
+/// What stands in a header beside its comments and flags.
+fn strings_in(alloc: Global, value: &Value) -> Result<(Previous, HeaderStrings), RowFault>
+    ensures ok { IfOk result (λ parts. (comments : HeaderComments) → comments_of (view value.now) ≡ Some comments
+        → header_of (view value.now) ≡ Some (record (header_with comments parts.0 []) { forms = parts.1.forms })) }
+    ensures fits { IfOk result (λ parts. ArePrevious parts.0) }
+    ensures forms { IfOk result (λ parts. is_forms parts.1.forms ≡ true) }
+    ensures one_form { IfOk result (λ parts. length parts.1.forms ≡ 1) }
+    ensures id { IfOk result (λ parts. parts.1.id ≡ []) }
+    ensures malformed { result ≡ Err Malformed → (comments : HeaderComments) → comments_of (view value.now) ≡ Some comments
+        → header_of (view value.now) ≡ None }
+{
     let previous = previous_in(alloc, item(value, 4)?)?;
+    match own_strings_in(alloc, value) {
+        Ok(strings) => Ok((previous, strings)),
+        Err(fault) => {
+            drop(previous);
+            Err(fault)
+        }
+    }
+}
+
+fn own_strings_in(alloc: Global, value: &Value) -> Result<HeaderStrings, RowFault>
+    ensures ok { IfOk result (λ strings. (comments : HeaderComments) (previous : Previous) → comments_of (view value.now) ≡ Some comments
+        → item_as previous_of 4 (view value.now) ≡ Some previous
+        → header_of (view value.now) ≡ Some (record (header_with comments previous []) { forms = strings.forms })) }
+    ensures forms { IfOk result (λ strings. is_forms strings.forms ≡ true) }
+    ensures one_form { IfOk result (λ strings. length strings.forms ≡ 1) }
+    ensures id { IfOk result (λ strings. strings.id ≡ []) }
+    ensures malformed { result ≡ Err Malformed → (comments : HeaderComments) (previous : Previous) → comments_of (view value.now) ≡ Some comments
+        → item_as previous_of 4 (view value.now) ≡ Some previous → header_of (view value.now) ≡ None }
+{
     let form = string_in(alloc, item(value, 5)?)?;
-    let strings = header_strings(alloc, form)?;
-    Ok(header_with(comments, previous, strings))
+    header_strings(alloc, form)
 }
 
 /// The comments and flags of a header.
@@ -100,10 +175,10 @@ fn comments_in(alloc: Global, value: &Value) -> Result<HeaderComments, RowFault>
     ensures ok { IfOk result (λ comments. comments_of (view value.now) ≡ Some comments) }
     ensures malformed { result ≡ Err Malformed → comments_of (view value.now) ≡ None }
 {
-    let translator = texts_in(alloc, item(value, 0)?)?;
-    let extracted = texts_in(alloc, item(value, 1)?)?;
-    let references = texts_in(alloc, item(value, 2)?)?;
-    let flags = texts_in(alloc, item(value, 3)?)?;
+    let translator = texts_at(alloc, value, 0)?;
+    let extracted = texts_at(alloc, value, 1)?;
+    let references = texts_at(alloc, value, 2)?;
+    let flags = texts_at(alloc, value, 3)?;
     Ok(HeaderComments {
         translator,
         extracted,

@@ -1,10 +1,11 @@
 //! Columns that are a list of texts: comment lines, references, flags and forms.
-ghost use Rattle.std.specs.Prelude.{◌≡◌, List, true, false, Err, Some, None, IfOk};
+ghost use Rattle.std.specs.Prelude.{◌≡◌, List, true, false, Err, Some, None, IfOk, option_and_then};
 ghost use Rattle.po_read.specs.Strings.{is_forms};
 ghost use Rattle.request_book.specs.Words.{strings};
+ghost use Rattle.serde_json.specs.Read.{read};
 ghost use Rattle.serde_json.specs.View.{view};
 ghost use Rattle.row_values.specs.Faults.{Gives};
-ghost use Rattle.row_values.specs.Readings.{texts_read};
+ghost use Rattle.row_values.specs.Readings.{texts_of, texts_read};
 ghost use Rattle.row_values.specs.Written.{texts_text};
 ghost use Rattle.row_values.specs.declared.fault.RowFault.TheVariants.{Malformed};
 
@@ -35,14 +36,34 @@ fn texts_read_from(alloc: Global, column: &str) -> Result<Items<Text>, RowFault>
     ensures ok { IfOk result (λ texts. texts_read column.now ≡ Some texts) }
     ensures malformed { result ≡ Err Malformed → texts_read column.now ≡ None }
 {
-    let value = value_from(alloc, column)?;
-    let texts = texts_in(alloc, &value)?;
-    let written = texts_column(alloc, &texts)?;
-    if written.as_str() == column {
-        Ok(texts)
-    } else {
-        Err(RowFault::Malformed)
+    let texts = texts_parsed(alloc, column)?;
+    match texts_column(alloc, &texts) {
+        Ok(written) => {
+            let same = written.as_str() == column;
+            drop(written);
+            if same {
+                Ok(texts)
+            } else {
+                drop(texts);
+                Err(RowFault::Malformed)
+            }
+        }
+        Err(_) => {
+            drop(texts);
+            Err(RowFault::Memory)
+        }
     }
+}
+
+/// The texts in the JSON of a column, which may be written in another way.
+fn texts_parsed(alloc: Global, column: &str) -> Result<Items<Text>, RowFault>
+    ensures ok { IfOk result (λ texts. option_and_then texts_of (read column.now) ≡ Some texts) }
+    ensures malformed { result ≡ Err Malformed → option_and_then texts_of (read column.now) ≡ None }
+{
+    let value = value_from(alloc, column)?;
+    let texts = texts_in(alloc, &value);
+    drop(value);
+    texts
 }
 
 /// The column of forms: a compact JSON list, form 0 first.

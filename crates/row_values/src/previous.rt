@@ -1,5 +1,6 @@
 //! The column of previous strings.
-ghost use Rattle.std.specs.Prelude.{◌≡◌, Err, Some, None, IfOk};
+ghost use Rattle.std.specs.Prelude.{◌≡◌, Err, Some, None, IfOk, option_and_then};
+ghost use Rattle.serde_json.specs.Read.{read};
 ghost use Rattle.serde_json.specs.View.{view};
 ghost use Rattle.row_values.specs.Faults.{Gives};
 ghost use Rattle.row_values.specs.Readings.{previous_of, previous_read};
@@ -7,7 +8,7 @@ ghost use Rattle.row_values.specs.Written.{previous_data, previous_text, ArePrev
 ghost use Rattle.row_values.specs.declared.fault.RowFault.TheVariants.{Malformed};
 
 use crate::fault::RowFault;
-use crate::values::{compact, item, string_or_null_in, string_or_null_value, value_from};
+use crate::values::{compact, string_or_null_at, string_or_null_value, value_from};
 use po_read::{Previous, Text};
 use serde_json::Value;
 use std::alloc::{AllocError, Global};
@@ -44,14 +45,35 @@ fn previous_read_from(alloc: Global, column: &str) -> Result<Previous, RowFault>
     ensures fits { IfOk result ArePrevious }
     ensures malformed { result ≡ Err Malformed → previous_read column.now ≡ None }
 {
-    let value = value_from(alloc, column)?;
-    let previous = previous_in(alloc, &value)?;
-    let written = previous_column(alloc, &previous)?;
-    if written.as_str() == column {
-        Ok(previous)
-    } else {
-        Err(RowFault::Malformed)
+    let previous = previous_parsed(alloc, column)?;
+    match previous_column(alloc, &previous) {
+        Ok(written) => {
+            let same = written.as_str() == column;
+            drop(written);
+            if same {
+                Ok(previous)
+            } else {
+                drop(previous);
+                Err(RowFault::Malformed)
+            }
+        }
+        Err(_) => {
+            drop(previous);
+            Err(RowFault::Memory)
+        }
     }
+}
+
+/// The strings in the JSON of a column, which may be written in another way.
+fn previous_parsed(alloc: Global, column: &str) -> Result<Previous, RowFault>
+    ensures ok { IfOk result (λ previous. option_and_then previous_of (read column.now) ≡ Some previous) }
+    ensures fits { IfOk result ArePrevious }
+    ensures malformed { result ≡ Err Malformed → option_and_then previous_of (read column.now) ≡ None }
+{
+    let value = value_from(alloc, column)?;
+    let previous = previous_in(alloc, &value);
+    drop(value);
+    previous
 }
 
 pub(crate) fn previous_in(alloc: Global, value: &Value) -> Result<Previous, RowFault>
@@ -59,8 +81,8 @@ pub(crate) fn previous_in(alloc: Global, value: &Value) -> Result<Previous, RowF
     ensures fits { IfOk result ArePrevious }
     ensures malformed { result ≡ Err Malformed → previous_of (view value.now) ≡ None }
 {
-    let ctx = string_or_null_in(alloc, item(value, 0)?)?;
-    let id = string_or_null_in(alloc, item(value, 1)?)?;
-    let plural = string_or_null_in(alloc, item(value, 2)?)?;
+    let ctx = string_or_null_at(alloc, value, 0)?;
+    let id = string_or_null_at(alloc, value, 1)?;
+    let plural = string_or_null_at(alloc, value, 2)?;
     Ok(Previous { ctx, id, plural })
 }

@@ -8,7 +8,7 @@ ghost use Rattle.serde_json.specs.Written.{compact_text, has_float};
 ghost use Rattle.po_read.specs.Strings.{is_string};
 ghost use Rattle.request_book.specs.Fields.{text_of, each_of};
 ghost use Rattle.request_book.specs.Words.{strings};
-ghost use Rattle.row_values.specs.Readings.{texts_of, string_or_null_of};
+ghost use Rattle.row_values.specs.Readings.{item_as, texts_of, string_or_null_of};
 ghost use Rattle.row_values.specs.Written.{string_or_null};
 ghost use Rattle.row_values.specs.declared.fault.RowFault.TheVariants.{Malformed};
 
@@ -91,6 +91,27 @@ pub(crate) fn item(list: &Value, index: usize) -> Result<&Value, RowFault>
         Some(value) => Ok(value),
         None => Err(RowFault::Malformed),
     }
+}
+
+/// The texts at a place of a list.
+pub(crate) fn texts_at(alloc: Global, list: &Value, index: usize) -> Result<Items<Text>, RowFault>
+    ensures ok { IfOk result (λ texts. item_as texts_of index (view list.now) ≡ Some texts) }
+    ensures malformed { result ≡ Err Malformed → item_as texts_of index (view list.now) ≡ None }
+{
+    texts_in(alloc, item(list, index)?)
+}
+
+/// The string at a place of a list, none where null stands there.
+pub(crate) fn string_or_null_at(
+    alloc: Global,
+    list: &Value,
+    index: usize,
+) -> Result<Option<PoString>, RowFault>
+    ensures ok { IfOk result (λ found. item_as string_or_null_of index (view list.now) ≡ Some found) }
+    ensures fits { IfOk result (λ found. option_map_or is_string found true ≡ true) }
+    ensures malformed { result ≡ Err Malformed → item_as string_or_null_of index (view list.now) ≡ None }
+{
+    string_or_null_in(alloc, item(list, index)?)
 }
 
 // ---- writing
