@@ -102,10 +102,10 @@ def exported(program, template, language, lang):
         {"act": "language", "caller": "root", "lang": lang, "number": "01900000-0000-7000-8000-000000000002", "po": language.decode()},
     ]
     lines = "".join(json.dumps(it, ensure_ascii=False) + "\n" for it in requests)
-    printed = tool(program, "deliver", "--export", lang, given=lines.encode())
-    replies, text = printed.split(b"\n", 2)[:2], printed.split(b"\n", 2)[2]
-    if not all(it.startswith(b"200 ") for it in replies):
-        raise Wrong(b" ".join(replies).decode())
+    done = subprocess.run([program, "deliver", "--export", lang], input=lines.encode(), capture_output=True, check=False)
+    *replies, text = done.stdout.split(b"\n", 2)
+    if done.returncode or not all(it.startswith(b"200 ") for it in replies):
+        raise Wrong((b" ".join(replies) + b" " + done.stderr).decode())
     return replies, text
 
 

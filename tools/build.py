@@ -34,13 +34,15 @@ class Failed(Exception):
     """A crate that was not built, with what rt printed."""
 
 
+def listed_crates():
+    """The lines of crates.txt, each under the name of its crate."""
+    lines = (line.split("#")[0].strip() for line in (TOP / "crates.txt").read_text().split("\n"))
+    return {line.partition(":")[0].split()[0]: line for line in lines if line}
+
+
 def crates_below(name):
     """Each crate of the repository that this one stands on, with the crates that it stands on, lowest first."""
-    listed = {}
-    for line in (TOP / "crates.txt").read_text().split("\n"):
-        head, colon, rest = line.split("#")[0].partition(":")
-        if colon:
-            listed[head.split()[0]] = rest.split()
+    listed = {crate: line.partition(":")[2].split() for crate, line in listed_crates().items()}
     found = {}
 
     def visit(crate):
@@ -121,8 +123,10 @@ class Build:
         """A folder like the repository, with the crate and those below alone."""
         room = rooms / name
         (room / "crates").mkdir(parents=True)
-        shutil.copy(TOP / "crates.txt", room / "crates.txt")
-        for crate in (name, *self.crates[name]):
+        crates = (name, *self.crates[name])
+        lines = listed_crates()
+        (room / "crates.txt").write_text("".join(lines[it] + "\n" for it in crates))
+        for crate in crates:
             for part in (*PARTS, "out/rlib"):
                 link(CRATES / crate / part, room / "crates" / crate / part)
         return room
