@@ -186,8 +186,11 @@ def main(words):
     parser = argparse.ArgumentParser(usage=__doc__)
     parser.add_argument("--lanes", type=int)
     given = parser.parse_args(words)
+    if shutil.which("rt") is None:
+        print("office: the toolchain's command rt has to be on the path", file=sys.stderr)
+        return 1
     crates = crates_below(PROGRAM)
-    build = Build(crates, given.lanes or lanes_for(crates))
+    build = Build(crates, max(1, given.lanes) if given.lanes is not None else lanes_for(crates))
     with open(TOP / "crates.txt", "rb") as alone:
         # A second build waits for the first, and then finds all built.
         fcntl.flock(alone, fcntl.LOCK_EX)
@@ -199,6 +202,8 @@ def main(words):
         except Failed as failed:
             print(failed, file=sys.stderr)
             return 1
+        except KeyboardInterrupt:
+            return 130
         finally:
             if rooms is not None:
                 shutil.rmtree(rooms, ignore_errors=True)
