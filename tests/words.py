@@ -1,0 +1,179 @@
+#!/usr/bin/env python3
+"""Compares the program's words with its man page and its completion for bash and zsh, and tries wrong words.
+
+    tests/words.py [PROGRAM]      (crates/cli/out/cli, as ./office has built it; wants bash, man)
+
+What `office --help` and `office COMMAND --help` list, subcommands, options and arguments, each with its text, has to stand in
+share/man/man1/office.1 and in the completion for zsh, and nothing else; bash has to complete to the same words. `man --warnings` has to find nothing
+in the page. Wrong words have to end with status 2, and help and the version with 0. The last line ends in 'N differences'.
+"""
+import pathlib
+import re
+import subprocess
+import sys
+
+TOP = pathlib.Path(__file__).resolve().parent.parent
+PROGRAM = TOP / "crates" / "cli" / "out" / "cli"
+PAGE = TOP / "share" / "man" / "man1" / "office.1"
+BASH = TOP / "share" / "bash-completion" / "completions" / "office"
+ZSH = TOP / "share" / "zsh" / "site-functions" / "_office"
+# Words, and the status that they end with.
+WORDS = [
+    (["--help"], 0),
+    (["-h"], 0),
+    (["--version"], 0),
+    (["-V"], 0),
+    (["help"], 0),
+    (["help", "deliver"], 0),
+    (["deliver", "--help"], 0),
+    (["plural", "-h"], 0),
+    (["canon", "-V"], 0),
+    ([], 2),
+    (["begin"], 2),
+    (["--begin"], 2),
+    (["deliver", "all"], 2),
+    (["deliver", "--export"], 2),
+    (["deliver", "--export", "d"], 2),
+    (["deliver", "--export", "german language"], 2),
+    (["deliver", "--manager", "Root"], 2),
+    (["deliver", "--manager", ""], 2),
+    (["deliver", "--manager", "a" * 33], 2),
+    (["deliver", "--demo", "--demo"], 2),
+    (["plural"], 2),
+    (["plural", "nplurals=1; plural=0;"], 2),
+    (["plural", "nplurals=1; plural=0;", "-1"], 2),
+    (["plural", "nplurals=1; plural=0;", "4294967296"], 2),
+    (["canon", "all"], 2),
+    (["deliver", "--manager", "a" * 32], 0),
+    (["plural", "nplurals=1; plural=0;", "0", "4294967295"], 0),
+    (["plural", "nplurals=1; plural=1;", "0"], 1),
+    (["deliver", "--export", "xx"], 1),
+]
+
+
+def run(program, words):
+    done = subprocess.run([program, *words], stdin=subprocess.DEVNULL, capture_output=True, check=False)
+    return done.returncode, done.stdout.decode(), done.stderr.decode()
+
+
+def listed(text):
+    """What help lists: for each part (Commands, Options, Arguments) names with their texts."""
+    parts, part = {}, None
+    for line in text.split("\n"):
+        if re.fullmatch(r"[A-Z][a-z]+:", line):
+            part = parts.setdefault(line[:-1], {})
+        elif part is not None and (found := re.fullmatch(r" +(\S.*?)  +(\S.*)", line)):
+            part[found[1]] = found[2]
+    return parts
+
+
+def words_of(program):
+    """The subcommands with their texts, and for each its options and arguments with theirs."""
+    commands = listed(run(program, ["--help"])[1])["Commands"]
+    own = {it: listed(run(program, [it, "--help"])[1]) for it in commands if it != "help"}
+    return commands, own
+
+
+def option_names(options):
+    """The words that stand for these options."""
+    return {name.split(" ")[0] for option in options for name in option.split(", ")}
+
+
+def page_items():
+    """The items of the man page's lists up to the replies, each with the text behind it in a line."""
+    items, item = {}, None
+    for line in PAGE.read_text().split(".Sh REPLIES")[0].split("\n"):
+        if line.startswith(".It "):
+            name = re.sub(r"\b(Cm|Ar) ", "", line[4:])
+            name = ", ".join("-" + it.removeprefix("Fl ") for it in name.split(" , ")) if name.startswith("Fl") else name
+            item = items.setdefault(name.replace(", --", ", --"), [])
+        elif line.startswith((".El", ".Bl", ".Pp")):
+            item = None if line == ".El" else item
+        elif item is not None and not line.startswith("."):
+            item.append(line)
+    return {name: " ".join(lines) for name, lines in items.items()}
+
+
+def page_name(option):
+    """An option as the page's items have it: `-h, --help`, `--manager NAME`."""
+    return re.sub(r"[<>]|\.\.\.", "", option)
+
+
+def page_differs(commands, own):
+    """What the man page lacks, or has too much."""
+    wanted = dict(commands)
+    for parts in own.values():
+        for part in ("Options", "Arguments"):
+            wanted.update({page_name(it): text for it, text in parts.get(part, {}).items()})
+    found = page_items()
+    yield from (f"the page lacks {it}" for it in wanted if it not in found)
+    yield from (f"the page has {it}" for it in found if it not in wanted)
+    yield from (f"the page says else of {it}: {found[it]}" for it in wanted if it in found and not found[it].startswith(wanted[it]))
+
+
+def completed(words):
+    """What bash completes the last of these words to."""
+    line = " ".join(f"'{it}'" for it in words)
+    script = f'. "{BASH}"; COMP_WORDS=({line}); COMP_CWORD={len(words) - 1}; _office; printf "%s\\n" "${{COMPREPLY[@]}}"'
+    done = subprocess.run(["bash", "-c", script], capture_output=True, check=True)
+    return set(done.stdout.decode().split())
+
+
+def bash_differs(commands, own):
+    general = {"-h", "--help", "-V", "--version"}
+    wanted = [(["office", ""], set(commands) | general), (["office", "help", ""], set(commands))]
+    wanted += [(["office", it, "-"], option_names(parts["Options"])) for it, parts in own.items()]
+    wanted += [(["office", "de"], {"deliver"}), (["office", "deliver", "--export", ""], set())]
+    for words, them in wanted:
+        if completed(words) != them:
+            yield f"bash completes {words} to {sorted(completed(words))}"
+
+
+def zsh_differs(commands, own):
+    text = ZSH.read_text().replace("\\:", ":")
+    lines = [it.strip().rstrip("\\").strip() for it in text.split("\n")]
+    wanted = {f"'{name}:{about}'" for name, about in commands.items()}
+    for parts in own.values():
+        for option, about in parts["Options"].items():
+            about = re.sub(r" \[default: .*\]$", "", about)
+            short, _, rest = option.partition(", ")
+            name, _, value = (rest or short).partition(" ")
+            quote = '"' if "'" in about else "'"
+            if rest:
+                wanted.add(f"'({short} {name})'{{{short},{name}}}'[{about}]'")
+            else:
+                wanted.add(f"{quote}{name}[{about}]" + (f":{page_name(value)}:" if value else "") + quote)
+        for name, about in parts.get("Arguments", {}).items():
+            place = "*" if name.endswith("...") else str(1 + list(parts["Arguments"]).index(name))
+            quote = '"' if "'" in about else "'"
+            wanted.add(f"{quote}{place}:{page_name(name)} ({about[0].lower()}{about[1:]}):{quote}")
+    found = {it for it in lines if re.match(r"""["'][(\w*-].*:.*["']$|'\(-""", it) or re.match(r"'--\w+\[", it)}
+    yield from (f"zsh lacks {it}" for it in sorted(wanted - found))
+    yield from (f"zsh has {it}" for it in sorted(found - wanted))
+
+
+def page_warnings():
+    done = subprocess.run(["man", "--warnings", "-E", "UTF-8", "-l", str(PAGE)], capture_output=True, check=False)
+    yield from (f"man: {it}" for it in done.stderr.decode().split("\n") if it)
+
+
+def status_differs(program):
+    for words, status in WORDS:
+        ended, out, faults = run(program, words)
+        if ended != status or (status == 0 and faults) or (status == 2 and (out or not faults)):
+            yield f"{words} ended with status {ended}, and not {status}: {out}{faults}"
+
+
+def main(words):
+    program = pathlib.Path(words[0] if words else PROGRAM).resolve()
+    commands, own = words_of(program)
+    wrong = [*page_differs(commands, own), *bash_differs(commands, own), *zsh_differs(commands, own)]
+    wrong += [*page_warnings(), *status_differs(program)]
+    for it in wrong:
+        print(it)
+    print(f"{len(commands)} subcommands, {len(WORDS)} runs: {len(wrong)} differences")
+    return 1 if wrong else 0
+
+
+if __name__ == "__main__":
+    sys.exit(main(sys.argv[1:]))
