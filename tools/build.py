@@ -1,12 +1,13 @@
 #!/usr/bin/env python3
 """Proves and builds the program: each crate that it stands on, side by side where they don't stand on each other, and then itself.
 
-    tools/build.py [--lanes N]
+    tools/build.py [--lanes N] [--jobs N]
 
 `rt lib` proves and builds one crate, and keeps all others out of the crates below it meanwhile. So each crate is built in a room
 of its own, a folder that shares the sources and the libraries below with the repository (hard links), and its `out` is then put
-in its place. As many run side by side as there are processors and 4 GB of free memory for each, or N; lanes that no other
-crate can use yet are lent to those that run. What was built before and hasn't changed is left as it is: `rt lib` sees that.
+in its place. As many crates are built side by side as there are processors, and 4 GB of free memory for each (--lanes). Each gets as many jobs as
+there are processors (--jobs), since often only one or two crates can be built, and those that others wait for should not keep to one processor.
+What was built before and hasn't changed is left as it is: `rt lib` sees that.
 
 Where the second output is a terminal, each crate is told there as it begins, and how long the build has taken. What `rt` prints is shown only
 where it fails. The status is 0 where the program was built.
@@ -70,11 +71,15 @@ def urgency(crates):
     return found
 
 
-def lanes_for(crates):
+def processors():
+    return len(os.sched_getaffinity(0))
+
+
+def lanes_for_memory():
     """As many as there are processors, and 4 GB of free memory for each."""
     with open("/proc/meminfo", encoding="utf-8") as it:
         free = next(int(line.split()[1]) for line in it if line.startswith("MemAvailable:"))
-    return max(1, min(len(os.sched_getaffinity(0)), free // (GIGABYTES_EACH * 1_000_000), len(crates)))
+    return max(1, min(processors(), free // (GIGABYTES_EACH * 1_000_000)))
 
 
 def place_for_rooms():
@@ -100,8 +105,8 @@ def move(source, to):
 class Build:
     """A build under way: what it says, and where its rooms stand."""
 
-    def __init__(self, crates, lanes):
-        self.crates, self.lanes = crates, lanes
+    def __init__(self, crates, lanes, jobs):
+        self.crates, self.lanes, self.jobs = crates, lanes, jobs
         self.begun, self.started = 0, time.monotonic()
         self.tells = sys.stderr.isatty()
 
@@ -111,10 +116,11 @@ class Build:
             minutes = int(time.monotonic() - self.started) // 60
             print(f"office: crate {self.begun} of {len(self.crates) + 1}, {name} (minute {minutes})", file=sys.stderr, flush=True)
 
-    def rt(self, folder, *words):
+    def rt(self, folder, verb, *words):
         """Runs rt in this folder."""
+        command = ["rt", verb, "--jobs", str(self.jobs), *words]
         done = subprocess.run(
-            ["rt", *words], cwd=folder, stdin=subprocess.DEVNULL, stdout=subprocess.PIPE, stderr=subprocess.STDOUT, check=False
+            command, cwd=folder, stdin=subprocess.DEVNULL, stdout=subprocess.PIPE, stderr=subprocess.STDOUT, check=False
         )
         if done.returncode:
             raise Failed(done.stdout.decode(errors="replace"))
@@ -131,10 +137,10 @@ class Build:
                 link(CRATES / crate / part, room / "crates" / crate / part)
         return room
 
-    def library(self, name, jobs, rooms):
+    def library(self, name, rooms):
         """Proves and builds a crate in a room of its own, and puts what came of it in its place."""
         if rooms is None:
-            self.rt(CRATES / name, "lib", "--jobs", str(jobs))
+            self.rt(CRATES / name, "lib")
             return
         room = self.room_for(name, rooms)
         made, place = room / "crates" / name / "out", CRATES / name / "out"
@@ -143,7 +149,7 @@ class Build:
             out.mkdir(exist_ok=True)
         move(place / KEPT, made / KEPT)
         try:
-            self.rt(made.parent, "lib", "--jobs", str(jobs))
+            self.rt(made.parent, "lib")
             move(made / "rlib", place / "rlib")
         finally:
             move(made / KEPT, place / KEPT)
@@ -157,18 +163,13 @@ class Build:
         lanes = 1 if rooms is None else self.lanes
         with concurrent.futures.ThreadPoolExecutor(lanes) as pool:
             while left or running:
-                free = lanes - sum(used for _, used in running.values())
-                ready = [it for it in left if self.crates[it] <= built][:free]
-                for place, name in enumerate(ready):
-                    used = free // (len(ready) - place)
-                    free -= used
+                for name in [it for it in left if self.crates[it] <= built][: lanes - len(running)]:
                     left.remove(name)
                     self.tell(name)
-                    jobs = used if rooms else self.lanes
-                    running[pool.submit(self.library, name, jobs, rooms)] = (name, used)
+                    running[pool.submit(self.library, name, rooms)] = name
                 done = concurrent.futures.wait(running, return_when=concurrent.futures.FIRST_COMPLETED).done
                 for it in done:
-                    name, _ = running.pop(it)
+                    name = running.pop(it)
                     try:
                         it.result()
                     except Failed as failed:
@@ -179,18 +180,19 @@ class Build:
 
     def program(self):
         self.tell(PROGRAM)
-        self.rt(CRATES / PROGRAM, "run", "--jobs", str(self.lanes), "--", "--version")
+        self.rt(CRATES / PROGRAM, "run", "--", "--version")
 
 
 def main(words):
     parser = argparse.ArgumentParser(usage=__doc__)
-    parser.add_argument("--lanes", type=int)
+    parser.add_argument("--lanes", type=int, default=lanes_for_memory())
+    parser.add_argument("--jobs", type=int, default=processors())
     given = parser.parse_args(words)
     if shutil.which("rt") is None:
         print("office: the toolchain's command rt has to be on the path", file=sys.stderr)
         return 1
     crates = crates_below(PROGRAM)
-    build = Build(crates, max(1, given.lanes) if given.lanes is not None else lanes_for(crates))
+    build = Build(crates, max(1, given.lanes), max(1, given.jobs))
     with open(TOP / "crates.txt", "rb") as alone:
         # A second build waits for the first, and then finds all built.
         fcntl.flock(alone, fcntl.LOCK_EX)
