@@ -110,6 +110,10 @@ optional_as f (Some d) = option_map Some (f d)
 abbrev pub take_optional_as : {A : Type 0} → (Data → Option A) → Text → Members → Option (Option A × Members)
 take_optional_as f k ms = option_map (λ o. (o, (take_optional k ms).1)) (optional_as f (take_optional k ms).0)
 
+-- what f reads of the first members, and what g reads of the members after those
+abbrev pub both_of : {A B : Type 0} → (Members → Option (A × Members)) → (Members → Option (B × Members)) → Members → Option ((A × B) × Members)
+both_of f g ms = f ms >>= (λ a. option_map (λ b. ((a.0, b.0), b.1)) (g a.1))
+
 abbrev pub is_over : Members → Bool
 is_over no_members = true
 is_over (member k d ms) = false

@@ -1,9 +1,9 @@
 //! Reads the members of one object.
-ghost use Rattle.std.specs.Prelude.{◌≡◌, ◌≢◌, Err, IfOk, Some, None, option_map};
-ghost use Rattle.serde_json.specs.Data.{Members, object};
+ghost use Rattle.std.specs.Prelude.{◌≡◌, ◌≢◌, Err, IfOk, Some, None, codes, option_map};
+ghost use Rattle.serde_json.specs.Data.{Members, no_members, object};
 ghost use Rattle.serde_json.specs.Read.{read};
 ghost use Rattle.serde_json.specs.View.{view, members_view};
-ghost use Rattle.request_book.specs.Fields.{unit_members_of, action_members, action_with, action_of, unit_parts, unit_parts_of, template_of, language_of, team_of, policy_of, parts_behind, parts_of, IsPartsText};
+ghost use Rattle.request_book.specs.Fields.{text_of, name_of, lang_of, revision_of, forms_of, lines_of, vote_of, number_of, take_as, take_optional_as, both_of, unit_members_of, action_members, action_with, action_of, unit_parts, unit_parts_of, template_of, language_of, team_of, policy_of, parts_behind, parts_of, IsPartsText};
 ghost use Rattle.request_book.specs.declared.fault.RequestFault.TheVariants.{Malformed};
 
 use crate::act::Act;
@@ -42,6 +42,31 @@ pub(crate) struct UnitMembers {
     pub(crate) seen: Revision,
     pub(crate) suggestion: Option<Uuid>,
     /// The member `value`: a vote, which has no value where it takes one back.
+    pub(crate) vote: Option<Option<VoteValue>>,
+}
+
+/// Those of them that stand in front of `id`.
+#[derive(Drop)]
+pub(crate) struct FirstMembers {
+    pub(crate) caller: Option<Name>,
+    pub(crate) ctx: Option<PoString>,
+    pub(crate) forms: Option<Forms>,
+}
+
+/// Those from `id` to `lines`.
+#[derive(Drop)]
+pub(crate) struct MiddleMembers {
+    pub(crate) id: PoString,
+    pub(crate) lang: Lang,
+    pub(crate) lines: Option<CommentLines>,
+}
+
+/// Those behind `lines`, which own no memory.
+#[derive(Drop)]
+pub(crate) struct LastMembers {
+    pub(crate) number: Option<Uuid>,
+    pub(crate) seen: Revision,
+    pub(crate) suggestion: Option<Uuid>,
     pub(crate) vote: Option<Option<VoteValue>>,
 }
 
@@ -250,8 +275,12 @@ fn parts_of_unit(word: &str, members: UnitMembers) -> Option<Parts>
         members.lines,
         members.suggestion,
         members.vote,
-    )?;
-    let action = action_from(word, given)?;
+    );
+    let action = match given {
+        Some(given) => action_from(word, given),
+        None => None,
+    };
+    let action = action?;
     Some(Parts {
         caller: members.caller,
         number: members.number,
@@ -321,19 +350,85 @@ fn unit_members_from(alloc: Global, fields: &[(String, Value)]) -> Result<UnitMe
     ensures ok { IfOk result (λ m. unit_members_of (members_view fields.now) ≡ Some m) }
     ensures malformed { result ≡ Err Malformed → unit_members_of (members_view fields.now) ≡ None }
 {
+    let (first, rest) = first_members(alloc, fields)?;
+    let (middle, rest) = middle_members(alloc, rest)?;
+    let last = last_members(rest)?;
+    Ok(UnitMembers {
+        caller: first.caller,
+        ctx: first.ctx,
+        forms: first.forms,
+        id: middle.id,
+        lang: middle.lang,
+        lines: middle.lines,
+        number: last.number,
+        seen: last.seen,
+        suggestion: last.suggestion,
+        vote: last.vote,
+    })
+}
+
+// The members up to `forms`.
+fn first_members<'v>(
+    alloc: Global,
+    fields: &'v [(String, Value)],
+) -> Result<(FirstMembers, &'v [(String, Value)]), RequestFault>
+    ensures ok { IfOk result (λ p. both_of (take_optional_as name_of (codes "caller"))
+        (both_of (take_optional_as text_of (codes "ctx")) (take_optional_as forms_of (codes "forms")))
+        (members_view fields.now)
+        ≡ Some ((p.0.caller, (p.0.ctx, p.0.forms)), members_view p.1.now)) }
+    ensures malformed { result ≡ Err Malformed
+        → both_of (take_optional_as name_of (codes "caller"))
+        (both_of (take_optional_as text_of (codes "ctx")) (take_optional_as forms_of (codes "forms")))
+        (members_view fields.now) ≡ None }
+{
     let (caller, rest) = take_optional(fields, "caller");
     let caller = optional_name(alloc, caller)?;
     let (ctx, rest) = take_optional(rest, "ctx");
     let ctx = optional_text(alloc, ctx)?;
     let (forms, rest) = take_optional(rest, "forms");
     let forms = optional_forms(alloc, forms)?;
-    let (id, rest) = take_member(rest, "id")?;
+    Ok((FirstMembers { caller, ctx, forms }, rest))
+}
+
+// The members behind those, up to `lines`.
+fn middle_members<'v>(
+    alloc: Global,
+    fields: &'v [(String, Value)],
+) -> Result<(MiddleMembers, &'v [(String, Value)]), RequestFault>
+    ensures ok { IfOk result (λ p. both_of (take_as text_of (codes "id"))
+        (both_of (take_as lang_of (codes "lang")) (take_optional_as lines_of (codes "lines")))
+        (members_view fields.now)
+        ≡ Some ((p.0.id, (p.0.lang, p.0.lines)), members_view p.1.now)) }
+    ensures malformed { result ≡ Err Malformed
+        → both_of (take_as text_of (codes "id"))
+        (both_of (take_as lang_of (codes "lang")) (take_optional_as lines_of (codes "lines")))
+        (members_view fields.now) ≡ None }
+{
+    let (id, rest) = take_member(fields, "id")?;
     let id = text_from(alloc, id)?;
     let (lang, rest) = take_member(rest, "lang")?;
     let lang = lang_from(alloc, lang)?;
     let (lines, rest) = take_optional(rest, "lines");
     let lines = optional_lines(alloc, lines)?;
-    let (number, rest) = take_optional(rest, "number");
+    Ok((MiddleMembers { id, lang, lines }, rest))
+}
+
+// The members behind those, and nothing after them.
+fn last_members(fields: &[(String, Value)]) -> Result<LastMembers, RequestFault>
+    ensures ok { IfOk result (λ m. both_of (take_optional_as number_of (codes "number"))
+        (both_of (take_as revision_of (codes "seen"))
+        (both_of (take_optional_as number_of (codes "suggestion"))
+        (take_optional_as vote_of (codes "value"))))
+        (members_view fields.now)
+        ≡ Some ((m.number, (m.seen, (m.suggestion, m.vote))), no_members)) }
+    ensures malformed { result ≡ Err Malformed → (m : _)
+        → both_of (take_optional_as number_of (codes "number"))
+        (both_of (take_as revision_of (codes "seen"))
+        (both_of (take_optional_as number_of (codes "suggestion"))
+        (take_optional_as vote_of (codes "value"))))
+        (members_view fields.now) ≢ Some (m, no_members) }
+{
+    let (number, rest) = take_optional(fields, "number");
     let number = optional_number(number)?;
     let (seen, rest) = take_member(rest, "seen")?;
     let seen = revision_from(seen)?;
@@ -344,13 +439,7 @@ fn unit_members_from(alloc: Global, fields: &[(String, Value)]) -> Result<UnitMe
     if !is_over(rest) {
         return Err(RequestFault::Malformed);
     }
-    Ok(UnitMembers {
-        caller,
-        ctx,
-        forms,
-        id,
-        lang,
-        lines,
+    Ok(LastMembers {
         number,
         seen,
         suggestion,

@@ -1,6 +1,4 @@
 -- The members were put in the order of their keys.
-use Rattle.std.proofs.Common.{ap}
-use Rattle.serde_json.specs.View.{members_view}
 use Rattle.request_book.proofs.PutLemmas.{puts_unit}
 use Rattle.request_book.proofs.written.unit_map.Goals as goal
 
