@@ -3,5 +3,4 @@ pub mod Grammar
 pub mod Tested
 pub mod Lexed
 pub mod Counted
-pub mod Headed
 pub mod Readings

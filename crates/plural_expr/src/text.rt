@@ -1,8 +1,7 @@
 //! The digits and the tree that a text is written by.
 
-ghost use Rattle.std.specs.Prelude.{◌≡◌, ◌≢◌, ◌∷◌, [], List, IfOk, MatchOption, Some, None, option_map};
-ghost use Rattle.plural_expr.specs.declared.token.Token.{Token as TokenValue};
-ghost use Rattle.plural_expr.specs.Plain.{digits_at, operand_at, rule_at, rule_of, with_digits};
+ghost use Rattle.std.specs.Prelude.{◌≡◌, [], IfOk, MatchOption, None, option_map};
+ghost use Rattle.plural_expr.specs.Plain.{operand_at, rule_at, rule_of, with_digits};
 ghost use Rattle.plural_expr.specs.Views.{tree_view};
 
 use crate::lexer::tokens;
@@ -11,38 +10,24 @@ use crate::token::Token;
 use crate::tree::Tree;
 use std::alloc::{AllocError, Global};
 
-/// What stands behind the token, where the tokens begin with it.
-fn behind(tokens: &[Token], token: Token) -> Option<&[Token]>
-    ensures { MatchOption result ((rest : List TokenValue) → tokens.now ≢ token ∷ rest) (λ rest. tokens.now ≡ token ∷ rest.now) }
-{
-    match tokens {
-        [first, rest @ ..] if *first == token => Some(rest),
-        _ => None,
-    }
-}
-
-/// The digits at the front, and what stands behind them.
-fn digits(tokens: &[Token]) -> Option<(Token, &[Token])>
-    ensures { option_map (λ found. (found.0, found.1.now)) result ≡ digits_at tokens.now }
-{
-    match tokens {
-        [first @ (Token::Number(_) | Token::Digits), rest @ ..] => Some((*first, rest)),
-        _ => None,
-    }
-}
-
 /// The digits behind `nplurals=`, and what stands behind `plural=`.
+#[tactic(auto, unfolding(crate::specs::Plain::rule_at))]
 fn header(tokens: &[Token]) -> Option<(Token, &[Token])>
     ensures { MatchOption result (rule_at tokens.now ≡ None)
         (λ found. rule_at tokens.now ≡ with_digits found.0 (operand_at [] found.1.now)) }
 {
-    let rest = behind(tokens, Token::Nplurals)?;
-    let rest = behind(rest, Token::Assign)?;
-    let (digits, rest) = digits(rest)?;
-    let rest = behind(rest, Token::Semicolon)?;
-    let rest = behind(rest, Token::Plural)?;
-    let rest = behind(rest, Token::Assign)?;
-    Some((digits, rest))
+    match tokens {
+        [
+            Token::Nplurals,
+            Token::Assign,
+            digits @ (Token::Number(_) | Token::Digits),
+            Token::Semicolon,
+            Token::Plural,
+            Token::Assign,
+            expression @ ..,
+        ] => Some((*digits, expression)),
+        _ => None,
+    }
 }
 
 /// The digits of nplurals and the tree, or None where the text is not of the grammar.
