@@ -3,6 +3,8 @@
 
 ghost use Rattle.std.specs.Prelude.{◌≡◌, IfOk, OnOk, OnErr, IfErr, IsTrue, is_none, option_map};
 ghost use Rattle.std.specs.FinMap as maps;
+ghost use Rattle.std.specs.BTreeMap.{insert_entry};
+ghost use Rattle.po_read.specs.Texts.{text_cmp};
 ghost use Rattle.request_book.specs.Book.{row_of, with_record};
 ghost use Rattle.units.specs.Office.{with_unit};
 ghost use Rattle.office_maps.specs.OfficeIn.{office_in};
@@ -48,6 +50,24 @@ impl Kept {
             reply: self.reply.duplicate()?,
         })
     }
+}
+
+/// Keeps this under a number.
+fn keep(records: &mut BTreeMap<Uuid, Kept>, number: Uuid, kept: Kept) -> Result<(), Lost>
+    ensures ok { OnOk result (records.new.entries ≡ insert_entry text_cmp records.old.entries number kept) }
+    ensures err { OnErr result (records.new.entries ≡ records.old.entries) }
+    ensures memory { IfErr result (λ e. e ≡ Memory) }
+{
+    let before = records.insert(number, kept)?;
+    drop(before);
+    Ok(())
+}
+
+/// The unit of a view.
+fn unit_of(view: UnitView) -> Unit
+    ensures { result ≡ view.unit }
+{
+    view.unit
 }
 
 /// The office, and what is kept under each number.
@@ -106,7 +126,14 @@ impl Maps {
         ensures memory { IfErr result (λ e. e ≡ Memory) }
     {
         match view {
-            Some(view) => self.commit_both(row, Place::of(lang, key)?, view.unit),
+            Some(view) => match Place::of(lang, key) {
+                Ok(place) => self.commit_both(row, place, unit_of(view)),
+                Err(AllocError) => {
+                    drop(row);
+                    drop(view);
+                    Err(Lost::Memory)
+                }
+            },
             None => self.commit_record(row),
         }
     }
@@ -118,9 +145,7 @@ impl Maps {
         ensures err { OnErr result (meaning self.new ≡ meaning self.old) }
         ensures memory { IfErr result (λ e. e ≡ Memory) }
     {
-        let before = self.records.insert(row.number, Kept::of(row))?;
-        drop(before);
-        Ok(())
+        keep(&mut self.records, row.number, Kept::of(row))
     }
 
     /// Writes a unit and a record, or neither.
@@ -132,8 +157,11 @@ impl Maps {
         ensures memory { IfErr result (λ e. e ≡ Memory) }
     {
         let number = row.number;
-        let before = self.records.insert(number, Kept::of(row))?;
-        drop(before);
+        if let Err(lost) = keep(&mut self.records, number, Kept::of(row)) {
+            drop(place);
+            drop(unit);
+            return Err(lost);
+        }
         match self.office.put_unit(place, unit) {
             Ok(()) => Ok(()),
             Err(_) => {
@@ -173,8 +201,10 @@ impl Maps {
         ensures memory { IfErr result (λ e. e ≡ Memory) }
     {
         let number = row.number;
-        let before = self.records.insert(number, Kept::of(row))?;
-        drop(before);
+        if let Err(lost) = keep(&mut self.records, number, Kept::of(row)) {
+            drop(change);
+            return Err(lost);
+        }
         match self.office.change(alloc, change) {
             Ok(()) => Ok(()),
             Err(_) => {
