@@ -139,12 +139,10 @@ with_one_more lang us u units next e =
     ∙ sym (ap (λ xs. with_all xs units) (map-append (λ (unit : Unit). ((lang, unit.key), unit)) us (u ∷ [])) ∙ with_all-append (at_places lang us) (((lang, u.key), u) ∷ []) units)
 
 -- one more of the units that are left
-pub one_added : (lang : Text) (all left : List Unit) (u : Unit) (place : Place) (m n : BTreeMap Place Unit) (whole : Units) → place.lang ≡ lang → place.key.key ≡ u.key
-    → n.entries ≡ insert_entry (λ x y. place_cmp (place_of x) (place_of y)) m.entries place u → all ≡ left ++ u ∷ [] → with_all (at_places lang all) (units_in m) ≡ whole
-    → with_all (at_places lang left) (units_in n) ≡ whole
-one_added lang all left u place m n whole lang_is key_is put cut so_far =
-    with_one_more lang left u (units_in m) (units_in n) (unit_put m n place u lang lang_is key_is put)
-    ∙ (ap (λ (us : List Unit). with_all (at_places lang us) (units_in m)) (sym cut) ∙ so_far)
+pub one_added : (lang : Text) (all left : List Unit) (u : Unit) (units next whole : Units) → next ≡ maps.insert units (lang, u.key) u → all ≡ left ++ u ∷ []
+    → with_all (at_places lang all) units ≡ whole → with_all (at_places lang left) next ≡ whole
+one_added lang all left u units next whole put cut so_far =
+    with_one_more lang left u units next put ∙ (ap (λ (us : List Unit). with_all (at_places lang us) units) (sym cut) ∙ so_far)
 
 -- ---- many units put in, the first first
 

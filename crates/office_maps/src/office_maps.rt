@@ -55,12 +55,25 @@ impl OfficeMaps {
         ensures { IfOk result (λ view. view ≡ view_of (office_in self.now) (lang.now, key.now)) }
     {
         let place = Place::of(lang, key)?;
-        match self.units.get(&place) {
-            Some(unit) => Ok(Some(UnitView {
-                unit: unit.duplicate()?,
-                source: self.source_of(&place.key)?,
-            })),
-            None => Ok(None),
+        let view = self.unit_at(&place);
+        drop(place);
+        view
+    }
+
+    /// A copy of the unit at a place with its template's entry.
+    fn unit_at(&self, place: &Place) -> Result<Option<UnitView>, AllocError>
+        ensures { IfOk result (λ view. view ≡ view_of (office_in self.now) (place_of place.now)) }
+    {
+        let Some(unit) = self.units.get(place) else {
+            return Ok(None);
+        };
+        let source = self.source_of(&place.key)?;
+        match unit.duplicate() {
+            Ok(unit) => Ok(Some(UnitView { unit, source })),
+            Err(refused) => {
+                drop(source);
+                Err(refused)
+            }
         }
     }
 

@@ -69,6 +69,8 @@ fn plain_entry(alloc: Global, id: &str, form: &str) -> Result<Entry, AllocError>
     requires form { is_string form.now ≡ true }
     ensures { IfOk result (λ entry. entry ≡ opens.plain_entry id.now form.now) }
 {
+    let id = string(alloc, id)?;
+    let forms = one_form(alloc, form)?;
     Ok(Entry {
         translator: Items::new(alloc),
         extracted: Items::new(alloc),
@@ -76,9 +78,9 @@ fn plain_entry(alloc: Global, id: &str, form: &str) -> Result<Entry, AllocError>
         flags: Items::new(alloc),
         previous: no_previous(),
         ctx: None,
-        id: string(alloc, id)?,
+        id,
         plural: None,
-        forms: one_form(alloc, form)?,
+        forms,
         obsolete: false,
     })
 }
@@ -145,17 +147,40 @@ fn demo_rule(alloc: Global) -> Result<PluralForms, Memory>
 fn demo_language(alloc: Global) -> Result<Language, Memory>
     ensures { IfOk result (λ language. language.header ≡ opens.plain_entry [] opens.demo_header) }
 {
-    let header = plain_entry(alloc, "", DEMO_HEADER)?;
     let rule = demo_rule(alloc)?;
+    let header = plain_entry(alloc, "", DEMO_HEADER)?;
     Ok(Language { header, rule })
+}
+
+/// One unit at a place.
+fn one_unit(alloc: Global, place: Place, unit: Unit) -> Result<BTreeMap<Place, Unit>, AllocError>
+    ensures { IfOk result (λ units. units_in units ≡ maps.insert maps.empty (place.lang, place.key.key) unit) }
+{
+    let mut units = BTreeMap::new(alloc);
+    match units.insert(place, unit) {
+        Ok(before) => {
+            drop(before);
+            Ok(units)
+        }
+        Err(refused) => {
+            drop(units);
+            drop(refused);
+            Err(AllocError)
+        }
+    }
 }
 
 fn demo_units(alloc: Global) -> Result<BTreeMap<Place, Unit>, AllocError>
     ensures { IfOk result (λ units. units_in units ≡ opens.demo.units) }
 {
-    let mut units = BTreeMap::new(alloc);
-    units.insert(demo_place(alloc)?, demo_unit(alloc)?)?;
-    Ok(units)
+    let place = demo_place(alloc)?;
+    match demo_unit(alloc) {
+        Ok(unit) => one_unit(alloc, place, unit),
+        Err(refused) => {
+            drop(place);
+            Err(refused)
+        }
+    }
 }
 
 fn demo_languages(alloc: Global) -> Result<Languages, Memory>
@@ -202,11 +227,13 @@ impl OfficeMaps {
     pub fn opening(alloc: Global, manager: &Name) -> Result<OfficeMaps, Memory>
         ensures { IfOk result (λ office. office_in office ≡ opens.opening manager.now) }
     {
+        let team = team_of(alloc, manager.as_str())?;
+        let template = Template::of(alloc, Catalogue::empty(alloc))?;
         Ok(OfficeMaps {
-            template: Template::of(alloc, Catalogue::empty(alloc))?,
+            template,
             languages: Languages::new(alloc),
             units: BTreeMap::new(alloc),
-            team: team_of(alloc, manager.as_str())?,
+            team,
             policy: closed_policy(),
         })
     }
@@ -218,11 +245,15 @@ impl OfficeMaps {
     pub fn demo(alloc: Global) -> Result<OfficeMaps, Memory>
         ensures { IfOk result (λ office. office_in office ≡ opens.demo) }
     {
+        let team = demo_team(alloc)?;
+        let units = demo_units(alloc)?;
+        let languages = demo_languages(alloc)?;
+        let template = Template::of(alloc, demo_catalogue(alloc)?)?;
         Ok(OfficeMaps {
-            template: Template::of(alloc, demo_catalogue(alloc)?)?,
-            languages: demo_languages(alloc)?,
-            units: demo_units(alloc)?,
-            team: demo_team(alloc)?,
+            template,
+            languages,
+            units,
+            team,
             policy: closed_policy(),
         })
     }

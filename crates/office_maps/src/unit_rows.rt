@@ -161,6 +161,28 @@ pub(crate) fn put_all(
     Ok(befores)
 }
 
+/// Puts a unit of a language at its place.
+fn add_unit(units: &mut BTreeMap<Place, Unit>, lang: &Lang, unit: Unit) -> Result<(), AllocError>
+    ensures { OnOk result (units_in units.new ≡ maps.insert (units_in units.old) (lang.now, unit.key) unit) }
+{
+    match Place::of(lang, &unit.key) {
+        Ok(place) => match units.insert(place, unit) {
+            Ok(before) => {
+                drop(before);
+                Ok(())
+            }
+            Err(refused) => {
+                drop(refused);
+                Err(AllocError)
+            }
+        },
+        Err(refused) => {
+            drop(unit);
+            Err(refused)
+        }
+    }
+}
+
 /// Puts units of a language at their places, the last first. Of those with one key the first stays.
 fn add_units(
     units: &mut BTreeMap<Place, Unit>,
@@ -171,8 +193,7 @@ fn add_units(
 {
     let mut left = more;
     while let Some(unit) = left.pop() {
-        let place = Place::of(lang, &unit.key)?;
-        units.insert(place, unit)?;
+        add_unit(units, lang, unit)?;
     }
     Ok(())
 }

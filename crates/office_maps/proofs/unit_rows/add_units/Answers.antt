@@ -6,15 +6,8 @@ use Rattle.office_maps.proofs.unit_rows.add_units.Goals as goal
 
 pub loop-unit-preserved : goal.loop-unit-preserved
 loop-unit-preserved c =
-    one_added c.args.lang.now c.loop-unit.left.items c.pop.new.self.items c.in-Some.unit c.in_ok-place.place c.loop-unit.units c.insert.new.self
-    (with_all (at_places c.args.lang.now c.args.more.items) (units_in c.args.units.now)) c.in_ok-place.ensures.lang c.in_ok-place.ensures.key c.in_ok-insert.ensures.entries c.in-Some.ensures.items
-    c.loop-unit.invariant
-
-pub loop-unit-preserved-in_ok-insert : goal.loop-unit-preserved-in_ok-insert
-loop-unit-preserved-in_ok-insert c =
-    one_added c.args.lang.now c.loop-unit.left.items c.pop.new.self.items c.in-Some.unit c.in_ok-place.place c.loop-unit.units c.insert.new.self
-    (with_all (at_places c.args.lang.now c.args.more.items) (units_in c.args.units.now)) c.in_ok-place.ensures.lang c.in_ok-place.ensures.key c.in_ok-insert.ensures.entries c.in-Some.ensures.items
-    c.loop-unit.invariant
+    one_added c.args.lang.now c.loop-unit.left.items c.pop.new.self.items c.in-Some.unit (units_in c.loop-unit.units) (units_in c.add_unit.new.units)
+    (with_all (at_places c.args.lang.now c.args.more.items) (units_in c.args.units.now)) c.in_ok-add_unit.ensures c.in-Some.ensures.items c.loop-unit.invariant
 
 pub returns : goal.returns
 returns c =
