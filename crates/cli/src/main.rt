@@ -3,6 +3,7 @@
 
 mod words;
 
+use clap::Error;
 use commands::{FAILED, Input, Output, canon_text, deliver_lines, plural_lines};
 use office::Desk;
 use std::alloc::Global;
@@ -22,15 +23,26 @@ fn main(rt: HostRuntime) -> ExitCode {
 fn run(rt: &HostRuntime) -> io::Result<u8> {
     let alloc = rt.alloc();
     let words: Vec<String> = std::env::args(rt)?.collect(alloc)?;
-    match read_words(alloc, words.as_slice()) {
-        Ok(Asked::Deliver(options)) => deliver_standard(rt, &options),
-        Ok(Asked::Plural(options)) => plural_standard(rt, &options),
-        Ok(Asked::Canon) => canon_standard(rt),
-        Err(error) => {
-            error.print(rt)?;
-            Ok(words_status(&error))
-        }
+    let status = match read_words(alloc, words.as_slice()) {
+        Ok(asked) => asked_status(rt, &asked),
+        Err(error) => error_status(rt, &error),
+    };
+    drop(words);
+    status
+}
+
+/// Does what the words ask for.
+fn asked_status(rt: &HostRuntime, asked: &Asked<'_>) -> io::Result<u8> {
+    match asked {
+        Asked::Deliver(options) => deliver_standard(rt, options),
+        Asked::Plural(options) => plural_standard(rt, options),
+        Asked::Canon => canon_standard(rt),
     }
+}
+
+fn error_status(rt: &HostRuntime, error: &Error) -> io::Result<u8> {
+    error.print(rt)?;
+    Ok(words_status(error))
 }
 
 fn open(alloc: Global, options: &Deliver) -> Result<Desk<PlainTables>, Lost> {

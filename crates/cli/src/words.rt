@@ -31,82 +31,132 @@ pub(crate) struct Plural<'a> {
     pub(crate) numbers: Vec<u32>,
 }
 
-fn deliver_command<'a>(alloc: Global) -> Result<Command<'a>, AllocError> {
-    let manager = Arg::new(alloc, "manager")
+fn manager_arg<'a>(alloc: Global) -> Arg<'a> {
+    Arg::new(alloc, "manager")
         .long("manager")
         .value_name("NAME")
         .action(ArgAction::Set)
         .default_value("root")
-        .help("Who manages the office that opens empty");
-    let demo = Arg::new(alloc, "demo")
+        .help("Who manages the office that opens empty")
+}
+
+fn demo_arg<'a>(alloc: Global) -> Arg<'a> {
+    Arg::new(alloc, "demo")
         .long("demo")
         .action(ArgAction::SetTrue)
-        .help("Opens the demo office: a template with `Hello`, and the language de");
-    let export = Arg::new(alloc, "export")
+        .help("Opens the demo office: a template with `Hello`, and the language de")
+}
+
+fn export_arg<'a>(alloc: Global) -> Arg<'a> {
+    Arg::new(alloc, "export")
         .long("export")
         .value_name("LANG")
         .action(ArgAction::Set)
-        .help("Prints the language's PO text behind the replies");
+        .help("Prints the language's PO text behind the replies")
+}
+
+fn deliver_command<'a>(alloc: Global) -> Result<Command<'a>, AllocError> {
     Command::new(alloc, "deliver")
         .about("Reads a JSON request a line, and prints STATUS BODY for each")
         .version(VERSION)
-        .arg(manager)?
-        .arg(demo)?
-        .arg(export)
+        .arg(manager_arg(alloc))?
+        .arg(demo_arg(alloc))?
+        .arg(export_arg(alloc))
 }
 
-fn plural_command<'a>(alloc: Global) -> Result<Command<'a>, AllocError> {
-    let value = Arg::new(alloc, "value")
+fn value_arg<'a>(alloc: Global) -> Arg<'a> {
+    Arg::new(alloc, "value")
         .value_name("VALUE")
         .required(true)
-        .help("The value of a header's Plural-Forms field");
-    let numbers = Arg::new(alloc, "n")
+        .help("The value of a header's Plural-Forms field")
+}
+
+fn numbers_arg<'a>(alloc: Global) -> Arg<'a> {
+    Arg::new(alloc, "n")
         .value_name("N")
         .required(true)
         .num_args(1..)
         .value_parser(value_parser!(u32))
-        .help("Numbers from 0 to 4294967295");
+        .help("Numbers from 0 to 4294967295")
+}
+
+fn plural_command<'a>(alloc: Global) -> Result<Command<'a>, AllocError> {
     Command::new(alloc, "plural")
         .about("Prints N INDEX a line: the number of the form that the rule gives at N")
         .version(VERSION)
-        .arg(value)?
-        .arg(numbers)
+        .arg(value_arg(alloc))?
+        .arg(numbers_arg(alloc))
 }
 
-fn canon_command<'a>(alloc: Global) -> Result<Command<'a>, AllocError> {
-    Ok(
-        Command::new(alloc, "canon")
-            .about("Reads a PO text, and prints it in canonical form, or only po line L kind K")
-            .version(VERSION),
-    )
+fn canon_command<'a>(alloc: Global) -> Command<'a> {
+    Command::new(alloc, "canon")
+        .about("Reads a PO text, and prints it in canonical form, or only po line L kind K")
+        .version(VERSION)
 }
 
 const VERSION: &str = "0.1.0";
 
+/// A command with a subcommand, if there was memory for that. (A command is dropped in one place here, since each such place is dear to
+/// prove.)
+fn with_subcommand<'a>(
+    command: Command<'a>,
+    subcommand: Result<Command<'a>, AllocError>,
+) -> Result<Command<'a>, AllocError> {
+    match subcommand {
+        Ok(subcommand) => command.subcommand(subcommand),
+        Err(fault) => {
+            drop(command);
+            Err(fault)
+        }
+    }
+}
+
+fn bare_command<'a>(alloc: Global) -> Result<Command<'a>, AllocError> {
+    Ok(
+        Command::new(alloc, "office")
+            .bin_name("office")?
+            .about("A translation office in which a request that comes again acts once")
+            .version(VERSION)
+            .subcommand_required(true)
+            .arg_required_else_help(true),
+    )
+}
+
 fn office_command<'a>(alloc: Global) -> Result<Command<'a>, AllocError> {
-    Command::new(alloc, "office")
-        .bin_name("office")?
-        .about("A translation office in which a request that comes again acts once")
-        .version(VERSION)
-        .subcommand_required(true)
-        .arg_required_else_help(true)
-        .subcommand(deliver_command(alloc)?)?
-        .subcommand(plural_command(alloc)?)?
-        .subcommand(canon_command(alloc)?)
+    let command = with_subcommand(bare_command(alloc)?, deliver_command(alloc))?;
+    with_subcommand(command, plural_command(alloc))?.subcommand(canon_command(alloc))
+}
+
+fn wanted_subcommand(alloc: Global) -> Result<Error, AllocError> {
+    let mut command = office_command(alloc)?;
+    let error = command.error(ErrorKind::MissingSubcommand, "a subcommand is wanted");
+    drop(command);
+    error
+}
+
+/// The error, or that memory was wanting for it.
+fn or_memory(error: Result<Error, AllocError>) -> Error {
+    match error {
+        Ok(error) => error,
+        Err(fault) => Error::from(fault),
+    }
+}
+
+fn asked_of<'a>(alloc: Global, matches: &ArgMatches<'a>) -> Result<Asked<'a>, Error> {
+    match matches.subcommand() {
+        Some(("deliver", found)) => deliver_options(alloc, found),
+        Some(("plural", found)) => plural_options(alloc, found),
+        Some(("canon", _)) => Ok(Asked::Canon),
+        _ => Err(or_memory(wanted_subcommand(alloc))),
+    }
 }
 
 /// What the words ask for; or what to tell of them: help, the version, or what is wrong with them.
 pub(crate) fn read_words<'a>(alloc: Global, words: &'a [String]) -> Result<Asked<'a>, Error> {
     let matches = office_command(alloc)?.try_get_matches_from(words)?;
-    match matches.subcommand() {
-        Some(("deliver", found)) => Ok(Asked::Deliver(deliver_options(alloc, found)?)),
-        Some(("plural", found)) => Ok(Asked::Plural(plural_options(alloc, found)?)),
-        Some(("canon", _)) => Ok(Asked::Canon),
-        _ => {
-            let kind = ErrorKind::MissingSubcommand;
-            Err(office_command(alloc)?.error(kind, "a subcommand is wanted")?)
-        }
-    }
+    let asked = asked_of(alloc, &matches);
+    drop(matches);
+    asked
 }
 
 /// The exit status where the words ask for nothing to do: 0 for help and the version, 1 where memory ran out, 2 for wrong words.
@@ -117,7 +167,7 @@ pub(crate) fn words_status(error: &Error) -> u8 {
     }
 }
 
-fn plural_options<'a>(alloc: Global, found: &ArgMatches<'a>) -> Result<Plural<'a>, Error> {
+fn numbers(alloc: Global, found: &ArgMatches<'_>) -> Result<Vec<u32>, AllocError> {
     let mut numbers = Vec::new(alloc);
     for text in found.get_strs("n").unwrap_or(&[]) {
         // clap has read each of them
@@ -125,10 +175,15 @@ fn plural_options<'a>(alloc: Global, found: &ArgMatches<'a>) -> Result<Plural<'a
             numbers.push(number)?;
         }
     }
-    Ok(Plural {
+    Ok(numbers)
+}
+
+fn plural_options<'a>(alloc: Global, found: &ArgMatches<'a>) -> Result<Asked<'a>, Error> {
+    let numbers = numbers(alloc, found)?;
+    Ok(Asked::Plural(Plural {
         value: found.get_str("value").unwrap_or(""),
         numbers,
-    })
+    }))
 }
 
 const NO_NAME: &str =
@@ -138,23 +193,44 @@ const NO_LANG: &str =
     "a LANG is 2 to 16 ASCII letters, digits, `_`, `-` and `@`, the first of them a letter";
 
 /// What is wrong with a value of `deliver`.
-fn wrong_value<T>(alloc: Global, text: &str) -> Result<T, Error> {
+fn wrong_value(alloc: Global, text: &str) -> Result<Error, AllocError> {
     let mut command = deliver_command(alloc)?.bin_name("office deliver")?;
-    Err(command.error(ErrorKind::ValueValidation, text)?)
+    let error = command.error(ErrorKind::ValueValidation, text);
+    drop(command);
+    error
 }
 
-fn deliver_options(alloc: Global, found: &ArgMatches<'_>) -> Result<Deliver, Error> {
-    let name = found.get_str("manager").unwrap_or("root");
-    let Some(manager) = Name::try_new(alloc, name)? else {
-        return wrong_value(alloc, NO_NAME);
-    };
-    let export = lang_option(alloc, found.get_str("export"))?;
-    let start = if found.get_flag("demo") {
+fn deliver_options<'a>(alloc: Global, found: &ArgMatches<'a>) -> Result<Asked<'a>, Error> {
+    match Name::try_new(alloc, found.get_str("manager").unwrap_or("root"))? {
+        Some(manager) => managed_options(alloc, found, manager),
+        None => Err(or_memory(wrong_value(alloc, NO_NAME))),
+    }
+}
+
+fn start(is_demo: bool, manager: Name) -> Start {
+    if is_demo {
         Start::Demo
     } else {
         Start::Opening(manager)
-    };
-    Ok(Deliver { start, export })
+    }
+}
+
+/// The options of `deliver` with this manager.
+fn managed_options<'a>(
+    alloc: Global,
+    found: &ArgMatches<'a>,
+    manager: Name,
+) -> Result<Asked<'a>, Error> {
+    match lang_option(alloc, found.get_str("export")) {
+        Ok(export) => Ok(Asked::Deliver(Deliver {
+            start: start(found.get_flag("demo"), manager),
+            export,
+        })),
+        Err(error) => {
+            drop(manager);
+            Err(error)
+        }
+    }
 }
 
 fn lang_option(alloc: Global, value: Option<&str>) -> Result<Option<Lang>, Error> {
@@ -163,6 +239,6 @@ fn lang_option(alloc: Global, value: Option<&str>) -> Result<Option<Lang>, Error
     };
     match Lang::try_new(alloc, text)? {
         Some(lang) => Ok(Some(lang)),
-        None => wrong_value(alloc, NO_LANG),
+        None => Err(or_memory(wrong_value(alloc, NO_LANG))),
     }
 }
