@@ -1,28 +1,24 @@
 //! One delivery over any tables: a look into the book, and for a new number the decision and its commit.
-ghost use Rattle.std.specs.Prelude.{◌≡◌, if◌then◌else◌, true, IfOk, IfSome, OnOk, OnErr, IsTrue, is_none, option_map};
+ghost use Rattle.std.specs.Prelude.{◌≡◌, if◌then◌else◌, true, IfOk, IfSome, OnErr, IsTrue, is_none, option_map};
 ghost use Rattle.std.specs.FinMap as maps;
 ghost use Rattle.po_read.specs.Texts.{text_eq};
 ghost use Rattle.replies.specs.Bodies.{number_used};
 ghost use Rattle.request_book.specs.Acts.{IsRequest, content_text};
-ghost use Rattle.request_book.specs.Book.{with_record};
 ghost use Rattle.request_book.specs.Clash.{is_office_act};
 ghost use Rattle.request_book.specs.declared.act.Act.TheVariants.{OnUnit};
 ghost use Rattle.deliveries.specs.Deliveries.{reply_from, first_delivered};
-ghost use Rattle.deliveries.specs.UnitAccess.{with_view};
-ghost use Rattle.deliveries.specs.OfficeChanges.{changed_by, IsPossibleChange};
-ghost use Rattle.deliveries.specs.OfficeRules.{KeepsRules};
 ghost use Rattle.tables.specs.Stops.{Nothing};
 ghost use Rattle.tables.specs.Kept.{IsKept};
 ghost use Rattle.tables.specs.declared.faults.Lost.TheVariants.{Disk};
 
-use deliveries::{Change, Outcome};
+use deliveries::Outcome;
 use office_acts::{OfficeOutcome, office_outcome, unit_outcome};
 use po_read::{Duplicate, Text};
 use replies::used;
 use request_book::{Act, Class, Record, Reply, Request, classify};
 use std::alloc::{AllocError, Global};
 use tables::{Lost, Tables};
-use units::{Key, Lang, UnitAct, UnitView};
+use units::{Key, Lang, UnitAct};
 
 /// The reply to a request with this content, by what is recorded under its number, if anything is.
 fn reply_by(
@@ -74,28 +70,6 @@ fn record_with(request: &Request, content: Text, reply: &Reply) -> Option<Record
     }
 }
 
-/// Commits an act on a unit, and hands on its reply, which is made: nothing here takes memory.
-fn commit_unit_act<T: Tables>(
-    tables: &mut T,
-    row: Record,
-    lang: &Lang,
-    key: &Key,
-    view: Option<UnitView>,
-    reply: Reply,
-) -> Result<Reply, Lost>
-    requires new { T.is_honest tables.old → IsTrue (is_none (maps.get (T.means tables.old).book row.number)) }
-    requires rules { T.is_honest tables.old → KeepsRules (record { office = with_view (T.means tables.old).office lang.now key.now view; book = with_record (T.means tables.old).book row }) }
-    ensures handed_on { IfOk result (λ r. r ≡ reply) }
-    ensures done { T.is_honest tables.new → OnOk result
-        (T.means tables.new ≡ record { office = with_view (T.means tables.old).office lang.now key.now view; book = with_record (T.means tables.old).book row }) }
-    ensures same { T.is_honest tables.new → T.is_whole tables.new → OnErr result (T.means tables.new ≡ T.means tables.old) }
-    ensures kept { IsKept T.is_honest T.is_whole T.means T.may_leave T.is_stopped tables.old tables.new result Disk
-        (λ m. m ≡ record { office = with_view (T.means tables.old).office lang.now key.now view; book = with_record (T.means tables.old).book row }) }
-{
-    tables.commit_unit(row, lang, key, view)?;
-    Ok(reply)
-}
-
 /// Decides and commits an act on a unit whose number is new. Reply and record are made before the commit: nothing after it takes
 /// memory.
 fn deliver_unit_act<T: Tables>(
@@ -127,27 +101,7 @@ fn deliver_unit_act<T: Tables>(
             return Err(Lost::Memory);
         }
     };
-    commit_unit_act(tables, row, lang, key, view, reply)
-}
-
-/// Commits an act on the office, and hands on its reply, which is made: nothing here takes memory.
-fn commit_office_act<T: Tables>(
-    tables: &mut T,
-    row: Record,
-    change: Option<Change>,
-    reply: Reply,
-) -> Result<Reply, Lost>
-    requires new { T.is_honest tables.old → IsTrue (is_none (maps.get (T.means tables.old).book row.number)) }
-    requires possible { T.is_honest tables.old → IsPossibleChange (T.means tables.old).office change }
-    requires rules { T.is_honest tables.old → KeepsRules (record { office = changed_by (T.means tables.old).office change; book = with_record (T.means tables.old).book row }) }
-    ensures handed_on { IfOk result (λ r. r ≡ reply) }
-    ensures done { T.is_honest tables.new → OnOk result
-        (T.means tables.new ≡ record { office = changed_by (T.means tables.old).office change; book = with_record (T.means tables.old).book row }) }
-    ensures same { T.is_honest tables.new → T.is_whole tables.new → OnErr result (T.means tables.new ≡ T.means tables.old) }
-    ensures kept { IsKept T.is_honest T.is_whole T.means T.may_leave T.is_stopped tables.old tables.new result Disk
-        (λ m. m ≡ record { office = changed_by (T.means tables.old).office change; book = with_record (T.means tables.old).book row }) }
-{
-    tables.commit_office(row, change)?;
+    tables.commit_unit(row, lang, key, view)?;
     Ok(reply)
 }
 
@@ -179,7 +133,8 @@ fn deliver_office_act<T: Tables>(
             return Err(Lost::Memory);
         }
     };
-    commit_office_act(tables, row, change, reply)
+    tables.commit_office(row, change)?;
+    Ok(reply)
 }
 
 /// Decides and commits a request whose number is new.
