@@ -5,9 +5,9 @@
 
 `rt lib` proves and builds one crate, and keeps all others out of the crates below it meanwhile. So each crate is built in a room
 of its own, a folder that shares the sources and the libraries below with the repository (hard links), and its `out` is then put
-in its place. As many crates are built side by side as there are processors, and 4 GB of free memory for each (--lanes). The jobs (--jobs, as many
-as processors) go to the crate that most others wait for, but for one to each crate beside it and two to the next: more jobs than processors
-make every crate dearer. What was built before and hasn't changed is left as it is: `rt lib` sees that.
+in its place. As many crates are built side by side as there are processors, and 4 GB of free memory for each (--lanes). The crate that most
+others wait for has all jobs (--jobs, as many as processors); a crate beside it has half of them, and only the time that the first leaves. What
+was built before and hasn't changed is left as it is: `rt lib` sees that.
 
 Where the second output is a terminal, each crate is told there as it begins, and how long the build has taken. What `rt` prints is shown only
 where it fails. The status is 0 where the program was built.
@@ -115,9 +115,12 @@ class Build:
             minutes = int(time.monotonic() - self.started) // 60
             print(f"office: crate {self.begun} of {len(self.crates) + 1}, {name} (minute {minutes})", file=sys.stderr, flush=True)
 
-    def rt(self, folder, verb, jobs, *words):
-        """Runs rt in this folder."""
-        command = ["rt", verb, "--jobs", str(jobs), *words]
+    def rt(self, folder, verb, turn, *words):
+        """Runs rt in this folder: with all jobs where it is the crate's turn, and else behind the others."""
+        if turn:
+            command = ["rt", verb, "--jobs", str(self.jobs), *words]
+        else:
+            command = ["nice", "-n", "15", "rt", verb, "--jobs", str(max(1, self.jobs // 2)), *words]
         done = subprocess.run(
             command, cwd=folder, stdin=subprocess.DEVNULL, stdout=subprocess.PIPE, stderr=subprocess.STDOUT, check=False
         )
@@ -136,10 +139,10 @@ class Build:
                 link(CRATES / crate / part, room / "crates" / crate / part)
         return room
 
-    def library(self, name, rooms, jobs):
+    def library(self, name, rooms, turn):
         """Proves and builds a crate in a room of its own, and puts what came of it in its place."""
         if rooms is None:
-            self.rt(CRATES / name, "lib", jobs)
+            self.rt(CRATES / name, "lib", turn)
             return
         room = self.room_for(name, rooms)
         made, place = room / "crates" / name / "out", CRATES / name / "out"
@@ -148,18 +151,11 @@ class Build:
             out.mkdir(exist_ok=True)
         move(place / KEPT, made / KEPT)
         try:
-            self.rt(made.parent, "lib", jobs)
+            self.rt(made.parent, "lib", turn)
             move(made / "rlib", place / "rlib")
         finally:
             move(made / KEPT, place / KEPT)
         shutil.rmtree(room)
-
-    def jobs_for(self, name, beside, first):
-        """How many jobs a crate gets beside these."""
-        before = sum(first[it] > first[name] for it in beside)
-        if before == 0:
-            return max(1, self.jobs - len(beside))
-        return min(self.jobs, 2) if before == 1 else 1
 
     def libraries(self, rooms):
         """Builds each crate as soon as those below it are built, the most urgent first."""
@@ -174,8 +170,8 @@ class Build:
                 for name in next_ones:
                     left.remove(name)
                     self.tell(name)
-                    jobs = self.jobs_for(name, at_work - {name}, first)
-                    running[pool.submit(self.library, name, rooms, jobs)] = name
+                    turn = all(first[name] >= first[it] for it in at_work)
+                    running[pool.submit(self.library, name, rooms, turn)] = name
                 done = concurrent.futures.wait(running, return_when=concurrent.futures.FIRST_COMPLETED).done
                 for it in done:
                     name = running.pop(it)
@@ -189,7 +185,7 @@ class Build:
 
     def program(self):
         self.tell(PROGRAM)
-        self.rt(CRATES / PROGRAM, "run", self.jobs, "--", "--version")
+        self.rt(CRATES / PROGRAM, "run", True, "--", "--version")
 
 
 def main(words):
