@@ -1,43 +1,17 @@
 //! What the writer makes of entries.
-ghost use Rattle.std.specs.Prelude.{Some};
 
 use crate::stage::Stage;
 use po_read::{Catalogue, Entry, read};
 use po_write::{CatalogueWriter, WriteFault, write_catalogue, write_entry};
 use std::alloc::{AllocError, Global};
-use units::{ByteSink, SinkFault};
+use units::{ByteSink, VecSink};
 
-/// A sink over memory that is full after so many bytes.
-#[derive(Drop)]
-struct VecSink {
-    taken: Vec<u8>,
-    most: usize,
-    failed: u64,
-}
-
-impl ByteSink for VecSink {
-    ghost taken = { λ sink. Some sink.taken.items };
-
-    ghost failed = { λ sink. sink.failed };
-
-    fn write(&mut self, bytes: &[u8]) -> Result<usize, SinkFault> {
-        let count = bytes.len().min(self.most.saturating_sub(self.taken.len()));
-        if count == 0 || self.taken.extend_from_slice(&bytes[..count]).is_err() {
-            self.failed = self.failed.saturating_add(1);
-            return Err(SinkFault);
-        }
-        Ok(count)
-    }
-
-    fn failures(&self) -> u64 {
-        self.failed
-    }
-}
-
+/// A sink that is full after so many bytes.
 fn sink(alloc: Global, most: usize) -> VecSink {
     VecSink {
-        taken: Vec::new(alloc),
-        most,
+        bytes: Vec::new(alloc),
+        piece: usize::MAX,
+        room: most,
         failed: 0,
     }
 }
@@ -47,7 +21,7 @@ fn taken(alloc: Global, sink: &VecSink, is_done: bool) -> Option<String> {
     if !is_done || sink.failures() != 0 {
         return String::from_str(alloc, "a fault").ok();
     }
-    String::from_str(alloc, str::from_utf8(sink.taken.as_slice()).ok()?).ok()
+    String::from_str(alloc, str::from_utf8(sink.bytes.as_slice()).ok()?).ok()
 }
 
 fn catalogue_text(alloc: Global, catalogue: &Catalogue) -> Option<String> {
@@ -100,7 +74,7 @@ fn full_told(
         outcome_told(&mut text, *outcome)?;
     }
     let failures = sink.failures();
-    let taken = String::from_utf8_lossy(alloc, sink.taken.as_slice())?;
+    let taken = String::from_utf8_lossy(alloc, sink.bytes.as_slice())?;
     write!(text, "{failures} {taken}")?;
     Ok(text)
 }

@@ -1,13 +1,12 @@
 //! Exports of a desk.
 use crate::course::Sent;
-use crate::room::{Room, sink_with};
 use crate::told::receipt_told;
 use crate::words::code_in;
 use office::{Desk, ExportFault, ExportReceipt};
 use std::alloc::Global;
 use std::str;
 use store::PlainTables;
-use units::Lang;
+use units::{Lang, VecSink};
 
 /// The codes of the demo office's language and of those that the requests name.
 pub(crate) fn codes<'a>(alloc: Global, sent: &'a [Sent]) -> Option<Vec<&'a str>> {
@@ -28,7 +27,7 @@ fn export_into(
     alloc: Global,
     desk: &mut Desk<PlainTables>,
     code: &str,
-    sink: &mut Room,
+    sink: &mut VecSink,
 ) -> Option<Result<ExportReceipt, ExportFault>> {
     let lang = Lang::try_new(alloc, code).ok()??;
     Some(desk.export(&lang, sink))
@@ -37,6 +36,16 @@ fn export_into(
 fn taken_told(alloc: Global, taken: &[u8]) -> Option<String> {
     let text = str::from_utf8(taken).ok()?;
     text.replace(alloc, "\n", "¶").ok()
+}
+
+/// A sink that is full after so many bytes.
+fn sink_with(alloc: Global, most: usize) -> VecSink {
+    VecSink {
+        bytes: Vec::new(alloc),
+        piece: usize::MAX,
+        room: most,
+        failed: 0,
+    }
 }
 
 /// What the export of a language into so much room is told as.
@@ -48,8 +57,8 @@ pub(crate) fn exported(
 ) -> Option<String> {
     let mut sink = sink_with(alloc, most);
     let outcome = export_into(alloc, desk, code, &mut sink)?;
-    let receipt = receipt_told(alloc, outcome, sink.taken.len())?;
-    let text = taken_told(alloc, &sink.taken)?;
+    let receipt = receipt_told(alloc, outcome, sink.bytes.len())?;
+    let text = taken_told(alloc, &sink.bytes)?;
     format!(in alloc; "{receipt}|{text}").ok()
 }
 

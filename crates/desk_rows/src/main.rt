@@ -28,7 +28,6 @@ mod every;
 mod exports;
 mod many;
 mod numbers;
-mod room;
 mod stage;
 mod told;
 mod words;

@@ -12,36 +12,7 @@ use po_read::Entry;
 use po_write::{send, write_entry};
 use std::alloc::Global;
 use tables::EntrySink;
-use units::{ByteSink, SinkFault};
-
-/// One entry's text, until it is sent.
-#[derive(Drop)]
-struct Held {
-    bytes: Vec<u8>,
-    failures: u64,
-}
-
-impl ByteSink for Held {
-    ghost use Rattle.std.specs.Prelude.{Some};
-
-    ghost taken = { λ held. Some held.bytes.items };
-
-    ghost failed = { λ held. held.failures };
-
-    fn write(&mut self, bytes: &[u8]) -> Result<usize, SinkFault> {
-        match self.bytes.extend_from_slice(bytes) {
-            Ok(()) => Ok(bytes.len()),
-            Err(_) => {
-                self.failures = self.failures.saturating_add(1);
-                Err(SinkFault)
-            }
-        }
-    }
-
-    fn failures(&self) -> u64 {
-        self.failures
-    }
-}
+use units::{ByteSink, SinkFault, VecSink};
 
 /// The text of an entry, behind a blank line where an entry came before it.
 fn text_behind(alloc: Global, begun: bool, entry: &Entry) -> Result<Vec<u8>, SendFault>
@@ -52,7 +23,12 @@ fn text_behind(alloc: Global, begun: bool, entry: &Entry) -> Result<Vec<u8>, Sen
     if begun {
         bytes.push(b'\n')?;
     }
-    let mut held = Held { bytes, failures: 0 };
+    let mut held = VecSink {
+        bytes,
+        piece: usize::MAX,
+        room: usize::MAX,
+        failed: 0,
+    };
     match write_entry(&mut held, entry) {
         Ok(()) => Ok(held.bytes),
         Err(_) => Err(SendFault::Memory),

@@ -12,6 +12,7 @@ use plural_expr::{PluralFault, PluralForms};
 use po_lex::{FaultKind, PoFault};
 use po_read::{Catalogue, Entry, Text, field_value, read};
 use std::alloc::{AllocError, Global};
+use template_update::is_header;
 use units::Memory;
 
 /// The catalogue of a PO text, or its first fault.
@@ -25,12 +26,6 @@ pub(crate) fn read_text(alloc: Global, po: &Text) -> Result<Result<Catalogue, Po
             _ => Ok(Err(fault)),
         },
     }
-}
-
-fn is_header(entry: &Entry) -> bool
-    ensures { result ≡ is_header entry.now }
-{
-    entry.ctx.is_none() && entry.id.as_str().is_empty() && entry.plural.is_none() && !entry.obsolete
 }
 
 /// The header entry.

@@ -1,6 +1,6 @@
 //! A unit's place: its language and its key.
 
-ghost use Rattle.std.specs.Prelude.{◌≡◌, IfOk, refl};
+ghost use Rattle.std.specs.Prelude.{◌≡◌, [], None, IfOk, refl};
 ghost use Rattle.std.specs.Ordering.{on, as_partial_cmp, eq_by_cmp};
 ghost use Rattle.std.specs.Cmp.{partial_equiv_from_equiv, eq_by_cmp_equiv, partial_order_from_total};
 ghost use Rattle.std.proofs.lemmas.Cmp.{on_total};
@@ -8,8 +8,8 @@ ghost use Rattle.units.specs.Units.{key_cmp};
 ghost use Rattle.units.specs.Office.{place_cmp};
 ghost use Rattle.units.specs.Orders.{key_total, place_total};
 
-use po_read::Duplicate;
-use std::alloc::AllocError;
+use po_read::{Duplicate, PoString};
+use std::alloc::{AllocError, Global};
 use std::cmp::Ordering;
 use units::{Key, Keyed, Lang};
 
@@ -74,6 +74,23 @@ impl Place {
             lang: lang.duplicate()?,
             key: OrderedKey {
                 key: key.duplicate()?,
+            },
+        })
+    }
+
+    /// The place before all others of a language: that of an empty msgid without a context.
+    pub fn first_of(alloc: Global, lang: &Lang) -> Result<Place, AllocError>
+        ensures lang { IfOk result (λ place. place.lang ≡ lang.now) }
+        ensures key { IfOk result (λ place. place.key.key ≡ record { ctx = None; id = [] }) }
+    {
+        let id = match PoString::try_new(alloc, "")? {
+            Some(id) => id,
+            None => unreachable!(),
+        };
+        Ok(Place {
+            lang: lang.duplicate()?,
+            key: OrderedKey {
+                key: Key { ctx: None, id },
             },
         })
     }

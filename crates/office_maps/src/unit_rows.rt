@@ -1,6 +1,6 @@
 //! Units at their places.
 
-ghost use Rattle.std.specs.Prelude.{◌≡◌, [], None, false, not, ◌&&◌, IfOk, OnOk, OnErr, map, filter, flat_map, count_by, nat_lt, if◌then◌else◌, fold};
+ghost use Rattle.std.specs.Prelude.{◌≡◌, false, not, ◌&&◌, IfOk, OnOk, OnErr, map, filter, flat_map, count_by, nat_lt, if◌then◌else◌, fold};
 ghost use Rattle.std.specs.List.{list_any};
 ghost use Rattle.std.specs.FinMap as maps;
 ghost use Rattle.units.specs.Limits.{revision_limit};
@@ -11,8 +11,8 @@ ghost use Rattle.deliveries.specs.OfficeActs.{placed};
 ghost use Rattle.office_maps.specs.Rows.{units_in};
 ghost use Rattle.office_maps.specs.DisplacedUnits.{Units, IsDisplaced, AreDisplaced, at_places, with_all};
 
-use crate::place::{OrderedKey, Place};
-use po_read::{Duplicate, PoString};
+use crate::place::Place;
+use po_read::Duplicate;
 use std::alloc::{AllocError, Global};
 use std::collections::BTreeMap;
 use template_update::Plan;
@@ -272,23 +272,6 @@ pub(crate) fn count_losing(units: &BTreeMap<Place, Unit>, policy: &Policy) -> us
         .count()
 }
 
-/// The place before all others of a language.
-fn first_place(alloc: Global, lang: &Lang) -> Result<Place, AllocError>
-    ensures lang { IfOk result (λ place. place.lang ≡ lang.now) }
-    ensures key { IfOk result (λ place. place.key.key ≡ record { ctx = None; id = [] }) }
-{
-    let id = match PoString::try_new(alloc, "")? {
-        Some(id) => id,
-        None => unreachable!(),
-    };
-    Ok(Place {
-        lang: lang.duplicate()?,
-        key: OrderedKey {
-            key: Key { ctx: None, id },
-        },
-    })
-}
-
 /// Copies of a language's units, in the order of their keys.
 pub(crate) fn units_of(
     alloc: Global,
@@ -297,7 +280,7 @@ pub(crate) fn units_of(
 ) -> Result<Vec<Unit>, AllocError>
     ensures { IfOk result (λ all. all.items ≡ map (λ e. e.1) (filter (λ e. text_eq lang.now e.0.0) (maps.entries (units_in units.now)))) }
 {
-    let first = first_place(alloc, lang)?;
+    let first = Place::first_of(alloc, lang)?;
     let mut all = Vec::new(alloc);
     for (place, unit) in units.range(first..) {
         if *lang != place.lang {

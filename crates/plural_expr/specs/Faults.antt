@@ -15,9 +15,13 @@ use Rattle.plural_expr.specs.Plain.{rule_of}
 
 -- ---- the tests, over the relation of the grammar
 
+-- how many forms a rule may have
+abbrev pub form_limit : ℕ
+form_limit = 8
+
 -- one digit from 1 to 8
 abbrev pub IsCount : Token → Type 0
-IsCount (Number k) = (0 < k) × (k ≤ 8)
+IsCount (Number k) = (0 < k) × (k ≤ form_limit)
 IsCount _ = ⊥
 
 -- a value that is a form's number, and one that is above them
@@ -76,7 +80,7 @@ values_fault rule = first_fault rule (range_with_len 0 1000)
 -- a rule that passed the tests
 pub record IsSound (rule : Rule) : Type 0 where
   pub some : 0 < rule.count
-  pub most : rule.count ≤ 8
+  pub most : rule.count ≤ form_limit
   pub shallow : depth rule.tree ≤ 32
   pub values : values_fault rule ≡ None
 

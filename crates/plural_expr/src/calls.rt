@@ -7,7 +7,7 @@ ghost use Rattle.plural_expr.specs.declared.token.Token.{Token};
 ghost use Rattle.plural_expr.specs.Trees.{Tree as TreeValue, SpellsRule};
 ghost use Rattle.plural_expr.specs.Values.{Rule, index_of, serves_one};
 ghost use Rattle.plural_expr.specs.Plain.{rule_of};
-ghost use Rattle.plural_expr.specs.Faults.{IsFaultOf, IsRuleOf, count_of as form_count, rule_counted, reading_of};
+ghost use Rattle.plural_expr.specs.Faults.{IsFaultOf, IsRuleOf, form_limit, count_of as form_count, rule_counted, reading_of};
 ghost use Rattle.plural_expr.specs.Views.{tree_view};
 
 use crate::copying::copy_of;
@@ -78,7 +78,7 @@ impl PluralForms {
     pub fn count(&self) -> u32
         ensures value { result ≡ self.now.count }
         ensures some { 0 < result }
-        ensures most { result ≤ 8 }
+        ensures most { result ≤ form_limit }
     {
         self.count
     }

@@ -3,7 +3,7 @@
 ghost use Rattle.std.specs.Prelude.{◌≡◌, ◌↔◌, ◌<◌, ◌≤◌, ℕ, IfOk, IfErr, IsTrue, IsNone, Ok, None, Some, length, slice_index, if◌then◌else◌};
 ghost use Rattle.plural_expr.specs.Trees.{depth};
 ghost use Rattle.plural_expr.specs.Values.{value_of, served_by};
-ghost use Rattle.plural_expr.specs.Faults.{value_fault, values_fault};
+ghost use Rattle.plural_expr.specs.Faults.{form_limit, value_fault, values_fault};
 ghost use Rattle.plural_expr.specs.Views.{tree_view};
 
 use crate::fault::PluralFault;
@@ -45,7 +45,7 @@ fn form_at(tree: &Tree, count: u32, n: u32) -> Result<u32, PluralFault>
 
 /// How many n in 0..999 each form serves, or the first fault at such an n.
 pub(crate) fn count_served(tree: &Tree, count: u32) -> Result<[u16; 8], PluralFault>
-    requires { count ≤ 8 }
+    requires { count ≤ form_limit }
     ensures passed { IfOk result (λ _. values_fault (record { count = count; tree = tree_view tree.now }) ≡ None) }
     ensures counts { IfOk result (λ served. (form : ℕ) →
         slice_index served form ≡ length (served_by (record { count = count; tree = tree_view tree.now }) form)) }

@@ -8,6 +8,7 @@ use Rattle.po_lex.specs.Lines.{is_comment_text}
 use Rattle.po_read.specs.Texts.{Text}
 use Rattle.po_read.specs.Header.{has_charset}
 use Rattle.po_read.specs.Spells.{is_header_key}
+use Rattle.po_read.specs.Strings.{form_limit}
 use Rattle.po_read.specs.Valid.{IsString, IsCommentLine, fuzzy}
 use Rattle.po_read.specs.declared.entry.Entry.{Entry}
 
@@ -41,7 +42,7 @@ pub record AreStrings (e : Entry) : Type 0 where
   pub previous_id : IfSome e.previous.id IsString
   pub previous_plural : IfSome e.previous.plural IsString
   pub some : 0 < length e.forms
-  pub most : length e.forms ≤ 8
+  pub most : length e.forms ≤ form_limit
 
 -- a header, if it has the header's key
 abbrev pub is_header_like : Entry → Bool

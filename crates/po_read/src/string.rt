@@ -4,7 +4,7 @@ ghost use Rattle.std.specs.List.{list_all};
 ghost use Rattle.std.specs.Cmp.{partial_equiv_from_equiv};
 ghost use Rattle.std.specs.Cmp.Lexicographic.{pointwise, nat_list_eq_equiv};
 ghost use Rattle.po_lex.specs.Escapes.{unescaped};
-ghost use Rattle.po_read.specs.Strings.{is_string_byte, is_string, is_forms};
+ghost use Rattle.po_read.specs.Strings.{form_limit, is_string_byte, is_string, is_forms};
 ghost use Rattle.po_read.specs.Texts.{Text, last_text, last_more};
 
 use crate::duplicate::Duplicate;
@@ -146,7 +146,7 @@ impl Forms {
 
     /// Adds one more.
     pub(crate) fn add(&mut self, form: PoString) -> Result<(), AllocError>
-        requires { length self.old < 8 }
+        requires { length self.old < form_limit }
         ensures { OnOk result (self.new ≡ self.old ++ form ∷ []) }
     {
         let _ = form.as_str();

@@ -4,6 +4,7 @@ ghost use Rattle.std.specs.Prelude.{◌≡◌, ◌≢◌, ◌+◌, ◌-◌, ◌<
 ghost use Rattle.po_lex.specs.Escapes.{letter_of, escaped_byte, escaped, quoted};
 ghost use Rattle.po_lex.specs.Lines.{keyword_text};
 ghost use Rattle.po_read.specs.Entries.{optional, keyed_forms, numbered, previous_strings, entry_strings};
+ghost use Rattle.po_read.specs.Strings.{form_limit};
 ghost use Rattle.po_write.specs.Keywords.{HasDigit};
 ghost use Rattle.po_write.specs.Sending.{Sends};
 ghost use Rattle.po_write.specs.Text.{ended, front_of, pieces_of, piece_lines, string_lines, string_pieces};
@@ -183,7 +184,7 @@ fn write_single<W: ByteSink>(w: &mut W, mark: &[u8], forms: &[PoString]) -> Resu
 
 /// Writes the forms of an entry with a msgid_plural, numbered from 0.
 fn write_numbered<W: ByteSink>(w: &mut W, mark: &[u8], forms: &[PoString]) -> Result<(), SinkFault>
-    requires { length forms.now ≤ 8 }
+    requires { length forms.now ≤ form_limit }
     ensures { Sends W.taken W.failed w.old w.new (flat_map (string_lines mark.now) (numbered 0 forms.now)) result }
 {
     let mut number = 0;

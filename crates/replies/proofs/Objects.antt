@@ -10,9 +10,9 @@ use Rattle.serde_json.specs.Written.{has_float}
 use Rattle.po_read.specs.Texts.{Text}
 use Rattle.template_update.specs.declared.plans.Plan.{Plan}
 use Rattle.template_update.specs.declared.plans.Counts.{Counts}
-use Rattle.request_book.specs.Words.{Fields, object_of}
+use Rattle.request_book.specs.Words.{Fields, object_of, with_fields}
 use Rattle.replies.specs.Bodies.{count_fields, template_fields}
-use Rattle.replies.specs.Fielded.{language_fields, with_fields}
+use Rattle.replies.specs.LanguageFields.{language_fields}
 
 -- ---- fields in turn
 

@@ -8,7 +8,7 @@ ghost use Rattle.plural_expr.specs.Faults.{fault_number, fault_at};
 ghost use Rattle.units.specs.declared.unit.Refusal.TheVariants.{PoText, PluralFormsField};
 ghost use Rattle.request_book.specs.Words.{object_of, natural, number_data, state_text, role_text};
 ghost use Rattle.replies.specs.Bodies.{number_used, reply as reply_of, refused, refused_with, done as done_of, value_fields, refusal_words, po_fault_fields, plural_fault_fields, count_fields, template_fields, team_fields, policy_fields};
-ghost use Rattle.replies.specs.Fielded.{language_fields};
+ghost use Rattle.replies.specs.LanguageFields.{language_fields};
 
 use plural_expr::PluralFault;
 use po_lex::PoFault;

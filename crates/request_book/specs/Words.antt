@@ -69,7 +69,7 @@ members (f ∷ fs) = with_member f.0 f.1 (members fs)
 abbrev pub Fields : Type 0
 Fields = List (Text × Data)
 
-abbrev with_fields : Fields → Members → Members
+abbrev pub with_fields : Fields → Members → Members
 with_fields [] ms = ms
 with_fields (f ∷ fs) ms = put f.0 f.1 (with_fields fs ms)
 

@@ -3,33 +3,7 @@ ghost use Rattle.std.specs.Prelude.{Some};
 
 use crate::words::count;
 use std::alloc::Global;
-use units::{ByteSink, ByteSource, SinkFault, SourceFault};
-
-/// A sink over memory that takes one byte a write, until it is full.
-#[derive(Drop)]
-struct VecSink {
-    taken: Vec<u8>,
-    most: usize,
-    failed: u64,
-}
-
-impl ByteSink for VecSink {
-    ghost taken = { λ sink. Some sink.taken.items };
-
-    ghost failed = { λ sink. sink.failed };
-
-    fn write(&mut self, bytes: &[u8]) -> Result<usize, SinkFault> {
-        if self.taken.len() >= self.most || self.taken.push(bytes[0]).is_err() {
-            self.failed = self.failed.saturating_add(1);
-            return Err(SinkFault);
-        }
-        Ok(1)
-    }
-
-    fn failures(&self) -> u64 {
-        self.failed
-    }
-}
+use units::{ByteSink, ByteSource, SinkFault, SourceFault, VecSink};
 
 /// A source over memory that gives one byte a read.
 #[derive(Drop)]
@@ -82,15 +56,16 @@ fn end_told(told: &mut String, sink: &mut VecSink) -> Option<()> {
         "stuck"
     };
     let failures = sink.failures();
-    let taken = str::from_utf8(sink.taken.as_slice()).ok()?;
+    let taken = str::from_utf8(sink.bytes.as_slice()).ok()?;
     write!(told, "{flushed}, {failures} failed: {taken}").ok()
 }
 
 pub(crate) fn sink_told(alloc: Global, words: &str, texts: &str) -> Option<String> {
     let mut told = String::new(alloc);
     let mut sink = VecSink {
-        taken: Vec::new(alloc),
-        most: count(words, 1)?,
+        bytes: Vec::new(alloc),
+        piece: 1,
+        room: count(words, 1)?,
         failed: 0,
     };
     writes_told(&mut told, &mut sink, texts)?;

@@ -1,12 +1,12 @@
 //! The refusals that every act has, in their order.
 ghost use Rattle.std.specs.Prelude.{◌≡◌, ◌==◌, not, List, ℕ, MatchOption, false, length};
 ghost use Rattle.std.specs.Option.{option_copied, option_map_or};
-ghost use Rattle.units.specs.Units.{needed};
+ghost use Rattle.units.specs.Units.{forms_needed};
 ghost use Rattle.review.specs.UnitStep as spec;
 
 use plural_expr::PluralForms;
 use po_read::Forms;
-use units::{Policy, Refusal, Role, UnitAct, UnitAction, UnitState, UnitView, needed};
+use units::{Policy, Refusal, Role, UnitAct, UnitAction, UnitState, UnitView, forms_needed};
 
 /// The least role that may do an act.
 fn least_role(policy: &Policy, action: &UnitAction) -> Role
@@ -64,10 +64,11 @@ fn forms_of(action: &UnitAction) -> Option<&Forms>
 
 /// Whether an act brings more or fewer forms than its unit needs.
 fn has_wrong_count(rule: &PluralForms, view: &UnitView, action: &UnitAction) -> bool
-    ensures { result ≡ option_map_or (λ forms. not (length forms == needed rule.now view.now.unit.plural)) (spec.forms_of action.now) false }
+    ensures { result ≡ option_map_or (λ forms. not (length forms == forms_needed rule.now view.now.unit.plural)) (spec.forms_of action.now) false }
 {
     match forms_of(action) {
-        Some(forms) => forms.as_slice().len() as u32 != needed(rule, &view.unit.plural),
+        Some(forms) => forms.as_slice().len() as u32
+            != forms_needed(rule, view.unit.plural.as_ref()),
         None => false,
     }
 }

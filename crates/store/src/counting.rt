@@ -8,7 +8,6 @@ ghost use Rattle.office_maps.specs.OfficeIn.{office_in};
 ghost use Rattle.tables.specs.Counts.{counts_in, counts_of};
 ghost use Rattle.store.specs.Counting.{none_counted, plus, one_more, AreWithin};
 
-use crate::places::first_place;
 use office_maps::{OfficeMaps, OrderedKey, Place, Template};
 use std::alloc::{AllocError, Global};
 use tables::Counts;
@@ -83,7 +82,7 @@ fn count_units(alloc: Global, office: &OfficeMaps, lang: &Lang) -> Result<Counts
     ensures { IfOk result
         (λ counts. counts ≡ counts_in (office_in office.now).template (units_of (office_in office.now) lang.now)) }
 {
-    let first = first_place(alloc, lang)?;
+    let first = Place::first_of(alloc, lang)?;
     let mut counts = none_counted();
     for (place, unit) in office.units.range(first..) {
         if *lang != place.lang {

@@ -1,6 +1,6 @@
 //! A language's entries, handed to a sink one after another.
 
-ghost use Rattle.std.specs.Prelude.{◌≡◌, [], ◌∷◌, not, ◌&&◌, map, IfOk};
+ghost use Rattle.std.specs.Prelude.{◌≡◌, [], ◌∷◌, not, ◌&&◌, map, None, IfOk};
 ghost use Rattle.units.specs.Units as spec;
 ghost use Rattle.units.specs.Office.{units_of};
 ghost use Rattle.office_maps.specs.OfficeIn.{office_in};
@@ -10,7 +10,6 @@ ghost use Rattle.tables.specs.Entries.{entries_of};
 ghost use Rattle.store.specs.Handing.{Hands, obsolete_entries};
 
 use crate::entries::{obsolete_entry, translated};
-use crate::places::first_place;
 use office_maps::{OfficeMaps, Place, key_of};
 use po_read::{Duplicate, Entry};
 use std::alloc::{AllocError, Global};
@@ -101,18 +100,19 @@ fn hand_unit<S: EntrySink>(
     }
 }
 
-/// Hands on the entries of a language's obsolete units with a nonempty form, in the order of their keys.
+/// Hands on the entries of a language's obsolete units with a nonempty form, in the order of their keys, from the first place of the
+/// language on. Memory is asked for where there is one more entry, and not behind the last.
 fn hand_obsolete<S: EntrySink>(
     alloc: Global,
     office: &OfficeMaps,
     lang: &Lang,
+    first: Place,
     sink: &mut S,
 ) -> Result<(), EachFault<S::Refusal>>
+    requires lang { first.lang ≡ lang.now }
+    requires key { first.key.key ≡ record { ctx = None; id = [] } }
     ensures { Hands S.Took S.Refuses sink.old sink.new (obsolete_entries (units_of (office_in office.now) lang.now)) result }
 {
-    let Ok(first) = first_place(alloc, lang) else {
-        return Err(EachFault::NoTables(Lost::Memory));
-    };
     for (place, unit) in office.units.range(first..) {
         if *lang != place.lang {
             break;
@@ -123,7 +123,8 @@ fn hand_obsolete<S: EntrySink>(
 }
 
 /// Hands the entries of a language to a sink: its header, the template's entries, each with its unit, and the obsolete units with a
-/// nonempty form. None where the language isn't there. One entry is in memory at a time.
+/// nonempty form. None where the language isn't there. One entry is in memory at a time; where the obsolete units begin is found
+/// first, so that memory is never wanted behind the last entry.
 pub(crate) fn hand_entries<S: EntrySink>(
     alloc: Global,
     office: &OfficeMaps,
@@ -135,6 +136,9 @@ pub(crate) fn hand_entries<S: EntrySink>(
     let Some(language) = office.languages.get(lang) else {
         return Ok(());
     };
+    let Ok(first) = Place::first_of(alloc, lang) else {
+        return Err(EachFault::NoTables(Lost::Memory));
+    };
     hand(sink, &language.header)?;
     hand_template(
         alloc,
@@ -143,5 +147,5 @@ pub(crate) fn hand_entries<S: EntrySink>(
         office.template.catalogue.entries(),
         sink,
     )?;
-    hand_obsolete(alloc, office, lang, sink)
+    hand_obsolete(alloc, office, lang, first, sink)
 }

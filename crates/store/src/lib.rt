@@ -6,7 +6,6 @@ mod counting;
 mod entries;
 mod handing;
 mod maps;
-mod places;
 mod plain;
 mod start;
 

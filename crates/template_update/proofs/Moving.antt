@@ -5,7 +5,7 @@ use Rattle.po_read.specs.declared.entry.Entry.{Entry}
 use Rattle.po_read.specs.Texts.{Text, maybe_text_eq}
 use Rattle.units.specs.declared.unit.Unit.{Unit}
 use Rattle.units.specs.Limits.{revision_limit}
-use Rattle.units.specs.Units.{needed}
+use Rattle.units.specs.Units.{forms_needed}
 use Rattle.template_update.specs.declared.update.UnitUpdate.{UnitUpdate}
 use Rattle.template_update.specs.declared.update.UnitUpdate.TheVariants.{Changed, Kept, Gone, Revived, Untouched}
 use Rattle.template_update.specs.Units.{is_useless, emptied, reworded, refit, has_revision}
@@ -21,7 +21,7 @@ refit-revision rule plural unit =
 
 still-revision : (rule : Rule) (plural : Option Text) (unit : Unit) → (still_suggested rule plural unit).revision ≡ unit.revision
 still-revision rule plural unit =
-    elim (nat_eq (needed rule plural) (needed rule unit.plural)) as (λ b. (cond b unit (record unit { suggestions = [] })).revision ≡ unit.revision) [ true ↦ refl | false ↦ refl ]
+    elim (nat_eq (forms_needed rule plural) (forms_needed rule unit.plural)) as (λ b. (cond b unit (record unit { suggestions = [] })).revision ≡ unit.revision) [ true ↦ refl | false ↦ refl ]
 
 -- the unit afterwards is the moved one at the revision afterwards
 pub updated_by-moved : (rule : Rule) (update : UnitUpdate) (plural : Option Text) (unit : Unit) → updated_by rule update plural unit ≡ record (moved_by rule update plural unit) { revision = revision_by update unit.revision }

@@ -15,7 +15,7 @@ use Rattle.po_read.specs.Texts.{Text, maybe_text_eq, is_empty}
 use Rattle.po_read.specs.Valid.{HasHeaderKey}
 use Rattle.plural_expr.specs.Values.{Rule}
 use Rattle.units.specs.Limits.{revision_limit, unit_limit, suggestion_limit, vote_limit}
-use Rattle.units.specs.Units.{key_cmp, key_of, needed, no_previous, all_empty, is_approved, is_needs_editing, is_read_only, next_revision}
+use Rattle.units.specs.Units.{key_cmp, key_of, forms_needed, no_previous, all_empty, is_approved, is_needs_editing, is_read_only, next_revision}
 use Rattle.units.specs.Office.{entry_of}
 use Rattle.units.specs.Offices.{IsUnit}
 use Rattle.units.specs.declared.unit.Key.{Key}
@@ -34,7 +34,7 @@ pub record Refits (rule : Rule) (given : Option Text) (old new : Unit) : Type 0 
   pub key : new.key ≡ old.key
   pub plural : new.plural ≡ given
   pub obsolete : new.obsolete ≡ old.obsolete
-  pub forms : length new.forms ≡ needed rule given
+  pub forms : length new.forms ≡ forms_needed rule given
   pub suggestions : new.suggestions ≡ old.suggestions
   pub comment : new.comment ≡ old.comment
   pub revision : new.revision ≡ old.revision
@@ -46,7 +46,7 @@ emptied_refits rule given unit = record {
   key = refl;
   plural = refl;
   obsolete = refl;
-  forms = length-replicate {A = Text} (needed rule given) [];
+  forms = length-replicate {A = Text} (forms_needed rule given) [];
   suggestions = refl;
   comment = refl;
   revision = refl;
@@ -54,7 +54,7 @@ emptied_refits rule given unit = record {
   approved = λ h. refl;
 }
 
-reworded_refits : (rule : Rule) (given : Option Text) (unit : Unit) → length unit.forms ≡ needed rule given → Refits rule given unit (reworded given unit)
+reworded_refits : (rule : Rule) (given : Option Text) (unit : Unit) → length unit.forms ≡ forms_needed rule given → Refits rule given unit (reworded given unit)
 reworded_refits rule given unit count = record {
   key = refl;
   plural = refl;
@@ -67,7 +67,7 @@ reworded_refits rule given unit count = record {
   approved = λ h. refl;
 }
 
-same_refits : (rule : Rule) (given : Option Text) (unit : Unit) → length unit.forms ≡ needed rule given → unit.plural ≡ given → Refits rule given unit unit
+same_refits : (rule : Rule) (given : Option Text) (unit : Unit) → length unit.forms ≡ forms_needed rule given → unit.plural ≡ given → Refits rule given unit unit
 same_refits rule given unit count plural = record {
   key = refl;
   plural = plural;
@@ -84,8 +84,8 @@ first_holds : (a b : Bool) → (not a || b) ≡ false → a ≡ true
 first_holds true b e = refl
 first_holds false b e = cc
 
-useful : (rule : Rule) (given : Option Text) (forms : List Text) → is_useless rule given forms ≡ false → length forms ≡ needed rule given
-useful rule given forms e = eqb-true (length forms) (needed rule given) (first_holds (length forms == needed rule given) (all_empty forms) e)
+useful : (rule : Rule) (given : Option Text) (forms : List Text) → is_useless rule given forms ≡ false → length forms ≡ forms_needed rule given
+useful rule given forms e = eqb-true (length forms) (forms_needed rule given) (first_holds (length forms == forms_needed rule given) (all_empty forms) e)
 
 pub refits : (rule : Rule) (given : Option Text) (unit : Unit) → Refits rule given unit (refit rule given unit)
 refits rule given unit = by (is_useless rule given unit.forms) (maybe_text_eq given unit.plural) refl refl
@@ -99,7 +99,7 @@ refits rule given unit = by (is_useless rule given unit.forms) (maybe_text_eq gi
 -- what is needed of a unit before its forms are fitted
 pub record IsReady (rule : Rule) (given : Option Text) (unit : Unit) : Type 0 where
   pub current : unit.obsolete ≡ false
-  pub counted : All (λ s. length s.forms ≡ needed rule given) unit.suggestions
+  pub counted : All (λ s. length s.forms ≡ forms_needed rule given) unit.suggestions
   pub named : unit.key.ctx ≡ None → IsTrue (not (is_empty unit.key.id))
   pub previous : is_needs_editing unit.state ≡ false → unit.previous ≡ no_previous
   pub commented : AllByRecursion (λ line. IsTrue (is_comment_text line)) unit.comment
@@ -112,9 +112,9 @@ IsLimited n = (1 ≤ n) × (n ≤ revision_limit)
 pub refitted : (rule : Rule) (given : Option Text) (old new : Unit) (n : ℕ) → Refits rule given old new → IsReady rule given old → (1 ≤ n) × (n ≤ revision_limit) → IsUnit rule (record new { revision = n })
 refitted rule given old new n r ready limits = record {
   current = λ e. (
-    r.forms ∙ ap (needed rule) (sym r.plural),
-    subst (λ (p : Option Text). All (λ s. length s.forms ≡ needed rule p) new.suggestions) (sym r.plural)
-        (subst (λ (ss : List Suggestion). All (λ s. length s.forms ≡ needed rule given) ss) (sym r.suggestions) ready.counted),
+    r.forms ∙ ap (forms_needed rule) (sym r.plural),
+    subst (λ (p : Option Text). All (λ s. length s.forms ≡ forms_needed rule p) new.suggestions) (sym r.plural)
+        (subst (λ (ss : List Suggestion). All (λ s. length s.forms ≡ forms_needed rule given) ss) (sym r.suggestions) ready.counted),
   );
   put_away = λ e. clash new.obsolete (r.obsolete ∙ ready.current) e;
   named = subst (λ (k : Key). k.ctx ≡ None → IsTrue (not (is_empty k.id))) (sym r.key) ready.named;
@@ -131,7 +131,7 @@ refitted rule given old new n r ready limits = record {
 abbrev pub IsCounted : Rule → Type 0
 IsCounted rule = (1 ≤ rule.count) × (rule.count ≤ 8)
 
-needed_counted : (rule : Rule) (plural : Option Text) → IsCounted rule → (1 ≤ needed rule plural) × (needed rule plural ≤ 8)
+needed_counted : (rule : Rule) (plural : Option Text) → IsCounted rule → (1 ≤ forms_needed rule plural) × (forms_needed rule plural ≤ 8)
 needed_counted rule None h = (lit≤ tt, lit≤ tt)
 needed_counted rule (Some plural) h = h
 
@@ -156,11 +156,11 @@ untouched rule unit rules away = record {
 
 gone_rules : (rule : Rule) (unit : Unit) → IsCounted rule → IsUnit rule unit → unit.obsolete ≡ false → unit.revision + 1 ≤ revision_limit → IsUnit rule (next_revision (put_away unit))
 gone_rules rule unit counted rules here limit =
-    let count : length unit.forms ≡ needed rule unit.plural = (rules.current here).0 in
+    let count : length unit.forms ≡ forms_needed rule unit.plural = (rules.current here).0 in
     let n = needed_counted rule unit.plural counted in
     record {
       current = λ e. cc;
-      put_away = λ e. (refl, omega (arith, count, n.0), omega (arith, count, n.1), λ none. count ∙ ap (needed rule) none);
+      put_away = λ e. (refl, omega (arith, count, n.0), omega (arith, count, n.1), λ none. count ∙ ap (forms_needed rule) none);
       named = rules.named;
       previous = rules.previous;
       revised = (omega arith, limit);
@@ -214,7 +214,7 @@ refit_update rule entry unit ready is key state suggestions limit =
     still (inr same) e = inr (e ∙ same)
 
 -- a unit whose suggestions have the new number of forms
-ready_all : (rule : Rule) (given : Option Text) (unit : Unit) → IsUnit rule unit → unit.obsolete ≡ false → needed rule given ≡ needed rule unit.plural → IsReady rule given unit
+ready_all : (rule : Rule) (given : Option Text) (unit : Unit) → IsUnit rule unit → unit.obsolete ≡ false → forms_needed rule given ≡ forms_needed rule unit.plural → IsReady rule given unit
 ready_all rule given unit rules here same = record {
   current = here;
   counted = subst (λ (n : ℕ). All (λ s. length s.forms ≡ n) unit.suggestions) (sym same) (rules.current here).1;
@@ -239,9 +239,9 @@ ready_none rule given unit away rules here = record {
 
 changed : (rule : Rule) (entry : Entry) (unit : Unit) → IsUnit rule unit → unit.obsolete ≡ false → (refit rule entry.plural (still_suggested rule entry.plural unit)).revision + 1 ≤ revision_limit →
     IsUpdate rule (Some entry) unit (next_revision (refit rule entry.plural (still_suggested rule entry.plural unit)))
-changed rule entry unit rules here = by (needed rule entry.plural == needed rule unit.plural) refl
+changed rule entry unit rules here = by (forms_needed rule entry.plural == forms_needed rule unit.plural) refl
   where
-    by : (t : Bool) → (needed rule entry.plural == needed rule unit.plural) ≡ t → (refit rule entry.plural (cond t unit (record unit { suggestions = [] }))).revision + 1 ≤ revision_limit →
+    by : (t : Bool) → (forms_needed rule entry.plural == forms_needed rule unit.plural) ≡ t → (refit rule entry.plural (cond t unit (record unit { suggestions = [] }))).revision + 1 ≤ revision_limit →
         IsUpdate rule (Some entry) unit (next_revision (refit rule entry.plural (cond t unit (record unit { suggestions = [] }))))
     by true e limit = refit_update rule entry unit unit (ready_all rule entry.plural unit rules here (eqb-true _ _ e)) refl refl (inr refl) limit
     by false e limit = refit_update rule entry unit (record unit { suggestions = [] }) (ready_none rule entry.plural unit unit.obsolete rules here) refl refl (inl refl) limit
@@ -286,14 +286,14 @@ updated_key rule present (Some entry) unit = by unit.obsolete (is_changed presen
 
     by : (o c : Bool) → (updated_by rule (cond o Revived (cond c Changed Kept)) entry.plural unit).key ≡ unit.key
     by true c = (refits rule entry.plural (taken_back unit)).key
-    by false true = (refits rule entry.plural (still_suggested rule entry.plural unit)).key ∙ still (needed rule entry.plural == needed rule unit.plural)
+    by false true = (refits rule entry.plural (still_suggested rule entry.plural unit)).key ∙ still (forms_needed rule entry.plural == forms_needed rule unit.plural)
     by false false = refl
 
 -- ---- a unit of a new key
 
 pub new_rules : (rule : Rule) (entry : Entry) → (HasHeaderKey entry → ⊥) → IsUnit rule (new_unit rule entry)
 new_rules rule entry unlike = record {
-  current = λ e. (length-replicate {A = Text} (needed rule entry.plural) [], All-nil _);
+  current = λ e. (length-replicate {A = Text} (forms_needed rule entry.plural) [], All-nil _);
   put_away = λ e. cc;
   named = is_named entry unlike;
   previous = λ e. refl;

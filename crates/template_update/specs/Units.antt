@@ -9,13 +9,13 @@ use Rattle.po_read.specs.Texts.{Text, maybe_text_eq}
 use Rattle.units.specs.declared.unit.Unit.{Unit}
 use Rattle.units.specs.declared.unit.UnitState.TheVariants.{Untranslated, NeedsEditing}
 use Rattle.units.specs.Limits.{unit_limit, revision_limit}
-use Rattle.units.specs.Units.{key_of, needed, all_empty, in_state, no_previous}
+use Rattle.units.specs.Units.{key_of, forms_needed, all_empty, in_state, no_previous}
 use Rattle.template_update.specs.declared.plans.Plan.{Plan}
 use Rattle.template_update.specs.declared.plans.Counts.{Counts}
 
 -- as many empty forms as a msgid_plural needs
 abbrev pub empty_forms : Rule → Option Text → List Text
-empty_forms rule plural = replicate (needed rule plural) []
+empty_forms rule plural = replicate (forms_needed rule plural) []
 
 -- a unit that nobody has worked on
 abbrev pub new_unit : Rule → Entry → Unit
@@ -33,7 +33,7 @@ new_unit rule entry = record {
 
 -- the forms can't be kept: they aren't the needed number, or all are empty
 abbrev pub is_useless : Rule → Option Text → List Text → Bool
-is_useless rule plural forms = not (length forms == needed rule plural) || all_empty forms
+is_useless rule plural forms = not (length forms == forms_needed rule plural) || all_empty forms
 
 -- the unit without a translation, under another msgid_plural
 abbrev pub emptied : Rule → Option Text → Unit → Unit

@@ -9,7 +9,7 @@ use Rattle.plural_expr.specs.Values.{Rule}
 use Rattle.po_read.specs.declared.entry.Entry.{Entry}
 use Rattle.po_read.specs.Texts.{Text, maybe_text_eq}
 use Rattle.units.specs.declared.unit.Unit.{Unit}
-use Rattle.units.specs.Units.{key_cmp, key_of, is_read_only, needed, next_revision}
+use Rattle.units.specs.Units.{key_cmp, key_of, is_read_only, forms_needed, next_revision}
 use Rattle.units.specs.Office.{entry_of}
 use Rattle.template_update.specs.declared.plans.Plan.{Plan}
 use Rattle.template_update.specs.declared.plans.Counts.{Counts}
@@ -34,7 +34,7 @@ update_of present next unit = update_by (entry_of present unit.key) (entry_of ne
 
 -- suggestions go if the needed number of forms changes
 abbrev pub still_suggested : Rule → Option Text → Unit → Unit
-still_suggested rule plural unit = if needed rule plural == needed rule unit.plural then unit else record unit { suggestions = [] }
+still_suggested rule plural unit = if forms_needed rule plural == forms_needed rule unit.plural then unit else record unit { suggestions = [] }
 
 -- an obsolete unit has no suggestions
 abbrev pub put_away : Unit → Unit

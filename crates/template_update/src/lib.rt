@@ -13,4 +13,4 @@ mod updates;
 pub use loading::load;
 pub use planning::plan;
 pub use plans::{Counts, Plan};
-pub use template::template_of;
+pub use template::{is_header, template_of};

@@ -2,15 +2,16 @@
 
 ghost use Rattle.std.specs.Prelude.{◌≡◌, ◌<◌, ◌≤◌, IfOk, Some, replicate, []};
 ghost use Rattle.std.specs.Option.{option_copied};
+ghost use Rattle.po_read.specs.Strings.{form_limit};
 ghost use Rattle.po_read.specs.Texts.{maybe_text_eq};
-ghost use Rattle.units.specs.Units.{in_state, key_of, needed};
+ghost use Rattle.units.specs.Units.{in_state, key_of};
 ghost use Rattle.units.specs.declared.unit.UnitState.TheVariants.{NeedsEditing, Untranslated};
 ghost use Rattle.template_update.specs.Units as spec;
 
 use plural_expr::PluralForms;
 use po_read::{Duplicate, Entry, Forms, Items, PoString, Previous};
 use std::alloc::{AllocError, Global};
-use units::{Key, Revision, Unit, UnitState, all_empty, no_previous};
+use units::{Key, Revision, Unit, UnitState, all_empty, forms_needed, no_previous};
 
 pub(crate) fn first_revision() -> Revision
     ensures { result ≡ 1 }
@@ -30,7 +31,7 @@ fn empty_string(alloc: Global) -> Result<PoString, AllocError>
 /// Empty forms.
 pub(crate) fn forms_of(alloc: Global, count: u32) -> Result<Forms, AllocError>
     requires some { 0 < count }
-    requires most { count ≤ 8 }
+    requires most { count ≤ form_limit }
     ensures { IfOk result (λ forms. forms ≡ replicate count []) }
 {
     let mut strings = Vec::new(alloc);
@@ -116,21 +117,11 @@ pub(crate) fn new_unit(alloc: Global, rule: &PluralForms, entry: &Entry) -> Resu
     })
 }
 
-/// How many forms a unit with this msgid_plural needs.
-pub(crate) fn needed(rule: &PluralForms, plural: Option<&PoString>) -> u32
-    ensures { result ≡ needed rule.now (option_copied plural.entry) }
-{
-    match plural {
-        None => 1,
-        Some(_) => rule.count(),
-    }
-}
-
 /// Whether the forms can't be kept: they aren't the needed number, or all are empty.
 fn is_useless(rule: &PluralForms, plural: Option<&PoString>, forms: &[PoString]) -> bool
     ensures { result ≡ spec.is_useless rule.now (option_copied plural.entry) forms.now }
 {
-    forms.len() != needed(rule, plural) as usize || all_empty(forms)
+    forms.len() != forms_needed(rule, plural) as usize || all_empty(forms)
 }
 
 pub(crate) fn is_same(a: Option<&PoString>, b: Option<&PoString>) -> bool

@@ -12,8 +12,9 @@ use po_read::{Catalogue, Duplicate, Entry, Forms, Items, PoString, Text};
 use std::alloc::{AllocError, Global};
 use units::{Memory, no_previous};
 
-/// An entry with an empty msgid, no context, no plural and not obsolete.
-pub(crate) fn is_header(entry: &Entry) -> bool
+/// Whether an entry is a header: its msgid is empty, it has no context and no msgid_plural, and it isn't obsolete. (GNU gettext
+/// manual, "The Format of PO Files".)
+pub fn is_header(entry: &Entry) -> bool
     ensures { result ≡ is_header entry.now }
 {
     entry.ctx.is_none() && entry.id.as_str().is_empty() && entry.plural.is_none() && !entry.obsolete

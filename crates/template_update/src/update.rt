@@ -8,11 +8,11 @@ ghost use Rattle.template_update.specs.Updates as spec;
 ghost use Rattle.template_update.specs.Moves as moves;
 
 use crate::plans::Counts;
-use crate::refit::{is_same, needed, refit};
+use crate::refit::{is_same, refit};
 use plural_expr::PluralForms;
 use po_read::{Duplicate, Entry, Items, PoString};
 use std::alloc::{AllocError, Global};
-use units::{Revision, Unit, has_flag};
+use units::{Revision, Unit, forms_needed, has_flag};
 
 /// What becomes of a unit.
 #[derive(Debug, Drop, Clone, Copy, PartialEq, Eq)]
@@ -71,7 +71,7 @@ fn still_suggested(alloc: Global, rule: &PluralForms, plural: Option<&PoString>,
     ensures { result ≡ spec.still_suggested rule.now (option_copied plural.entry) unit }
 {
     let mut unit = unit;
-    if needed(rule, plural) != needed(rule, unit.plural.as_ref()) {
+    if forms_needed(rule, plural) != forms_needed(rule, unit.plural.as_ref()) {
         unit.suggestions = Items::new(alloc);
     }
     unit

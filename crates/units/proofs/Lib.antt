@@ -2,3 +2,4 @@ pub mod Taking
 pub mod Placing
 pub mod Compared
 pub mod KeyTexts
+pub mod FormLimits

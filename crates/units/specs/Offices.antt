@@ -7,11 +7,12 @@ use Rattle.std.specs.FinMap as maps
 use Rattle.po_lex.specs.Lines.{is_comment_text}
 use Rattle.po_read.specs.declared.entry.Entry.{Entry}
 use Rattle.po_read.specs.Entries.{is_header}
+use Rattle.po_read.specs.Strings.{form_limit}
 use Rattle.po_read.specs.Texts.{Text, is_empty}
 use Rattle.po_read.specs.Valid.{IsValid}
 use Rattle.plural_expr.specs.Values.{Rule}
 use Rattle.units.specs.Limits.{revision_limit, is_accept_at, language_limit, team_limit, unit_limit, suggestion_limit, vote_limit}
-use Rattle.units.specs.Units.{has_flag, needed, no_previous, is_below, is_approved, is_needs_editing}
+use Rattle.units.specs.Units.{has_flag, forms_needed, no_previous, is_below, is_approved, is_needs_editing}
 use Rattle.units.specs.Office.{Office, Place, entry_of, units_of}
 use Rattle.units.specs.Rules.{rule_in, rule_at}
 use Rattle.units.specs.declared.unit.Key.{Key}
@@ -21,11 +22,11 @@ use Rattle.units.specs.declared.unit.Role.TheVariants.{Guest, Manager}
 
 -- a unit that isn't obsolete has the forms that it needs, and so have its suggestions
 abbrev HasForms : Rule → Unit → Type 0
-HasForms rule unit = (length unit.forms ≡ needed rule unit.plural) × All (λ s. length s.forms ≡ needed rule unit.plural) unit.suggestions
+HasForms rule unit = (length unit.forms ≡ forms_needed rule unit.plural) × All (λ s. length s.forms ≡ forms_needed rule unit.plural) unit.suggestions
 
 -- an obsolete unit has no suggestions, 1 to 8 forms, and one where it has no msgid_plural
 abbrev IsPutAway : Unit → Type 0
-IsPutAway unit = (unit.suggestions ≡ []) × (1 ≤ length unit.forms) × (length unit.forms ≤ 8) × (unit.plural ≡ None → length unit.forms ≡ 1)
+IsPutAway unit = (unit.suggestions ≡ []) × (1 ≤ length unit.forms) × (length unit.forms ≤ form_limit) × (unit.plural ≡ None → length unit.forms ≡ 1)
 
 pub record IsUnit (rule : Rule) (unit : Unit) : Type 0 where
   pub current : unit.obsolete ≡ false → HasForms rule unit

@@ -119,8 +119,8 @@ next_revision unit = record unit { revision = unit.revision + 1 }
 -- ---- forms
 
 -- how many forms a unit with this msgid_plural needs
-abbrev pub needed : Rule → Option Text → ℕ
-needed rule plural = if is_some plural then rule.count else 1
+abbrev pub forms_needed : Rule → Option Text → ℕ
+forms_needed rule plural = if is_some plural then rule.count else 1
 
 abbrev pub all_empty : List Text → Bool
 all_empty forms = list_all is_empty forms

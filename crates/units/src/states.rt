@@ -1,6 +1,7 @@
 //! What roles may do, what units show and which forms they need.
 ghost use Rattle.std.specs.Prelude.{◌≡◌, if◌then◌else◌};
 ghost use Rattle.std.specs.List.{list_any};
+ghost use Rattle.std.specs.Option.{option_copied};
 ghost use Rattle.po_read.specs.Texts.{text_eq};
 ghost use Rattle.units.specs.Units as spec;
 
@@ -55,8 +56,8 @@ fn holds_text(text: &str, texts: &[Text]) -> bool
 
 /// How many forms a unit with this msgid_plural needs: as many as the language's plural rule counts, or one where
 /// there is no msgid_plural. (GNU gettext manual, "Plural forms".)
-pub fn needed(rule: &PluralForms, plural: &Option<PoString>) -> u32
-    ensures { result ≡ spec.needed rule.now plural.now }
+pub fn forms_needed(rule: &PluralForms, plural: Option<&PoString>) -> u32
+    ensures { result ≡ spec.forms_needed rule.now (option_copied plural.entry) }
 {
     match plural {
         None => 1,

@@ -25,7 +25,7 @@ use Rattle.plural_expr.specs.Values.{Rule}
 use Rattle.plural_expr.specs.Faults.{reading_of}
 use Rattle.plural_expr.specs.declared.fault.PluralFault.{PluralFault}
 use Rattle.plural_expr.proofs.Readings.{reading_rule}
-use Rattle.units.specs.Units.{key_of, key_cmp, needed, is_needs_editing, all_empty}
+use Rattle.units.specs.Units.{key_of, key_cmp, forms_needed, is_needs_editing, all_empty}
 use Rattle.units.specs.Office.{Office, Place, place_cmp, entry_of}
 use Rattle.units.specs.Offices.{IsOffice, IsUnit, IsTemplateEntry}
 use Rattle.units.specs.Rules.{rule_at, rule_in, rule_of_field, plural_field}
@@ -86,7 +86,7 @@ rule_counted office lang header there ok = rw there (by (rule_in (Some header)) 
     by (Ok rule) h ok = h rule refl
     by (Err fault) h ok = (lit≤ tt, lit≤ tt)
 
-needed_counted : (rule : Rule) (plural : Option Text) → IsCounted rule → (1 ≤ needed rule plural) × (needed rule plural ≤ 8)
+needed_counted : (rule : Rule) (plural : Option Text) → IsCounted rule → (1 ≤ forms_needed rule plural) × (forms_needed rule plural ≤ 8)
 needed_counted rule None h = (lit≤ tt, lit≤ tt)
 needed_counted rule (Some plural) h = h
 
@@ -142,7 +142,7 @@ comment_valid comment utf8 commented = all_from (λ line. IsUtf8 line) (λ line.
 
 translated_valid : (office : Office) (lang : Text) (entry : Entry) (unit : Unit) → IsValidEntry entry → IsTemplateEntry entry → HasEntryStrings (translated entry unit)
     → AllByRecursion (λ line. IsTrue (is_comment_text line)) unit.comment → IsCounted (rule_at office lang)
-    → length unit.forms ≡ needed (rule_at office lang) unit.plural → unit.plural ≡ entry.plural → IsValidEntry (translated entry unit)
+    → length unit.forms ≡ forms_needed (rule_at office lang) unit.plural → unit.plural ≡ entry.plural → IsValidEntry (translated entry unit)
 translated_valid office lang entry unit valid plain texts commented counted forms plural =
     let count = needed_counted (rule_at office lang) unit.plural counted in
     record {
@@ -154,7 +154,7 @@ translated_valid office lang entry unit valid plain texts commented counted form
       previous = texts.previous;
       some = omega (arith, count.0);
       most = omega (arith, count.1);
-      single = λ none. forms ∙ ap (needed (rule_at office lang)) (plural ∙ none);
+      single = λ none. forms ∙ ap (forms_needed (rule_at office lang)) (plural ∙ none);
     }
 
 obsolete_valid : (unit : Unit) (rule : Rule) → IsUnit rule unit → HasEntryStrings (obsolete_entry unit) → unit.obsolete ≡ true → IsValidEntry (obsolete_entry unit)

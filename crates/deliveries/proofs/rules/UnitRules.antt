@@ -14,7 +14,7 @@ use Rattle.po_read.specs.declared.entry.Previous.{Previous}
 use Rattle.plural_expr.specs.Values.{Rule}
 use Rattle.template_update.proofs.Listed.{clash}
 use Rattle.units.specs.Limits.{is_comment_line, is_comment_lines, revision_limit, suggestion_limit, vote_limit}
-use Rattle.units.specs.Units.{needed, is_approved, is_needs_editing, no_previous, has_number, suggestion_of, without_suggestion}
+use Rattle.units.specs.Units.{forms_needed, is_approved, is_needs_editing, no_previous, has_number, suggestion_of, without_suggestion}
 use Rattle.units.specs.Offices.{IsUnit}
 use Rattle.units.specs.declared.unit.Unit.{Unit}
 use Rattle.units.specs.declared.unit.Suggestion.{Suggestion}
@@ -74,7 +74,7 @@ pub record Stands (policy : Policy) (rule : Rule) (unit : Unit) : Type 0 where
   pub reviewed : policy.reviews ≡ false → is_approved unit.state ≡ false
 
 abbrev HasCount : Rule → Unit → Suggestion → Type 0
-HasCount rule unit s = length s.forms ≡ needed rule unit.plural
+HasCount rule unit s = length s.forms ≡ forms_needed rule unit.plural
 
 abbrev HasFewVotes : Suggestion → Type 0
 HasFewVotes s = maps.len s.votes ≤ vote_limit
@@ -92,7 +92,7 @@ never_approved policy rule view forms = by_tests _ _
     by_tests false false = refl
 
 with_forms_rules : (policy : Policy) (rule : Rule) (view : UnitView) (forms : List Text) → view.unit.obsolete ≡ false → IsUnit rule view.unit →
-    length forms ≡ needed rule view.unit.plural → view.unit.revision + 1 ≤ revision_limit → IsUnit rule (with_forms policy rule view forms)
+    length forms ≡ forms_needed rule view.unit.plural → view.unit.revision + 1 ≤ revision_limit → IsUnit rule (with_forms policy rule view forms)
 with_forms_rules policy rule view forms current rules count limit = record {
   current = λ _. (count, (rules.current current).1);
   put_away = λ e. clash view.unit.obsolete current e;
@@ -105,7 +105,7 @@ with_forms_rules policy rule view forms current rules count limit = record {
 }
 
 translate_follows : (policy : Policy) (rule : Rule) (number : Text) (view : UnitView) (forms : List Text) → Stands policy rule view.unit →
-    length forms ≡ needed rule view.unit.plural → view.unit.revision + 1 ≤ revision_limit → Follows policy rule number view.unit (with_forms policy rule view forms)
+    length forms ≡ forms_needed rule view.unit.plural → view.unit.revision + 1 ≤ revision_limit → Follows policy rule number view.unit (with_forms policy rule view forms)
 translate_follows policy rule number view forms stands count limit = record {
   key = refl;
   plural = refl;
@@ -143,7 +143,7 @@ dismiss_follows policy rule number named unit stands = record {
 }
 
 suggest_follows : (policy : Policy) (rule : Rule) (caller number : Text) (forms : List Text) (unit : Unit) → Stands policy rule unit →
-    length forms ≡ needed rule unit.plural → length unit.suggestions < suggestion_limit → Follows policy rule number unit (with_suggestion caller number forms unit)
+    length forms ≡ forms_needed rule unit.plural → length unit.suggestions < suggestion_limit → Follows policy rule number unit (with_suggestion caller number forms unit)
 suggest_follows policy rule caller number forms unit stands count room =
     let made : Suggestion = record { number = number; suggester = caller; forms = forms; votes = maps.empty } in
     let none : maps.len made.votes ≤ vote_limit = rw (maps.len-empty text_cmp VoteValue) (omega arith) in
@@ -182,7 +182,7 @@ accept_follows policy rule number named view stands = by_found (suggestion_of na
       numbers = inl (part-self (numbers_of view.unit));
     }
     by_found (Some s) e limit =
-        let count : length s.forms ≡ needed rule view.unit.plural =
+        let count : length s.forms ≡ forms_needed rule view.unit.plural =
         found_holds (HasCount rule view.unit) (has_number named) view.unit.suggestions s (stands.rules.current stands.current).1 e in
         record {
           key = refl;

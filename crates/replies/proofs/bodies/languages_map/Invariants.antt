@@ -2,7 +2,8 @@ use Rattle.std.proofs.Common.{◌≡◌, false, length}
 use Rattle.serde_json.specs.Data.{object, no_members}
 use Rattle.serde_json.specs.View.{members_view}
 use Rattle.serde_json.specs.Written.{has_float}
-use Rattle.replies.specs.Fielded.{language_fields, with_fields}
+use Rattle.request_book.specs.Words.{with_fields}
+use Rattle.replies.specs.LanguageFields.{language_fields}
 use Rattle.replies.proofs.bodies.languages_map.Given as goal
 
 -- with the languages that are left, the members are those of all

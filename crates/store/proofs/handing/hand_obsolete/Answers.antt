@@ -5,18 +5,15 @@ use Rattle.std.proofs.lemmas.Bool.{not-true, not-false}
 use Rattle.std.proofs.lemmas.Map.Iter.{rest_more, rest_all}
 use Rattle.office_maps.specs.LanguageUnits.{taken}
 use Rattle.store.specs.Handing.{obsolete_entries}
-use Rattle.store.proofs.Handings.{begin, more, whole, stopped, no_room}
+use Rattle.store.proofs.Handings.{begin, more, whole, stopped}
 use Rattle.store.proofs.EntriesCut.{next_obsolete}
 use Rattle.store.proofs.LanguageUnits.{starts, next_other, none_next}
 use Rattle.store.proofs.handing.hand_obsolete.Goals as goal
 
-pub returns-in_default : goal.returns-in_default
-returns-in_default g c = no_room g.S.EntrySink.Refuses (begin g.met.S.EntrySink.none c.args.sink.now refl)
-
 pub loop-place-init : goal.loop-place-init
 loop-place-init g c =
     begin g.met.S.EntrySink.none c.args.sink.now
-    (ap obsolete_entries (sym (starts c.args.office.now.units c.args.lang.now c.in-Ok.first c.into_iter-place-iterator.result c.in-Ok.ensures.lang c.in-Ok.ensures.key
+    (ap obsolete_entries (sym (starts c.args.office.now.units c.args.lang.now c.args.first c.into_iter-place-iterator.result c.requires.lang c.requires.key
     c.range-place-items.ensures.ordered (c.into_iter-place-iterator.ensures.into_iter_gives ∙ c.range-place-items.ensures.between tt))))
 
 pub returns-in_err-hand_unit : goal.returns-in_err-hand_unit
