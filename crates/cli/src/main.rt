@@ -7,10 +7,10 @@ use clap::Error;
 use commands::{FAILED, Input, Output, canon_text, deliver_lines, plural_lines};
 use office::Desk;
 use std::alloc::Global;
-use std::io::{self, BufWriter};
+use std::io::{self, BufWriter, Stdout};
 use std::process::ExitCode;
 use store::{Lost, PlainTables};
-use units::ByteSink;
+use units::{ByteSink, Lang};
 use words::{Asked, Deliver, Plural, read_words, words_status};
 
 fn main(rt: HostRuntime) -> ExitCode {
@@ -51,24 +51,51 @@ fn open(alloc: Global, options: &Deliver) -> Result<Desk<PlainTables>, Lost> {
 }
 
 fn deliver_standard(rt: &HostRuntime, options: &Deliver) -> io::Result<u8> {
-    let alloc = rt.alloc();
-    let mut source = Input::new(rt.stdin());
-    let mut replies = Output::new(BufWriter::new(alloc, rt.stdout())?);
-    let mut faults = Output::new(rt.stderr());
-    match open(alloc, options) {
-        Ok(mut desk) => Ok(deliver_lines(
-            alloc,
-            &mut desk,
-            &mut source,
-            &mut replies,
-            &mut faults,
-            options.export.as_ref(),
-        )),
-        Err(lost) => {
-            eprintln!(rt; "store fault {}", lost.number())?;
-            Ok(FAILED)
+    match open(rt.alloc(), options) {
+        Ok(mut desk) => {
+            let status = deliver_at(rt, &mut desk, options.export.as_ref());
+            drop(desk);
+            status
         }
+        Err(lost) => lost_status(rt, lost),
     }
+}
+
+fn lost_status(rt: &HostRuntime, lost: Lost) -> io::Result<u8> {
+    eprintln!(rt; "store fault {}", lost.number())?;
+    Ok(FAILED)
+}
+
+/// Delivers what the standard input gives.
+fn deliver_at(
+    rt: &HostRuntime,
+    desk: &mut Desk<PlainTables>,
+    export: Option<&Lang>,
+) -> io::Result<u8> {
+    let replies = BufWriter::new(rt.alloc(), rt.stdout())?;
+    Ok(deliver_into(rt, desk, export, Output::new(replies)))
+}
+
+fn deliver_into(
+    rt: &HostRuntime,
+    desk: &mut Desk<PlainTables>,
+    export: Option<&Lang>,
+    mut replies: Output<BufWriter<Stdout>>,
+) -> u8 {
+    let mut source = Input::new(rt.stdin());
+    let mut faults = Output::new(rt.stderr());
+    let status = deliver_lines(
+        rt.alloc(),
+        desk,
+        &mut source,
+        &mut replies,
+        &mut faults,
+        export,
+    );
+    drop(faults);
+    drop(source);
+    drop(replies);
+    status
 }
 
 fn plural_standard(rt: &HostRuntime, options: &Plural<'_>) -> io::Result<u8> {
