@@ -1,11 +1,10 @@
 //! The command of a row.
+use crate::course::desk_opened;
 use crate::streams::Streams;
-use crate::words::{behind, has};
+use crate::words::{has, word_behind};
 use commands::{canon_text, deliver_lines, export_text, plural_lines};
-use office::Desk;
 use std::alloc::Global;
-use store::{PlainTables, Start};
-use units::{Lang, Name};
+use units::Lang;
 
 /// The exit status of the words' command over these streams. None where the words can't be read.
 pub(crate) fn status(
@@ -14,9 +13,9 @@ pub(crate) fn status(
     words: &str,
     text: &[u8],
 ) -> Option<u8> {
-    if let Some(office) = behind(words, "deliver") {
-        deliver(alloc, streams, office, behind(words, "export"))
-    } else if let Some(office) = behind(words, "export") {
+    if let Some(office) = word_behind(words, "deliver") {
+        deliver(alloc, streams, office, word_behind(words, "export"))
+    } else if let Some(office) = word_behind(words, "export") {
         export(alloc, streams, office, text)
     } else if has(words, "plural") {
         plural(alloc, streams, words, text)
@@ -30,20 +29,6 @@ pub(crate) fn status(
     } else {
         None
     }
-}
-
-fn start(alloc: Global, office: &str) -> Option<Start> {
-    if office == "demo" {
-        return Some(Start::Demo);
-    }
-    Some(Start::Opening(Name::try_new(alloc, office).ok()??))
-}
-
-fn desk(alloc: Global, office: &str) -> Option<Desk<PlainTables>> {
-    let start = start(alloc, office)?;
-    let tables = PlainTables::new(alloc, &start).ok();
-    drop(start);
-    Some(Desk::new(alloc, tables?))
 }
 
 fn lang(alloc: Global, word: Option<&str>) -> Option<Option<Lang>> {
@@ -60,7 +45,7 @@ fn deliver(
     export: Option<&str>,
 ) -> Option<u8> {
     let lang = lang(alloc, export)?;
-    let mut desk = desk(alloc, office)?;
+    let mut desk = desk_opened(alloc, office)?;
     let status = deliver_lines(
         alloc,
         &mut desk,
@@ -75,7 +60,7 @@ fn deliver(
 
 fn export(alloc: Global, streams: &mut Streams<'_>, office: &str, code: &[u8]) -> Option<u8> {
     let lang = Lang::try_new(alloc, str::from_utf8(code).ok()?).ok()??;
-    let mut desk = desk(alloc, office)?;
+    let mut desk = desk_opened(alloc, office)?;
     let status = export_text(&mut desk, &lang, &mut streams.output, &mut streams.faults);
     drop(desk);
     drop(lang);

@@ -1,20 +1,25 @@
-//! What a row comes to.
-use crate::runs::status;
+//! What a row of a command comes to.
+use crate::command::status;
 use crate::streams::Streams;
 use crate::texts::{bytes_of, show};
 use crate::words::{has, words_and_text};
 use std::alloc::{AllocError, Global};
 
-/// What a deed comes to, with streams that give and take so many bytes at a time. None where it can't be read.
-pub(crate) fn found(
-    alloc: Global,
-    given: &mut Vec<u8>,
-    deed: &str,
-    piece: usize,
-) -> Option<String> {
-    if deed.starts_with('#') {
-        return Some(String::new(alloc));
+/// What a command comes to, with streams that give and take 1 byte, 100 bytes, and as many as there are at a time; where that isn't the
+/// same, what came by how many bytes.
+pub(crate) fn command_told(alloc: Global, given: &mut Vec<u8>, deed: &str) -> Option<String> {
+    let told = found(alloc, given, deed, 1)?;
+    for piece in [100, usize::MAX] {
+        let other = found(alloc, given, deed, piece)?;
+        if other.as_str() != told.as_str() {
+            return format!(in alloc; "{told}, by {piece} bytes {other}").ok();
+        }
     }
+    Some(told)
+}
+
+/// What a deed comes to, with streams that give and take so many bytes at a time. None where it can't be read.
+fn found(alloc: Global, given: &mut Vec<u8>, deed: &str, piece: usize) -> Option<String> {
     let (words, text) = words_and_text(deed);
     let Some(text) = text else {
         return come(alloc, words, given.as_slice(), piece);

@@ -1,6 +1,7 @@
 //! What the rows above set, and what a row makes of it.
 use crate::alike::alike;
 use crate::asked::{stats_told, unit_told};
+use crate::command_told::command_told;
 use crate::course::{Course, opened};
 use crate::every::every_list;
 use crate::many::many;
@@ -15,11 +16,12 @@ struct Named {
     line: String,
 }
 
-/// The requests with names, and the courses so far: the last is that of the next row.
+/// The requests with names, the courses so far (the last is that of the next row), and the text that commands are given.
 #[derive(Drop)]
 pub(crate) struct Stage {
     named: Vec<Named>,
     courses: Vec<Course>,
+    given: Vec<u8>,
 }
 
 impl Stage {
@@ -27,6 +29,7 @@ impl Stage {
         Stage {
             named: Vec::new(alloc),
             courses: Vec::new(alloc),
+            given: Vec::new(alloc),
         }
     }
 
@@ -60,6 +63,7 @@ pub(crate) fn found(alloc: Global, stage: &mut Stage, deed: &str) -> Option<Stri
         "open" => stage.open(alloc, word(deed, 1)),
         "every" => every_list(alloc, stage, behind(deed)),
         "number" => number_of(alloc, word(deed, 1)),
+        "run" => command_told(alloc, &mut stage.given, behind(deed)),
         _ if word(deed, 1) == "is" && !deed.starts_with('{') => stage.name(alloc, deed),
         _ => on_course(alloc, stage, deed),
     }
