@@ -1,0 +1,4 @@
+mod Decided
+mod Suggestions
+mod Counting
+mod Planned

@@ -1,0 +1,15 @@
+//! What holds of the office's parts, whatever computes them: laws over the definitions that their contracts cite. Each function is a
+//! law: it does nothing, and its contract is what is proved.
+#![tactic(auto)]
+
+mod acts;
+mod contents;
+mod directives;
+mod templates;
+mod tokens;
+
+pub use acts::{acceptance_takes_one, revisions_of_acts, suggestions_stay};
+pub use contents::one_text_for_one_content;
+pub use directives::directives_cut_the_text;
+pub use templates::loads_count_the_template;
+pub use tokens::tokens_are_longest;
