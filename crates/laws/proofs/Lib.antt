@@ -1,4 +1,2 @@
 mod Decided
 mod Suggestions
-mod Counting
-mod Planned

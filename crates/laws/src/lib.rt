@@ -5,11 +5,9 @@
 mod acts;
 mod contents;
 mod directives;
-mod templates;
 mod tokens;
 
 pub use acts::{acceptance_takes_one, revisions_of_acts, suggestions_stay};
 pub use contents::one_text_for_one_content;
 pub use directives::directives_cut_the_text;
-pub use templates::loads_count_the_template;
 pub use tokens::tokens_are_longest;
