@@ -40,13 +40,6 @@ impl Languages {
         self.rows.get(code.as_str())
     }
 
-    /// How many languages there are.
-    pub(crate) fn len(&self) -> usize
-        ensures { result ≡ maps.len (headers_in self.now.rows) }
-    {
-        self.rows.len()
-    }
-
     /// Puts a language under its code.
     pub(crate) fn insert(
         &mut self,

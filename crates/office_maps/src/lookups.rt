@@ -14,12 +14,12 @@ ghost use Rattle.template_update.specs.Updates.{plan_of};
 ghost use Rattle.deliveries.specs.OfficeActs.{is_manager, plan_at, plans};
 
 use crate::office_maps::OfficeMaps;
-use crate::unit_rows::{count_losing, some_would_pass, units_of};
+use crate::unit_rows::{loses_approval, units_of, would_pass};
 use deliveries::Language;
 use po_read::Catalogue;
 use std::alloc::{AllocError, Global};
 use template_update::{Plan, plan};
-use units::{Lang, Memory, Name, Policy, Role, Unit};
+use units::{Lang, Memory, Name, Policy, Role};
 
 fn is_manager(role: Role) -> bool
     ensures { result ≡ is_manager role }
@@ -35,7 +35,7 @@ fn is_another_manager(name: &Name, other: &String, role: Role) -> bool
 }
 
 /// A code of its own for a text that is one.
-fn lang_of(alloc: Global, code: &str) -> Result<Lang, AllocError>
+pub(crate) fn lang_of(alloc: Global, code: &str) -> Result<Lang, AllocError>
     requires { is_lang code.now ≡ true }
     ensures { IfOk result (λ lang. lang ≡ code.now) }
 {
@@ -59,7 +59,7 @@ impl OfficeMaps {
     pub fn language_count(&self) -> usize
         ensures { result ≡ maps.len (office_in self.now).headers }
     {
-        self.languages.len()
+        self.languages.rows.len()
     }
 
     /// How many names the team would have where a name had this role.
@@ -93,21 +93,17 @@ impl OfficeMaps {
     pub fn some_would_pass(&self, policy: &Policy) -> bool
         ensures { result ≡ list_any (λ e. nat_lt revision_limit e.1.revision) (under policy.now (maps.entries (office_in self.now).units)) }
     {
-        some_would_pass(&self.units, policy)
+        self.units.values().any(|unit| would_pass(policy, unit))
     }
 
     /// How many units lose their approval under a policy.
     pub fn count_losing(&self, policy: &Policy) -> usize
         ensures { result ≡ count_by (λ e. is_approved e.1.state && not policy.now.reviews) (maps.entries (office_in self.now).units) }
     {
-        count_losing(&self.units, policy)
-    }
-
-    /// Copies of a language's units, in the order of their keys.
-    fn units_of(&self, alloc: Global, lang: &Lang) -> Result<Vec<Unit>, AllocError>
-        ensures { IfOk result (λ all. all.items ≡ units_of (office_in self.now) lang.now) }
-    {
-        units_of(alloc, &self.units, lang)
+        self.units
+            .values()
+            .filter(|unit| loses_approval(policy, unit))
+            .count()
     }
 
     /// What a new template makes of a language.
@@ -121,7 +117,7 @@ impl OfficeMaps {
         ensures { Some language.now.header ≡ maps.get (office_in self.now).headers lang.now
             → IfOk result (λ found. found ≡ plan_of (office_in self.now).template (units_of (office_in self.now) lang.now) next.now (rule_at (office_in self.now) lang.now)) }
     {
-        let units = self.units_of(alloc, lang)?;
+        let units = units_of(alloc, &self.units, lang)?;
         Ok(plan(
             alloc,
             &self.template.catalogue,

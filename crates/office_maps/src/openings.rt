@@ -10,17 +10,17 @@ ghost use Rattle.po_read.specs.Strings.{is_string};
 ghost use Rattle.units.specs.Openings as opens;
 
 use crate::languages::Languages;
+use crate::lookups::lang_of;
 use crate::office_maps::OfficeMaps;
-use crate::place::{OrderedKey, Place};
+use crate::place::Place;
 use crate::template::Template;
+use crate::unit_rows::add_unit;
 use deliveries::Language;
 use plural_expr::{PluralFault, PluralForms};
 use po_read::{Catalogue, Entry, Forms, Items, PoString};
 use std::alloc::{AllocError, Global};
 use std::collections::BTreeMap;
-use units::{
-    AcceptAt, Key, Lang, Memory, Name, Policy, Revision, Role, Unit, UnitState, no_previous,
-};
+use units::{AcceptAt, Key, Memory, Name, Policy, Revision, Role, Unit, UnitState, no_previous};
 
 const DEMO_HEADER: &str =
     "Content-Type: text/plain; charset=UTF-8\nPlural-Forms: nplurals=2; plural=n != 1;\n";
@@ -85,44 +85,15 @@ fn plain_entry(alloc: Global, id: &str, form: &str) -> Result<Entry, AllocError>
     })
 }
 
-fn demo_lang(alloc: Global) -> Result<Lang, AllocError>
-    ensures { IfOk result (λ lang. lang ≡ codes "de") }
-{
-    match Lang::try_new(alloc, "de")? {
-        Some(lang) => Ok(lang),
-        None => unreachable!(),
-    }
-}
-
-/// The key of the message `Hello`.
-fn demo_key(alloc: Global) -> Result<Key, AllocError>
-    ensures { IfOk result (λ key. key ≡ opens.demo_unit.key) }
-{
-    Ok(Key {
-        ctx: None,
-        id: string(alloc, "Hello")?,
-    })
-}
-
-fn demo_place(alloc: Global) -> Result<Place, AllocError>
-    ensures lang { IfOk result (λ place. place.lang ≡ codes "de") }
-    ensures key { IfOk result (λ place. place.key.key ≡ opens.demo_unit.key) }
-{
-    Ok(Place {
-        lang: demo_lang(alloc)?,
-        key: OrderedKey {
-            key: demo_key(alloc)?,
-        },
-    })
-}
-
 fn demo_unit(alloc: Global) -> Result<Unit, AllocError>
     ensures { IfOk result (λ unit. unit ≡ opens.demo_unit) }
 {
+    let id = string(alloc, "Hello")?;
+    let forms = one_form(alloc, "")?;
     Ok(Unit {
-        key: demo_key(alloc)?,
+        key: Key { ctx: None, id },
         plural: None,
-        forms: one_form(alloc, "")?,
+        forms,
         state: UnitState::Untranslated,
         obsolete: false,
         revision: Revision::try_new(1).unwrap(),
@@ -152,42 +123,23 @@ fn demo_language(alloc: Global) -> Result<Language, Memory>
     Ok(Language { header, rule })
 }
 
-/// One unit at a place.
-fn one_unit(alloc: Global, place: Place, unit: Unit) -> Result<BTreeMap<Place, Unit>, AllocError>
-    ensures { IfOk result (λ units. units_in units ≡ maps.insert maps.empty (place.lang, place.key.key) unit) }
-{
-    let mut units = BTreeMap::new(alloc);
-    match units.insert(place, unit) {
-        Ok(before) => {
-            drop(before);
-            Ok(units)
-        }
-        Err(refused) => {
-            drop(units);
-            drop(refused);
-            Err(AllocError)
-        }
-    }
-}
-
 fn demo_units(alloc: Global) -> Result<BTreeMap<Place, Unit>, AllocError>
     ensures { IfOk result (λ units. units_in units ≡ opens.demo.units) }
 {
-    let place = demo_place(alloc)?;
-    match demo_unit(alloc) {
-        Ok(unit) => one_unit(alloc, place, unit),
-        Err(refused) => {
-            drop(place);
-            Err(refused)
-        }
-    }
+    let lang = lang_of(alloc, "de")?;
+    let unit = demo_unit(alloc)?;
+    let mut units = BTreeMap::new(alloc);
+    add_unit(&mut units, &lang, unit)?;
+    Ok(units)
 }
 
 fn demo_languages(alloc: Global) -> Result<Languages, Memory>
     ensures { IfOk result (λ languages. headers_in languages.rows ≡ opens.demo.headers) }
 {
+    let lang = lang_of(alloc, "de")?;
+    let language = demo_language(alloc)?;
     let mut languages = Languages::new(alloc);
-    languages.insert(alloc, &demo_lang(alloc)?, demo_language(alloc)?)?;
+    languages.insert(alloc, &lang, language)?;
     Ok(languages)
 }
 

@@ -1,6 +1,6 @@
 //! Units at their places.
 
-ghost use Rattle.std.specs.Prelude.{◌≡◌, false, not, ◌&&◌, IfOk, OnOk, OnErr, map, filter, flat_map, count_by, nat_lt, if◌then◌else◌, fold};
+ghost use Rattle.std.specs.Prelude.{◌≡◌, false, not, ◌&&◌, IfOk, OnOk, OnErr, map, filter, flat_map, nat_lt, if◌then◌else◌, fold};
 ghost use Rattle.std.specs.List.{list_any};
 ghost use Rattle.std.specs.FinMap as maps;
 ghost use Rattle.units.specs.Limits.{revision_limit};
@@ -162,7 +162,11 @@ pub(crate) fn put_all(
 }
 
 /// Puts a unit of a language at its place.
-fn add_unit(units: &mut BTreeMap<Place, Unit>, lang: &Lang, unit: Unit) -> Result<(), AllocError>
+pub(crate) fn add_unit(
+    units: &mut BTreeMap<Place, Unit>,
+    lang: &Lang,
+    unit: Unit,
+) -> Result<(), AllocError>
     ensures { OnOk result (units_in units.new ≡ maps.insert (units_in units.old) (lang.now, unit.key) unit) }
 {
     match Place::of(lang, &unit.key) {
@@ -241,35 +245,18 @@ pub(crate) fn put_policy(units: &mut BTreeMap<Place, Unit>, policy: &Policy)
 }
 
 /// Whether a unit would pass the last revision under a policy.
-fn would_pass(policy: &Policy, unit: &Unit) -> bool
+pub(crate) fn would_pass(policy: &Policy, unit: &Unit) -> bool
     ensures { result ≡ nat_lt revision_limit (if policy.now.reviews then unit.now else unapproved unit.now).revision }
 {
     let number = unit.revision.number();
     loses_approval(policy, unit) && Revision::try_new(number + 1).is_none()
 }
 
-/// Whether some unit would pass the last revision under a policy.
-pub(crate) fn some_would_pass(units: &BTreeMap<Place, Unit>, policy: &Policy) -> bool
-    ensures { result ≡ list_any (λ e. nat_lt revision_limit e.1.revision) (under policy.now (maps.entries (units_in units.now))) }
-{
-    units.values().any(|unit| would_pass(policy, unit))
-}
-
 /// Whether a unit loses its approval under a policy.
-fn loses_approval(policy: &Policy, unit: &Unit) -> bool
+pub(crate) fn loses_approval(policy: &Policy, unit: &Unit) -> bool
     ensures { result ≡ (is_approved unit.now.state && not policy.now.reviews) }
 {
     unit.state == UnitState::Approved && !policy.reviews
-}
-
-/// How many units lose their approval under a policy.
-pub(crate) fn count_losing(units: &BTreeMap<Place, Unit>, policy: &Policy) -> usize
-    ensures { result ≡ count_by (λ e. is_approved e.1.state && not policy.now.reviews) (maps.entries (units_in units.now)) }
-{
-    units
-        .values()
-        .filter(|unit| loses_approval(policy, unit))
-        .count()
 }
 
 /// Copies of a language's units, in the order of their keys.

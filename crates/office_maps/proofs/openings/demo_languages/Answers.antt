@@ -7,4 +7,4 @@ use Rattle.office_maps.proofs.openings.demo_languages.Goals as goal
 pub returns : goal.returns
 returns c =
     c.in_ok-insert.ensures.ok
-    ∙ (λ i. maps.insert (maps.from_entries (viewed string_bytes (λ (language : Language). language.header) (c.new-languages.ensures i))) (c.in_ok-demo_lang.ensures i) (c.in_ok-demo_language.ensures i))
+    ∙ (λ i. maps.insert (maps.from_entries (viewed string_bytes (λ (language : Language). language.header) (c.new-languages.ensures i))) (c.in_ok-lang.ensures i) (c.in_ok-language.ensures i))

@@ -5,12 +5,12 @@ use Rattle.std.proofs.lemmas.List.Sums.{length-filter}
 use Rattle.units.specs.Units.{is_approved}
 use Rattle.units.specs.declared.unit.Unit.{Unit}
 use Rattle.office_maps.proofs.AfterChanges.{count_losing_by}
-use Rattle.office_maps.proofs.unit_rows.count_losing.Goals as goal
+use Rattle.office_maps.proofs.office_maps.OfficeMaps.count_losing.Goals as goal
 
 pub returns : goal.returns
 returns c =
     let loses = λ (unit : Unit). is_approved unit.state && not c.args.policy.now.reviews in
     count_from_yields_List c.filter.result c.count.result c.count.ensures.ran
-    (YieldsList-from_filter _ loses (YieldsList-from_rest (values_of c.args.units.now.entries) (cc)) c.filter.ensures.closure (λ x r q k. search (rules, tests)))
-    ∙ (length-filter loses (values_of c.args.units.now.entries)
-    ∙ count_losing_by c.args.units.now loses c.values.ensures.ordered)
+    (YieldsList-from_filter _ loses (YieldsList-from_rest (values_of c.args.self.now.units.entries) (cc)) c.filter.ensures.closure (λ x r q k. search (rules, tests)))
+    ∙ (length-filter loses (values_of c.args.self.now.units.entries)
+    ∙ count_losing_by c.args.self.now.units loses c.values.ensures.ordered)

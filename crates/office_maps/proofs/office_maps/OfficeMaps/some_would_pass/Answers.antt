@@ -6,10 +6,10 @@ use Rattle.units.specs.Limits.{revision_limit}
 use Rattle.units.specs.Changes.{unapproved}
 use Rattle.units.specs.declared.unit.Unit.{Unit}
 use Rattle.office_maps.proofs.AfterChanges.{any_under}
-use Rattle.office_maps.proofs.unit_rows.some_would_pass.Goals as goal
+use Rattle.office_maps.proofs.office_maps.OfficeMaps.some_would_pass.Goals as goal
 
 pub returns : goal.returns
 returns c =
     any_from_yields_List (λ (unit : Unit). nat_lt revision_limit (if c.args.policy.now.reviews then unit else unapproved unit).revision) _ _ c.any.result c.any.ensures.ran
-    (YieldsList-from_rest (values_of c.args.units.now.entries) c.values.ensures.rest) (λ x b q k. search (rules, tests))
-    ∙ any_under c.args.units.now c.args.policy.now c.values.ensures.ordered
+    (YieldsList-from_rest (values_of c.args.self.now.units.entries) c.values.ensures.rest) (λ x b q k. search (rules, tests))
+    ∙ any_under c.args.self.now.units c.args.policy.now c.values.ensures.ordered
