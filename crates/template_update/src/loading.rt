@@ -230,29 +230,6 @@ fn add_leftovers<'a>(
     Ok(all)
 }
 
-pub(crate) fn load_of<'a>(
-    alloc: Global,
-    template: &'a [Entry],
-    text: &'a [Entry],
-    rule: &PluralForms,
-    policy: &Policy,
-) -> Result<Option<Plan>, Memory>
-    ensures { IfOk result (λ plan. plan ≡ spec.load_of template.now text.now rule.now policy.now) }
-{
-    let present = KeyIndex::of(alloc, template)?;
-    let given = KeyIndex::of(alloc, text)?;
-    let current = load_units(alloc, policy, rule, &given, template)?;
-    let count = current.len();
-    let all = add_leftovers(alloc, &present, text, current)?;
-    let loaded = count_loaded(&given, template);
-    let counts = Counts::Loaded {
-        loaded: loaded as u64,
-        missing: (template.len() - loaded) as u64,
-        obsolete: (all.len() - count) as u64,
-    };
-    Ok(within_limit(all, counts))
-}
-
 /// The units that a language's first text gives: of the template, the text's entries, the text's plural rule and the policy. A template
 /// entry whose key the text has takes its comment lines and forms where they can be kept, and needs editing where the text's entry is
 /// `fuzzy`, has another msgid_plural, lacks a form or fails an enforced check; other template entries stay untranslated. Entries with a
@@ -270,5 +247,18 @@ pub fn load(
 ) -> Result<Option<Plan>, Memory>
     ensures { IfOk result (λ plan. plan ≡ spec.load_of template.now text.now rule.now policy.now) }
 {
-    load_of(alloc, template.entries(), text.entries(), rule, policy)
+    let template = template.entries();
+    let text = text.entries();
+    let present = KeyIndex::of(alloc, template)?;
+    let given = KeyIndex::of(alloc, text)?;
+    let current = load_units(alloc, policy, rule, &given, template)?;
+    let count = current.len();
+    let all = add_leftovers(alloc, &present, text, current)?;
+    let loaded = count_loaded(&given, template);
+    let counts = Counts::Loaded {
+        loaded: loaded as u64,
+        missing: (template.len() - loaded) as u64,
+        obsolete: (all.len() - count) as u64,
+    };
+    Ok(within_limit(all, counts))
 }

@@ -136,22 +136,6 @@ fn with_new<'a>(
     Ok(within_limit(all, counts))
 }
 
-pub(crate) fn plan_of<'a>(
-    alloc: Global,
-    present: &'a [Entry],
-    units: &'a [Unit],
-    next: &'a [Entry],
-    rule: &PluralForms,
-) -> Result<Option<Plan>, AllocError>
-    ensures { IfOk result (λ plan. plan ≡ plan_of present.now units.now next.now rule.now) }
-{
-    let updated = updated_units(alloc, present, units, next, rule)?;
-    match updated {
-        None => Ok(None),
-        Some(done) => with_new(alloc, rule, units, next, done),
-    }
-}
-
 /// What a new template makes of one language's units: of the present template, all units of the language, the new template and the
 /// language's plural rule. A unit whose key goes becomes obsolete, and is taken back when the key returns; a unit whose msgid_plural
 /// changes keeps its forms where they can be kept, and then needs editing. First come the units that were there, in their order, then
@@ -169,5 +153,9 @@ pub fn plan(
 ) -> Result<Option<Plan>, Memory>
     ensures { IfOk result (λ plan. plan ≡ plan_of present.now units.now next.now rule.now) }
 {
-    Ok(plan_of(alloc, present.entries(), units, next.entries(), rule)?)
+    let next = next.entries();
+    match updated_units(alloc, present.entries(), units, next, rule)? {
+        None => Ok(None),
+        Some(done) => Ok(with_new(alloc, rule, units, next, done)?),
+    }
 }

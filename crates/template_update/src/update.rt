@@ -15,7 +15,7 @@ use std::alloc::{AllocError, Global};
 use units::{Revision, Unit, forms_needed, has_flag};
 
 /// What becomes of a unit.
-#[derive(Debug, Drop, Clone, Copy, PartialEq, Eq)]
+#[derive(Drop, Clone, Copy, PartialEq)]
 pub(crate) enum UnitUpdate {
     /// Its msgid_plural changed, or its flag `read-only` came or went.
     Changed,

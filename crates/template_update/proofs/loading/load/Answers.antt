@@ -1,13 +1,13 @@
-use Rattle.std.proofs.Common.{◌≡◌, ◌-◌, length, map, ap, arith}
+use Rattle.std.proofs.Common.{◌≡◌, ◌-◌, length, map, ap, ◌∙◌, arith}
 use Rattle.std.proofs.lemmas.List.{length-append, length-map}
-use Rattle.template_update.specs.Loads.{is_in, leftover, leftovers}
+use Rattle.template_update.specs.Loads.{is_in, leftover, leftovers, load_of}
 use Rattle.template_update.proofs.LoadLemmas.{the_load, count_by-not}
-use Rattle.template_update.proofs.loading.load_of.Goals as goal
+use Rattle.template_update.proofs.loading.load.Goals as goal
 
 pub returns : goal.returns
 returns c =
-    let template = c.args.template.now in
-    let text = c.args.text.now in
+    let template = c.entries-template.result.now in
+    let text = c.entries-text.result.now in
     let loaded = c.count_loaded-loaded.ensures.count text c.in_ok-given.ensures in
     let joined = c.in_ok-all.ensures.units template c.in_ok-present.ensures in
     let obsolete : c.len.result - c.len-count.result ≡ length (leftovers template text) =
@@ -16,3 +16,4 @@ returns c =
     c.count_loaded-loaded.result (length template - c.count_loaded-loaded.result) (c.len.result - c.len-count.result) c.within_limit.result
     (c.in_ok-current.ensures text c.in_ok-given.ensures) joined loaded (count_by-not (is_in text) template c.count_loaded-loaded.result loaded) obsolete
     c.within_limit.ensures
+    ∙ (λ i. load_of (c.entries-template.ensures.value i) (c.entries-text.ensures.value i) c.args.rule.now c.args.policy.now)
