@@ -9,3 +9,5 @@ pub mod Rows
 pub mod Taken
 pub mod TemplateLemmas
 pub mod Updating
+pub mod Counting
+pub mod Planned

@@ -5,3 +5,4 @@ pub mod Updates
 pub mod Loads
 pub mod Moves
 pub mod Steps
+pub mod Laws

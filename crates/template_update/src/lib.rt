@@ -2,6 +2,7 @@
 #![tactic(auto)]
 
 mod index;
+mod laws;
 mod loading;
 mod planning;
 mod plans;
@@ -10,6 +11,7 @@ mod template;
 mod update;
 mod updates;
 
+pub use laws::{loads_count_the_template, plans_count_every_key, plans_keep_units};
 pub use loading::load;
 pub use planning::plan;
 pub use plans::{Counts, Plan};
