@@ -2,7 +2,9 @@
 
 ghost use Rattle.std.specs.Prelude.{◌≡◌, Ok, Some, IfOk, false};
 ghost use Rattle.std.specs.FinMap as maps;
+ghost use Rattle.units.specs.Office.{Office};
 ghost use Rattle.units.specs.Rules.{rule_in};
+ghost use Rattle.replies.specs.Bodies.{count_fields, reply as reply_of};
 ghost use Rattle.deliveries.specs.OfficeActs as spec;
 ghost use Rattle.office_acts.specs.Settled.{IsSettled};
 ghost use Rattle.office_maps.specs.OfficeIn.{office_in};
@@ -14,12 +16,71 @@ use office_maps::OfficeMaps;
 use plural_expr::PluralForms;
 use po_read::{Catalogue, Duplicate, Entry, Text};
 use replies::language_added;
-use std::alloc::Global;
-use template_update::load;
+use request_book::Reply;
+use std::alloc::{AllocError, Global};
+use template_update::{Counts, Plan, load};
 use units::{Lang, Memory, Refusal};
 
 /// How many languages an office has at most.
 const MAX_LANGUAGES: usize = 32;
+
+/// What tells of a language that comes: copies of its code and its header, and the reply.
+#[derive(Drop)]
+struct Coming {
+    lang: Lang,
+    header: Entry,
+    reply: Reply,
+}
+
+fn coming_of(
+    alloc: Global,
+    lang: &Lang,
+    header: &Entry,
+    counts: Counts,
+) -> Result<Coming, AllocError>
+    ensures lang { IfOk result (λ coming. coming.lang ≡ lang.now) }
+    ensures header { IfOk result (λ coming. coming.header ≡ header.now) }
+    ensures reply { IfOk result (λ coming. coming.reply ≡ reply_of 200 (count_fields counts)) }
+{
+    Ok(Coming {
+        reply: language_added(alloc, counts)?,
+        header: header.duplicate()?,
+        lang: lang.duplicate()?,
+    })
+}
+
+/// A language comes with its header, its rule and its units.
+fn with_plan(
+    alloc: Global,
+    lang: &Lang,
+    header: &Entry,
+    rule: PluralForms,
+    plan: Plan,
+) -> Result<OfficeOutcome, Memory>
+    requires { rule_in (Some header.now) ≡ Ok rule }
+    ensures { IfOk result (λ outcome. (office : Office) → maps.contains_key office.headers lang.now ≡ false →
+        IsSettled office outcome (spec.loaded office lang.now header.now plan)) }
+{
+    match coming_of(alloc, lang, header, plan.counts) {
+        Ok(coming) => {
+            let Coming {
+                lang,
+                header,
+                reply,
+            } = coming;
+            let language = Language { header, rule };
+            Ok(OfficeOutcome {
+                change: Some(Change::NewLanguage(lang, language, plan)),
+                reply,
+            })
+        }
+        Err(refused) => {
+            drop(rule);
+            drop(plan);
+            Err(Memory::from(refused))
+        }
+    }
+}
 
 /// A language comes with its header, its rule and the units of its text.
 fn load_language(
@@ -36,6 +97,7 @@ fn load_language(
         (λ outcome. IsSettled (office_in office.now) outcome (spec.with_rule (office_in office.now) lang.now text.now header.now rule)) }
 {
     if office.language_count() >= MAX_LANGUAGES {
+        drop(rule);
         return OfficeOutcome::refused(alloc, Refusal::PastLimit);
     }
     match load(
@@ -44,16 +106,17 @@ fn load_language(
         text,
         &rule,
         &office.policy,
-    )? {
-        None => OfficeOutcome::refused(alloc, Refusal::PastLimit),
-        Some(plan) => {
-            let reply = language_added(alloc, plan.counts)?;
-            let header = header.duplicate()?;
-            let language = Language { header, rule };
-            Ok(OfficeOutcome {
-                change: Some(Change::NewLanguage(lang.duplicate()?, language, plan)),
-                reply,
-            })
+    ) {
+        Ok(loaded) => match loaded {
+            Some(plan) => with_plan(alloc, lang, header, rule, plan),
+            None => {
+                drop(rule);
+                OfficeOutcome::refused(alloc, Refusal::PastLimit)
+            }
+        },
+        Err(refused) => {
+            drop(rule);
+            Err(refused)
         }
     }
 }
@@ -73,7 +136,10 @@ fn add_language(
     match rule_of(alloc, header)? {
         Err(fault) => OfficeOutcome::refused_rule(alloc, fault),
         Ok(rule) => match header {
-            None => OfficeOutcome::refused_rule(alloc, None),
+            None => {
+                drop(rule);
+                OfficeOutcome::refused_rule(alloc, None)
+            }
             Some(header) => load_language(alloc, office, lang, text, header, rule),
         },
     }
