@@ -5,3 +5,4 @@ mod Readers
 mod Three
 mod PartsLemmas
 mod PutLemmas
+mod Ends

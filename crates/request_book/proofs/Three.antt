@@ -17,7 +17,7 @@ at_first : {A B C : Type 0} (g : Members → Option (B × Members)) (k : (A × B
 at_first g k None = refl
 at_first g k (Some a) = map_then (λ b. ((a.0, b.0), b.1)) k (g a.1)
 
-both_then : {A B C : Type 0} (f : Members → Option (A × Members)) (g : Members → Option (B × Members)) (k : (A × B) × Members → Option C) (ms : Members)
+pub both_then : {A B C : Type 0} (f : Members → Option (A × Members)) (g : Members → Option (B × Members)) (k : (A × B) × Members → Option C) (ms : Members)
     → option_and_then k (both_of f g ms) ≡ option_and_then (λ a. option_and_then (λ b. k ((a.0, b.0), b.1)) (g a.1)) (f ms)
 both_then f g k ms = at_first g k (f ms)
 
@@ -104,7 +104,7 @@ in_three ms =
     three_then (take_optional_as name_of (codes "caller")) (take_optional_as text_of (codes "ctx")) (take_optional_as forms_of (codes "forms")) behind_first ms
     ∙ (λ i. option_and_then (λ caller. option_and_then (λ ctx. option_and_then (λ forms. in_two (caller.0, (ctx.0, forms.0)) forms.1 i) (take_optional_as forms_of (codes "forms") ctx.1)) (take_optional_as text_of (codes "ctx") caller.1)) (take_optional_as name_of (codes "caller") ms)))
 
-over_only : {A B : Type 0} (o : Option (A × Members)) (w : A → B) → ((x : A) → o ≢ Some (x, no_members)) → option_and_then (λ l. if is_over l.1 then Some (w l.0) else None) o ≡ None
+pub over_only : {A B : Type 0} (o : Option (A × Members)) (w : A → B) → ((x : A) → o ≢ Some (x, no_members)) → option_and_then (λ l. if is_over l.1 then Some (w l.0) else None) o ≡ None
 over_only None w none = refl
 over_only (Some (x, no_members)) w none = absurd (none x refl)
 over_only (Some (x, member k d ms)) w none = refl

@@ -1,12 +1,12 @@
 //! Readers of single fields, and of the first member of an object in the order of its keys.
-ghost use Rattle.std.specs.Prelude.{◌≡◌, ◌++◌, List, ℕ, true, Err, IfOk, Some, None, option_map};
+ghost use Rattle.std.specs.Prelude.{◌≡◌, ◌++◌, List, ℕ, true, Err, IfOk, Some, None, codes, option_map};
 ghost use Rattle.std.specs.List.{list_all};
 ghost use Rattle.uuid.specs.Text.{parsed};
 ghost use Rattle.po_read.specs.Strings.{is_string};
 ghost use Rattle.request_book.specs.Acts.{IsNumber};
 ghost use Rattle.serde_json.specs.Find.{as_bool, as_str};
 ghost use Rattle.serde_json.specs.View.{view, items_view, members_view};
-ghost use Rattle.request_book.specs.Fields.{text_of, name_of, lang_of, revision_of, accept_at_of, role_named, role_of, each_of, forms_of, lines_of, vote_of, number_of, take, take_as, take_optional, optional_as, is_over};
+ghost use Rattle.request_book.specs.Fields.{text_of, name_of, lang_of, revision_of, accept_at_of, role_named, role_of, each_of, forms_of, lines_of, vote_of, number_of, take, take_as, take_optional, take_optional_as, optional_as, is_over};
 ghost use Rattle.request_book.specs.declared.fault.RequestFault.TheVariants.{Malformed};
 
 use crate::fault::RequestFault;
@@ -38,19 +38,6 @@ pub(crate) fn name_from(alloc: Global, value: &Value) -> Result<Name, RequestFau
     };
     match Name::try_new(alloc, text)? {
         Some(name) => Ok(name),
-        None => Err(RequestFault::Malformed),
-    }
-}
-
-pub(crate) fn lang_from(alloc: Global, value: &Value) -> Result<Lang, RequestFault>
-    ensures ok { IfOk result (λ t. lang_of (view value.now) ≡ Some t) }
-    ensures malformed { result ≡ Err Malformed → lang_of (view value.now) ≡ None }
-{
-    let Some(text) = value.as_str() else {
-        return Err(RequestFault::Malformed);
-    };
-    match Lang::try_new(alloc, text)? {
-        Some(lang) => Ok(lang),
         None => Err(RequestFault::Malformed),
     }
 }
@@ -150,6 +137,25 @@ pub(crate) fn take_flag<'v>(
     }
 }
 
+pub(crate) fn take_lang<'v>(
+    alloc: Global,
+    fields: &'v [(String, Value)],
+) -> Result<(Lang, &'v [(String, Value)]), RequestFault>
+    ensures ok { IfOk result
+        (λ p. take_as lang_of (codes "lang") (members_view fields.now) ≡ Some (p.0, members_view p.1.now)) }
+    ensures malformed { result ≡ Err Malformed
+        → take_as lang_of (codes "lang") (members_view fields.now) ≡ None }
+{
+    let (value, rest) = take_member(fields, "lang")?;
+    let Some(text) = value.as_str() else {
+        return Err(RequestFault::Malformed);
+    };
+    match Lang::try_new(alloc, text)? {
+        Some(lang) => Ok((lang, rest)),
+        None => Err(RequestFault::Malformed),
+    }
+}
+
 fn texts_from(alloc: Global, values: &[Value]) -> Result<Vec<PoString>, RequestFault>
     ensures ok { IfOk result (λ v. each_of text_of (items_view values.now) ≡ Some v.items) }
     ensures fit { IfOk result (λ v. list_all is_string v.items ≡ true) }
@@ -182,10 +188,8 @@ fn line_texts_from(alloc: Global, values: &[Value]) -> Result<Items<Text>, Reque
 {
     let mut lines = Items::new(alloc);
     for value in values {
-        let Some(text) = value.as_str() else {
-            return Err(RequestFault::Malformed);
-        };
-        lines.push(Text::from_text(alloc, text)?)?;
+        let line = po_from(alloc, value)?;
+        lines.push(line)?;
     }
     Ok(lines)
 }
@@ -238,33 +242,63 @@ pub(crate) fn take_optional<'v>(
     }
 }
 
-pub(crate) fn optional_text(
+pub(crate) fn take_caller<'v>(
     alloc: Global,
-    value: Option<&Value>,
-) -> Result<Option<PoString>, RequestFault>
+    fields: &'v [(String, Value)],
+) -> Result<(Option<Name>, &'v [(String, Value)]), RequestFault>
     ensures ok { IfOk result
-        (λ o. optional_as text_of (option_map (λ v. view v.now) value.entry) ≡ Some o) }
+        (λ p. take_optional_as name_of (codes "caller") (members_view fields.now) ≡ Some (p.0, members_view p.1.now)) }
     ensures malformed { result ≡ Err Malformed
-        → optional_as text_of (option_map (λ v. view v.now) value.entry) ≡ None }
+        → take_optional_as name_of (codes "caller") (members_view fields.now) ≡ None }
 {
-    match value {
-        Some(value) => Ok(Some(text_from(alloc, value)?)),
-        None => Ok(None),
+    match take_optional(fields, "caller") {
+        (Some(value), rest) => Ok((Some(name_from(alloc, value)?), rest)),
+        (None, rest) => Ok((None, rest)),
     }
 }
 
-pub(crate) fn optional_name(
+pub(crate) fn take_context<'v>(
     alloc: Global,
-    value: Option<&Value>,
-) -> Result<Option<Name>, RequestFault>
+    fields: &'v [(String, Value)],
+) -> Result<(Option<PoString>, &'v [(String, Value)]), RequestFault>
     ensures ok { IfOk result
-        (λ o. optional_as name_of (option_map (λ v. view v.now) value.entry) ≡ Some o) }
+        (λ p. take_optional_as text_of (codes "ctx") (members_view fields.now) ≡ Some (p.0, members_view p.1.now)) }
     ensures malformed { result ≡ Err Malformed
-        → optional_as name_of (option_map (λ v. view v.now) value.entry) ≡ None }
+        → take_optional_as text_of (codes "ctx") (members_view fields.now) ≡ None }
 {
-    match value {
-        Some(value) => Ok(Some(name_from(alloc, value)?)),
-        None => Ok(None),
+    match take_optional(fields, "ctx") {
+        (Some(value), rest) => Ok((Some(text_from(alloc, value)?), rest)),
+        (None, rest) => Ok((None, rest)),
+    }
+}
+
+pub(crate) fn take_forms<'v>(
+    alloc: Global,
+    fields: &'v [(String, Value)],
+) -> Result<(Option<Forms>, &'v [(String, Value)]), RequestFault>
+    ensures ok { IfOk result
+        (λ p. take_optional_as forms_of (codes "forms") (members_view fields.now) ≡ Some (p.0, members_view p.1.now)) }
+    ensures malformed { result ≡ Err Malformed
+        → take_optional_as forms_of (codes "forms") (members_view fields.now) ≡ None }
+{
+    match take_optional(fields, "forms") {
+        (Some(value), rest) => Ok((Some(forms_from(alloc, value)?), rest)),
+        (None, rest) => Ok((None, rest)),
+    }
+}
+
+pub(crate) fn take_lines<'v>(
+    alloc: Global,
+    fields: &'v [(String, Value)],
+) -> Result<(Option<CommentLines>, &'v [(String, Value)]), RequestFault>
+    ensures ok { IfOk result
+        (λ p. take_optional_as lines_of (codes "lines") (members_view fields.now) ≡ Some (p.0, members_view p.1.now)) }
+    ensures malformed { result ≡ Err Malformed
+        → take_optional_as lines_of (codes "lines") (members_view fields.now) ≡ None }
+{
+    match take_optional(fields, "lines") {
+        (Some(value), rest) => Ok((Some(lines_from(alloc, value)?), rest)),
+        (None, rest) => Ok((None, rest)),
     }
 }
 
@@ -276,36 +310,6 @@ pub(crate) fn optional_accept_at(value: Option<&Value>) -> Result<Option<AcceptA
 {
     match value {
         Some(value) => Ok(Some(accept_at_from(value)?)),
-        None => Ok(None),
-    }
-}
-
-pub(crate) fn optional_forms(
-    alloc: Global,
-    value: Option<&Value>,
-) -> Result<Option<Forms>, RequestFault>
-    ensures ok { IfOk result
-        (λ o. optional_as forms_of (option_map (λ v. view v.now) value.entry) ≡ Some o) }
-    ensures malformed { result ≡ Err Malformed
-        → optional_as forms_of (option_map (λ v. view v.now) value.entry) ≡ None }
-{
-    match value {
-        Some(value) => Ok(Some(forms_from(alloc, value)?)),
-        None => Ok(None),
-    }
-}
-
-pub(crate) fn optional_lines(
-    alloc: Global,
-    value: Option<&Value>,
-) -> Result<Option<CommentLines>, RequestFault>
-    ensures ok { IfOk result
-        (λ o. optional_as lines_of (option_map (λ v. view v.now) value.entry) ≡ Some o) }
-    ensures malformed { result ≡ Err Malformed
-        → optional_as lines_of (option_map (λ v. view v.now) value.entry) ≡ None }
-{
-    match value {
-        Some(value) => Ok(Some(lines_from(alloc, value)?)),
         None => Ok(None),
     }
 }

@@ -1,23 +1,24 @@
 //! Reads the members of one object.
 ghost use Rattle.std.specs.Prelude.{◌≡◌, ◌≢◌, Err, IfOk, Some, None, codes, option_map};
 ghost use Rattle.serde_json.specs.Data.{Members, no_members, object};
+ghost use Rattle.serde_json.specs.Find.{as_str};
 ghost use Rattle.serde_json.specs.Read.{read};
 ghost use Rattle.serde_json.specs.View.{view, members_view};
-ghost use Rattle.request_book.specs.Fields.{text_of, name_of, lang_of, revision_of, forms_of, lines_of, vote_of, number_of, take_as, take_optional_as, both_of, unit_members_of, action_members, action_with, action_of, unit_parts, unit_parts_of, template_of, language_of, team_of, policy_of, parts_behind, parts_of, IsPartsText};
+ghost use Rattle.request_book.specs.Fields.{text_of, name_of, lang_of, revision_of, forms_of, lines_of, vote_of, number_of, role_of, take_as, take_optional_as, both_of, unit_members_of, action_members, action_with, action_of, unit_parts, unit_parts_of, template_of, language_of, team_of, policy_of, parts_behind, parts_of, IsPartsText};
 ghost use Rattle.request_book.specs.declared.fault.RequestFault.TheVariants.{Malformed};
 
 use crate::act::Act;
 use crate::fault::RequestFault;
 use crate::fields::{
-    is_over, lang_from, name_from, optional_accept_at, optional_forms, optional_lines,
-    optional_name, optional_number, optional_text, optional_vote, po_from, revision_from,
-    role_from, take_flag, take_member, take_optional, text_from,
+    is_over, name_from, optional_accept_at, optional_number, optional_vote, po_from, revision_from,
+    role_from, take_caller, take_context, take_flag, take_forms, take_lang, take_lines,
+    take_member, take_optional, text_from,
 };
-use po_read::{Forms, PoString};
+use po_read::{Forms, PoString, Text};
 use serde_json::Value;
 use std::alloc::Global;
 use units::{
-    AcceptAt, CommentLines, Key, Lang, Name, Policy, Revision, UnitAct, UnitAction, VoteValue,
+    AcceptAt, CommentLines, Key, Lang, Name, Policy, Revision, Role, UnitAct, UnitAction, VoteValue,
 };
 use uuid::Uuid;
 
@@ -95,7 +96,10 @@ fn object_from(alloc: Global, text: &str) -> Result<Vec<(String, Value)>, Reques
 {
     match value_from(alloc, text)? {
         Value::Object(map) => Ok(map.into_iter().collect(alloc)?),
-        _other => Err(RequestFault::Malformed),
+        other => {
+            drop(other);
+            Err(RequestFault::Malformed)
+        },
     }
 }
 
@@ -156,15 +160,8 @@ fn template_from(alloc: Global, fields: &[(String, Value)]) -> Result<Parts, Req
     ensures ok { IfOk result (λ p. template_of (members_view fields.now) ≡ Some p) }
     ensures malformed { result ≡ Err Malformed → template_of (members_view fields.now) ≡ None }
 {
-    let (caller, rest) = take_optional(fields, "caller");
-    let caller = optional_name(alloc, caller)?;
-    let (number, rest) = take_optional(rest, "number");
-    let number = optional_number(number)?;
-    let (po, rest) = take_member(rest, "po")?;
-    let po = po_from(alloc, po)?;
-    if !is_over(rest) {
-        return Err(RequestFault::Malformed);
-    }
+    let (caller, rest) = take_caller(alloc, fields)?;
+    let (number, po) = number_and_po(alloc, rest)?;
     Ok(Parts {
         caller,
         number,
@@ -176,17 +173,9 @@ fn language_from(alloc: Global, fields: &[(String, Value)]) -> Result<Parts, Req
     ensures ok { IfOk result (λ p. language_of (members_view fields.now) ≡ Some p) }
     ensures malformed { result ≡ Err Malformed → language_of (members_view fields.now) ≡ None }
 {
-    let (caller, rest) = take_optional(fields, "caller");
-    let caller = optional_name(alloc, caller)?;
-    let (lang, rest) = take_member(rest, "lang")?;
-    let lang = lang_from(alloc, lang)?;
-    let (number, rest) = take_optional(rest, "number");
-    let number = optional_number(number)?;
-    let (po, rest) = take_member(rest, "po")?;
-    let po = po_from(alloc, po)?;
-    if !is_over(rest) {
-        return Err(RequestFault::Malformed);
-    }
+    let (caller, rest) = take_caller(alloc, fields)?;
+    let (lang, rest) = take_lang(alloc, rest)?;
+    let (number, po) = number_and_po(alloc, rest)?;
     Ok(Parts {
         caller,
         number,
@@ -194,26 +183,61 @@ fn language_from(alloc: Global, fields: &[(String, Value)]) -> Result<Parts, Req
     })
 }
 
+// The last members of a template and of a language.
+fn number_and_po(
+    alloc: Global,
+    fields: &[(String, Value)],
+) -> Result<(Option<Uuid>, Text), RequestFault>
+    ensures ok { IfOk result
+        (λ p. both_of (take_optional_as number_of (codes "number")) (take_as as_str (codes "po"))
+        (members_view fields.now) ≡ Some ((p.0, p.1), no_members)) }
+    ensures malformed { result ≡ Err Malformed → (p : _)
+        → both_of (take_optional_as number_of (codes "number")) (take_as as_str (codes "po"))
+        (members_view fields.now) ≢ Some (p, no_members) }
+{
+    let (number, rest) = take_optional(fields, "number");
+    let number = optional_number(number)?;
+    let (po, rest) = take_member(rest, "po")?;
+    if is_over(rest) {
+        Ok((number, po_from(alloc, po)?))
+    } else {
+        Err(RequestFault::Malformed)
+    }
+}
+
 fn team_from(alloc: Global, fields: &[(String, Value)]) -> Result<Parts, RequestFault>
     ensures ok { IfOk result (λ p. team_of (members_view fields.now) ≡ Some p) }
     ensures malformed { result ≡ Err Malformed → team_of (members_view fields.now) ≡ None }
 {
-    let (caller, rest) = take_optional(fields, "caller");
-    let caller = optional_name(alloc, caller)?;
+    let (caller, rest) = take_caller(alloc, fields)?;
     let (name, rest) = take_member(rest, "name")?;
     let name = name_from(alloc, name)?;
-    let (number, rest) = take_optional(rest, "number");
-    let number = optional_number(number)?;
-    let (role, rest) = take_member(rest, "role")?;
-    let role = role_from(role)?;
-    if !is_over(rest) {
-        return Err(RequestFault::Malformed);
-    }
+    let (number, role) = number_and_role(rest)?;
     Ok(Parts {
         caller,
         number,
         act: Act::SetRole(name, role),
     })
+}
+
+// The last members of a place in the team.
+fn number_and_role(fields: &[(String, Value)]) -> Result<(Option<Uuid>, Role), RequestFault>
+    ensures ok { IfOk result
+        (λ p. both_of (take_optional_as number_of (codes "number")) (take_as role_of (codes "role"))
+        (members_view fields.now) ≡ Some ((p.0, p.1), no_members)) }
+    ensures malformed { result ≡ Err Malformed → (p : _)
+        → both_of (take_optional_as number_of (codes "number")) (take_as role_of (codes "role"))
+        (members_view fields.now) ≢ Some (p, no_members) }
+{
+    let (number, rest) = take_optional(fields, "number");
+    let number = optional_number(number)?;
+    let (role, rest) = take_member(rest, "role")?;
+    let role = role_from(role)?;
+    if is_over(rest) {
+        Ok((number, role))
+    } else {
+        Err(RequestFault::Malformed)
+    }
 }
 
 fn policy_from(
@@ -225,8 +249,7 @@ fn policy_from(
     ensures malformed { result ≡ Err Malformed
         → policy_of accept_at (members_view fields.now) ≡ None }
 {
-    let (caller, rest) = take_optional(fields, "caller");
-    let caller = optional_name(alloc, caller)?;
+    let (caller, rest) = take_caller(alloc, fields)?;
     let (guests_suggest, rest) = take_flag(rest, "guests_suggest")?;
     let (line_ends, rest) = take_flag(rest, "line_ends")?;
     let (number, rest) = take_optional(rest, "number");
@@ -312,7 +335,10 @@ fn action_members(
         (None, Some(lines), None, None) => Some(ActionMembers::Lines(lines)),
         (None, None, Some(suggestion), None) => Some(ActionMembers::Suggestion(suggestion)),
         (None, None, Some(suggestion), Some(value)) => Some(ActionMembers::Vote(suggestion, value)),
-        (_, _, _, _) => None,
+        others => {
+            drop(others);
+            None
+        },
     }
 }
 
@@ -328,11 +354,17 @@ fn action_from(word: &str, given: ActionMembers) -> Option<UnitAction>
         ActionMembers::Forms(forms) => match word {
             "suggest" => Some(UnitAction::Suggest(forms)),
             "translate" => Some(UnitAction::Translate(forms)),
-            _ => None,
+            _ => {
+                drop(forms);
+                None
+            },
         },
         ActionMembers::Lines(lines) => match word {
             "comment" => Some(UnitAction::Comment(lines)),
-            _ => None,
+            _ => {
+                drop(lines);
+                None
+            },
         },
         ActionMembers::Suggestion(suggestion) => match word {
             "accept" => Some(UnitAction::Accept(suggestion)),
@@ -381,12 +413,9 @@ fn first_members<'v>(
         (both_of (take_optional_as text_of (codes "ctx")) (take_optional_as forms_of (codes "forms")))
         (members_view fields.now) ≡ None }
 {
-    let (caller, rest) = take_optional(fields, "caller");
-    let caller = optional_name(alloc, caller)?;
-    let (ctx, rest) = take_optional(rest, "ctx");
-    let ctx = optional_text(alloc, ctx)?;
-    let (forms, rest) = take_optional(rest, "forms");
-    let forms = optional_forms(alloc, forms)?;
+    let (caller, rest) = take_caller(alloc, fields)?;
+    let (ctx, rest) = take_context(alloc, rest)?;
+    let (forms, rest) = take_forms(alloc, rest)?;
     Ok((FirstMembers { caller, ctx, forms }, rest))
 }
 
@@ -406,10 +435,8 @@ fn middle_members<'v>(
 {
     let (id, rest) = take_member(fields, "id")?;
     let id = text_from(alloc, id)?;
-    let (lang, rest) = take_member(rest, "lang")?;
-    let lang = lang_from(alloc, lang)?;
-    let (lines, rest) = take_optional(rest, "lines");
-    let lines = optional_lines(alloc, lines)?;
+    let (lang, rest) = take_lang(alloc, rest)?;
+    let (lines, rest) = take_lines(alloc, rest)?;
     Ok((MiddleMembers { id, lang, lines }, rest))
 }
 

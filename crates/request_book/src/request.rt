@@ -41,13 +41,22 @@ impl Request {
 fn signed(parts: Parts) -> Option<Request>
     ensures { result ≡ to_request parts.caller parts.number parts.act }
 {
-    match (parts.caller, parts.number) {
+    let Parts {
+        caller,
+        number,
+        act,
+    } = parts;
+    match (caller, number) {
         (Some(caller), Some(number)) => Some(Request {
             number,
             caller,
-            act: parts.act,
+            act,
         }),
-        (_, _) => None,
+        (caller, _) => {
+            drop(caller);
+            drop(act);
+            None
+        },
     }
 }
 

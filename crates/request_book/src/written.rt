@@ -1,6 +1,6 @@
 //! Writes acts as the members of objects.
 ghost use Rattle.std.specs.Prelude.{◌≡◌, codes, true, IfOk, OnOk, MatchOption, option_map, ⊤};
-ghost use Rattle.serde_json.specs.Data.{put as with, boolean, string, array};
+ghost use Rattle.serde_json.specs.Data.{put as with, boolean, string, array, no_members};
 ghost use Rattle.serde_json.specs.View.{view, items_view, members_view};
 ghost use Rattle.request_book.specs.declared.act.Act.TheVariants.{OnUnit, SetTemplate, AddLanguage, SetRole, SetPolicy};
 ghost use Rattle.request_book.specs.Acts.{action_text, forms_in, lines_in, suggestion_in, vote_in, vote_data, fields_of, IsAct, IsNumber};
@@ -29,137 +29,160 @@ pub(crate) fn members_map(
     ensures fits { IfOk result (λ _. IsAct act.now) }
     ensures caller { IfOk result (λ _. MatchOption caller.entry ⊤ (λ c. is_name c.now ≡ true)) }
 {
+    let mut map = Map::new(alloc);
+    put_act(&mut map, alloc, caller, number, act)?;
+    Ok(map)
+}
+
+fn put_act(
+    map: &mut Map<String, Value>,
+    alloc: Global,
+    caller: Option<&Name>,
+    number: Option<Uuid>,
+    act: &Act,
+) -> Result<(), AllocError>
+    requires { members_view map.old.entries ≡ no_members }
+    ensures value { OnOk result (members_view map.new.entries
+        ≡ members (fields_of (option_map (λ c. c.now) caller.entry) number act.now)) }
+    ensures fits { OnOk result (IsAct act.now) }
+    ensures caller { OnOk result (MatchOption caller.entry ⊤ (λ c. is_name c.now ≡ true)) }
+{
     match act {
-        Act::OnUnit(lang, key, act) => unit_map(alloc, caller, number, lang, key, act),
-        Act::SetTemplate(po) => template_map(alloc, caller, number, po),
-        Act::AddLanguage(lang, po) => language_map(alloc, caller, number, lang, po),
-        Act::SetRole(name, role) => team_map(alloc, caller, number, name, *role),
-        Act::SetPolicy(policy) => policy_map(alloc, caller, number, policy),
+        Act::OnUnit(lang, key, act) => put_unit(map, alloc, caller, number, lang, key, act),
+        Act::SetTemplate(po) => put_template(map, alloc, caller, number, po),
+        Act::AddLanguage(lang, po) => put_language(map, alloc, caller, number, lang, po),
+        Act::SetRole(name, role) => put_team(map, alloc, caller, number, name, *role),
+        Act::SetPolicy(policy) => put_policy(map, alloc, caller, number, policy),
     }
 }
 
 #[tactic(auto, using(crate::proofs::PutLemmas::puts_unit))]
-fn unit_map(
+fn put_unit(
+    map: &mut Map<String, Value>,
     alloc: Global,
     caller: Option<&Name>,
     number: Option<Uuid>,
     lang: &Lang,
     key: &Key,
     act: &UnitAct,
-) -> Result<Map<String, Value>, AllocError>
-    ensures value { IfOk result (λ m. members_view m.entries
+) -> Result<(), AllocError>
+    requires { members_view map.old.entries ≡ no_members }
+    ensures value { OnOk result (members_view map.new.entries
         ≡ members (fields_of (option_map (λ c. c.now) caller.entry) number
         (OnUnit lang.now key.now act.now))) }
-    ensures fits { IfOk result (λ _. IsAct (OnUnit lang.now key.now act.now)) }
-    ensures caller { IfOk result (λ _. MatchOption caller.entry ⊤ (λ c. is_name c.now ≡ true)) }
+    ensures fits { OnOk result (IsAct (OnUnit lang.now key.now act.now)) }
+    ensures caller { OnOk result (MatchOption caller.entry ⊤ (λ c. is_name c.now ≡ true)) }
 {
-    let mut map = Map::new(alloc);
-    put_text(&mut map, alloc, "act", action_word(&act.action))?;
-    put_caller(&mut map, alloc, caller)?;
-    put_context(&mut map, alloc, &key.ctx)?;
-    put_forms(&mut map, alloc, &act.action)?;
-    put_text(&mut map, alloc, "id", key.id.as_str())?;
-    put_text(&mut map, alloc, "lang", lang.as_str())?;
-    put_lines(&mut map, alloc, &act.action)?;
-    put_number(&mut map, alloc, "number", number)?;
-    put(&mut map, alloc, "seen", Value::from(act.seen.number()))?;
-    put_number(&mut map, alloc, "suggestion", suggestion_in(&act.action))?;
-    put_vote(&mut map, alloc, &act.action)?;
-    Ok(map)
+    put_text(map, alloc, "act", action_word(&act.action))?;
+    put_caller(map, alloc, caller)?;
+    put_context(map, alloc, &key.ctx)?;
+    put_forms(map, alloc, &act.action)?;
+    put_text(map, alloc, "id", key.id.as_str())?;
+    put_text(map, alloc, "lang", lang.as_str())?;
+    put_lines(map, alloc, &act.action)?;
+    put_number(map, alloc, "number", number)?;
+    put(map, alloc, "seen", Value::from(act.seen.number()))?;
+    put_number(map, alloc, "suggestion", suggestion_in(&act.action))?;
+    put_vote(map, alloc, &act.action)?;
+    Ok(())
 }
 
 #[tactic(auto, using(crate::proofs::PutLemmas::puts_template))]
-fn template_map(
+fn put_template(
+    map: &mut Map<String, Value>,
     alloc: Global,
     caller: Option<&Name>,
     number: Option<Uuid>,
     po: &Text,
-) -> Result<Map<String, Value>, AllocError>
-    ensures value { IfOk result (λ m. members_view m.entries
+) -> Result<(), AllocError>
+    requires { members_view map.old.entries ≡ no_members }
+    ensures value { OnOk result (members_view map.new.entries
         ≡ members (fields_of (option_map (λ c. c.now) caller.entry) number
         (SetTemplate po.now))) }
-    ensures fits { IfOk result (λ _. IsAct (SetTemplate po.now)) }
-    ensures caller { IfOk result (λ _. MatchOption caller.entry ⊤ (λ c. is_name c.now ≡ true)) }
+    ensures fits { OnOk result (IsAct (SetTemplate po.now)) }
+    ensures caller { OnOk result (MatchOption caller.entry ⊤ (λ c. is_name c.now ≡ true)) }
 {
-    let mut map = Map::new(alloc);
-    put_text(&mut map, alloc, "act", "template")?;
-    put_caller(&mut map, alloc, caller)?;
-    put_number(&mut map, alloc, "number", number)?;
-    put_text(&mut map, alloc, "po", po.as_str())?;
-    Ok(map)
+    put_text(map, alloc, "act", "template")?;
+    put_caller(map, alloc, caller)?;
+    put_number(map, alloc, "number", number)?;
+    put_text(map, alloc, "po", po.as_str())?;
+    Ok(())
 }
 
 #[tactic(auto, using(crate::proofs::PutLemmas::puts_language))]
-fn language_map(
+fn put_language(
+    map: &mut Map<String, Value>,
     alloc: Global,
     caller: Option<&Name>,
     number: Option<Uuid>,
     lang: &Lang,
     po: &Text,
-) -> Result<Map<String, Value>, AllocError>
-    ensures value { IfOk result (λ m. members_view m.entries
+) -> Result<(), AllocError>
+    requires { members_view map.old.entries ≡ no_members }
+    ensures value { OnOk result (members_view map.new.entries
         ≡ members (fields_of (option_map (λ c. c.now) caller.entry) number
         (AddLanguage lang.now po.now))) }
-    ensures fits { IfOk result (λ _. IsAct (AddLanguage lang.now po.now)) }
-    ensures caller { IfOk result (λ _. MatchOption caller.entry ⊤ (λ c. is_name c.now ≡ true)) }
+    ensures fits { OnOk result (IsAct (AddLanguage lang.now po.now)) }
+    ensures caller { OnOk result (MatchOption caller.entry ⊤ (λ c. is_name c.now ≡ true)) }
 {
-    let mut map = Map::new(alloc);
-    put_text(&mut map, alloc, "act", "language")?;
-    put_caller(&mut map, alloc, caller)?;
-    put_text(&mut map, alloc, "lang", lang.as_str())?;
-    put_number(&mut map, alloc, "number", number)?;
-    put_text(&mut map, alloc, "po", po.as_str())?;
-    Ok(map)
+    put_text(map, alloc, "act", "language")?;
+    put_caller(map, alloc, caller)?;
+    put_text(map, alloc, "lang", lang.as_str())?;
+    put_number(map, alloc, "number", number)?;
+    put_text(map, alloc, "po", po.as_str())?;
+    Ok(())
 }
 
 #[tactic(auto, using(crate::proofs::PutLemmas::puts_team))]
-fn team_map(
+fn put_team(
+    map: &mut Map<String, Value>,
     alloc: Global,
     caller: Option<&Name>,
     number: Option<Uuid>,
     name: &Name,
     role: Role,
-) -> Result<Map<String, Value>, AllocError>
-    ensures value { IfOk result (λ m. members_view m.entries
+) -> Result<(), AllocError>
+    requires { members_view map.old.entries ≡ no_members }
+    ensures value { OnOk result (members_view map.new.entries
         ≡ members (fields_of (option_map (λ c. c.now) caller.entry) number
         (SetRole name.now role))) }
-    ensures fits { IfOk result (λ _. IsAct (SetRole name.now role)) }
-    ensures caller { IfOk result (λ _. MatchOption caller.entry ⊤ (λ c. is_name c.now ≡ true)) }
+    ensures fits { OnOk result (IsAct (SetRole name.now role)) }
+    ensures caller { OnOk result (MatchOption caller.entry ⊤ (λ c. is_name c.now ≡ true)) }
 {
-    let mut map = Map::new(alloc);
-    put_text(&mut map, alloc, "act", "team")?;
-    put_caller(&mut map, alloc, caller)?;
-    put_text(&mut map, alloc, "name", name.as_str())?;
-    put_number(&mut map, alloc, "number", number)?;
-    put_text(&mut map, alloc, "role", role_word(role))?;
-    Ok(map)
+    put_text(map, alloc, "act", "team")?;
+    put_caller(map, alloc, caller)?;
+    put_text(map, alloc, "name", name.as_str())?;
+    put_number(map, alloc, "number", number)?;
+    put_text(map, alloc, "role", role_word(role))?;
+    Ok(())
 }
 
 #[tactic(auto, using(crate::proofs::PutLemmas::puts_policy))]
-fn policy_map(
+fn put_policy(
+    map: &mut Map<String, Value>,
     alloc: Global,
     caller: Option<&Name>,
     number: Option<Uuid>,
     policy: &Policy,
-) -> Result<Map<String, Value>, AllocError>
-    ensures value { IfOk result (λ m. members_view m.entries
+) -> Result<(), AllocError>
+    requires { members_view map.old.entries ≡ no_members }
+    ensures value { OnOk result (members_view map.new.entries
         ≡ members (fields_of (option_map (λ c. c.now) caller.entry) number
         (SetPolicy policy.now))) }
-    ensures fits { IfOk result (λ _. IsAct (SetPolicy policy.now)) }
-    ensures caller { IfOk result (λ _. MatchOption caller.entry ⊤ (λ c. is_name c.now ≡ true)) }
+    ensures fits { OnOk result (IsAct (SetPolicy policy.now)) }
+    ensures caller { OnOk result (MatchOption caller.entry ⊤ (λ c. is_name c.now ≡ true)) }
 {
-    let mut map = Map::new(alloc);
     let accept_at = policy.accept_at.number();
-    put(&mut map, alloc, "accept_at", Value::from(accept_at))?;
-    put_text(&mut map, alloc, "act", "policy")?;
-    put_caller(&mut map, alloc, caller)?;
-    put_flag(&mut map, alloc, "guests_suggest", policy.guests_suggest)?;
-    put_flag(&mut map, alloc, "line_ends", policy.line_ends)?;
-    put_number(&mut map, alloc, "number", number)?;
-    put_flag(&mut map, alloc, "placeholders", policy.placeholders)?;
-    put_flag(&mut map, alloc, "reviews", policy.reviews)?;
-    put_flag(&mut map, alloc, "voting", policy.voting)?;
-    Ok(map)
+    put(map, alloc, "accept_at", Value::from(accept_at))?;
+    put_text(map, alloc, "act", "policy")?;
+    put_caller(map, alloc, caller)?;
+    put_flag(map, alloc, "guests_suggest", policy.guests_suggest)?;
+    put_flag(map, alloc, "line_ends", policy.line_ends)?;
+    put_number(map, alloc, "number", number)?;
+    put_flag(map, alloc, "placeholders", policy.placeholders)?;
+    put_flag(map, alloc, "reviews", policy.reviews)?;
+    put_flag(map, alloc, "voting", policy.voting)?;
+    Ok(())
 }
 
 fn action_word(action: &UnitAction) -> &'static str

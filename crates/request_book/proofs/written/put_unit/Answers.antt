@@ -1,6 +1,6 @@
 -- The members were put in the order of their keys.
 use Rattle.request_book.proofs.PutLemmas.{puts_unit}
-use Rattle.request_book.proofs.written.unit_map.Goals as goal
+use Rattle.request_book.proofs.written.put_unit.Goals as goal
 
 pub returns-clause-value : goal.returns-clause-value
 returns-clause-value c =
@@ -22,5 +22,5 @@ returns-clause-value c =
       c.in_ok-put_caller.ensures.value,
       c.in_ok-put_text.ensures,
       c.action_word.ensures,
-      c.new-map.ensures.empty,
+      c.requires,
     ) (puts_unit _ _ _ _ _ _ _ _ _ _ _)
