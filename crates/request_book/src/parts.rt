@@ -96,10 +96,7 @@ fn object_from(alloc: Global, text: &str) -> Result<Vec<(String, Value)>, Reques
 {
     match value_from(alloc, text)? {
         Value::Object(map) => Ok(map.into_iter().collect(alloc)?),
-        other => {
-            drop(other);
-            Err(RequestFault::Malformed)
-        },
+        _other => Err(RequestFault::Malformed),
     }
 }
 
@@ -335,10 +332,7 @@ fn action_members(
         (None, Some(lines), None, None) => Some(ActionMembers::Lines(lines)),
         (None, None, Some(suggestion), None) => Some(ActionMembers::Suggestion(suggestion)),
         (None, None, Some(suggestion), Some(value)) => Some(ActionMembers::Vote(suggestion, value)),
-        others => {
-            drop(others);
-            None
-        },
+        (_, _, _, _) => None,
     }
 }
 
@@ -354,17 +348,11 @@ fn action_from(word: &str, given: ActionMembers) -> Option<UnitAction>
         ActionMembers::Forms(forms) => match word {
             "suggest" => Some(UnitAction::Suggest(forms)),
             "translate" => Some(UnitAction::Translate(forms)),
-            _ => {
-                drop(forms);
-                None
-            },
+            _ => None,
         },
         ActionMembers::Lines(lines) => match word {
             "comment" => Some(UnitAction::Comment(lines)),
-            _ => {
-                drop(lines);
-                None
-            },
+            _ => None,
         },
         ActionMembers::Suggestion(suggestion) => match word {
             "accept" => Some(UnitAction::Accept(suggestion)),

@@ -41,22 +41,13 @@ impl Request {
 fn signed(parts: Parts) -> Option<Request>
     ensures { result ≡ to_request parts.caller parts.number parts.act }
 {
-    let Parts {
-        caller,
-        number,
-        act,
-    } = parts;
-    match (caller, number) {
+    match (parts.caller, parts.number) {
         (Some(caller), Some(number)) => Some(Request {
             number,
             caller,
-            act,
+            act: parts.act,
         }),
-        (caller, _) => {
-            drop(caller);
-            drop(act);
-            None
-        },
+        (_, _) => None,
     }
 }
 
