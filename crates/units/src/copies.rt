@@ -1,13 +1,16 @@
 //! Copies of units and of their parts, each equal to what it is a copy of.
+ghost use Rattle.std.specs.Prelude.{◌≡◌, IfOk};
+
 use crate::unit::{Key, Suggestion, Unit, UnitAct, UnitAction, UnitView};
-use po_read::Duplicate;
+use po_read::{Duplicate, Forms, Items, PoString, Previous, Text};
 use std::alloc::AllocError;
 
 impl Duplicate for Key {
     fn duplicate(&self) -> Result<Key, AllocError> {
+        let id = self.id.duplicate()?;
         Ok(Key {
             ctx: self.ctx.duplicate()?,
-            id: self.id.duplicate()?,
+            id,
         })
     }
 }
@@ -25,26 +28,48 @@ impl Duplicate for Suggestion {
 
 impl Duplicate for Unit {
     fn duplicate(&self) -> Result<Unit, AllocError> {
+        let (comment, previous, suggestions) = copied_notes(self)?;
+        let (key, plural, forms) = copied_texts(self)?;
         Ok(Unit {
-            key: self.key.duplicate()?,
-            plural: self.plural.duplicate()?,
-            forms: self.forms.duplicate()?,
+            key,
+            plural,
+            forms,
             state: self.state,
             obsolete: self.obsolete,
             revision: self.revision,
-            comment: self.comment.duplicate()?,
-            previous: self.previous.duplicate()?,
-            suggestions: self.suggestions.duplicate()?,
+            comment,
+            previous,
+            suggestions,
         })
     }
 }
 
+/// The unit's key, msgid_plural and forms, copied.
+fn copied_texts(unit: &Unit) -> Result<(Key, Option<PoString>, Forms), AllocError>
+    ensures { IfOk result (λ copy. copy ≡ (unit.now.key, unit.now.plural, unit.now.forms)) }
+{
+    let plural = unit.plural.duplicate()?;
+    let forms = unit.forms.duplicate()?;
+    Ok((unit.key.duplicate()?, plural, forms))
+}
+
+/// Its comment lines, previous strings and suggestions, copied.
+fn copied_notes(unit: &Unit) -> Result<(Items<Text>, Previous, Items<Suggestion>), AllocError>
+    ensures { IfOk result (λ copy. copy ≡ (unit.now.comment, unit.now.previous, unit.now.suggestions)) }
+{
+    let previous = unit.previous.duplicate()?;
+    let comment = unit.comment.duplicate()?;
+    Ok((comment, previous, unit.suggestions.duplicate()?))
+}
+
 impl Duplicate for UnitView {
     fn duplicate(&self) -> Result<UnitView, AllocError> {
-        Ok(UnitView {
-            unit: self.unit.duplicate()?,
-            source: self.source.duplicate()?,
-        })
+        let unit = self.unit.duplicate()?;
+        let source = match &self.source {
+            Some(entry) => Some(entry.duplicate()?),
+            None => None,
+        };
+        Ok(UnitView { unit, source })
     }
 }
 
