@@ -28,7 +28,7 @@ impl CommentLines {
     pub fn try_new(lines: Items<Text>) -> Option<CommentLines>
         ensures { result ≡ (if limits.is_comment_lines lines then Some lines else None) }
     {
-        if are_comment_lines(lines.as_slice()) {
+        if lines.as_slice().len() <= 20 && each_is_comment_line(lines.as_slice()) {
             Some(CommentLines { lines })
         } else {
             None
@@ -50,12 +50,6 @@ impl Duplicate for CommentLines {
             lines: self.lines.duplicate()?,
         })
     }
-}
-
-fn are_comment_lines(lines: &[Text]) -> bool
-    ensures { result ≡ limits.is_comment_lines lines.now }
-{
-    lines.len() <= 20 && each_is_comment_line(lines)
 }
 
 fn each_is_comment_line(lines: &[Text]) -> bool

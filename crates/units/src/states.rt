@@ -1,13 +1,11 @@
 //! What roles may do, what units show and which forms they need.
 ghost use Rattle.std.specs.Prelude.{◌≡◌, if◌then◌else◌};
-ghost use Rattle.std.specs.List.{list_any};
 ghost use Rattle.std.specs.Option.{option_copied};
-ghost use Rattle.po_read.specs.Texts.{text_eq};
 ghost use Rattle.units.specs.Units as spec;
 
 use crate::unit::{Role, ShownState, Unit, UnitState, UnitView};
 use plural_expr::PluralForms;
-use po_read::{Entry, PoString, Previous, Text};
+use po_read::{Entry, PoString, Previous};
 
 impl Role {
     /// Whether this role has fewer rights than another: a guest has the fewest, then come translator, reviewer and
@@ -45,13 +43,8 @@ pub fn no_previous() -> Previous
 pub fn has_flag(flag: &str, entry: &Entry) -> bool
     ensures { result ≡ spec.has_flag flag.now entry.now }
 {
-    holds_text(flag, entry.flags.as_slice())
-}
-
-fn holds_text(text: &str, texts: &[Text]) -> bool
-    ensures { result ≡ list_any (text_eq text.now) texts.now }
-{
-    texts.iter().any(|other| text == other.as_str())
+    let flags = entry.flags.as_slice();
+    flags.iter().any(|other| flag == other.as_str())
 }
 
 /// How many forms a unit with this msgid_plural needs: as many as the language's plural rule counts, or one where
