@@ -18,7 +18,7 @@ use Rattle.po_lex.specs.Reading.{trim}
 use Rattle.po_lex.specs.Lines.{items_of}
 use Rattle.po_read.specs.Texts.{Text}
 use Rattle.po_read.specs.Valid.{fuzzy}
-use Rattle.po_read.specs.Spells.{has_text}
+use Rattle.po_read.specs.Spells.{has_text, with_fuzzy_first}
 use Rattle.po_read.specs.Flags.{AreSeen}
 use Rattle.po_read.proofs.HeaderLemmas.{Without}
 
@@ -76,7 +76,7 @@ items_last text h = ap (map trim) (split_none text h)
 
 -- ---- other flags
 
-pub no_fuzzy : (texts : List Text) → has_text fuzzy texts ≡ false → filter (λ text. not (bytes_eq fuzzy text)) texts ≡ texts
+no_fuzzy : (texts : List Text) → has_text fuzzy texts ≡ false → filter (λ text. not (bytes_eq fuzzy text)) texts ≡ texts
 no_fuzzy [] h = refl
 no_fuzzy (text ∷ texts) h = by (bytes_eq fuzzy text) refl h (λ k. no_fuzzy texts k)
   where
@@ -85,8 +85,12 @@ no_fuzzy (text ∷ texts) h = by (bytes_eq fuzzy text) refl h (λ k. no_fuzzy te
     by true e k rest = cc
     by false e k rest = ap (λ ts. text ∷ ts) (rest k)
 
-abbrev is_other : Text → Bool
+abbrev pub is_other : Text → Bool
 is_other text = not (bytes_eq fuzzy text)
+
+pub fuzzy_first : (texts front : List Text) (b : Bool) → b ≡ has_text fuzzy texts → front ≡ cond b (fuzzy ∷ []) [] → front ++ filter is_other texts ≡ with_fuzzy_first texts
+fuzzy_first texts front true h e = ap (λ ts. ts ++ filter is_other texts) e ∙ ap (λ b. cond b (fuzzy ∷ filter is_other texts) texts) h
+fuzzy_first texts front false h e = ap (λ ts. ts ++ filter is_other texts) e ∙ no_fuzzy texts (sym h) ∙ ap (λ b. cond b (fuzzy ∷ filter is_other texts) texts) h
 
 abbrev pub others : List (Bor (List ℕ)) → List Text
 others flags = filter is_other (map (λ (f : Bor (List ℕ)). f.now) flags)

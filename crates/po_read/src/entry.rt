@@ -2,7 +2,7 @@
 
 ghost use Rattle.std.specs.Prelude.{◌≡◌, IfOk};
 
-use crate::duplicate::Duplicate;
+use crate::duplicate::{Duplicate, both};
 use crate::items::Items;
 use crate::message::Strings;
 use crate::string::{Forms, PoString};
@@ -35,11 +35,11 @@ pub struct Entry {
 
 impl Duplicate for Previous {
     fn duplicate(&self) -> Result<Previous, AllocError> {
-        Ok(Previous {
-            ctx: self.ctx.duplicate()?,
-            id: self.id.duplicate()?,
-            plural: self.plural.duplicate()?,
-        })
+        let (ctx, (id, plural)) = both(
+            self.ctx.duplicate(),
+            both(self.id.duplicate(), self.plural.duplicate()),
+        )?;
+        Ok(Previous { ctx, id, plural })
     }
 }
 
@@ -59,11 +59,15 @@ impl Entry {
         ensures references { IfOk result (λ copy. copy.references ≡ self.now.references) }
         ensures flags { IfOk result (λ copy. copy.flags ≡ self.now.flags) }
     {
+        let ((translator, extracted), (references, flags)) = both(
+            both(self.translator.duplicate(), self.extracted.duplicate()),
+            both(self.references.duplicate(), self.flags.duplicate()),
+        )?;
         Ok(Comments {
-            translator: self.translator.duplicate()?,
-            extracted: self.extracted.duplicate()?,
-            references: self.references.duplicate()?,
-            flags: self.flags.duplicate()?,
+            translator,
+            extracted,
+            references,
+            flags,
         })
     }
 
@@ -73,20 +77,25 @@ impl Entry {
         ensures plural { IfOk result (λ copy. copy.plural ≡ self.now.plural) }
         ensures forms { IfOk result (λ copy. copy.forms ≡ self.now.forms) }
     {
+        let ((ctx, id), (plural, forms)) = both(
+            both(self.ctx.duplicate(), self.id.duplicate()),
+            both(self.plural.duplicate(), self.forms.duplicate()),
+        )?;
         Ok(Strings {
-            ctx: self.ctx.duplicate()?,
-            id: self.id.duplicate()?,
-            plural: self.plural.duplicate()?,
-            forms: self.forms.duplicate()?,
+            ctx,
+            id,
+            plural,
+            forms,
         })
     }
 }
 
 impl Duplicate for Entry {
     fn duplicate(&self) -> Result<Entry, AllocError> {
-        let comments = self.duplicate_comments()?;
-        let previous = self.previous.duplicate()?;
-        let strings = self.duplicate_strings()?;
+        let (comments, (previous, strings)) = both(
+            self.duplicate_comments(),
+            both(self.previous.duplicate(), self.duplicate_strings()),
+        )?;
         Ok(Entry {
             translator: comments.translator,
             extracted: comments.extracted,

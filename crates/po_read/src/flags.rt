@@ -1,6 +1,6 @@
 //! The flags of an entry, each once and `fuzzy` first.
 
-ghost use Rattle.std.specs.Prelude.{◌≡◌, ◌++◌, List, [], ℕ, map, filter, not, IfOk};
+ghost use Rattle.std.specs.Prelude.{◌≡◌, ◌++◌, ◌∷◌, List, [], ℕ, map, filter, not, IfOk, OnOk};
 ghost use Rattle.std.specs.Str.{bytes_eq};
 ghost use Rattle.po_read.specs.Valid.{fuzzy};
 ghost use Rattle.std.specs.List.{fold};
@@ -73,29 +73,34 @@ impl<'a> Flags<'a> {
     }
 
     /// The flags, with `fuzzy` at the front if it is one.
-    pub(crate) fn into_items(self, alloc: Global) -> Result<Items<Text>, AllocError>
-        ensures { IfOk result (λ flags. flags ≡ with_fuzzy_first self.entry) }
+    pub(crate) fn to_items(&self, alloc: Global) -> Result<Items<Text>, AllocError>
+        ensures { IfOk result (λ flags. flags ≡ with_fuzzy_first self.now) }
     {
-        let Flags { kept, seen } = self;
         let mut flags = Items::new(alloc);
-        if seen.contains("fuzzy") {
-            flags.push(Text::from_text(alloc, "fuzzy")?)?;
-            with_others(alloc, flags, kept.as_slice())
-        } else {
-            with_others(alloc, flags, kept.as_slice())
+        if self.has("fuzzy") {
+            add_text(alloc, &mut flags, "fuzzy")?;
         }
+        add_others(alloc, &mut flags, self.kept.as_slice())?;
+        Ok(flags)
     }
 }
 
-/// These texts and the flags other than `fuzzy`.
-fn with_others(alloc: Global, texts: Items<Text>, flags: &[&str]) -> Result<Items<Text>, AllocError>
-    ensures { IfOk result (λ all. all ≡ texts ++ filter (λ text. not (bytes_eq fuzzy text)) (map (λ flag. flag.now) flags.now)) }
+/// Adds the flags other than `fuzzy` at the end.
+fn add_others(alloc: Global, texts: &mut Items<Text>, flags: &[&str]) -> Result<(), AllocError>
+    ensures { OnOk result (texts.new ≡ texts.old ++ filter (λ text. not (bytes_eq fuzzy text)) (map (λ flag. flag.now) flags.now)) }
 {
-    let mut all = texts;
     for flag in flags {
         if *flag != "fuzzy" {
-            all.push(Text::from_text(alloc, flag)?)?;
+            add_text(alloc, texts, flag)?;
         }
     }
-    Ok(all)
+    Ok(())
+}
+
+/// Adds a text at the end.
+pub(crate) fn add_text(alloc: Global, texts: &mut Items<Text>, text: &str) -> Result<(), AllocError>
+    ensures { OnOk result (texts.new ≡ texts.old ++ text.now ∷ []) }
+{
+    texts.push(Text::from_text(alloc, text)?)?;
+    Ok(())
 }

@@ -13,7 +13,7 @@ use std::alloc::{AllocError, Global};
 use std::cmp::Ordering;
 
 /// A msgid with its context, if it has one. An absent context and an empty one are different.
-#[derive(Debug, Drop)]
+#[derive(Drop)]
 pub(crate) struct EntryKey {
     ctx: Option<Text>,
     id: Text,

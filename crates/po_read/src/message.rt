@@ -189,7 +189,7 @@ impl Message {
     fn set(&mut self, message: Message)
         ensures { self.new ≡ message }
     {
-        *self = message;
+        drop(replace(self, message));
     }
 
     fn add_id(&mut self, text: PoString)

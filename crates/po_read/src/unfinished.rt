@@ -12,8 +12,9 @@ ghost use Rattle.po_read.specs.Drafts.{draft_of, draft_last, draft_header, draft
 ghost use Rattle.po_read.specs.declared.entry.Entry.{Entry};
 ghost use Rattle.po_read.specs.Views.{told};
 
+use crate::duplicate::both;
 use crate::entry::{Entry, Previous};
-use crate::flags::Flags;
+use crate::flags::{Flags, add_text};
 use crate::items::Items;
 use crate::message::{Message, Strings, in_order};
 use crate::pieces::unescaped_len;
@@ -247,16 +248,15 @@ impl<'a> Unfinished<'a> {
         ensures moved { OnOk result ((entry : Entry) × IsEntry (so_far self.old) entry × (entries.new.items ≡ entries.old.items ++ entry ∷ [])) }
         ensures rest { OnOk result (IsSoFar (so_far self.new) []) }
     {
-        let flags = replace(&mut self.flags, Flags::new(alloc)).into_items(alloc)?;
-        let strings = replace(&mut self.message, Message::Nothing).into_strings(alloc)?;
+        let message = replace(&mut self.message, Message::Nothing);
+        let (flags, strings) = both(self.flags.to_items(alloc), message.into_strings(alloc))?;
         entries.push(self.take_rest(alloc, flags, strings))?;
         Ok(())
     }
 
-    /// Takes the entry out, with these flags and strings, where its own were taken.
+    /// Takes the entry out, with these flags and strings, where its own strings were taken.
     fn take_rest(&mut self, alloc: Global, flags: Items<Text>, strings: Strings) -> Entry
-        requires flags { self.old.flags ≡ [] }
-        requires message { draft_of self.old.message ≡ nothing }
+        requires { draft_of self.old.message ≡ nothing }
         ensures comments { (result.translator ≡ self.old.translator) × (result.extracted ≡ self.old.extracted) × (result.references ≡ self.old.references) }
         ensures previous { result.previous ≡ self.old.previous }
         ensures obsolete { result.obsolete ≡ self.old.obsolete }
@@ -266,6 +266,7 @@ impl<'a> Unfinished<'a> {
     {
         self.begun = false;
         self.unmarked = false;
+        drop(replace(&mut self.flags, Flags::new(alloc)));
         Entry {
             translator: replace(&mut self.translator, Items::new(alloc)),
             extracted: replace(&mut self.extracted, Items::new(alloc)),
@@ -293,12 +294,4 @@ fn fits(len: usize, raw: &str) -> Result<(), FaultKind>
     } else {
         Err(FaultKind::Limit)
     }
-}
-
-/// Adds a text at the end.
-fn add_text(alloc: Global, texts: &mut Items<Text>, text: &str) -> Result<(), AllocError>
-    ensures { OnOk result (texts.new ≡ texts.old ++ text.now ∷ []) }
-{
-    texts.push(Text::from_text(alloc, text)?)?;
-    Ok(())
 }
