@@ -16,16 +16,20 @@ fn header(tokens: &[Token]) -> Option<(Token, &[Token])>
     ensures { MatchOption result (rule_at tokens.now ≡ None)
         (λ found. rule_at tokens.now ≡ with_digits found.0 (operand_at [] found.1.now)) }
 {
-    match tokens {
-        [
-            Token::Nplurals,
-            Token::Assign,
-            digits @ (Token::Number(_) | Token::Digits),
-            Token::Semicolon,
-            Token::Plural,
-            Token::Assign,
-            expression @ ..,
-        ] => Some((*digits, expression)),
+    let [
+        Token::Nplurals,
+        Token::Assign,
+        digits,
+        Token::Semicolon,
+        Token::Plural,
+        Token::Assign,
+        expression @ ..,
+    ] = tokens
+    else {
+        return None;
+    };
+    match digits {
+        Token::Number(_) | Token::Digits => Some((*digits, expression)),
         _ => None,
     }
 }
