@@ -4,7 +4,7 @@ ghost use Rattle.std.specs.Prelude.{◌≡◌, Err, IfOk, OnOk, option_map};
 ghost use Rattle.sender.specs.Sending.{HasDistinctNumbers, unanswered, is_ready, hear, held as reply_held, is_finished};
 ghost use Rattle.sender.specs.declared.fault.SenderFault.TheVariants.{Twice};
 
-use crate::exchange::{Exchange, copied};
+use crate::exchange::{Exchange, push_copy};
 use crate::fault::SenderFault;
 use crate::waiting::Waiting;
 use request_book::{Reply, Request};
@@ -52,10 +52,7 @@ impl Sender {
                 return Err(SenderFault::Twice);
             }
             waiting.add(alloc, &mut numbers, place, request)?;
-            exchanges.push(Exchange {
-                request: copied(request)?,
-                reply: None,
-            })?;
+            push_copy(&mut exchanges, request)?;
         }
         Ok(Sender {
             exchanges,

@@ -29,8 +29,7 @@ loop-place-preserved c =
     let inv = c.loop-place.invariant in
     let made : Exchange = record { request = x; reply = None } in
     let new = none_place _ _ _ c.in_ok-insert.ensures.old c.is_some.ensures c.if-is_some.false in
-    let pushed : c.push.new.self.items ≡ c.loop-place.exchanges.items ++ made ∷ [] =
-    c.in_ok-push.ensures.items ∙ ap (λ (copy : Request). c.loop-place.exchanges.items ++ (record { request = copy; reply = None }) ∷ []) c.in_ok-copied.ensures in
+    let pushed : c.push_copy.new.exchanges.items ≡ c.loop-place.exchanges.items ++ made ∷ [] = c.in_ok-push_copy.ensures in
     let more = unanswered-more requests i x c.loop-place-test.true c.index-requests-place.is in
     let count : length c.loop-place.exchanges.items ≡ i = ap length inv.so_far ∙ (length-unanswered (take i requests) ∙ length-take-le i requests (omega arith)) in
     record {
