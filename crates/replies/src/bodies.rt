@@ -1,5 +1,5 @@
 //! Replies and their bodies: compact JSON, keys in byte order.
-ghost use Rattle.std.specs.Prelude.{◌≡◌, false, map, codes, IfOk, OnOk, option_and_then};
+ghost use Rattle.std.specs.Prelude.{◌≡◌, [], false, map, codes, IfOk, OnOk, option_and_then};
 ghost use Rattle.std.specs.Option.{option_map_or};
 ghost use Rattle.serde_json.specs.Data.{object, string, put as with};
 ghost use Rattle.serde_json.specs.View.{members_view};
@@ -129,24 +129,39 @@ pub fn done(alloc: Global, values: Values) -> Result<Reply, AllocError>
     reply(alloc, 200, values_map(alloc, values)?)
 }
 
-#[tactic(auto, using(crate::proofs::Flat::whole_is_flat))]
 fn values_map(alloc: Global, values: Values) -> Result<Map<String, Value>, AllocError>
     ensures value { IfOk result
         (λ map. object (members_view map.entries) ≡ object_of (value_fields values)) }
     ensures flat { IfOk result (λ map. has_float (object (members_view map.entries)) ≡ false) }
 {
     let mut map = Map::new(alloc);
+    match put_values(&mut map, alloc, values) {
+        Ok(()) => Ok(map),
+        Err(refused) => {
+            drop(map);
+            Err(refused)
+        }
+    }
+}
+
+/// Puts the values that an act gave into an object without members.
+#[tactic(auto, using(crate::proofs::Flat::whole_is_flat))]
+fn put_values(map: &mut Map<String, Value>, alloc: Global, values: Values) -> Result<(), AllocError>
+    requires { map.old.entries ≡ [] }
+    ensures value { OnOk result (object (members_view map.new.entries) ≡ object_of (value_fields values)) }
+    ensures flat { OnOk result (has_float (object (members_view map.new.entries)) ≡ false) }
+{
     match values {
-        Values::Plain { revision, state } => put_unit(&mut map, alloc, revision, state)?,
+        Values::Plain { revision, state } => put_unit(map, alloc, revision, state),
         Values::Suggested {
             revision,
             state,
             suggestion,
             votes,
         } => {
-            put_unit(&mut map, alloc, revision, state)?;
-            put_suggestion(&mut map, alloc, suggestion)?;
-            put(&mut map, alloc, "votes", Value::from(votes))?;
+            put_unit(map, alloc, revision, state)?;
+            put_suggestion(map, alloc, suggestion)?;
+            put(map, alloc, "votes", Value::from(votes))
         }
         Values::Voted {
             accepted,
@@ -154,12 +169,11 @@ fn values_map(alloc: Global, values: Values) -> Result<Map<String, Value>, Alloc
             state,
             votes,
         } => {
-            put(&mut map, alloc, "accepted", Value::from(accepted))?;
-            put_unit(&mut map, alloc, revision, state)?;
-            put(&mut map, alloc, "votes", Value::from(votes))?;
+            put(map, alloc, "accepted", Value::from(accepted))?;
+            put_unit(map, alloc, revision, state)?;
+            put(map, alloc, "votes", Value::from(votes))
         }
     }
-    Ok(map)
 }
 
 /// A unit's revision and state, which every act tells.
@@ -200,13 +214,28 @@ fn put_suggestion(
 }
 
 /// The counts of a new template for a language, or of a language's text.
-#[tactic(auto, using(crate::proofs::Flat::whole_is_flat))]
 fn counts_map(alloc: Global, counts: Counts) -> Result<Map<String, Value>, AllocError>
     ensures value { IfOk result
         (λ map. object (members_view map.entries) ≡ object_of (count_fields counts)) }
     ensures flat { IfOk result (λ map. has_float (object (members_view map.entries)) ≡ false) }
 {
     let mut map = Map::new(alloc);
+    match put_counts(&mut map, alloc, counts) {
+        Ok(()) => Ok(map),
+        Err(refused) => {
+            drop(map);
+            Err(refused)
+        }
+    }
+}
+
+/// Puts counts into an object without members.
+#[tactic(auto, using(crate::proofs::Flat::whole_is_flat))]
+fn put_counts(map: &mut Map<String, Value>, alloc: Global, counts: Counts) -> Result<(), AllocError>
+    requires { map.old.entries ≡ [] }
+    ensures value { OnOk result (object (members_view map.new.entries) ≡ object_of (count_fields counts)) }
+    ensures flat { OnOk result (has_float (object (members_view map.new.entries)) ≡ false) }
+{
     match counts {
         Counts::Updated {
             added,
@@ -215,23 +244,22 @@ fn counts_map(alloc: Global, counts: Counts) -> Result<Map<String, Value>, Alloc
             obsolete,
             revived,
         } => {
-            put(&mut map, alloc, "added", Value::from(added))?;
-            put(&mut map, alloc, "changed", Value::from(changed))?;
-            put(&mut map, alloc, "kept", Value::from(kept))?;
-            put(&mut map, alloc, "obsolete", Value::from(obsolete))?;
-            put(&mut map, alloc, "revived", Value::from(revived))?;
+            put(map, alloc, "added", Value::from(added))?;
+            put(map, alloc, "changed", Value::from(changed))?;
+            put(map, alloc, "kept", Value::from(kept))?;
+            put(map, alloc, "obsolete", Value::from(obsolete))?;
+            put(map, alloc, "revived", Value::from(revived))
         }
         Counts::Loaded {
             loaded,
             missing,
             obsolete,
         } => {
-            put(&mut map, alloc, "loaded", Value::from(loaded))?;
-            put(&mut map, alloc, "missing", Value::from(missing))?;
-            put(&mut map, alloc, "obsolete", Value::from(obsolete))?;
+            put(map, alloc, "loaded", Value::from(loaded))?;
+            put(map, alloc, "missing", Value::from(missing))?;
+            put(map, alloc, "obsolete", Value::from(obsolete))
         }
     }
-    Ok(map)
 }
 
 /// Each language with its counts.

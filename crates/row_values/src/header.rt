@@ -1,11 +1,13 @@
 //! The columns of a language: its header, and the value of the header's plural rule.
-ghost use Rattle.std.specs.Prelude.{◌≡◌, [], ◌∷◌, true, Ok, Err, Some, None, IfOk, OnOk, IfErr, option_and_then, length};
+ghost use Rattle.std.specs.Prelude.{◌≡◌, [], ◌∷◌, map, true, Ok, Err, Some, None, IfOk, OnOk, IfErr, option_and_then};
 ghost use Rattle.std.specs.Option.{option_copied};
 ghost use Rattle.serde_json.specs.Read.{read};
 ghost use Rattle.serde_json.specs.Data.{array};
 ghost use Rattle.serde_json.specs.View.{view, items_view};
 ghost use Rattle.po_read.specs.Strings.{is_forms};
 ghost use Rattle.units.specs.Rules.{plural_field, rule_in};
+ghost use Rattle.request_book.specs.Words.{strings};
+ghost use Rattle.request_book.specs.Fields.{text_of};
 ghost use Rattle.row_values.specs.Faults.{Gives};
 ghost use Rattle.plural_expr.specs.Faults.{reading_of};
 ghost use Rattle.row_values.specs.Readings.{comments_of, item_as, previous_of, header_with, header_of, header_read};
@@ -48,12 +50,22 @@ fn put_header(alloc: Global, list: &mut Vec<Value>, header: &Entry) -> Result<()
     requires { list.old.items ≡ [] }
     ensures { OnOk result (array (items_view list.new.items) ≡ header_data header.now) }
 {
+    put_comments(alloc, list, header)?;
+    list.push(previous_value(alloc, &header.previous)?)?;
+    list.push(Value::try_from_str(alloc, string_of(header))?)?;
+    Ok(())
+}
+
+/// Puts a header's comments and flags into a list.
+fn put_comments(alloc: Global, list: &mut Vec<Value>, header: &Entry) -> Result<(), AllocError>
+    requires { list.old.items ≡ [] }
+    ensures { OnOk result (map view list.new.items ≡ strings header.now.translator ∷ strings header.now.extracted
+        ∷ strings header.now.references ∷ strings header.now.flags ∷ []) }
+{
     list.push(texts_value(alloc, header.translator.as_slice())?)?;
     list.push(texts_value(alloc, header.extracted.as_slice())?)?;
     list.push(texts_value(alloc, header.references.as_slice())?)?;
     list.push(texts_value(alloc, header.flags.as_slice())?)?;
-    list.push(previous_value(alloc, &header.previous)?)?;
-    list.push(Value::try_from_str(alloc, string_of(header))?)?;
     Ok(())
 }
 
@@ -119,7 +131,7 @@ fn header_in(alloc: Global, value: &Value) -> Result<Entry, RowFault>
 {
     let comments = comments_in(alloc, value)?;
     match strings_in(alloc, value) {
-        Ok((previous, strings)) => Ok(header_with(comments, previous, strings)),
+        Ok((previous, form)) => whole_header(alloc, comments, previous, form),
         Err(fault) => {
             drop(comments);
             Err(fault)
@@ -127,20 +139,17 @@ fn header_in(alloc: Global, value: &Value) -> Result<Entry, RowFault>
     }
 }
 
-/// What stands in a header beside its comments and flags.
-fn strings_in(alloc: Global, value: &Value) -> Result<(Previous, HeaderStrings), RowFault>
-    ensures ok { IfOk result (λ parts. (comments : HeaderComments) → comments_of (view value.now) ≡ Some comments
-        → header_of (view value.now) ≡ Some (record (header_with comments parts.0 []) { forms = parts.1.forms })) }
+/// What stands in a header beside its comments and flags: its previous strings, and its string.
+fn strings_in(alloc: Global, value: &Value) -> Result<(Previous, PoString), RowFault>
+    ensures previous { IfOk result (λ parts. item_as previous_of 4 (view value.now) ≡ Some parts.0) }
+    ensures form { IfOk result (λ parts. item_as text_of 5 (view value.now) ≡ Some parts.1) }
     ensures fits { IfOk result (λ parts. ArePrevious parts.0) }
-    ensures forms { IfOk result (λ parts. is_forms parts.1.forms ≡ true) }
-    ensures one_form { IfOk result (λ parts. length parts.1.forms ≡ 1) }
-    ensures id { IfOk result (λ parts. parts.1.id ≡ []) }
     ensures malformed { result ≡ Err Malformed → (comments : HeaderComments) → comments_of (view value.now) ≡ Some comments
         → header_of (view value.now) ≡ None }
 {
     let previous = previous_in(alloc, item(value, 4)?)?;
-    match own_strings_in(alloc, value) {
-        Ok(strings) => Ok((previous, strings)),
+    match form_in(alloc, value) {
+        Ok(form) => Ok((previous, form)),
         Err(fault) => {
             drop(previous);
             Err(fault)
@@ -148,18 +157,12 @@ fn strings_in(alloc: Global, value: &Value) -> Result<(Previous, HeaderStrings),
     }
 }
 
-fn own_strings_in(alloc: Global, value: &Value) -> Result<HeaderStrings, RowFault>
-    ensures ok { IfOk result (λ strings. (comments : HeaderComments) (previous : Previous) → comments_of (view value.now) ≡ Some comments
-        → item_as previous_of 4 (view value.now) ≡ Some previous
-        → header_of (view value.now) ≡ Some (record (header_with comments previous []) { forms = strings.forms })) }
-    ensures forms { IfOk result (λ strings. is_forms strings.forms ≡ true) }
-    ensures one_form { IfOk result (λ strings. length strings.forms ≡ 1) }
-    ensures id { IfOk result (λ strings. strings.id ≡ []) }
-    ensures malformed { result ≡ Err Malformed → (comments : HeaderComments) (previous : Previous) → comments_of (view value.now) ≡ Some comments
-        → item_as previous_of 4 (view value.now) ≡ Some previous → header_of (view value.now) ≡ None }
+/// The string of a header.
+fn form_in(alloc: Global, value: &Value) -> Result<PoString, RowFault>
+    ensures ok { IfOk result (λ form. item_as text_of 5 (view value.now) ≡ Some form) }
+    ensures malformed { result ≡ Err Malformed → item_as text_of 5 (view value.now) ≡ None }
 {
-    let form = string_in(alloc, item(value, 5)?)?;
-    header_strings(alloc, form)
+    string_in(alloc, item(value, 5)?)
 }
 
 /// The comments and flags of a header.
@@ -210,21 +213,36 @@ fn header_strings(alloc: Global, form: PoString) -> Result<HeaderStrings, RowFau
     }
 }
 
-fn header_with(comments: HeaderComments, previous: Previous, strings: HeaderStrings) -> Entry
-    requires { strings.id ≡ [] }
-    ensures { result ≡ record (header_with comments previous []) { forms = strings.forms } }
+/// The header of its parts.
+fn whole_header(
+    alloc: Global,
+    comments: HeaderComments,
+    previous: Previous,
+    form: PoString,
+) -> Result<Entry, RowFault>
+    requires { ArePrevious previous }
+    ensures ok { IfOk result (λ header. header ≡ header_with comments previous form) }
+    ensures fits { IfOk result IsHeaderEntry }
+    ensures memory { IfErr result (λ e. e ≡ Memory) }
 {
-    Entry {
-        translator: comments.translator,
-        extracted: comments.extracted,
-        references: comments.references,
-        flags: comments.flags,
-        previous,
-        ctx: None,
-        id: strings.id,
-        plural: None,
-        forms: strings.forms,
-        obsolete: false,
+    match header_strings(alloc, form) {
+        Ok(strings) => Ok(Entry {
+            translator: comments.translator,
+            extracted: comments.extracted,
+            references: comments.references,
+            flags: comments.flags,
+            previous,
+            ctx: None,
+            id: strings.id,
+            plural: None,
+            forms: strings.forms,
+            obsolete: false,
+        }),
+        Err(fault) => {
+            drop(comments);
+            drop(previous);
+            Err(fault)
+        }
     }
 }
 
