@@ -1,6 +1,6 @@
 -- What was read, decided and committed is what the delivery of a new number leaves, and keeps the rules.
-use Rattle.std.proofs.Common.{◌≡◌, ◌∙◌, sym, ap, subst, Option, Some, None, IsTrue, refl}
-use Rattle.std.specs.Prelude.{is_none, option_map, [], ◌∷◌}
+use Rattle.std.proofs.Common.{◌≡◌, ◌∙◌, sym, ap, subst, Option, Some, None, IsTrue, Result, Ok, Err, refl}
+use Rattle.std.specs.Prelude.{is_none, option_map, [], ◌∷◌, IfOk, OnOk}
 use Rattle.std.specs.FinMap as maps
 use Rattle.po_read.specs.Texts.{Text}
 use Rattle.units.specs.Office.{Office}
@@ -38,6 +38,12 @@ first_keeps m x given fresh start =
     let leaves : (first_delivered m x).0 ≡ left_by m (x ∷ []) =
     IsDelivery.tables (first_time m m (first_delivered m x).0 x (first_delivered m x).1 refl (not_known (maps.get m.book x.number) x fresh) refl) in
     subst KeepsRules (sym leaves) (kept_rules m x given start)
+
+-- a commit that hands its reply on leaves and answers what the delivery does
+pub handed_on : {E : Type 0} (r : Result Reply E) (reply : Reply) (now : OfficeWithBook) (Left : Type 0) (delivered : OfficeWithBook × Reply) → IfOk r (λ x. x ≡ reply) → OnOk r Left →
+    (Left → ◌≡◌ {A = OfficeWithBook × Reply} (now, reply) delivered) → IfOk r (λ x. (now, x) ≡ delivered)
+handed_on (Ok x) reply now Left delivered is left leads = subst (λ y. ◌≡◌ {A = OfficeWithBook × Reply} (now, y) delivered) (sym is) (leads left)
+handed_on (Err e) reply now Left delivered is left leads = tt
 
 -- ---- an act on a unit
 

@@ -1,5 +1,5 @@
 -- What a read keeps, and then a commit.
-use Rattle.std.proofs.Common.{◌≡◌, ◌⊎◌, inl, inr, Bool, true, Result, Ok, Err, sym, subst}
+use Rattle.std.proofs.Common.{◌≡◌, ◌⊎◌, inl, inr, Bool, true, Result, Ok, Err, refl, sym, subst}
 use Rattle.std.specs.Prelude.{⊤, OnOk, IfErr}
 use Rattle.request_book.specs.Book.{OfficeWithBook}
 use Rattle.tables.specs.Stops.{AddsOnly, Nothing, LeavesOnly}
@@ -25,6 +25,11 @@ FareAlike (Ok a) (Ok b) = ⊤
 FareAlike (Ok a) (Err e) = ⊥
 FareAlike (Err d) (Ok b) = ⊥
 FareAlike (Err d) (Err e) = e ≡ d
+
+-- an answer fares as itself
+pub alike : {A : Type 0} (r : Result A Lost) → FareAlike r r
+alike (Ok a) = tt
+alike (Err e) = refl
 
 -- a read that answered, and then a commit, whose fate is the whole's
 pub read_then : {S A B C : Type 0} {H W : S → Type 0} {means : S → OfficeWithBook} {L : S → OfficeWithBook → Type 0} {D : S → Bool} {old mid new : S} {a : A} {s : Result B Lost} {t : Result C Lost}

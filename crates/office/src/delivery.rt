@@ -1,24 +1,29 @@
 //! One delivery over any tables: a look into the book, and for a new number the decision and its commit.
-ghost use Rattle.std.specs.Prelude.{◌≡◌, if◌then◌else◌, true, IfOk, IfSome, OnErr, IsTrue, is_none, option_map};
+ghost use Rattle.std.specs.Prelude.{◌≡◌, if◌then◌else◌, true, IfOk, IfSome, OnOk, OnErr, IsTrue, is_none, option_map};
 ghost use Rattle.std.specs.FinMap as maps;
 ghost use Rattle.po_read.specs.Texts.{text_eq};
 ghost use Rattle.replies.specs.Bodies.{number_used};
 ghost use Rattle.request_book.specs.Acts.{IsRequest, content_text};
+ghost use Rattle.request_book.specs.Book.{with_record};
 ghost use Rattle.request_book.specs.Clash.{is_office_act};
 ghost use Rattle.request_book.specs.declared.act.Act.TheVariants.{OnUnit};
 ghost use Rattle.deliveries.specs.Deliveries.{reply_from, first_delivered};
+ghost use Rattle.deliveries.specs.UnitAccess.{found_of, with_view};
+ghost use Rattle.deliveries.specs.UnitOutcomes.{outcome_of};
+ghost use Rattle.deliveries.specs.OfficeChanges.{changed_by, IsPossibleChange};
+ghost use Rattle.deliveries.specs.OfficeRules.{KeepsRules};
 ghost use Rattle.tables.specs.Stops.{Nothing};
 ghost use Rattle.tables.specs.Kept.{IsKept};
 ghost use Rattle.tables.specs.declared.faults.Lost.TheVariants.{Disk};
 
-use deliveries::Outcome;
+use deliveries::{Change, Outcome};
 use office_acts::{OfficeOutcome, office_outcome, unit_outcome};
 use po_read::{Duplicate, Text};
 use replies::used;
 use request_book::{Act, Class, Record, Reply, Request, classify};
 use std::alloc::{AllocError, Global};
 use tables::{Lost, Tables};
-use units::{Key, Lang, UnitAct};
+use units::{Key, Lang, UnitAct, UnitView};
 
 /// The reply to a request with this content, by what is recorded under its number, if anything is.
 fn reply_by(
@@ -70,6 +75,47 @@ fn record_with(request: &Request, content: Text, reply: &Reply) -> Option<Record
     }
 }
 
+/// What an act on a unit comes to, by what the tables hold of it.
+fn read_and_decide<T: Tables>(
+    alloc: Global,
+    tables: &mut T,
+    request: &Request,
+    lang: &Lang,
+    key: &Key,
+    act: &UnitAct,
+) -> Result<Outcome, Lost>
+    ensures answer { T.is_honest tables.new → IfOk result (λ outcome. outcome
+        ≡ outcome_of (found_of (T.means tables.old).office lang.now key.now request.now.caller) request.now.caller request.now.number act.now) }
+    ensures same { T.is_honest tables.new → T.is_whole tables.new → T.means tables.new ≡ T.means tables.old }
+    ensures kept { IsKept T.is_honest T.is_whole T.means T.may_leave T.is_stopped tables.old tables.new result Disk Nothing }
+{
+    let found = tables.view_of(lang, key, &request.caller)?;
+    let outcome = unit_outcome(alloc, found, request, act);
+    Ok(outcome?)
+}
+
+/// Commits an act on a unit, and hands on its reply, which is made: nothing here takes memory.
+fn commit_unit_act<T: Tables>(
+    tables: &mut T,
+    row: Record,
+    lang: &Lang,
+    key: &Key,
+    view: Option<UnitView>,
+    reply: Reply,
+) -> Result<Reply, Lost>
+    requires new { T.is_honest tables.old → IsTrue (is_none (maps.get (T.means tables.old).book row.number)) }
+    requires rules { T.is_honest tables.old → KeepsRules (record { office = with_view (T.means tables.old).office lang.now key.now view; book = with_record (T.means tables.old).book row }) }
+    ensures handed_on { IfOk result (λ r. r ≡ reply) }
+    ensures done { T.is_honest tables.new → OnOk result
+        (T.means tables.new ≡ record { office = with_view (T.means tables.old).office lang.now key.now view; book = with_record (T.means tables.old).book row }) }
+    ensures same { T.is_honest tables.new → T.is_whole tables.new → OnErr result (T.means tables.new ≡ T.means tables.old) }
+    ensures kept { IsKept T.is_honest T.is_whole T.means T.may_leave T.is_stopped tables.old tables.new result Disk
+        (λ m. m ≡ record { office = with_view (T.means tables.old).office lang.now key.now view; book = with_record (T.means tables.old).book row }) }
+{
+    tables.commit_unit(row, lang, key, view)?;
+    Ok(reply)
+}
+
 /// Decides and commits an act on a unit whose number is new. Reply and record are made before the commit: nothing after it takes
 /// memory.
 fn deliver_unit_act<T: Tables>(
@@ -91,8 +137,7 @@ fn deliver_unit_act<T: Tables>(
     ensures kept { IsKept T.is_honest T.is_whole T.means T.may_leave T.is_stopped tables.old tables.new result Disk
         (λ m. m ≡ (first_delivered (T.means tables.old) request.now).0) }
 {
-    let found = tables.view_of(lang, key, &request.caller)?;
-    let Outcome { view, reply } = unit_outcome(alloc, found, request, act)?;
+    let Outcome { view, reply } = read_and_decide(alloc, tables, request, lang, key, act)?;
     let row = match record_with(request, content, &reply) {
         Some(row) => row,
         None => {
@@ -101,7 +146,27 @@ fn deliver_unit_act<T: Tables>(
             return Err(Lost::Memory);
         }
     };
-    tables.commit_unit(row, lang, key, view)?;
+    commit_unit_act(tables, row, lang, key, view, reply)
+}
+
+/// Commits an act on the office, and hands on its reply, which is made: nothing here takes memory.
+fn commit_office_act<T: Tables>(
+    tables: &mut T,
+    row: Record,
+    change: Option<Change>,
+    reply: Reply,
+) -> Result<Reply, Lost>
+    requires new { T.is_honest tables.old → IsTrue (is_none (maps.get (T.means tables.old).book row.number)) }
+    requires possible { T.is_honest tables.old → IsPossibleChange (T.means tables.old).office change }
+    requires rules { T.is_honest tables.old → KeepsRules (record { office = changed_by (T.means tables.old).office change; book = with_record (T.means tables.old).book row }) }
+    ensures handed_on { IfOk result (λ r. r ≡ reply) }
+    ensures done { T.is_honest tables.new → OnOk result
+        (T.means tables.new ≡ record { office = changed_by (T.means tables.old).office change; book = with_record (T.means tables.old).book row }) }
+    ensures same { T.is_honest tables.new → T.is_whole tables.new → OnErr result (T.means tables.new ≡ T.means tables.old) }
+    ensures kept { IsKept T.is_honest T.is_whole T.means T.may_leave T.is_stopped tables.old tables.new result Disk
+        (λ m. m ≡ record { office = changed_by (T.means tables.old).office change; book = with_record (T.means tables.old).book row }) }
+{
+    tables.commit_office(row, change)?;
     Ok(reply)
 }
 
@@ -133,8 +198,7 @@ fn deliver_office_act<T: Tables>(
             return Err(Lost::Memory);
         }
     };
-    tables.commit_office(row, change)?;
-    Ok(reply)
+    commit_office_act(tables, row, change, reply)
 }
 
 /// Decides and commits a request whose number is new.

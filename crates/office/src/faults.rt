@@ -38,7 +38,7 @@ impl ExportFault {
 }
 
 /// Why an entry's text was not sent on.
-#[derive(Clone, Copy, Debug, Drop, PartialEq, Eq)]
+#[derive(Clone, Copy, Drop)]
 pub(crate) enum SendFault {
     Device,
     Memory,
