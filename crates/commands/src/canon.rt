@@ -18,7 +18,7 @@ const MOST: usize = 4_194_305;
 const ROOM: usize = 16_384;
 
 /// Why no text was gathered.
-#[derive(Debug, Drop)]
+#[derive(Drop)]
 enum GatherFault {
     Source,
     Memory,

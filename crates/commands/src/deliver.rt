@@ -20,7 +20,7 @@ use units::{ByteSink, ByteSource, Lang, SinkFault, SourceFault};
 const ROOM: usize = 16_384;
 
 /// A stream failed.
-#[derive(Debug, Drop)]
+#[derive(Drop)]
 pub(crate) struct StreamFault;
 
 impl From<SinkFault> for StreamFault {

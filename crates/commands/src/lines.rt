@@ -7,7 +7,7 @@ use std::alloc::Global;
 const LINE_LIMIT: usize = 5_500_000;
 
 /// What became of the bytes of a line.
-#[derive(Clone, Copy, Debug, PartialEq, Eq)]
+#[derive(Clone, Copy)]
 pub(crate) enum Gathered {
     /// All of them are kept.
     Whole,
