@@ -30,14 +30,30 @@ pub(crate) fn members_map(
     ensures caller { IfOk result (λ _. MatchOption caller.entry ⊤ (λ c. is_name c.now ≡ true)) }
 {
     let mut map = Map::new(alloc);
-    match act {
-        Act::OnUnit(lang, key, act) => put_unit(&mut map, alloc, caller, number, lang, key, act),
-        Act::SetTemplate(po) => put_template(&mut map, alloc, caller, number, po),
-        Act::AddLanguage(lang, po) => put_language(&mut map, alloc, caller, number, lang, po),
-        Act::SetRole(name, role) => put_team(&mut map, alloc, caller, number, name, *role),
-        Act::SetPolicy(policy) => put_policy(&mut map, alloc, caller, number, policy),
-    }?;
+    put_act(&mut map, alloc, caller, number, act)?;
     Ok(map)
+}
+
+fn put_act(
+    map: &mut Map<String, Value>,
+    alloc: Global,
+    caller: Option<&Name>,
+    number: Option<Uuid>,
+    act: &Act,
+) -> Result<(), AllocError>
+    requires { members_view map.old.entries ≡ no_members }
+    ensures value { OnOk result (members_view map.new.entries
+        ≡ members (fields_of (option_map (λ c. c.now) caller.entry) number act.now)) }
+    ensures fits { OnOk result (IsAct act.now) }
+    ensures caller { OnOk result (MatchOption caller.entry ⊤ (λ c. is_name c.now ≡ true)) }
+{
+    match act {
+        Act::OnUnit(lang, key, act) => put_unit(map, alloc, caller, number, lang, key, act),
+        Act::SetTemplate(po) => put_template(map, alloc, caller, number, po),
+        Act::AddLanguage(lang, po) => put_language(map, alloc, caller, number, lang, po),
+        Act::SetRole(name, role) => put_team(map, alloc, caller, number, name, *role),
+        Act::SetPolicy(policy) => put_policy(map, alloc, caller, number, policy),
+    }
 }
 
 #[tactic(auto, using(crate::proofs::PutLemmas::puts_unit))]
