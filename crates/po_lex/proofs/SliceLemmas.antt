@@ -148,6 +148,10 @@ pub ok_within : (a b : List ℕ) (read : Result LineToken FaultKind) → IsSlice
 ok_within a b (Ok line) s h = line_within a b line s h
 ok_within a b (Err kind) s h = tt
 
+pub ok_same : (a : List ℕ) (line : LineToken) (read : Result LineToken FaultKind) → IfOk read (λ told. told ≡ line) → SlicesLine a line → IfOk read (λ told. SlicesLine a told)
+ok_same a line (Ok told) e s = subst (λ (l : LineToken). SlicesLine a l) (sym e) s
+ok_same a line (Err kind) e s = tt
+
 -- what a test of the first character says
 pub first_tested : (mark : ℕ) (text : List ℕ) (r : Bool) → 0 < mark → Decides r (get_or text 0 0 ≡ mark) → r ≡ begins_with mark text
 first_tested mark [] true above h = absurd (omega (arith, h.0 refl))

@@ -4,8 +4,8 @@ ghost use Rattle.std.specs.Prelude.{◌≡◌, ◌∷◌, ◌<◌, ◌==◌, not
 ghost use Rattle.std.specs.List.{list_all, slice_split};
 ghost use Rattle.po_lex.specs.Reading.{is_all_white, skip_white};
 ghost use Rattle.po_lex.specs.Escapes.{unescaped};
-ghost use Rattle.po_lex.specs.Lines.{begins_with, word_of, find_keyword, form_keywords, keyword_of, is_form, piece_at, part_at, is_comment_text, skip_space, flags_of, previous_at, message_at, spaced, obsolete_at, comment_at, line_of};
-ghost use Rattle.po_lex.specs.Views.{read_part, read_line, IsSliceOf, SlicesPart, SlicesLine};
+ghost use Rattle.po_lex.specs.Lines.{begins_with, word_of, find_keyword, form_keywords, keyword_of, is_form, piece_at, part_at, is_comment_text, comment_of, skip_space, flags_of, previous_at, message_at, spaced, obsolete_at, comment_at, line_of};
+ghost use Rattle.po_lex.specs.Views.{read_part, read_line, line_view, IsSliceOf, SlicesPart, SlicesLine};
 
 use crate::fault::FaultKind;
 use crate::line::{Keyword, Line, Part};
@@ -159,15 +159,13 @@ fn is_comment_text(text: &str) -> bool
     text.as_bytes().iter().all(|b| *b == b'\t' || *b >= 32)
 }
 
-/// The text of a comment, without one space at its front.
-fn comment_text(text: &str) -> Result<&str, FaultKind>
-    ensures ok { IfOk result (λ text'. (text'.now ≡ skip_space text.now) × (is_comment_text text'.now ≡ true)) }
-    ensures slice { IfOk result (λ text'. IsSliceOf text.now text'.now) }
-    ensures err { IfErr result (λ e. (is_comment_text (skip_space text.now) ≡ false) × (e ≡ FaultKind.Line)) }
+/// The line of a comment with this text.
+fn comment_of<'a>(text: &str, line: Line<'a>) -> Result<Line<'a>, FaultKind>
+    ensures value { read_line result ≡ comment_of (λ _. line_view line.entry) text.now }
+    ensures same { IfOk result (λ told. told ≡ line.entry) }
 {
-    let text = skip_space(text);
     if is_comment_text(text) {
-        Ok(text)
+        Ok(line)
     } else {
         Err(FaultKind::Line)
     }
@@ -242,9 +240,11 @@ fn comment_at(text: &str) -> Result<Line<'_>, FaultKind>
     ensures slices { IfOk result (λ line. SlicesLine text.now line) }
 {
     if let Some(rest) = behind(text, '.') {
-        Ok(Line::Extracted(comment_text(rest)?))
+        let rest = skip_space(rest);
+        comment_of(rest, Line::Extracted(rest))
     } else if let Some(rest) = behind(text, ':') {
-        Ok(Line::Reference(comment_text(rest)?))
+        let rest = skip_space(rest);
+        comment_of(rest, Line::Reference(rest))
     } else if let Some(rest) = behind(text, ',') {
         flags_of(rest)
     } else if let Some(rest) = behind(text, '|') {
@@ -254,7 +254,8 @@ fn comment_at(text: &str) -> Result<Line<'_>, FaultKind>
     } else if begins_with(text, '=') {
         Err(FaultKind::Line)
     } else {
-        Ok(Line::Translator(comment_text(text)?))
+        let text = skip_space(text);
+        comment_of(text, Line::Translator(text))
     }
 }
 
