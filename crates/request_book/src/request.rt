@@ -11,7 +11,7 @@ use crate::act::Request;
 use crate::fault::RequestFault;
 use crate::fields::bytes_fit;
 use crate::parts::{Parts, parts_from_text};
-use crate::written::members_map;
+use crate::written::content_map;
 use po_read::Text;
 use serde_json::{Map, Value};
 use std::alloc::{AllocError, Global};
@@ -62,7 +62,7 @@ pub fn canon(alloc: Global, request: &Request) -> Result<Text, Memory>
     ensures limits { IfOk result (λ _. IsRequest request.now) }
 {
     bytes_fit(request.number.as_bytes());
-    let map = members_map(alloc, Some(&request.caller), None, &request.act)?;
+    let map = content_map(alloc, request)?;
     Ok(Text::from_string(object_text(alloc, map)?))
 }
 

@@ -1,5 +1,5 @@
 //! Writes acts as the members of objects.
-ghost use Rattle.std.specs.Prelude.{◌≡◌, codes, true, IfOk, OnOk, MatchOption, option_map, ⊤};
+ghost use Rattle.std.specs.Prelude.{◌≡◌, codes, true, Some, None, IfOk, OnOk, MatchOption, option_map, ⊤};
 ghost use Rattle.serde_json.specs.Data.{put as with, boolean, string, array, no_members};
 ghost use Rattle.serde_json.specs.View.{view, items_view, members_view};
 ghost use Rattle.request_book.specs.declared.act.Act.TheVariants.{OnUnit, SetTemplate, AddLanguage, SetRole, SetPolicy};
@@ -9,7 +9,7 @@ ghost use Rattle.units.specs.Limits.{is_name, is_comment_lines};
 ghost use Rattle.po_read.specs.Strings.{is_string, is_forms};
 ghost use Rattle.request_book.specs.Puts.{put_optional};
 
-use crate::act::Act;
+use crate::act::{Act, Request};
 use crate::fields::bytes_fit;
 use po_read::{Forms, PoString, Text};
 use serde_json::{Map, Value, put};
@@ -17,23 +17,22 @@ use std::alloc::{AllocError, Global};
 use units::{CommentLines, Key, Lang, Name, Policy, Role, UnitAct, UnitAction, VoteValue};
 use uuid::Uuid;
 
-/// The members of an act's object, with the caller and the number where they are given.
-pub(crate) fn members_map(
+/// The members of a content's object: those of the request's act and its caller.
+pub(crate) fn content_map(
     alloc: Global,
-    caller: Option<&Name>,
-    number: Option<Uuid>,
-    act: &Act,
+    request: &Request,
 ) -> Result<Map<String, Value>, AllocError>
     ensures value { IfOk result (λ m. members_view m.entries
-        ≡ members (fields_of (option_map (λ c. c.now) caller.entry) number act.now)) }
-    ensures fits { IfOk result (λ _. IsAct act.now) }
-    ensures caller { IfOk result (λ _. MatchOption caller.entry ⊤ (λ c. is_name c.now ≡ true)) }
+        ≡ members (fields_of (Some request.now.caller) None request.now.act)) }
+    ensures fits { IfOk result (λ _. IsAct request.now.act) }
+    ensures caller { IfOk result (λ _. is_name request.now.caller ≡ true) }
 {
     let mut map = Map::new(alloc);
-    put_act(&mut map, alloc, caller, number, act)?;
+    put_act(&mut map, alloc, Some(&request.caller), None, &request.act)?;
     Ok(map)
 }
 
+// The members of an act's object, with the caller and the number where they are given.
 fn put_act(
     map: &mut Map<String, Value>,
     alloc: Global,
