@@ -163,8 +163,11 @@ fn demo_team(alloc: Global) -> Result<BTreeMap<String, Role>, AllocError>
 fn demo_catalogue(alloc: Global) -> Result<Catalogue, AllocError>
     ensures { IfOk result (λ catalogue. catalogue ≡ opens.demo.template) }
 {
-    let entries = Vec::from_array(alloc, [plain_entry(alloc, "Hello", "")?])?;
-    match Catalogue::try_new(alloc, entries)? {
+    let entry = plain_entry(alloc, "Hello", "")?;
+    let mut entries = Vec::new(alloc);
+    entries.push(entry)?;
+    let made = Catalogue::try_new(alloc, entries)?;
+    match made {
         Some(catalogue) => Ok(catalogue),
         None => unreachable!(),
     }
