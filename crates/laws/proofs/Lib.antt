@@ -1,2 +1,3 @@
 mod Decided
 mod Suggestions
+mod Pieces

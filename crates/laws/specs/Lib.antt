@@ -1,3 +1,4 @@
 pub mod Acts
 pub mod Cuts
+pub mod LineForms
 pub mod Tokens

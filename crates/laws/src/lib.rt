@@ -5,9 +5,11 @@
 mod acts;
 mod contents;
 mod directives;
+mod lines;
 mod tokens;
 
 pub use acts::{acceptance_takes_one, revisions_of_acts, suggestions_stay};
 pub use contents::one_text_for_one_content;
 pub use directives::directives_cut_the_text;
+pub use lines::line_forms_are_the_table;
 pub use tokens::tokens_are_longest;
