@@ -1,5 +1,5 @@
 -- An edit keeps rows apart, and a unique index tells rows apart that differ.
-use Rattle.std.proofs.Common.{◌≡◌, inl, inr, List, [], ◌∷◌, Bool, true, false, not, ◌&&◌, refl, sym, subst, ◌∙◌}
+use Rattle.std.proofs.Common.{◌≡◌, inl, inr, ℤ, List, [], ◌∷◌, Bool, true, false, not, ◌&&◌, refl, sym, subst, ◌∙◌}
 use Rattle.std.proofs.lemmas.Bool.{and_parts, and_from, not-true}
 use Rattle.std.specs.declared.cmp.Ordering.{Ordering}
 use Rattle.std.specs.declared.cmp.Ordering.TheVariants.{Less, Equal, Greater}
@@ -11,7 +11,9 @@ use Rattle.sqlite.specs.Order.{Row, value_cmp}
 use Rattle.sqlite_value.proofs.OrderLemmas.{value_cmp_total}
 use Rattle.sqlite.specs.Ops.{binary}
 use Rattle.sqlite.specs.Tree.{Trees, rowid}
-use Rattle.sqlite_trees.specs.Tree.{put_row}
+use Rattle.sqlite_trees.specs.Tree.{IsTable, put_row, has_rowid, without_rowid}
+use Rattle.sqlite_trees.proofs.ListLemmas.{ascending-filter}
+use Rattle.sqlite_trees.proofs.TreeLemmas.{IsTable-put_row}
 use Rattle.sqlite_trees.specs.View.{is_int}
 use Rattle.sqlite_schema.specs.declared.schema.Constraint.TheVariants.{Unique}
 use Rattle.sqlite_schema.specs.declared.schema.Index.{Index}
@@ -20,7 +22,7 @@ use Rattle.sqlite_schema.specs.declared.schema.Schema.{Schema}
 use Rattle.sqlite_schema.specs.declared.schema.Keys.{Keys}
 use Rattle.sqlite_schema.specs.Rules.{agree, differ, clashes, guards, Keeps}
 use Rattle.sqlite_rules.specs.Lists.{Has}
-use Rattle.sqlite_rules.specs.Edit.{Edit, Applies, put_all, is_taken, are_fresh, have_rowids, left_by}
+use Rattle.sqlite_rules.specs.Edit.{Edit, Applies, put_all, is_taken, are_fresh, have_rowids, left_by, without_all}
 use Rattle.sqlite_rules.proofs.ListLemmas.{test_has, some_from}
 use Rattle.sqlite_rules.proofs.TableLemmas.{put_has, without_all_has}
 use Rattle.sqlite_rules.proofs.RuleLemmas.{keeps_at}
@@ -48,6 +50,7 @@ apart_put new rows whole free was = record {
       | inr there ↦ was.apart r s here there e
     ]
   ];
+  rising = IsTable-put_row new rows was.rising;
 }
 
 pub apart_put_all : (news rows : List Row) → have_rowids news ≡ true → are_fresh rows news ≡ true → AreApart rows
@@ -56,13 +59,21 @@ apart_put_all [] rows whole fresh was = was
 apart_put_all (n ∷ news) rows whole fresh was =
     let w = and_parts _ _ whole in let f = and_parts _ _ fresh in apart_put_all news (put_row n rows) w.1 f.1 (apart_put n rows w.0 (not-true _ f.0) was)
 
-pub apart_fewer : (rows fewer : List Row) → ((x : Row) → Has fewer x → Has rows x) → AreApart rows → AreApart fewer
-apart_fewer rows fewer only was = record { ints = λ r h. was.ints r (only r h); apart = λ r s in_r in_s e. was.apart r s (only r in_r) (only s in_s) e }
+rising_without : (ids : List ℤ) (rows : List Row) → IsTable rows → IsTable (without_all rows ids)
+rising_without [] rows up = up
+rising_without (id ∷ ids) rows up = rising_without ids (without_rowid id rows) (ascending-filter (λ a b. value_cmp (rowid a) (rowid b) ≡ Less) (λ r. not (has_rowid id r)) rows up)
+
+pub apart_without : (ids : List ℤ) (rows : List Row) → AreApart rows → AreApart (without_all rows ids)
+apart_without ids rows was = record {
+  ints = λ r h. was.ints r (without_all_has ids rows r h);
+  apart = λ r s in_r in_s e. was.apart r s (without_all_has ids rows r in_r) (without_all_has ids rows s in_s) e;
+  rising = rising_without ids rows was.rising;
+}
 
 pub apart_edited : (schema : Schema) (keys : Keys) (db next : Trees) (edit : Edit) → Applies schema keys db edit next
     → AreApart (db edit.table.tree) → AreApart (next edit.table.tree)
 apart_edited schema keys db next edit applies was =
-    subst AreApart (sym applies.rows) (apart_put_all edit.news (left_by db edit) applies.keyed applies.fresh (apart_fewer _ _ (without_all_has edit.gone (db edit.table.tree)) was))
+    subst AreApart (sym applies.rows) (apart_put_all edit.news (left_by db edit) applies.keyed applies.fresh (apart_without edit.gone (db edit.table.tree) was))
 
 ne_false : (o : Ordering) → is_ne o ≡ false → is_eq o ≡ true
 ne_false Less e = absurd cc

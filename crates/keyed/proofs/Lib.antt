@@ -10,3 +10,4 @@ pub mod Writes
 pub mod Upserts
 pub mod KeptCommits
 pub mod Transactions
+pub mod OrderedQueries

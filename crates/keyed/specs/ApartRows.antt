@@ -4,12 +4,15 @@ use Rattle.std.specs.Ordering.{is_eq}
 use Rattle.sqlite.specs.declared.types.Value.TheVariants.{Int}
 use Rattle.sqlite.specs.Order.{Row, value_cmp}
 use Rattle.sqlite.specs.Tree.{rowid}
+use Rattle.sqlite_trees.specs.Tree.{IsTable}
 use Rattle.sqlite_trees.specs.View.{is_int}
 use Rattle.sqlite_rules.specs.Lists.{Has}
 
 pub record AreApart (rows : List Row) : Type 0 where
   pub ints : (r : Row) → Has rows r → is_int (rowid r) ≡ true
   pub apart : (r s : Row) → Has rows r → Has rows s → is_eq (value_cmp (rowid r) (rowid s)) ≡ true → r ≡ s
+  -- the rowids rise, so no row stands twice
+  pub rising : IsTable rows
 
 -- the rows that pass the test are gone, and the others stay
 pub record IsRemoved (test : Row → Bool) (old new : List Row) : Type 0 where

@@ -2,3 +2,4 @@ pub mod RowMaps
 pub mod ApartRows
 pub mod PlainQueries
 pub mod Upserts
+pub mod OrderedQueries

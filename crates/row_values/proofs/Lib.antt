@@ -1,5 +1,5 @@
 mod ReadBack
-mod Readers
+pub mod Readers
 mod Exact
-mod Keys
+pub mod Keys
 pub mod rows

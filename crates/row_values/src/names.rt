@@ -1,5 +1,5 @@
 //! Columns that are a name, a language, a key, a msgid_plural or a number of a request.
-ghost use Rattle.std.specs.Prelude.{◌≡◌, true, false, Some, Ok, Err, IfOk, IfErr, option_map};
+ghost use Rattle.std.specs.Prelude.{◌≡◌, true, false, Some, Ok, Err, IfOk, OnOk, IfErr, option_map};
 ghost use Rattle.std.specs.Option.{option_copied, option_map_or};
 ghost use Rattle.po_read.specs.Strings.{is_string};
 ghost use Rattle.units.specs.Limits.{is_name, is_lang};
@@ -105,11 +105,22 @@ fn key_of_parts(alloc: Global, column: &str) -> Result<Key, RowFault>
 
 /// The column of a request's number: hyphenated, lower case, 36 characters.
 pub fn number_column(alloc: Global, number: Uuid) -> Result<Text, AllocError>
-    ensures { IfOk result (λ column. column ≡ number_text number) }
+    ensures column { IfOk result (λ column. column ≡ number_text number) }
+    ensures fits { OnOk result (IsNumber number) }
 {
+    bytes_fit(number.as_bytes());
     let mut buffer = Uuid::encode_buffer();
     let written: &str = number.hyphenated().encode_lower(&mut buffer);
     Text::from_text(alloc, written)
+}
+
+// Each byte fits, which a clause cannot say of an array: this walk reads them, and is compiled away.
+fn bytes_fit(bytes: &[u8; 16])
+    ensures { IsNumber bytes.now }
+{
+    'bytes: for i in 0..16 {
+        let _ = bytes[i];
+    }
 }
 
 /// The number that a column stands for.

@@ -1,0 +1,5 @@
+pub mod Values
+pub mod Meaning
+pub mod Cells
+pub mod Written
+pub mod Shown
