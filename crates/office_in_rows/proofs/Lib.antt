@@ -19,3 +19,7 @@ pub mod ShownSuggestions
 pub mod ShownEntries
 pub mod ShownPolicy
 pub mod OfficeQueries
+pub mod RowsPut
+pub mod Openings
+pub mod WritableUnits
+pub mod CommitLaws

@@ -3,3 +3,4 @@ pub mod Meaning
 pub mod Cells
 pub mod Written
 pub mod Shown
+pub mod Beginnings
