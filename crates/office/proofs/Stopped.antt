@@ -5,7 +5,7 @@ use Rattle.request_book.specs.Book.{OfficeWithBook}
 use Rattle.tables.specs.Stops.{AddsOnly, Nothing, LeavesOnly}
 use Rattle.tables.specs.Kept.{IsKept}
 use Rattle.tables.specs.declared.faults.Lost.{Lost}
-use Rattle.tables.specs.declared.faults.Lost.TheVariants.{Disk}
+use Rattle.tables.specs.declared.faults.Lost.TheVariants.{Memory, Disk}
 
 -- a read adds nothing to what a commit may add
 read_first : {M : Type 0} (old mid new Commits Left : M → Type 0) → AddsOnly old mid Nothing → AddsOnly mid new Commits → ((m : M) → Commits m → Left m) → AddsOnly old new Left
@@ -56,3 +56,50 @@ read_then {S} {A} {B} {C} {H} {W} {means} {L} {D} {old} {mid} {new} {a} {s} {t} 
     on_err P (Ok b) (Err e) alike h = absurd alike
     on_err P (Err d) (Ok c) alike h = absurd alike
     on_err P (Err d) (Err e) alike h = subst P (sym alike) h
+
+-- a read that answered, and then a want of memory
+pub read_then_memory : {S A C : Type 0} {H W : S → Type 0} {means : S → OfficeWithBook} {L : S → OfficeWithBook → Type 0} {D : S → Bool} {old new : S} {a : A} {Left : OfficeWithBook → Type 0} →
+    IsKept H W means L D old new (Ok a) Disk Nothing → IsKept {A = C} H W means L D old new (Err Memory) Disk Left
+read_then_memory {S} {A} {C} {H} {W} {means} {L} {D} {old} {new} {a} {Left} reads = record {
+  honest = reads.honest;
+  whole = reads.whole;
+  open_still = λ h. tt;
+  stops = λ h m is. kept_or_left m (reads.stops h m is);
+  only = λ h. tt;
+  disk = λ never. cc;
+  still = λ stopped. let never : Ok a ≡ Err Disk = (reads.still stopped).0 in cc;
+}
+  where
+    kept_or_left : (m : OfficeWithBook) → L old m ⊎ Nothing m → L old m ⊎ Left m
+    kept_or_left m (inl h) = inl h
+    kept_or_left m (inr never) = absurd never
+
+-- a read that failed
+pub read_failed : {S A C : Type 0} {H W : S → Type 0} {means : S → OfficeWithBook} {L : S → OfficeWithBook → Type 0} {D : S → Bool} {old new : S} {e : Lost} {Left : OfficeWithBook → Type 0} →
+    IsKept {A = A} H W means L D old new (Err e) Disk Nothing → IsKept {A = C} H W means L D old new (Err e) Disk Left
+read_failed {S} {A} {C} {H} {W} {means} {L} {D} {old} {new} {e} {Left} reads = record {
+  honest = reads.honest;
+  whole = reads.whole;
+  open_still = λ h. tt;
+  stops = λ h m is. kept_or_left m (reads.stops h m is);
+  only = λ h. tt;
+  disk = reads.disk;
+  still = λ stopped. let is : ◌≡◌ {A = Result A Lost} (Err e) (Err Disk) = (reads.still stopped).0 in (cc, (reads.still stopped).1);
+}
+  where
+    kept_or_left : (m : OfficeWithBook) → L old m ⊎ Nothing m → L old m ⊎ Left m
+    kept_or_left m (inl h) = inl h
+    kept_or_left m (inr never) = absurd never
+
+-- a read that answered, and then an answer made of it
+pub read_done : {S A C : Type 0} {H W : S → Type 0} {means : S → OfficeWithBook} {L : S → OfficeWithBook → Type 0} {D : S → Bool} {old new : S} {a : A} {c : C} →
+    IsKept H W means L D old new (Ok a) Disk Nothing → IsKept H W means L D old new (Ok c) Disk Nothing
+read_done {S} {A} {C} {H} {W} {means} {L} {D} {old} {new} {a} {c} reads = record {
+  honest = reads.honest;
+  whole = reads.whole;
+  open_still = reads.open_still;
+  stops = reads.stops;
+  only = reads.only;
+  disk = tt;
+  still = λ stopped. let never : Ok a ≡ Err Disk = (reads.still stopped).0 in cc;
+}

@@ -43,9 +43,9 @@ fn coming_of(
     ensures reply { IfOk result (λ coming. coming.reply ≡ reply_of 200 (count_fields counts)) }
 {
     Ok(Coming {
+        lang: lang.duplicate()?,
         reply: language_added(alloc, counts)?,
         header: header.duplicate()?,
-        lang: lang.duplicate()?,
     })
 }
 

@@ -20,7 +20,7 @@ use Rattle.request_book.specs.declared.act.Act.{Act}
 use Rattle.request_book.specs.declared.act.Act.TheVariants.{OnUnit, SetTemplate, AddLanguage, SetRole, SetPolicy}
 use Rattle.request_book.specs.declared.parts.Parts.{Parts}
 use Rattle.request_book.specs.Words.{natural, string_items, strings, number_text, number_data, Field, with_member, members}
-use Rattle.request_book.specs.Acts.{fields_of, vote_data, content_data, canon_text, IsAct}
+use Rattle.request_book.specs.Acts.{fields_of, vote_data, content_data, canon_text, act_data, IsAct}
 use Rattle.request_book.specs.Fields.{parts_of}
 use Rattle.request_book.specs.Puts.{put_optional, put_fields}
 use Rattle.request_book.proofs.Objects.{parts_complete}
@@ -226,3 +226,14 @@ one_content c c' a b name_c name_c' fit_a fit_b e =
     let parts = sym (parts_complete (Some c) None a name_c tt fit_a) ∙ ap parts_of (object_is _ _ same) ∙ parts_complete (Some c') None b name_c' tt fit_b in
     let one = some_is _ _ parts in
     (some_is c c' (ap (λ (p : Parts). p.caller) one), ap (λ (p : Parts). p.act) one)
+
+-- an act's text reads back as it
+pub read_act : (a : Act) → IsAct a → read (compact_text (act_data a)) ≡ Some (act_data a)
+read_act a fit = read_object _ (fields_rise None None a) (fields_plain None None a fit)
+
+-- so no two acts have one text
+pub one_act : (a b : Act) → IsAct a → IsAct b → compact_text (act_data a) ≡ compact_text (act_data b) → a ≡ b
+one_act a b fit_a fit_b e =
+    let same : act_data a ≡ act_data b = some_is _ _ (sym (read_act a fit_a) ∙ ap read e ∙ read_act b fit_b) in
+    let parts = sym (parts_complete None None a tt tt fit_a) ∙ ap parts_of (object_is _ _ same) ∙ parts_complete None None b tt tt fit_b in
+    ap (λ (p : Parts). p.act) (some_is _ _ parts)

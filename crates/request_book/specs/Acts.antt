@@ -140,6 +140,10 @@ content_data caller a = object (members (fields_of (Some caller) None a))
 abbrev pub request_data : Request → Data
 request_data r = object (members (fields_of (Some r.caller) (Some r.number) r.act))
 
+-- and of an act alone
+abbrev pub act_data : Act → Data
+act_data a = object (members (fields_of None None a))
+
 -- ---- the limits
 
 -- 16 bytes
@@ -174,3 +178,10 @@ canon_text caller a = compact_text (content_data caller a)
 -- the text of a request's content
 unfoldable pub content_text : Request → Text
 content_text r = canon_text r.caller r.act
+
+-- the same of an act alone: what is read of the text is the act's object, and the act keeps the limits
+abbrev pub IsActText : Text → Act → Type 0
+IsActText text a = (read text ≡ Some (act_data a)) × IsAct a
+
+abbrev pub act_text : Act → Text
+act_text a = compact_text (act_data a)

@@ -1,17 +1,18 @@
 //! Requests as JSON texts.
 ghost use Rattle.std.specs.Prelude.{◌≡◌, true, false, Err, IfOk, string_bytes};
-ghost use Rattle.request_book.specs.Acts.{IsRequest, IsRequestText, content_text};
+ghost use Rattle.request_book.specs.Acts.{IsRequest, IsRequestText, content_text, IsAct, IsActText, act_text};
+ghost use Rattle.request_book.specs.declared.act.Act.{Act as ActValue};
 ghost use Rattle.request_book.specs.Fields.{to_request};
 ghost use Rattle.serde_json.specs.Written.{compact_text, has_float};
 ghost use Rattle.serde_json.specs.Data.{object};
 ghost use Rattle.serde_json.specs.View.{members_view};
 ghost use Rattle.request_book.specs.declared.fault.RequestFault.TheVariants.{Malformed};
 
-use crate::act::Request;
+use crate::act::{Act, Request};
 use crate::fault::RequestFault;
 use crate::fields::bytes_fit;
 use crate::parts::{Parts, parts_from_text};
-use crate::written::content_map;
+use crate::written::{act_map, content_map};
 use po_read::Text;
 use serde_json::{Map, Value};
 use std::alloc::{AllocError, Global};
@@ -64,6 +65,20 @@ pub fn canon(alloc: Global, request: &Request) -> Result<Text, Memory>
     bytes_fit(request.number.as_bytes());
     let map = content_map(alloc, request)?;
     Ok(Text::from_string(object_text(alloc, map)?))
+}
+
+impl Act {
+    /// The act's text: its object in compact JSON, keys in byte order, without the number and the caller of a request. No other act
+    /// has this text.
+    #[tactic(auto, using(crate::proofs::CanonLemmas::no_floats, crate::proofs::CanonLemmas::read_act))]
+    pub fn to_json(&self, alloc: Global) -> Result<Text, Memory>
+        ensures value { IfOk result (λ s. s ≡ act_text self.now) }
+        ensures is { IfOk result (λ s. IsActText s self.now) }
+        ensures alone { IfOk result (λ s. (other : ActValue) → IsAct other → act_text other ≡ s → other ≡ self.now) }
+    {
+        let map = act_map(alloc, self)?;
+        Ok(Text::from_string(object_text(alloc, map)?))
+    }
 }
 
 fn object_text(alloc: Global, map: Map<String, Value>) -> Result<String, AllocError>

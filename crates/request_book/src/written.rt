@@ -32,6 +32,16 @@ pub(crate) fn content_map(
     Ok(map)
 }
 
+/// The members of an act's object.
+pub(crate) fn act_map(alloc: Global, act: &Act) -> Result<Map<String, Value>, AllocError>
+    ensures value { IfOk result (λ m. members_view m.entries ≡ members (fields_of None None act.now)) }
+    ensures fits { IfOk result (λ _. IsAct act.now) }
+{
+    let mut map = Map::new(alloc);
+    put_act(&mut map, alloc, None, None, act)?;
+    Ok(map)
+}
+
 // The members of an act's object, with the caller and the number where they are given.
 fn put_act(
     map: &mut Map<String, Value>,

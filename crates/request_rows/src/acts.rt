@@ -3,45 +3,25 @@ use crate::requests::{canon_told, no_request_told};
 use po_read::Duplicate;
 use request_book::{Act, Request};
 use std::alloc::Global;
-use units::{Key, Lang, Name, UnitAct};
-use uuid::Uuid;
 
-fn request_of(number: Uuid, caller: Name, lang: Lang, key: Key, act: UnitAct) -> Request {
-    Request {
-        number,
-        caller,
-        act: Act::OnUnit(lang, key, act),
+/// Puts a copy of the request's act on a unit in its place. None where it is no such act.
+fn put_copy(request: &mut Request) -> Option<()> {
+    match &mut request.act {
+        Act::OnUnit(_, _, act) => {
+            *act = act.duplicate().ok()?;
+            Some(())
+        }
+        _ => None,
     }
 }
 
-/// The request with a copy of its act on a unit. None where it is no such act.
-fn with_copy(request: Request) -> Option<Request> {
-    let Request {
-        number,
-        caller,
-        act,
-    } = request;
-    match act {
-        Act::OnUnit(lang, key, act) => match act.duplicate() {
-            Ok(copy) => Some(request_of(number, caller, lang, key, copy)),
-            Err(_) => None,
-        },
-        other => {
-            drop(other);
-            None
-        }
-    }
-}
-
-fn with_copy_told(alloc: Global, request: Request) -> Option<String> {
-    match with_copy(request) {
-        Some(copy) => {
-            let told = canon_told(alloc, &copy);
-            drop(copy);
-            told
-        }
+fn with_copy_told(alloc: Global, mut request: Request) -> Option<String> {
+    let told = match put_copy(&mut request) {
+        Some(()) => canon_told(alloc, &request),
         None => None,
-    }
+    };
+    drop(request);
+    told
 }
 
 /// What a text comes to as a request, with a copy of its act.

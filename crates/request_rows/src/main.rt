@@ -1,4 +1,4 @@
-//! Names, limits, states, votes, streams and requests as rows of data: reads rows from standard input, and prints those that
+//! Names, limits, votes, streams and requests as rows of data: reads rows from standard input, and prints those that
 //! come to something else than they say, and then how many rows there were. A deed is words, and texts behind strokes.
 //!
 //!   name|TEXT -> X                       `refused`, or `taken` and the text of the name's copy
@@ -7,9 +7,6 @@
 //!   accept-at N -> X                     its number
 //!   below ROLE ROLE -> X                 whether the first has fewer rights
 //!   comment|LINE.. -> X                  `refused`, or how many lines were taken
-//!   shown STATE|FLAG -> X                what the copy of such a unit shows, whose template entry has the flag
-//!   flag TEXT|FLAG -> X                  whether an entry with the flag has the other one
-//!   empty|FORM.. -> X                    whether all forms are empty, or some
 //!   votes -> X, vote NAME VALUE -> X     the votes of the rows so far, with this one: for, against or none
 //!   refusal NAME -> X                    its number
 //!   sink MOST|TEXT.. -> X                what each write comes to, at a sink that holds so much, and what it holds then
@@ -34,7 +31,6 @@ mod requests;
 mod stage;
 mod streams;
 mod told;
-mod unit_rows;
 mod voting;
 mod words;
 

@@ -1,15 +1,14 @@
 //! What the rows above set.
 use request_book::Record;
 use std::alloc::Global;
-use units::{UnitView, Votes};
+use units::Votes;
 
-/// The text of the last request, the votes, and the units and records so far, of which the last counts. (In lists, since each
-/// function that holds one is dear to prove.)
+/// The text of the last request, the votes, and the records so far, of which the last counts. (In a list, since each function
+/// that holds one is dear to prove.)
 #[derive(Drop)]
 pub(crate) struct Stage {
     pub(crate) request: String,
     pub(crate) votes: Votes,
-    views: Vec<UnitView>,
     records: Vec<Record>,
 }
 
@@ -18,21 +17,12 @@ impl Stage {
         Stage {
             request: String::new(alloc),
             votes: Votes::new(alloc),
-            views: Vec::new(alloc),
             records: Vec::new(alloc),
         }
     }
 
     pub(crate) fn set_request(&mut self, text: String) {
         self.request = text;
-    }
-
-    pub(crate) fn view(&self) -> Option<&UnitView> {
-        self.views.last()
-    }
-
-    pub(crate) fn put(&mut self, view: UnitView) -> Option<()> {
-        self.views.push(view).ok()
     }
 
     pub(crate) fn record(&self) -> Option<&Record> {

@@ -8,7 +8,6 @@ use crate::limits::{
 use crate::requests::{but_told, cut_told, read_told};
 use crate::stage::Stage;
 use crate::streams::{sink_told, source_told};
-use crate::unit_rows::{empty_told, flag_told, shown_told};
 use crate::voting::{vote_told, votes_told};
 use crate::words::{word, words_and_texts};
 use std::alloc::Global;
@@ -20,10 +19,12 @@ pub(crate) fn found(alloc: Global, stage: &mut Stage, deed: &str) -> Option<Stri
     }
     let deed = written_out(alloc, deed)?;
     let (words, texts) = words_and_texts(deed.as_str());
-    match texts {
+    let told = match texts {
         Some(texts) => of_texts(alloc, stage, words, texts),
         None => of_words(alloc, stage, words),
-    }
+    };
+    drop(deed);
+    told
 }
 
 fn of_words(alloc: Global, stage: &mut Stage, words: &str) -> Option<String> {
@@ -46,9 +47,6 @@ fn of_texts(alloc: Global, stage: &mut Stage, words: &str, texts: &str) -> Optio
         "name" => name_told(alloc, texts),
         "lang" => lang_told(alloc, texts),
         "comment" => comment_told(alloc, Some(texts)),
-        "shown" => shown_told(alloc, stage, words, texts),
-        "flag" => flag_told(alloc, words, texts),
-        "empty" => empty_told(alloc, texts),
         "sink" => sink_told(alloc, words, texts),
         "source" => source_told(alloc, words, texts),
         "but" => but_told(alloc, stage.request.as_str(), texts),

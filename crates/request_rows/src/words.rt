@@ -1,5 +1,5 @@
 //! The words of a row.
-use units::{Role, UnitState, VoteValue};
+use units::{Role, VoteValue};
 
 /// A row's deed, and what it is to come to.
 pub(crate) fn both_sides(row: &str) -> (&str, &str) {
@@ -32,16 +32,6 @@ pub(crate) fn role(word: &str) -> Option<Role> {
         "translator" => Some(Role::Translator),
         "reviewer" => Some(Role::Reviewer),
         "manager" => Some(Role::Manager),
-        _ => None,
-    }
-}
-
-pub(crate) fn state(word: &str) -> Option<UnitState> {
-    match word {
-        "untranslated" => Some(UnitState::Untranslated),
-        "needs-editing" => Some(UnitState::NeedsEditing),
-        "translated" => Some(UnitState::Translated),
-        "approved" => Some(UnitState::Approved),
         _ => None,
     }
 }

@@ -7,10 +7,10 @@ use Rattle.deliveries.proofs.rules.StartLemmas.{demo_starts, opening_starts}
 use Rattle.office_maps.specs.declared.office_maps.OfficeMaps.{OfficeMaps}
 use Rattle.office_maps.specs.OfficeIn.{office_in}
 use Rattle.store.specs.declared.maps.Maps.{Maps}
-use Rattle.store.specs.declared.start.Start.{Start}
-use Rattle.store.specs.declared.start.Start.TheVariants.{Opening, Demo}
+use Rattle.tables.specs.declared.start.Start.{Start}
+use Rattle.tables.specs.declared.start.Start.TheVariants.{Opening, Demo}
 use Rattle.store.specs.Meanings.{meaning}
-use Rattle.store.specs.Starts.{office_of_start, started}
+use Rattle.tables.specs.Starts.{office_of_start, started}
 
 starts : (start : Start) → KeepsRules (started start)
 starts (Opening manager) = opening_starts manager

@@ -11,5 +11,4 @@ mod start;
 
 pub use entries::{obsolete_entry, translated};
 pub use plain::PlainTables;
-pub use start::Start;
-pub use tables::{Counts, EachFault, EntrySink, Lost, Tables};
+pub use tables::{Counts, EachFault, EntrySink, Lost, Start, Tables};

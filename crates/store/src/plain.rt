@@ -5,9 +5,9 @@ ghost use Rattle.deliveries.specs.OneProof.{rules_prop};
 ghost use Rattle.store.specs.Meanings.{meaning};
 
 use crate::maps::Maps;
-use crate::start::Start;
+use crate::start::office_of;
 use std::alloc::Global;
-use tables::Lost;
+use tables::{Lost, Start};
 
 /// Tables of an office with its book that stand in memory. They keep the rules of an office with its book, are never stopped, and
 /// fail only where a growth was refused.
@@ -21,7 +21,7 @@ pub struct PlainTables {
 impl PlainTables {
     ghost use Rattle.std.specs.Prelude.{◌≡◌, IfOk, IfErr};
     ghost use Rattle.tables.specs.declared.faults.Lost.TheVariants.{Memory};
-    ghost use Rattle.store.specs.Starts.{started};
+    ghost use Rattle.tables.specs.Starts.{started};
     ghost use Rattle.store.specs.Seen.{meaning_of};
 
     /// Tables of the office of a start, of which nothing is recorded.
@@ -31,7 +31,7 @@ impl PlainTables {
         ensures ok { IfOk result (λ tables. meaning_of tables ≡ started start.now) }
         ensures memory { IfErr result (λ e. e ≡ Memory) }
     {
-        let office = start.office(alloc)?;
+        let office = office_of(start, alloc)?;
         Ok(PlainTables {
             maps: Maps::new(alloc, office),
             alloc,

@@ -1,31 +1,20 @@
-//! What tables begin with.
+//! What tables in maps begin with.
 
 ghost use Rattle.std.specs.Prelude.{◌≡◌, IfOk};
 ghost use Rattle.office_maps.specs.OfficeIn.{office_in};
+ghost use Rattle.tables.specs.Starts.{office_of_start};
 
 use office_maps::OfficeMaps;
 use std::alloc::Global;
-use units::{Memory, Name};
+use tables::Start;
+use units::Memory;
 
-/// The office that new tables begin with. Nothing is recorded of it.
-#[derive(Drop)]
-pub enum Start {
-    /// One manager, of this name, and nothing else.
-    Opening(Name),
-    /// The manager `root`, the translator `ann`, and the language `de` with one message, `Hello`, that has no translation.
-    Demo,
-}
-
-impl Start {
-    ghost use Rattle.store.specs.Starts.{office_of_start};
-
-    /// The office in maps.
-    pub(crate) fn office(&self, alloc: Global) -> Result<OfficeMaps, Memory>
-        ensures { IfOk result (λ office. office_in office ≡ office_of_start self.now) }
-    {
-        match self {
-            Start::Opening(manager) => OfficeMaps::opening(alloc, manager),
-            Start::Demo => OfficeMaps::demo(alloc),
-        }
+/// The office of a start, in maps.
+pub(crate) fn office_of(start: &Start, alloc: Global) -> Result<OfficeMaps, Memory>
+    ensures { IfOk result (λ office. office_in office ≡ office_of_start start.now) }
+{
+    match start {
+        Start::Opening(manager) => OfficeMaps::opening(alloc, manager),
+        Start::Demo => OfficeMaps::demo(alloc),
     }
 }

@@ -4,3 +4,4 @@ pub mod Sinks
 pub mod Entries
 pub mod Counts
 pub mod Kept
+pub mod Starts

@@ -5,8 +5,10 @@ mod access;
 mod counts;
 mod faults;
 mod sink;
+mod start;
 
 pub use access::Tables;
 pub use counts::Counts;
 pub use faults::{EachFault, Lost};
 pub use sink::EntrySink;
+pub use start::Start;

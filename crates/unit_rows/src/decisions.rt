@@ -1,17 +1,17 @@
 //! Decisions on a unit.
 mod requests;
-mod stage;
 mod told;
 mod unit_view;
 
-use crate::words::word;
-use requests::{Request, decision, read_request};
+use crate::stage::Stage;
+use crate::words::{TWO, word};
+use plural_expr::PluralForms;
+use requests::{Request, decision, read_actor, read_request};
 use review::Decision;
-pub(crate) use stage::Stage;
-use stage::{Actor, read_actor};
 use std::alloc::Global;
 use told::{decision_told, left_told};
 use unit_view::unit_view;
+use units::{Policy, Role};
 
 /// What a deed comes to: of an act the reply, of `left` what is there, and else nothing.
 pub(crate) fn found(
@@ -24,34 +24,50 @@ pub(crate) fn found(
         "by" => stage.actor = Some(read_actor(words)?),
         "unit" => stage.put(unit_view(alloc, words, texts?)?)?,
         "left" => return left_told(alloc, stage.view()?).ok(),
-        _ => return decided(alloc, stage, words, texts),
+        _ => return requested(alloc, stage, words, texts),
     }
     Some(String::new(alloc))
 }
 
-fn decided(alloc: Global, stage: &mut Stage, words: &str, texts: Option<&str>) -> Option<String> {
+/// What comes of a request under the rule of German.
+fn requested(alloc: Global, stage: &mut Stage, words: &str, texts: Option<&str>) -> Option<String> {
     let actor = stage.actor?;
+    let rule = PluralForms::parse(alloc, TWO).ok()?;
     let request = read_request(alloc, words, texts)?;
-    match decision(alloc, stage.view()?, &actor, &request) {
-        Ok(decision) => taken(alloc, stage, decision),
-        Err(_) => decided_again(alloc, stage, &actor, &request),
+    let told = decided(alloc, stage, &actor, &rule, &request);
+    drop(request);
+    drop(rule);
+    told
+}
+
+/// What comes of a request; behind a decision that memory was refused to, what comes of it then.
+fn decided(
+    alloc: Global,
+    stage: &mut Stage,
+    actor: &(Role, Policy),
+    rule: &PluralForms,
+    request: &Request,
+) -> Option<String> {
+    if let Some(text) = decided_once(alloc, stage, actor, rule, request)? {
+        return Some(text);
+    }
+    match decided_once(alloc, stage, actor, rule, request)? {
+        Some(text) => format!(in alloc; "{text} after want of memory").ok(),
+        None => String::from_str(alloc, "want of memory, twice").ok(),
     }
 }
 
-/// What comes of a request behind a decision that memory was refused to.
-fn decided_again(
+/// What comes of a request. The inner None where memory is refused to the decision.
+fn decided_once(
     alloc: Global,
     stage: &mut Stage,
-    actor: &Actor,
+    actor: &(Role, Policy),
+    rule: &PluralForms,
     request: &Request,
-) -> Option<String> {
-    match decision(alloc, stage.view()?, actor, request) {
-        Ok(decision) => {
-            let mut text = taken(alloc, stage, decision)?;
-            text.push_str(" after want of memory").ok()?;
-            Some(text)
-        }
-        Err(_) => String::from_str(alloc, "want of memory, twice").ok(),
+) -> Option<Option<String>> {
+    match decision(alloc, stage.view()?, actor, rule, request) {
+        Ok(decision) => taken(alloc, stage, decision).map(Some),
+        Err(_) => Some(None),
     }
 }
 

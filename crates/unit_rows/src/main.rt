@@ -1,4 +1,4 @@
-//! Decisions on a unit, and templates and texts of a language, as rows of data: reads rows from standard input, prints those
+//! Decisions on a unit, what callers see of it, and templates and texts of a language, as rows of data: reads rows from standard input, prints those
 //! that come to something else than they say, with what they come to, and at the end how many rows there were.
 //!
 //! A row is a deed and, behind ` -> `, what it comes to. A deed's words are parted by spaces, and its texts stand behind the
@@ -20,6 +20,13 @@
 //! `voted SUM`, `accepted SUM`; `with previous` is said of a unit that keeps a previous msgid. A decision that memory is
 //! refused to is made once more: what comes of it then is told with `after want of memory`.
 //!
+//! Units, entries and forms:
+//!
+//!   shown STATE|FLAG                      what the copy of such a unit shows, whose msgid was another, and whose template entry has
+//!                                         the flag
+//!   flag TEXT|FLAG                        whether an entry with the flag has the other one
+//!   empty|FORM|..                         whether all forms are empty, or some
+//!
 //! Templates and texts, where PO stands for the lines of a PO text with `; ` between them:
 //!
 //!   template|PO                           the template of the rows below
@@ -33,33 +40,32 @@
 #![tactic(auto)]
 
 mod decisions;
+mod parts;
+mod shown;
+mod stage;
 mod updates;
 mod words;
 
+use stage::Stage;
 use std::alloc::Global;
 use std::io;
 use words::{both_sides, word, words_and_texts};
 
 /// What a deed comes to. None where it can't be read, or memory is wanting.
-fn found(
-    alloc: Global,
-    decisions: &mut decisions::Stage,
-    updates: &mut updates::Stage,
-    deed: &str,
-) -> Option<String> {
+fn found(alloc: Global, stage: &mut Stage, deed: &str) -> Option<String> {
     let (words, texts) = words_and_texts(deed);
     match word(words, 0) {
         "template" | "units" | "then" | "load" | "strip" => {
-            updates::found(alloc, updates, words, texts.unwrap_or(""))
+            updates::found(alloc, stage, words, texts.unwrap_or(""))
         }
-        _ => decisions::found(alloc, decisions, words, texts),
+        "shown" | "flag" | "empty" => shown::found(alloc, stage, words, texts?),
+        _ => decisions::found(alloc, stage, words, texts),
     }
 }
 
 fn main(rt: HostRuntime) -> io::Result<()> {
     let alloc = rt.alloc();
-    let mut decisions = decisions::Stage::new(alloc);
-    let mut updates = updates::Stage::new(alloc);
+    let mut stage = Stage::new(alloc);
     let mut rows = 0u64;
     for line in rt.lines(alloc) {
         let line = line?;
@@ -68,7 +74,7 @@ fn main(rt: HostRuntime) -> io::Result<()> {
         }
         rows = rows.saturating_add(1);
         let (deed, wanted) = both_sides(line.as_str());
-        match found(alloc, &mut decisions, &mut updates, deed) {
+        match found(alloc, &mut stage, deed) {
             Some(text) if text.as_str() == wanted => {}
             Some(text) => println!(rt; "{line}, not {text}")?,
             None => println!(rt; "{line}: unread")?,

@@ -1,26 +1,22 @@
 //! Templates, and a language's units under them.
 mod language;
-mod stage;
 mod told;
 
-use crate::words::{has, word};
-use language::{catalogue, units};
+use crate::stage::Stage;
+use crate::words::{TWO, has, word};
+use language::{catalogue, put_units};
 use plural_expr::PluralForms;
-use po_read::Catalogue;
-pub(crate) use stage::Stage;
+use po_read::{Catalogue, Items};
 use std::alloc::Global;
 use template_update::{Plan, load, plan, template_of};
 use told::{entries_told, plan_told};
 use units::{AcceptAt, Policy};
 
-/// Two forms, of which the first serves one.
-const TWO: &str = "nplurals=2; plural=n != 1;";
-
 /// What a deed comes to: of a plan its numbers and its first unit, of a template what it has, and else nothing.
 pub(crate) fn found(alloc: Global, stage: &mut Stage, words: &str, texts: &str) -> Option<String> {
     match word(words, 0) {
         "template" => stage.put_template(catalogue(alloc, texts)?),
-        "units" => stage.put_units(units(alloc, words, texts)?),
+        "units" => return units_put(alloc, stage, words, texts),
         "then" => return planned_told(alloc, stage, texts),
         "load" => return loaded_told(alloc, stage, words, texts),
         "strip" => return stripped_told(alloc, texts),
@@ -29,36 +25,48 @@ pub(crate) fn found(alloc: Global, stage: &mut Stage, words: &str, texts: &str) 
     Some(String::new(alloc))
 }
 
+/// Sets the units. (They are added in their place, since each way out past them is dear to prove.)
+fn units_put(alloc: Global, stage: &mut Stage, words: &str, texts: &str) -> Option<String> {
+    let text = catalogue(alloc, texts)?;
+    stage.put_units(Items::new(alloc));
+    let put = put_units(alloc, &mut stage.units, words, text.entries());
+    drop(text);
+    put?;
+    Some(String::new(alloc))
+}
+
 fn planned_told(alloc: Global, stage: &mut Stage, texts: &str) -> Option<String> {
     let next = catalogue(alloc, texts)?;
-    let plan = planned(alloc, stage, &next)?;
+    let plan = planned(alloc, stage, &next);
     stage.put_template(next);
-    taken(alloc, stage, plan)
+    taken(alloc, stage, plan?)
 }
 
 fn loaded_told(alloc: Global, stage: &mut Stage, words: &str, texts: &str) -> Option<String> {
     let text = catalogue(alloc, texts)?;
-    let plan = loaded(alloc, stage, words, &text)?;
-    taken(alloc, stage, plan)
+    let plan = loaded(alloc, stage, words, &text);
+    drop(text);
+    taken(alloc, stage, plan?)
 }
 
 fn stripped_told(alloc: Global, texts: &str) -> Option<String> {
     let text = catalogue(alloc, texts)?;
-    let template = template_of(alloc, &text).ok()?;
-    entries_told(alloc, template.entries()).ok()
+    let template = template_of(alloc, &text);
+    drop(text);
+    entries_told(alloc, template.ok()?.entries()).ok()
 }
 
 /// What a plan tells, whose units are those of the rows below.
 fn taken(alloc: Global, stage: &mut Stage, plan: Option<Plan>) -> Option<String> {
     let told = plan_told(alloc, plan.as_ref());
-    stage.take(plan);
+    stage.take_plan(plan);
     told.ok()
 }
 
 /// What the next template makes of the units. The inner None where that passes a limit.
 fn planned(alloc: Global, stage: &Stage, next: &Catalogue) -> Option<Option<Plan>> {
     let rule = PluralForms::parse(alloc, TWO).ok()?;
-    plan(alloc, stage.template(), stage.units(), next, &rule).ok()
+    plan(alloc, &stage.template, stage.units.as_slice(), next, &rule).ok()
 }
 
 /// The units of a language's text, under a policy that has no mark but perhaps `placeholders`.
@@ -72,5 +80,5 @@ fn loaded(alloc: Global, stage: &Stage, words: &str, text: &Catalogue) -> Option
         placeholders: has(words, "placeholders"),
         line_ends: false,
     };
-    load(alloc, stage.template(), text, &rule, &policy).ok()
+    load(alloc, &stage.template, text, &rule, &policy).ok()
 }

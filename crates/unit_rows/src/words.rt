@@ -1,5 +1,10 @@
 //! The words of a row.
+use po_read::PoString;
+use std::alloc::AllocError;
 use units::{Revision, UnitState};
+
+/// Two forms, of which the first serves one.
+pub(crate) const TWO: &str = "nplurals=2; plural=n != 1;";
 
 /// A row's deed, and what it is to come to.
 pub(crate) fn both_sides(row: &str) -> (&str, &str) {
@@ -34,4 +39,17 @@ pub(crate) fn state(word: &str) -> Option<UnitState> {
         "approved" => Some(UnitState::Approved),
         _ => None,
     }
+}
+
+pub(crate) fn yes_or_no(holds: bool) -> &'static str {
+    if holds { "yes" } else { "no" }
+}
+
+/// Adds forms, each behind a stroke.
+pub(crate) fn forms_told(text: &mut String, forms: &[PoString]) -> Result<(), AllocError> {
+    for form in forms {
+        let form = form.as_str();
+        write!(text, "|{form}")?;
+    }
+    Ok(())
 }

@@ -52,6 +52,13 @@ impl Votes {
         }
     }
 
+    /// The votes with their voters, in the order of the voters' names.
+    pub fn as_slice(&self) -> &[(Name, VoteValue)]
+        ensures { result.now ≡ map.entries self.now }
+    {
+        self.inner.as_slice()
+    }
+
     /// How many votes there are.
     pub fn len(&self) -> usize
         ensures value { result ≡ map.len self.now }

@@ -1,18 +1,41 @@
 //! The request of a row, and what is decided on it.
-use super::stage::Actor;
-use super::unit_view::forms;
-use crate::words::{revision, word};
+use crate::parts::forms;
+use crate::words::{has, revision, word};
 use plural_expr::PluralForms;
 use po_read::{Items, Text};
 use review::{Decision, decide};
 use std::alloc::Global;
-use units::{CommentLines, Memory, Name, UnitAct, UnitAction, UnitView, VoteValue};
+use units::{
+    AcceptAt, CommentLines, Memory, Name, Policy, Role, UnitAct, UnitAction, UnitView, VoteValue,
+};
 use uuid::Uuid;
 
-/// An act with who acts, the request's number, and the rule of the unit's language.
+fn role(word: &str) -> Option<Role> {
+    match word {
+        "guest" => Some(Role::Guest),
+        "translator" => Some(Role::Translator),
+        "reviewer" => Some(Role::Reviewer),
+        "manager" => Some(Role::Manager),
+        _ => None,
+    }
+}
+
+/// Who acts by such words, and under which policy.
+pub(super) fn read_actor(words: &str) -> Option<(Role, Policy)> {
+    let policy = Policy {
+        reviews: has(words, "reviews"),
+        guests_suggest: has(words, "guests"),
+        voting: has(words, "voting"),
+        accept_at: AcceptAt::try_new(word(words, 2).parse::<u8>().ok()?)?,
+        placeholders: has(words, "placeholders"),
+        line_ends: false,
+    };
+    Some((role(word(words, 1))?, policy))
+}
+
+/// An act with who acts, and the request's number.
 #[derive(Drop)]
 pub(super) struct Request {
-    rule: PluralForms,
     caller: Name,
     number: Uuid,
     act: UnitAct,
@@ -33,20 +56,27 @@ fn comment(alloc: Global, texts: Option<&str>) -> Option<CommentLines> {
     CommentLines::try_new(lines)
 }
 
+/// An act on the suggestion that is named.
+fn suggestion_action(words: &str) -> Option<UnitAction> {
+    let named = number(word(words, 3))?;
+    match word(words, 2) {
+        "for" => Some(UnitAction::Vote(named, Some(VoteValue::For))),
+        "against" => Some(UnitAction::Vote(named, Some(VoteValue::Against))),
+        "unvote" => Some(UnitAction::Vote(named, None)),
+        "accept" => Some(UnitAction::Accept(named)),
+        "dismiss" => Some(UnitAction::Dismiss(named)),
+        _ => None,
+    }
+}
+
 fn action(alloc: Global, words: &str, texts: Option<&str>) -> Option<UnitAction> {
-    let named = number(word(words, 3));
     match word(words, 2) {
         "suggest" => Some(UnitAction::Suggest(forms(alloc, texts?)?)),
-        "for" => Some(UnitAction::Vote(named?, Some(VoteValue::For))),
-        "against" => Some(UnitAction::Vote(named?, Some(VoteValue::Against))),
-        "unvote" => Some(UnitAction::Vote(named?, None)),
-        "accept" => Some(UnitAction::Accept(named?)),
-        "dismiss" => Some(UnitAction::Dismiss(named?)),
         "translate" => Some(UnitAction::Translate(forms(alloc, texts?)?)),
         "comment" => Some(UnitAction::Comment(comment(alloc, texts)?)),
         "approve" => Some(UnitAction::Approve),
         "send-back" => Some(UnitAction::SendBack),
-        _ => None,
+        _ => suggestion_action(words),
     }
 }
 
@@ -58,15 +88,13 @@ fn request_number(words: &str) -> Option<Uuid> {
     }
 }
 
-/// The request of such words, under the rule of German.
+/// The request of such words.
 pub(super) fn read_request(alloc: Global, words: &str, texts: Option<&str>) -> Option<Request> {
     let number = request_number(words)?;
     let seen = revision(word(words, 1))?;
-    let rule = PluralForms::parse(alloc, "nplurals=2; plural=n != 1;").ok()?;
     let caller = Name::try_new(alloc, word(words, 0)).ok()??;
     let action = action(alloc, words, texts)?;
     Some(Request {
-        rule,
         caller,
         number,
         act: UnitAct { seen, action },
@@ -76,15 +104,17 @@ pub(super) fn read_request(alloc: Global, words: &str, texts: Option<&str>) -> O
 pub(super) fn decision(
     alloc: Global,
     view: &UnitView,
-    actor: &Actor,
+    actor: &(Role, Policy),
+    rule: &PluralForms,
     request: &Request,
 ) -> Result<Decision, Memory> {
+    let (role, policy) = actor;
     decide(
         alloc,
         view,
-        &request.rule,
-        &actor.policy,
-        actor.role,
+        rule,
+        policy,
+        *role,
         &request.caller,
         request.number,
         &request.act,

@@ -1,4 +1,5 @@
 //! What a decision tells, and what is left.
+use crate::words::forms_told;
 use review::{Decision, Values};
 use std::alloc::{AllocError, Global};
 use units::UnitView;
@@ -11,34 +12,45 @@ pub(super) fn decision_told(alloc: Global, decision: &Decision) -> Result<String
 }
 
 fn values_told(alloc: Global, view: &UnitView, values: Values) -> Result<String, AllocError> {
-    match values {
-        Values::Plain { revision, state } => {
-            let n = revision.number();
-            if view.unit.previous.id.is_some() {
-                format!(in alloc; "{n} {state:?} with previous")
-            } else {
-                format!(in alloc; "{n} {state:?}")
-            }
-        }
+    let (revision, state) = match values {
+        Values::Plain { revision, state } => (revision, state),
         Values::Suggested {
             revision,
             state,
+            ..
+        } => (revision, state),
+        Values::Voted {
+            revision,
+            state,
+            ..
+        } => (revision, state),
+    };
+    let n = revision.number();
+    let mut text = format!(in alloc; "{n} {state:?}")?;
+    more_told(&mut text, view, values)?;
+    Ok(text)
+}
+
+/// What a reply tells beside the revision and the state.
+fn more_told(text: &mut String, view: &UnitView, values: Values) -> Result<(), AllocError> {
+    match values {
+        Values::Plain { .. } if view.unit.previous.id.is_some() => text.push_str(" with previous"),
+        Values::Plain { .. } => Ok(()),
+        Values::Suggested {
             suggestion,
             votes,
+            ..
         } => {
-            let n = revision.number();
             let number = suggestion.as_u128();
-            format!(in alloc; "{n} {state:?} suggestion {number} {votes}")
+            write!(text, " suggestion {number} {votes}")
         }
         Values::Voted {
             accepted,
-            revision,
-            state,
             votes,
+            ..
         } => {
-            let n = revision.number();
             let what = if accepted { "accepted" } else { "voted" };
-            format!(in alloc; "{n} {state:?} {what} {votes}")
+            write!(text, " {what} {votes}")
         }
     }
 }
@@ -50,9 +62,6 @@ pub(super) fn left_told(alloc: Global, view: &UnitView) -> Result<String, AllocE
         let number = suggestion.number.as_u128();
         write!(text, "{number} ")?;
     }
-    for form in view.unit.forms.as_slice() {
-        let form = form.as_str();
-        write!(text, "|{form}")?;
-    }
+    forms_told(&mut text, view.unit.forms.as_slice())?;
     Ok(text)
 }

@@ -1,5 +1,6 @@
 //! What a plan and a template tell.
-use po_read::{Entry, PoString, Text};
+use crate::words::forms_told;
+use po_read::{Entry, Text};
 use std::alloc::{AllocError, Global};
 use template_update::{Counts, Plan};
 use units::Unit;
@@ -53,14 +54,6 @@ fn unit_told(text: &mut String, unit: &Unit) -> Result<(), AllocError> {
     forms_told(text, unit.forms.as_slice())
 }
 
-fn forms_told(text: &mut String, forms: &[PoString]) -> Result<(), AllocError> {
-    for form in forms {
-        let form = form.as_str();
-        write!(text, "|{form}")?;
-    }
-    Ok(())
-}
-
 fn texts_told(text: &mut String, mark: &str, texts: &[Text]) -> Result<(), AllocError> {
     for one in texts {
         let one = one.as_str();
@@ -69,19 +62,22 @@ fn texts_told(text: &mut String, mark: &str, texts: &[Text]) -> Result<(), Alloc
     Ok(())
 }
 
+fn entry_told(text: &mut String, entry: &Entry) -> Result<(), AllocError> {
+    texts_told(text, "#", entry.translator.as_slice())?;
+    texts_told(text, "#.", entry.extracted.as_slice())?;
+    texts_told(text, "#,", entry.flags.as_slice())?;
+    if entry.previous.id.is_some() {
+        text.push_str("with previous ")?;
+    }
+    text.push_str(entry.id.as_str())?;
+    forms_told(text, entry.forms.as_slice())
+}
+
 /// How many entries there are, and of each its comments and flags, its msgid and its forms.
 pub(super) fn entries_told(alloc: Global, entries: &[Entry]) -> Result<String, AllocError> {
     let mut text = format!(in alloc; "{}: ", entries.len())?;
     for entry in entries {
-        texts_told(&mut text, "#", entry.translator.as_slice())?;
-        texts_told(&mut text, "#.", entry.extracted.as_slice())?;
-        texts_told(&mut text, "#,", entry.flags.as_slice())?;
-        if entry.previous.id.is_some() {
-            text.push_str("with previous ")?;
-        }
-        let id = entry.id.as_str();
-        write!(text, "{id}")?;
-        forms_told(&mut text, entry.forms.as_slice())?;
+        entry_told(&mut text, entry)?;
     }
     Ok(text)
 }

@@ -3,8 +3,8 @@ use Rattle.std.specs.FinMap as maps
 use Rattle.units.specs.Office.{Office}
 use Rattle.units.specs.Openings.{demo, opening}
 use Rattle.request_book.specs.Book.{OfficeWithBook}
-use Rattle.store.specs.declared.start.Start.{Start}
-use Rattle.store.specs.declared.start.Start.TheVariants.{Opening, Demo}
+use Rattle.tables.specs.declared.start.Start.{Start}
+use Rattle.tables.specs.declared.start.Start.TheVariants.{Opening, Demo}
 
 abbrev pub office_of_start : Start → Office
 office_of_start (Opening manager) = opening manager
