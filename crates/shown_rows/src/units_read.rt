@@ -1,0 +1,220 @@
+//! A unit with its suggestions and their votes, and the template's entry of a key, as their rows are read.
+ghost use Rattle.std.specs.Prelude.{◌≡◌, [], ◌∷◌, IfOk, OnOk, map, unwrap_or};
+ghost use Rattle.std.specs.FinMap as maps;
+ghost use Rattle.row_values.specs.Readings.{previous_read};
+ghost use Rattle.units.specs.Units.{no_previous as nothing_previous};
+ghost use Rattle.office_sql.specs.Keys.{text_at};
+ghost use Rattle.office_in_rows.specs.Shown.{shown_votes, shown_entry, shown_unit};
+ghost use Rattle.office_in_rows.specs.Values as values;
+ghost use Rattle.shown_rows.specs.ShownFound.{suggestion_shown};
+
+use crate::columns::{
+    flag_at, forms_at, name_at, number_at, plural_at, previous_at, revision_at, state_at, texts_at,
+    vote_at,
+};
+use crate::faults::Failure;
+use office_sql::look_ups::SuggestionRows;
+use po_read::{Duplicate, Entry, Forms, Items, PoString, Previous, Text};
+use sqlite::Row;
+use std::alloc::Global;
+use tables::Lost;
+use units::{Key, Revision, Suggestion, Unit, UnitState, Votes, no_previous};
+
+// ---- the template's entry
+
+/// The columns of an entry.
+#[derive(Drop)]
+struct EntryColumns {
+    plural: Option<PoString>,
+    extracted: Items<Text>,
+    references: Items<Text>,
+    flags: Items<Text>,
+}
+
+fn entry_columns(alloc: Global, row: &Row) -> Result<EntryColumns, Failure>
+    ensures { IfOk result (λ c. c ≡ record {
+      plural = values.text_or_null_at 0 row.now;
+      extracted = values.texts_at 1 row.now;
+      references = values.texts_at 2 row.now;
+      flags = values.texts_at 3 row.now;
+    }) }
+{
+    let plural = plural_at(alloc, row, 0)?;
+    let extracted = texts_at(alloc, row, 1)?;
+    let references = texts_at(alloc, row, 2)?;
+    let flags = texts_at(alloc, row, 3)?;
+    Ok(EntryColumns {
+        plural,
+        extracted,
+        references,
+        flags,
+    })
+}
+
+/// One form, which is empty.
+fn empty_form(alloc: Global) -> Result<Forms, Failure>
+    ensures { IfOk result (λ forms. forms ≡ [] ∷ []) }
+{
+    let Some(form) = PoString::try_new(alloc, "")? else {
+        return Err(Failure { lost: Lost::Disk });
+    };
+    let _ = form.as_str();
+    let mut forms = Vec::new(alloc);
+    forms.push(form)?;
+    match Forms::try_new(forms) {
+        Some(forms) => Ok(forms),
+        None => Err(Failure { lost: Lost::Disk }),
+    }
+}
+
+/// The template's entry of a key.
+pub(crate) fn entry_in(alloc: Global, key: &Key, row: &Row) -> Result<Entry, Failure>
+    ensures { IfOk result (λ v. v ≡ shown_entry key.now row.now) }
+{
+    let columns = entry_columns(alloc, row)?;
+    let forms = empty_form(alloc)?;
+    let key = key.duplicate()?;
+    Ok(Entry {
+        translator: Items::new(alloc),
+        extracted: columns.extracted,
+        references: columns.references,
+        flags: columns.flags,
+        previous: no_previous(),
+        ctx: key.ctx,
+        id: key.id,
+        plural: columns.plural,
+        forms,
+        obsolete: false,
+    })
+}
+
+// ---- suggestions
+
+/// Puts in the vote of a row.
+fn put_vote(alloc: Global, votes: &mut Votes, row: &Row) -> Result<(), Failure>
+    ensures { OnOk result (votes.new ≡ maps.insert votes.old (text_at 0 row.now) (values.vote_at 1 row.now)) }
+{
+    let voter = name_at(alloc, row, 0)?;
+    let value = vote_at(row, 1)?;
+    votes.insert(voter, value)?;
+    Ok(())
+}
+
+/// The votes of rows.
+fn votes_in(alloc: Global, rows: &[Row]) -> Result<Votes, Failure>
+    ensures { IfOk result (λ v. v ≡ shown_votes rows.now) }
+{
+    let mut votes = Votes::new(alloc);
+    for row in rows {
+        put_vote(alloc, &mut votes, row)?;
+    }
+    Ok(votes)
+}
+
+/// A suggestion with the votes on it.
+fn suggestion_in(alloc: Global, rows: &SuggestionRows) -> Result<Suggestion, Failure>
+    ensures { IfOk result (λ v. v ≡ suggestion_shown rows.now) }
+{
+    let number = number_at(&rows.suggestion, 0)?;
+    let suggester = name_at(alloc, &rows.suggestion, 2)?;
+    let forms = forms_at(alloc, &rows.suggestion, 3)?;
+    let votes = votes_in(alloc, rows.votes.as_slice())?;
+    Ok(Suggestion {
+        number,
+        suggester,
+        forms,
+        votes,
+    })
+}
+
+/// The suggestions of rows.
+pub(crate) fn suggestions_in(
+    alloc: Global,
+    rows: &[SuggestionRows],
+) -> Result<Items<Suggestion>, Failure>
+    ensures { IfOk result (λ v. v ≡ map suggestion_shown rows.now) }
+{
+    let mut all = Items::new(alloc);
+    for row in rows {
+        all.push(suggestion_in(alloc, row)?)?;
+    }
+    Ok(all)
+}
+
+// ---- the unit
+
+/// The columns of a unit that are texts.
+#[derive(Drop)]
+struct UnitTexts {
+    plural: Option<PoString>,
+    forms: Forms,
+    comment: Items<Text>,
+    previous: Previous,
+}
+
+fn unit_texts(alloc: Global, row: &Row) -> Result<UnitTexts, Failure>
+    ensures { IfOk result (λ c. c ≡ record {
+      plural = values.text_or_null_at 0 row.now;
+      forms = values.texts_at 1 row.now;
+      comment = values.texts_at 5 row.now;
+      previous = unwrap_or (previous_read (text_at 6 row.now)) nothing_previous;
+    }) }
+{
+    let plural = plural_at(alloc, row, 0)?;
+    let forms = forms_at(alloc, row, 1)?;
+    let comment = texts_at(alloc, row, 5)?;
+    let previous = previous_at(alloc, row, 6)?;
+    Ok(UnitTexts {
+        plural,
+        forms,
+        comment,
+        previous,
+    })
+}
+
+/// Those that are numbers.
+#[derive(Drop)]
+struct UnitNumbers {
+    state: UnitState,
+    obsolete: bool,
+    revision: Revision,
+}
+
+fn unit_numbers(row: &Row) -> Result<UnitNumbers, Failure>
+    ensures { IfOk result (λ c. c ≡ record {
+      state = values.state_at 2 row.now;
+      obsolete = values.flag_at 3 row.now;
+      revision = values.natural_at 4 row.now;
+    }) }
+{
+    Ok(UnitNumbers {
+        state: state_at(row, 2)?,
+        obsolete: flag_at(row, 3)?,
+        revision: revision_at(row, 4)?,
+    })
+}
+
+/// The unit of a key, with these suggestions.
+pub(crate) fn unit_in(
+    alloc: Global,
+    key: &Key,
+    row: &Row,
+    suggestions: Items<Suggestion>,
+) -> Result<Unit, Failure>
+    ensures { IfOk result (λ v. v ≡ shown_unit key.now suggestions row.now) }
+{
+    let numbers = unit_numbers(row)?;
+    let texts = unit_texts(alloc, row)?;
+    let key = key.duplicate()?;
+    Ok(Unit {
+        key,
+        plural: texts.plural,
+        forms: texts.forms,
+        state: numbers.state,
+        obsolete: numbers.obsolete,
+        revision: numbers.revision,
+        comment: texts.comment,
+        previous: texts.previous,
+        suggestions,
+    })
+}

@@ -1,0 +1,149 @@
+-- What a look-up keeps of the tables.
+use Rattle.std.proofs.Common.{◌≡◌, inl, inr, Bool, true, false, Result, Ok, Err, IfErr, OnOk, OnErr, IsTrue, refl, sym, ap, subst, ◌∙◌, arith}
+use Rattle.sqlite.specs.Effect.{Database}
+use Rattle.sqlite.specs.Held.{Held, state}
+use Rattle.sqlite.specs.State.{HasCleanDisk}
+use Rattle.sqlite.specs.Tree.{Trees}
+use Rattle.sqlite_trees.specs.declared.store.Store as store
+use Rattle.request_book.specs.Book.{OfficeWithBook}
+use Rattle.deliveries.specs.OfficeRules.{KeepsRules}
+use Rattle.tables.specs.Kept.{IsKept}
+use Rattle.tables.specs.Stops.{Nothing}
+use Rattle.tables.specs.declared.faults.Lost.{Lost}
+use Rattle.tables.specs.declared.faults.Lost.TheVariants.{Disk}
+use Rattle.office_sql.specs.Inside.{AreOfficeTables}
+use Rattle.office_sql.specs.Whole.{StaysIdle, IsLookUp, IsCommit}
+use Rattle.office_in_rows.specs.Meaning.{meaning_in, AreNumbered}
+use Rattle.store_sql.specs.Kept.{KeepsOffice, is_honest, is_whole, means, may_leave, is_stopped}
+
+module _ {S : Type 0} (g : store.Ghosts S) where
+  -- an open store leaves its last commit, and nothing else
+  abbrev pub IsSettled : Type 0
+  IsSettled = (h : Held S) (db : Trees) → IsTrue (state g h).is_open → (state g h).may_leave db → db ≡ (state g h).committed.trees
+
+  abbrev pub IsLeft : Type 0
+  IsLeft = (h : Held S) → IsTrue (state g h).is_open → (state g h).may_leave (state g h).committed.trees
+
+  -- stopped tables answer Disk, and nothing is asked of them
+  pub kept_stopped : {A : Type 0} (tables : Held S × Bool) → IsSettled → is_stopped g tables ≡ true
+      → IsKept {A = A} (is_honest g) (is_whole g) (means g) (may_leave g) (is_stopped g) tables tables (Err Disk) Disk Nothing
+  kept_stopped tables settled stopped = record {
+    honest = λ clean. clean;
+    whole = λ clean is_open. is_open;
+    open_still = λ clean. tt;
+    stops = λ clean m left. inl left;
+    only = λ clean. tt;
+    disk = λ same. stopped;
+    still = λ _. (refl, stopped);
+  }
+
+  module _ {A E : Type 0} (old new : Held S) (r : Result A E) (P : Database → A → Type 0) (keeps : KeepsOffice (state g old)) (looked : IsLookUp (state g old) (state g new) r P) where
+    early : HasCleanDisk (state g new) → HasCleanDisk (state g old)
+    early clean = omega (arith, looked.survives.clean)
+
+    pub keeps_still : KeepsOffice (state g new)
+    keeps_still = record {
+      idle = record {
+        ready = λ clean is_open.
+            let same = looked.same clean is_open in
+            subst AreOfficeTables (sym same.now) (keeps.idle.ready (early clean) same.was_open);
+        settled = λ clean is_open. let same = looked.same clean is_open in same.now ∙ sym same.committed;
+      };
+      numbered = λ clean is_open.
+          let same = looked.same clean is_open in
+          subst (λ (d : Database). AreNumbered d.trees) (sym same.now) (keeps.numbered (early clean) same.was_open);
+      rules = λ clean is_open.
+          let same = looked.same clean is_open in
+          subst (λ (d : Database). KeepsRules (meaning_in d.trees)) (sym same.now) (keeps.rules (early clean) same.was_open);
+    }
+
+    pub means_still : HasCleanDisk (state g new) → IsTrue (state g new).is_open → meaning_in (state g new).now.trees ≡ meaning_in (state g old).now.trees
+    means_still clean is_open = ap (λ (d : Database). meaning_in d.trees) (looked.same clean is_open).now
+
+    on_ok : {X F : Type 0} {C D : Type 0} (s : Result X F) → (C → D) → OnOk s C → OnOk s D
+    on_ok (Ok x) f h = f h
+    on_ok (Err e) f h = h
+
+    -- the result of the call is that of the look-up, or says less
+    pub kept_looked_up : {B : Type 0} (s : Result B Lost) (before after : Bool) → IsSettled → IsLeft → before ≡ false → (OnOk r (IsTrue (state g new).is_open) → OnOk s (IsTrue (state g new).is_open))
+        → IfErr s (λ e. e ≡ Disk → after ≡ true)
+        → IsKept (is_honest g) (is_whole g) (means g) (may_leave g) (is_stopped g) (old, before) (new, after) s Disk Nothing
+    kept_looked_up s before after settled left ran passes disk = record {
+      honest = early;
+      whole = λ clean is_open. (looked.same clean is_open).was_open;
+      open_still = λ clean. passes (looked.is_open clean);
+      stops = λ clean m it. elim (looked.survives.crash clean it.0 it.1) [
+        | inl was ↦ inl (it.0, was, it.2)
+        | inr same ↦ inl (it.0, subst (state g old).may_leave (sym (same.1 ∙ ap (λ (d : Database). d.trees) (keeps.idle.settled (early clean) same.0))) (left old same.0), it.2)
+      ];
+      only = λ clean. on_ok s (λ is_open other it.
+          let committed = settled new it.0 is_open it.1 in
+          it.2 ∙ ap meaning_in (committed ∙ sym (ap (λ (d : Database). d.trees) (keeps_still.idle.settled clean is_open)))) (passes (looked.is_open clean));
+      disk = disk;
+      still = λ stopped. absurd (let no = ran in let yes = stopped in cc);
+    }
+
+  -- ---- a transaction that writes
+
+  -- the connection keeps its office where the transaction makes what keeps the rules
+  module _ {A E : Type 0} (old new : Held S) (r : Result A E) (Makes : Database → Database → Type 0) (keeps : KeepsOffice (state g old)) (commits : IsCommit (state g old) (state g new) r Makes)
+      (meaning : OfficeWithBook) (rules : HasCleanDisk (state g old) → KeepsRules meaning)
+      (makes : (db : Database) → HasCleanDisk (state g old) → IsTrue (state g old).is_open → AreOfficeTables db → Makes (state g old).now db → (meaning_in db.trees ≡ meaning) × AreNumbered db.trees) where
+    clean_before : HasCleanDisk (state g new) → HasCleanDisk (state g old)
+    clean_before clean = omega (arith, commits.survives.clean)
+
+    by_result : {X F : Type 0} {C D G : Type 0} (s : Result X F) → (C → G) → (D → G) → OnOk s C → OnErr s D → G
+    by_result (Ok x) f h ok err = f ok
+    by_result (Err e) f h ok err = h err
+
+    on_ok_of : {X F : Type 0} {C D : Type 0} (s : Result X F) → (C → D) → OnOk s C → OnOk s D
+    on_ok_of (Ok x) f h = f h
+    on_ok_of (Err e) f h = h
+
+    pub means_made : HasCleanDisk (state g new) → OnOk r (meaning_in (state g new).now.trees ≡ meaning)
+    means_made clean = on_ok_of r (λ is. is) (made_by r (commits.made clean) (commits.is_open clean))
+      where
+        made_by : (s : Result A E) → OnOk s (Makes (state g old).now (state g new).now × AreOfficeTables (state g new).now × ((state g new).now ≡ (state g new).committed)) → OnOk s (IsTrue (state g new).is_open)
+            → OnOk s (meaning_in (state g new).now.trees ≡ meaning)
+        made_by (Ok x) made is_open = (makes (state g new).now (clean_before clean) (commits.was_open clean is_open) made.1 made.0).0
+        made_by (Err e) made is_open = tt
+
+    pub means_as_before : HasCleanDisk (state g new) → IsTrue (state g new).is_open → OnErr r (meaning_in (state g new).now.trees ≡ meaning_in (state g old).now.trees)
+    means_as_before clean is_open = as_before r (commits.same clean is_open)
+      where
+        as_before : (s : Result A E) → OnErr s (StaysIdle (state g old) (state g new)) → OnErr s (meaning_in (state g new).now.trees ≡ meaning_in (state g old).now.trees)
+        as_before (Ok x) same = tt
+        as_before (Err e) same = ap (λ (d : Database). meaning_in d.trees) same.now
+
+    pub keeps_committed : KeepsOffice (state g new)
+    keeps_committed = record {
+      idle = record {
+        ready = λ clean is_open. by_result r (λ (made : Makes (state g old).now (state g new).now × AreOfficeTables (state g new).now × ((state g new).now ≡ (state g new).committed)). made.1)
+            (λ (same : StaysIdle (state g old) (state g new)). subst AreOfficeTables (sym same.now) (keeps.idle.ready (clean_before clean) same.was_open)) (commits.made clean) (commits.same clean is_open);
+        settled = λ clean is_open. by_result r (λ (made : Makes (state g old).now (state g new).now × AreOfficeTables (state g new).now × ((state g new).now ≡ (state g new).committed)). made.2)
+            (λ (same : StaysIdle (state g old) (state g new)). same.now ∙ sym same.committed) (commits.made clean) (commits.same clean is_open);
+      };
+      numbered = λ clean is_open. by_result r (λ (made : Makes (state g old).now (state g new).now × AreOfficeTables (state g new).now × ((state g new).now ≡ (state g new).committed)).
+          (makes (state g new).now (clean_before clean) (commits.was_open clean is_open) made.1 made.0).1)
+          (λ (same : StaysIdle (state g old) (state g new)). subst (λ (d : Database). AreNumbered d.trees) (sym same.now) (keeps.numbered (clean_before clean) same.was_open)) (commits.made clean) (commits.same clean is_open);
+      rules = λ clean is_open. by_result r (λ (made : Makes (state g old).now (state g new).now × AreOfficeTables (state g new).now × ((state g new).now ≡ (state g new).committed)).
+          subst KeepsRules (sym (makes (state g new).now (clean_before clean) (commits.was_open clean is_open) made.1 made.0).0) (rules (clean_before clean)))
+          (λ (same : StaysIdle (state g old) (state g new)). subst (λ (d : Database). KeepsRules (meaning_in d.trees)) (sym same.now) (keeps.rules (clean_before clean) same.was_open)) (commits.made clean) (commits.same clean is_open);
+    }
+
+    pub kept_committed : {B : Type 0} (s : Result B Lost) (before after : Bool) → IsSettled → before ≡ false → (OnOk r (IsTrue (state g new).is_open) → OnOk s (IsTrue (state g new).is_open))
+        → IfErr s (λ e. e ≡ Disk → after ≡ true)
+        → IsKept (is_honest g) (is_whole g) (means g) (may_leave g) (is_stopped g) (old, before) (new, after) s Disk (λ m. m ≡ meaning)
+    kept_committed s before after settled ran passes disk = record {
+      honest = clean_before;
+      whole = commits.was_open;
+      open_still = λ clean. passes (commits.is_open clean);
+      stops = λ clean m it. elim (commits.survives.crash clean it.0 it.1) [
+        | inl was ↦ inl (it.0, was, it.2)
+        | inr made ↦ inr (it.2 ∙ ap meaning_in made.4 ∙ (makes made.1 (clean_before clean) made.0 made.3 made.2).0)
+      ];
+      only = λ clean. on_ok_of s (λ is_open other it.
+          it.2 ∙ ap meaning_in (settled new it.0 is_open it.1 ∙ sym (ap (λ (d : Database). d.trees) (keeps_committed.idle.settled clean is_open)))) (passes (commits.is_open clean));
+      disk = disk;
+      still = λ stopped. absurd (let no = ran in let yes = stopped in cc);
+    }

@@ -1,0 +1,20 @@
+use Rattle.std.proofs.Common.{◌≡◌, Ok, Option, option_map, subst}
+use Rattle.std.specs.FinMap as maps
+use Rattle.request_book.specs.Book.{row_of}
+use Rattle.request_book.specs.declared.book.Record.{Record}
+use Rattle.tables.specs.Kept.{IsKept}
+use Rattle.tables.specs.Stops.{Nothing}
+use Rattle.tables.specs.declared.faults.Lost.{Lost}
+use Rattle.tables.specs.declared.faults.Lost.TheVariants.{Disk}
+use Rattle.office_in_rows.specs.Meaning.{book_in}
+use Rattle.store_sql.specs.Kept.{is_honest, is_whole, means, may_leave, is_stopped}
+use Rattle.store_sql.proofs.StillKept.{kept_looked_up}
+use Rattle.store_sql.proofs.sqlite_tables.SqliteTables.record_of.Goals as goal
+
+pub returns-in-Ok-clause-kept : goal.returns-in-Ok-clause-kept
+returns-in-Ok-clause-kept g c =
+    subst (λ old. IsKept {A = Option Record} {E = Lost} (is_honest g.S.Store) (is_whole g.S.Store) (means g.S.Store) (may_leave g.S.Store) (is_stopped g.S.Store) old (c.read_record.new.connection, c.self.inside.stopped) (Ok c.in-Ok.record) Disk Nothing)
+    c.self.view_is
+    (kept_looked_up g.S.Store c.self.inside.connection c.read_record.new.connection (Ok c.in-Ok.record) (λ db r. r ≡ option_map (row_of c.args.number.now) (maps.get (book_in db.trees) c.args.number.now))
+    c.self.invariant.1 c.in-Ok.ensures.found (Ok c.in-Ok.record) c.self.inside.stopped c.self.inside.stopped
+    (λ h db is_open left. g.met.S.Store.settled h.store db is_open left) (λ h is_open. g.met.S.Store.stays h.store is_open) c.if-self.false (λ is_open. is_open) tt)

@@ -1,0 +1,16 @@
+//! Tables of an office with its book on SQLite: the eight tables of a file, read and written in transactions.
+#![tactic(auto)]
+
+mod commits;
+mod create;
+mod faults;
+mod making;
+mod records;
+mod sqlite_tables;
+mod strings;
+mod unit_writes;
+mod views;
+
+pub use faults::OpenFault;
+pub use sqlite_tables::SqliteTables;
+pub use tables::{Lost, Start};

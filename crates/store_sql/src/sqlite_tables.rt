@@ -1,0 +1,175 @@
+//! The tables.
+ghost use Rattle.std.specs.Prelude.{◌≡◌, ◌≢◌, Bool, false, true, Ok, Err, IfOk, IfErr, OnOk, OnErr, IsTrue, is_none, option_map};
+ghost use Rattle.std.specs.Coded.{coded×, coded_bool};
+ghost use Rattle.std.specs.FinMap as maps;
+ghost use Rattle.sqlite.specs.Held.{Held, held_code, state};
+ghost use Rattle.request_book.specs.Book.{row_of, with_record};
+ghost use Rattle.deliveries.specs.UnitAccess.{found_of, with_view};
+ghost use Rattle.deliveries.specs.OfficeRules.{KeepsRules};
+ghost use Rattle.tables.specs.Kept.{IsKept};
+ghost use Rattle.tables.specs.Stops.{Nothing};
+ghost use Rattle.tables.specs.declared.faults.Lost.TheVariants.{Disk};
+ghost use Rattle.office_sql.specs.Schema.{no_schema};
+ghost use Rattle.store_sql.specs.Faults.{RefusesIn};
+ghost use Rattle.store_sql.specs.Kept.{KeepsOffice, is_honest, is_whole, means, may_leave, is_stopped};
+ghost use Rattle.store_sql.specs.Making.{AreMade, IsHandedBack};
+
+use crate::commits::commit_given;
+use crate::faults::OpenFault;
+use crate::making::make;
+use crate::records::read_record;
+use crate::strings::key_fits;
+use crate::views::read_view;
+use deliveries::Found;
+use request_book::Record;
+use shown_rows::Failure;
+use sqlite::{Alter, Connection};
+use std::alloc::Global;
+use std::marker::Model;
+use tables::{Lost, Start};
+use units::{Key, Lang, Name, UnitView};
+use uuid::Uuid;
+
+/// An office with its book in the eight tables of a file.
+pub struct SqliteTables<S: Alter> {
+    connection: Connection<S>,
+    /// A failure of the disk came: nothing is asked of the connection any more.
+    stopped: bool,
+    alloc: Global,
+}
+
+impl<S: Alter> Model for SqliteTables<S> {
+    ghost Value = { Held S × Bool };
+
+    ghost coded = { coded× (held_code S.code) coded_bool };
+
+    ghost view = { λ t. (t.connection, t.stopped) };
+
+    ghost invariant = { λ t. (t.connection.in_transaction ≡ false) × KeepsOffice (state S.Store t.connection) };
+}
+
+impl<S: Alter> SqliteTables<S> {
+    /// Makes the eight tables in a database that has none, and the rows of a start, in one transaction: the office of the start, of
+    /// which nothing is recorded.
+    ///
+    /// On a fault the connection is handed back with its rows as before: `Exists` where an office is there already, `Foreign` where
+    /// other tables are, `Memory` where a growth was refused, `Disk` where the disk failed.
+    pub fn create(
+        connection: Connection<S>,
+        alloc: Global,
+        start: &Start,
+    ) -> Result<SqliteTables<S>, (OpenFault, Connection<S>)>
+        requires autocommit { connection.in_transaction ≡ false }
+        ensures made { IfOk result (AreMade S.Store start.now) }
+        ensures allowed { OnOk result ((state S.Store connection).now.schema ≡ no_schema) }
+        ensures refused { IfErr result (λ refusal. RefusesIn (state S.Store connection).now.schema refusal.0) }
+        ensures untouched { IfErr result (λ refusal. (state S.Store connection).now.schema ≢ no_schema → refusal.1 ≡ connection) }
+        ensures handed_back { IfErr result (λ refusal. IsHandedBack start.now (state S.Store connection) (state S.Store refusal.1)) }
+    {
+        let mut connection = connection;
+        match make(&mut connection, start) {
+            Ok(()) => Ok(SqliteTables {
+                connection,
+                stopped: false,
+                alloc,
+            }),
+            Err(fault) => Err((fault, connection)),
+        }
+    }
+
+    /// The connection, between transactions.
+    pub fn into_connection(self) -> Connection<S>
+        ensures held { result ≡ self.0 }
+        ensures between { result.in_transaction ≡ false }
+    {
+        let SqliteTables {
+            connection,
+            stopped: _,
+            alloc: _,
+        } = self;
+        connection
+    }
+
+    /// The rules of an office with its book hold. (A law: what it reads says so, and is compiled away.)
+    pub fn rules(&self)
+        ensures { is_honest S.Store self.now → is_whole S.Store self.now → KeepsRules (means S.Store self.now) }
+    {
+        let _read = self.stopped;
+    }
+
+    /// Whether they answer `Disk` until they are opened again.
+    pub fn stopped(&self) -> bool
+        ensures { result ≡ is_stopped S.Store self.now }
+    {
+        self.stopped
+    }
+
+    /// What is recorded under a request's number: its content and its first reply.
+    pub fn record_of(&mut self, number: &Uuid) -> Result<Option<Record>, Lost>
+        ensures answer { is_honest S.Store self.new → IfOk result (λ r. r ≡ option_map (row_of number.now) (maps.get (means S.Store self.old).book number.now)) }
+        ensures same { is_honest S.Store self.new → is_whole S.Store self.new → means S.Store self.new ≡ means S.Store self.old }
+        ensures kept { IsKept (is_honest S.Store) (is_whole S.Store) (means S.Store) (may_leave S.Store) (is_stopped S.Store) self.old self.new result Disk Nothing }
+    {
+        if self.stopped {
+            return Err(Lost::Disk);
+        }
+        match read_record(&mut self.connection, self.alloc, *number) {
+            Ok(record) => Ok(record),
+            Err(failure) => Err(self.lost(failure)),
+        }
+    }
+
+    /// What an act on a unit needs to know: the language's plural rule, the policy, the caller's role, and the unit's view, if there
+    /// is one. Nothing where the language isn't there.
+    pub fn view_of(&mut self, lang: &Lang, key: &Key, name: &Name) -> Result<Option<Found>, Lost>
+        ensures answer { is_honest S.Store self.new → IfOk result (λ r. r ≡ found_of (means S.Store self.old).office lang.now key.now name.now) }
+        ensures same { is_honest S.Store self.new → is_whole S.Store self.new → means S.Store self.new ≡ means S.Store self.old }
+        ensures kept { IsKept (is_honest S.Store) (is_whole S.Store) (means S.Store) (may_leave S.Store) (is_stopped S.Store) self.old self.new result Disk Nothing }
+    {
+        if self.stopped {
+            return Err(Lost::Disk);
+        }
+        match read_view(&mut self.connection, self.alloc, lang, key, name) {
+            Ok(found) => Ok(found),
+            Err(failure) => Err(self.lost(failure)),
+        }
+    }
+
+    /// Writes a request's record and its unit's new view, if it has one; or neither. The number must be new, and what the commit
+    /// leaves must keep the rules.
+    pub fn commit_unit(
+        &mut self,
+        row: Record,
+        lang: &Lang,
+        key: &Key,
+        view: Option<UnitView>,
+    ) -> Result<(), Lost>
+        requires new { is_honest S.Store self.old → IsTrue (is_none (maps.get (means S.Store self.old).book row.number)) }
+        requires rules { is_honest S.Store self.old → KeepsRules (record { office = with_view (means S.Store self.old).office lang.now key.now view; book = with_record (means S.Store self.old).book row }) }
+        ensures done { is_honest S.Store self.new → OnOk result (means S.Store self.new ≡ record { office = with_view (means S.Store self.old).office lang.now key.now view; book = with_record (means S.Store self.old).book row }) }
+        ensures same { is_honest S.Store self.new → is_whole S.Store self.new → OnErr result (means S.Store self.new ≡ means S.Store self.old) }
+        ensures kept { IsKept (is_honest S.Store) (is_whole S.Store) (means S.Store) (may_leave S.Store) (is_stopped S.Store) self.old self.new result Disk
+            (λ m. m ≡ record { office = with_view (means S.Store self.old).office lang.now key.now view; book = with_record (means S.Store self.old).book row }) }
+    {
+        if self.stopped {
+            return Err(Lost::Disk);
+        }
+        key_fits(key);
+        match commit_given(&mut self.connection, self.alloc, row, lang, view) {
+            Ok(()) => Ok(()),
+            Err(failure) => Err(self.lost(failure)),
+        }
+    }
+
+    /// What a failure comes to: one of the disk stops the tables.
+    fn lost(&mut self, failure: Failure) -> Lost
+        ensures result { result ≡ failure.lost }
+        ensures connection { self.new.0 ≡ self.old.0 }
+        ensures stops { result ≡ Disk → self.new.1 ≡ true }
+    {
+        if let Lost::Disk = failure.lost {
+            self.stopped = true;
+        }
+        failure.lost
+    }
+}
