@@ -1,0 +1,4 @@
+pub mod RowsInTurn
+pub mod OfficeTables
+pub mod UnitTables
+pub mod WholeOffice

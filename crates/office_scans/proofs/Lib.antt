@@ -1,0 +1,2 @@
+pub mod TableQueries
+pub mod TableTexts
