@@ -1,0 +1,4 @@
+pub mod TalkLemmas
+pub mod AnswerLemmas
+pub mod LineLemmas
+pub mod ToldLemmas

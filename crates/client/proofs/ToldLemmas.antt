@@ -1,0 +1,35 @@
+-- What is told of a sender, request by request.
+use Rattle.std.proofs.Common.{◌≡◌, ◌⊎◌, inl, inr, ℕ, zero, suc, ◌+◌, ◌<◌, List, [], ◌∷◌, ◌++◌, drop, length, Option, Result, Ok, Err, MatchResult, refl, sym, ap, ◌∙◌, add-one, arith}
+use Rattle.request_book.specs.declared.act.Request.{Request}
+use Rattle.sender.specs.Sending.{Sending, held, unanswered}
+use Rattle.client.specs.Talks.{Said, Talked, requests_of}
+use Rattle.client.specs.SendLines.{told_line, told_lines}
+use Rattle.client.proofs.TalkLemmas.{talked_keeps}
+
+next : (sending : Sending) (place : ℕ) → place < length sending → told_lines (drop place sending) ≡ told_line (held sending place) ++ told_lines (drop (suc place) sending)
+next [] place low = absurd (omega arith)
+next (exchange ∷ sending) zero low = refl
+next (exchange ∷ sending) (suc place) low = next sending place (omega arith)
+
+pub next_told : (sending : Sending) (place : ℕ) → place < length sending → told_lines (drop place sending) ≡ told_line (held sending place) ++ told_lines (drop (place + 1) sending)
+next_told sending place low = rw (add-one place) (next sending place low)
+
+-- wholly or in part
+pub either_way : {T E : Type 0} {All Part : Type 0} (r : Result T E) → MatchResult r (λ _. All) (λ _. Part) → All ⊎ Part
+either_way (Ok x) all = inl all
+either_way (Err e) part = inr part
+
+-- ---- the requests of a sender
+
+pub requests_unanswered : (requests : List Request) → requests_of (unanswered requests) ≡ requests
+requests_unanswered [] = refl
+requests_unanswered (request ∷ requests) = ap (λ (rest : List Request). request ∷ rest) (requests_unanswered requests)
+
+request_each : (sending : Sending) → length (requests_of sending) ≡ length sending
+request_each [] = refl
+request_each (exchange ∷ sending) = ap suc (request_each sending)
+
+-- a sender that talked still has each request
+pub as_many : (said_old said_new : Option (List Said)) (requests : List Request) (sending : Sending) → Talked said_old said_new (unanswered requests) sending → length requests ≡ length sending
+as_many said_old said_new requests sending talked =
+    ap (λ (list : List Request). length list) (sym (talked_keeps said_old said_new (unanswered requests) sending talked ∙ requests_unanswered requests)) ∙ request_each sending

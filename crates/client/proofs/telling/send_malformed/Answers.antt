@@ -1,0 +1,19 @@
+use Rattle.std.proofs.Common.{◌≡◌, refl}
+use Rattle.client.specs.SendLines.{malformed_line}
+use Rattle.po_write.proofs.Sent.{begin, more, stopped, outcome}
+use Rattle.client.proofs.telling.send_malformed.Goals as goal
+
+pub returns-in_err-send : goal.returns-in_err-send
+returns-in_err-send g c =
+    let start : malformed_line c.args.number ≡ malformed_line c.args.number = refl in
+    stopped _ _ c.from_residual.ensures.0 (begin _ _ start) refl c.in_err-send.ensures
+
+pub returns-in_err-send_number : goal.returns-in_err-send_number
+returns-in_err-send_number g c =
+    let start : malformed_line c.args.number ≡ malformed_line c.args.number = refl in
+    stopped _ _ c.from_residual-in_err-send_number.ensures.0 (more (begin _ _ start) refl c.in_ok-send.ensures) refl c.in_err-send_number.ensures
+
+pub returns : goal.returns
+returns g c =
+    let start : malformed_line c.args.number ≡ malformed_line c.args.number = refl in
+    outcome _ _ _ (more (more (begin _ _ start) refl c.in_ok-send.ensures) refl c.in_ok-send_number.ensures) refl c.send-2.ensures

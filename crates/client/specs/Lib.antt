@@ -1,0 +1,7 @@
+pub mod Answers
+pub mod Faults
+pub mod Lists
+pub mod Messages
+pub mod SendLines
+pub mod Steps
+pub mod Talks

@@ -1,0 +1,141 @@
+//! All requests of a sender over a link.
+
+ghost use Rattle.std.specs.Prelude.{◌≡◌, List, Some, true, OnErr, IfSome, slice_get};
+ghost use Rattle.client.specs.Answers.{IsReplyIn};
+ghost use Rattle.request_book.specs.declared.act.Request.{Request as RequestValue};
+ghost use Rattle.sender.specs.Sending.{is_ready};
+ghost use Rattle.client.specs.Talks.{Talked, requests_of};
+ghost use Rattle.client.specs.Steps.{Exchanged, Sent};
+
+use crate::answer::reply_in;
+use crate::link::Link;
+use crate::messages::message;
+use request_book::{Reply, Request};
+use sender::Sender;
+use std::alloc::Global;
+use units::Memory;
+
+/// Sends a sender's requests over a link, each at most so many times, until all replies are held or nothing more may be sent: in rounds through
+/// the list, in its order, each request that is ready when its turn comes. An answer that isn't a reply is lost, and so is a request for which
+/// memory is wanting, or an answer. `requests` are those that the sender was made of.
+///
+/// `Memory` where a growth was refused before the first message: nothing was sent then.
+pub fn send_all<L: Link>(
+    alloc: Global,
+    sender: &mut Sender,
+    requests: &[Request],
+    link: &mut L,
+    tries: u32,
+) -> Result<(), Memory>
+    // What was said are messages of ready requests, and the replies that are held besides are those that came back.
+    ensures talked { requests_of sender.old ≡ requests.now → Talked (L.said link.old) (L.said link.new) sender.old sender.new }
+    ensures memory { OnErr result ((link.new ≡ link.old) × (sender.new ≡ sender.old)) }
+{
+    let mut left = vec![in alloc; tries; requests.len()]?;
+    send_rounds(alloc, sender, requests, link, left.as_mut_slice());
+    Ok(())
+}
+
+/// Rounds, until one sends nothing.
+fn send_rounds<L: Link>(
+    alloc: Global,
+    sender: &mut Sender,
+    requests: &[Request],
+    link: &mut L,
+    left: &mut [u32],
+)
+    ensures { requests_of sender.old ≡ requests.now → Talked (L.said link.old) (L.said link.new) sender.old sender.new }
+{
+    for _round in 0..u64::MAX {
+        if !send_round(alloc, sender, requests, link, left) {
+            return;
+        }
+    }
+}
+
+/// Sends each request that is ready when its turn comes and has tries left. Tells whether there was one.
+fn send_round<L: Link>(
+    alloc: Global,
+    sender: &mut Sender,
+    requests: &[Request],
+    link: &mut L,
+    left: &mut [u32],
+) -> bool
+    ensures { requests_of sender.old ≡ requests.now → Talked (L.said link.old) (L.said link.new) sender.old sender.new }
+{
+    let mut is_sent = false;
+    for (place, request) in requests.iter().enumerate() {
+        is_sent |= takes_turn(alloc, sender, request, link, left, place);
+    }
+    is_sent
+}
+
+/// Sends the request at this place, if it is ready and has a try left. Tells whether it was sent.
+fn takes_turn<L: Link>(
+    alloc: Global,
+    sender: &mut Sender,
+    request: &Request,
+    link: &mut L,
+    left: &mut [u32],
+    place: usize,
+) -> bool
+    ensures { (requests : List RequestValue) → requests_of sender.old ≡ requests → slice_get requests place ≡ Some request.now
+        → Talked (L.said link.old) (L.said link.new) sender.old sender.new }
+{
+    if !takes_try(sender, left, place) {
+        return false;
+    }
+    send_one(alloc, sender, request, link);
+    true
+}
+
+/// Whether the request at this place is ready and has a try left, which is taken.
+fn takes_try(sender: &Sender, left: &mut [u32], place: usize) -> bool
+    ensures { result ≡ true → is_ready sender.now place ≡ true }
+{
+    if !sender.ready(place) {
+        return false;
+    }
+    match left.get_mut(place) {
+        Some(tries) if 0 < *tries => {
+            *tries -= 1;
+            true
+        }
+        _ => false,
+    }
+}
+
+/// Sends a request once, and has the sender hear the reply, if one comes.
+fn send_one<L: Link>(alloc: Global, sender: &mut Sender, request: &Request, link: &mut L)
+    ensures { Sent request.now (L.said link.old) (L.said link.new) sender.old sender.new }
+{
+    let Ok(text) = message(alloc, request) else {
+        return;
+    };
+    let reply = exchanged(alloc, link, text.as_str().as_bytes());
+    match reply {
+        Some(reply) => sender.on_reply(request.number, reply),
+        None => {}
+    }
+}
+
+/// The reply that comes back for a message, if one does.
+fn exchanged<L: Link>(alloc: Global, link: &mut L, message: &[u8]) -> Option<Reply>
+    ensures { Exchanged (L.said link.old) (L.said link.new) message.now result }
+{
+    let mut answer = Vec::new(alloc);
+    match link.exchange(message, &mut answer) {
+        Ok(()) => heard(alloc, answer.as_slice()),
+        Err(_) => None,
+    }
+}
+
+/// The reply that an answer is; none also where memory is wanting.
+fn heard(alloc: Global, answer: &[u8]) -> Option<Reply>
+    ensures { IfSome result (λ reply. IsReplyIn answer.now reply) }
+{
+    match reply_in(alloc, answer) {
+        Ok(reply) => reply,
+        Err(_) => None,
+    }
+}
