@@ -1,0 +1,5 @@
+use Rattle.std.proofs.Common.{◌≡◌}
+use Rattle.http_answers.proofs.answer.send_digest.Goals as goal
+
+pub returns-in-PoText : goal.returns-in-PoText
+returns-in-PoText g c = rw (c.in-PoText.is, ← c.digest_digits.ensures) c.send_field.ensures

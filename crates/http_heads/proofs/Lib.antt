@@ -1,0 +1,6 @@
+pub mod CutLemmas
+pub mod LineLemmas
+pub mod ValueLemmas
+pub mod HeadLemmas
+pub mod ReadLemmas
+mod Vectors

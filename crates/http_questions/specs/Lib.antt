@@ -1,0 +1,5 @@
+pub mod Asked
+pub mod Queries
+pub mod Routes
+pub mod Streams
+pub mod Targets
