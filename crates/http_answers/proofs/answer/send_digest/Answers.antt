@@ -1,4 +1,3 @@
-use Rattle.std.proofs.Common.{◌≡◌}
 use Rattle.http_answers.proofs.answer.send_digest.Goals as goal
 
 pub returns-in-PoText : goal.returns-in-PoText

@@ -1,4 +1,4 @@
-use Rattle.std.proofs.Common.{◌≡◌, ◌++◌, refl}
+use Rattle.std.proofs.Common.{◌≡◌, refl}
 use Rattle.po_write.proofs.Sent.{begin, more, stopped, outcome}
 use Rattle.http_answers.specs.Answers.{field_line}
 use Rattle.http_answers.proofs.answer.send_field.Goals as goal

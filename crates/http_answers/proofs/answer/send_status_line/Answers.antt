@@ -1,5 +1,4 @@
 use Rattle.std.proofs.Common.{◌≡◌, ◌++◌, ℕ, List, refl, ap}
-use Rattle.std.specs.Prelude.{codes, decimal}
 use Rattle.po_write.proofs.Sent.{begin, more, stopped, outcome}
 use Rattle.http_answers.specs.Statuses.{phrase}
 use Rattle.http_answers.specs.Answers.{status_line, line_end}
