@@ -5,9 +5,9 @@ use Rattle.serde_json.specs.Read.{read}
 use Rattle.request_book.specs.declared.act.Act.{Act}
 use Rattle.request_book.specs.declared.act.Request.{Request}
 use Rattle.request_book.specs.declared.parts.Parts.{Parts}
-use Rattle.request_book.specs.Acts.{fields_of, IsRequestText}
+use Rattle.request_book.specs.Acts.{fields_of, IsRequestText, IsActText}
 use Rattle.request_book.specs.Words.{members}
-use Rattle.request_book.specs.Fields.{parts_of, IsPartsText, to_request}
+use Rattle.request_book.specs.Fields.{parts_of, IsPartsText, to_request, to_act}
 use Rattle.request_book.proofs.Objects.{parts_sound, parts_complete}
 
 pub parts_of_object : (text : List ℕ) (ms : Members) (p : Parts) → read text ≡ Some (object ms) → parts_of ms ≡ Some p → IsPartsText text p
@@ -75,3 +75,33 @@ same_request text r other h k = request_is other r (one_parts text (of_request o
 -- a text is of one request
 pub one_request : (text : List ℕ) (p : Parts) (r other : Request) → IsPartsText text p → to_request p.caller p.number p.act ≡ Some r → IsRequestText text other → other ≡ r
 one_request text p r other h e k = same_request text r other (request_of_parts text p r h e) k
+
+-- ---- acts
+
+abbrev of_act : Act → Parts
+of_act a = record { caller = None; number = None; act = a }
+
+bare_parts : (text : List ℕ) (c n : Option (List ℕ)) (a b : Act) → IsPartsText text (record { caller = c; number = n; act = a }) → to_act c n a ≡ Some b → IsActText text b
+bare_parts text (Some c) n a b h e = absurd cc
+bare_parts text None (Some n) a b h e = absurd cc
+bare_parts text None None a b h e = subst (IsActText text) (some_is a b e) (h.0, h.3)
+
+pub act_of_parts : (text : List ℕ) (p : Parts) (a : Act) → IsPartsText text p → to_act p.caller p.number p.act ≡ Some a → IsActText text a
+act_of_parts text p a h e = bare_parts text p.caller p.number p.act a h e
+
+parts_of_act : (text : List ℕ) (a : Act) → IsActText text a → IsPartsText text (of_act a)
+parts_of_act text a h = (h.0, tt, tt, h.1)
+
+pub no_act : (text : List ℕ) (a : Act) → ((p : Parts) → IsPartsText text p → ⊥) → IsActText text a → ⊥
+no_act text a none h = none (of_act a) (parts_of_act text a h)
+
+pub not_bare : (text : List ℕ) (p : Parts) (a : Act) → IsPartsText text p → to_act p.caller p.number p.act ≡ None → IsActText text a → ⊥
+not_bare text p a h none is =
+    let same = one_parts text p (of_act a) h (parts_of_act text a is) in
+    let some : to_act p.caller p.number p.act ≡ Some a = ap (λ (q : Parts). to_act q.caller q.number q.act) same in
+    absurd cc
+
+-- a text is of one act
+pub one_act_of : (text : List ℕ) (p : Parts) (a other : Act) → IsPartsText text p → to_act p.caller p.number p.act ≡ Some a → IsActText text other → other ≡ a
+one_act_of text p a other h e k =
+    ap (λ (q : Parts). q.act) (one_parts text (of_act other) (of_act a) (parts_of_act text other k) (parts_of_act text a (act_of_parts text p a h e)))

@@ -268,3 +268,9 @@ abbrev pub to_request : Option Text → Option Text → Act → Option Request
 to_request None n a = None
 to_request (Some c) None a = None
 to_request (Some c) (Some n) a = Some (record { number = n; caller = c; act = a })
+
+-- the act, where there is neither a caller nor a number
+abbrev pub to_act : Option Text → Option Text → Act → Option Act
+to_act (Some c) n a = None
+to_act None (Some n) a = None
+to_act None None a = Some a

@@ -2,7 +2,7 @@
 ghost use Rattle.std.specs.Prelude.{◌≡◌, true, false, Err, IfOk, string_bytes};
 ghost use Rattle.request_book.specs.Acts.{IsRequest, IsRequestText, content_text, IsAct, IsActText, act_text};
 ghost use Rattle.request_book.specs.declared.act.Act.{Act as ActValue};
-ghost use Rattle.request_book.specs.Fields.{to_request};
+ghost use Rattle.request_book.specs.Fields.{to_request, to_act};
 ghost use Rattle.serde_json.specs.Written.{compact_text, has_float};
 ghost use Rattle.serde_json.specs.Data.{object};
 ghost use Rattle.serde_json.specs.View.{members_view};
@@ -52,6 +52,16 @@ fn signed(parts: Parts) -> Option<Request>
     }
 }
 
+/// The act of parts that have no caller and no number.
+fn bare(parts: Parts) -> Option<Act>
+    ensures { result ≡ to_act parts.caller parts.number parts.act }
+{
+    match (parts.caller, parts.number) {
+        (None, None) => Some(parts.act),
+        (_, _) => None,
+    }
+}
+
 /// The canonical text of a request's content: its caller and act as compact JSON, keys in byte order. Requests
 /// with one canonical text have one caller and one act.
 #[tactic(auto, using(crate::proofs::CanonLemmas::no_floats, crate::proofs::CanonLemmas::one_content), unfolding(crate::specs::Acts::content_text))]
@@ -68,6 +78,23 @@ pub fn canon(alloc: Global, request: &Request) -> Result<Text, Memory>
 }
 
 impl Act {
+    /// The act that a text stands for: one JSON object (RFC 8259) with exactly the act's members, each within its limits, and without a
+    /// request's number and caller. Of a key that stands twice the last value counts, as `serde_json` reads it.
+    ///
+    /// `Malformed` where no act has this text; `Memory` where a growth was refused.
+    #[tactic(auto, using(crate::proofs::PartsLemmas::no_act, crate::proofs::PartsLemmas::not_bare))]
+    pub fn from_json(alloc: Global, text: &str) -> Result<Act, RequestFault>
+        ensures ok { IfOk result (IsActText text.now) }
+        ensures one { IfOk result (λ a. (other : ActValue) → IsActText text.now other → other ≡ a) }
+        ensures malformed { result ≡ Err Malformed → (act : ActValue) → ¬ IsActText text.now act }
+    {
+        let parts = parts_from_text(alloc, text)?;
+        match bare(parts) {
+            Some(act) => Ok(act),
+            None => Err(RequestFault::Malformed),
+        }
+    }
+
     /// The act's text: its object in compact JSON, keys in byte order, without the number and the caller of a request. No other act
     /// has this text.
     #[tactic(auto, using(crate::proofs::CanonLemmas::no_floats, crate::proofs::CanonLemmas::read_act))]

@@ -14,6 +14,7 @@
 //!   read|JSON -> X                       `malformed`, or the request's canonical text
 //!   but|OLD|NEW -> X                     the same of the text of the last `read` row, with the new text for each old one
 //!   cut N -> X                           the same of that text's first bytes
+//!   act|JSON -> X                        `malformed`, or the text of the act that the text is of, without number and caller
 //!   copy|JSON -> X                       the same of the request with a copy of its act on a unit
 //!   fault NAME -> X                      its number and text
 //!   keep STATUS|JSON|BODY -> X           the canonical text of the request; a copy of its record is kept, with this reply

@@ -1,6 +1,6 @@
 //! Requests as JSON texts, and their canonical texts.
 use crate::words::count;
-use request_book::{Request, RequestFault, canon};
+use request_book::{Act, Request, RequestFault, canon};
 use std::alloc::Global;
 
 pub(crate) fn canon_told(alloc: Global, request: &Request) -> Option<String> {
@@ -21,6 +21,23 @@ pub(crate) fn read_told(alloc: Global, text: &str) -> Option<String> {
         Ok(request) => {
             let told = canon_told(alloc, &request);
             drop(request);
+            told
+        }
+        Err(fault) => no_request_told(alloc, fault),
+    }
+}
+
+fn act_text(alloc: Global, act: &Act) -> Option<String> {
+    let text = act.to_json(alloc).ok()?;
+    String::from_str(alloc, text.as_str()).ok()
+}
+
+/// What a text comes to as an act alone.
+pub(crate) fn act_told(alloc: Global, text: &str) -> Option<String> {
+    match Act::from_json(alloc, text) {
+        Ok(act) => {
+            let told = act_text(alloc, &act);
+            drop(act);
             told
         }
         Err(fault) => no_request_told(alloc, fault),

@@ -5,7 +5,7 @@ use crate::escapes::written_out;
 use crate::limits::{
     accept_at_told, below_told, comment_told, lang_told, name_told, refusal_told, revision_told,
 };
-use crate::requests::{but_told, cut_told, read_told};
+use crate::requests::{act_told, but_told, cut_told, read_told};
 use crate::stage::Stage;
 use crate::streams::{sink_told, source_told};
 use crate::voting::{vote_told, votes_told};
@@ -51,6 +51,7 @@ fn of_texts(alloc: Global, stage: &mut Stage, words: &str, texts: &str) -> Optio
         "source" => source_told(alloc, words, texts),
         "but" => but_told(alloc, stage.request.as_str(), texts),
         "copy" => copy_told(alloc, texts),
+        "act" => act_told(alloc, texts),
         "class" => class_told(alloc, stage.record(), texts),
         "keep" => keep_told(alloc, stage, words, texts),
         "read" => {

@@ -1,0 +1,13 @@
+-- What is read of the text is of one act.
+use Rattle.std.proofs.Common.{sym}
+use Rattle.request_book.proofs.PartsLemmas.{one_act_of, act_of_parts, not_bare}
+use Rattle.request_book.proofs.act.Act.from_json.Goals as goal
+
+pub returns-in-Some-clause-one : goal.returns-in-Some-clause-one
+returns-in-Some-clause-one c = λ other is. one_act_of _ _ _ other c.in_ok-parts.ensures.ok (sym c.in-Some.ensures) is
+
+pub returns-in-Some-clause-ok : goal.returns-in-Some-clause-ok
+returns-in-Some-clause-ok c = act_of_parts _ _ _ c.in_ok-parts.ensures.ok (sym c.in-Some.ensures)
+
+pub returns-in-None-clause-malformed : goal.returns-in-None-clause-malformed
+returns-in-None-clause-malformed c = λ e act is. not_bare _ _ act c.in_ok-parts.ensures.ok (sym c.in-None.ensures) is
