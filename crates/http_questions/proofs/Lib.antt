@@ -1,3 +1,4 @@
-pub mod AskingLemmas
+pub mod LangLemmas
+pub mod QueryLemmas
 pub mod TargetLemmas
 mod Vectors

@@ -5,7 +5,7 @@ ghost use Rattle.http_questions.specs.Routes.{is_part, part_behind, route_of, ma
 
 /// Which route it is.
 #[derive(Clone, Copy, Debug, PartialEq, Eq, Drop)]
-pub enum RouteKind {
+pub(crate) enum RouteKind {
     /// `POST /v1/requests/{number}`
     Requests,
     /// `GET /v1/export/{lang}`
@@ -18,7 +18,7 @@ pub enum RouteKind {
 
 /// A route, with the part of the path that it names.
 #[derive(Clone, Copy, Debug, Drop)]
-pub struct Route<'b> {
+pub(crate) struct Route<'b> {
     pub kind: RouteKind,
     /// What stands at the place in braces; empty where the route has none.
     pub part: &'b [u8],
@@ -26,7 +26,7 @@ pub struct Route<'b> {
 
 impl RouteKind {
     /// The method that the route takes.
-    pub fn method(self) -> &'static [u8]
+    pub(crate) fn method(self) -> &'static [u8]
         ensures { result.now ≡ method_of self }
     {
         match self {
@@ -36,7 +36,7 @@ impl RouteKind {
     }
 
     /// Whether a target of the route may have a query.
-    pub fn may_have_query(self) -> bool
+    pub(crate) fn may_have_query(self) -> bool
         ensures { result ≡ may_have_query self }
     {
         match self {
@@ -68,7 +68,7 @@ fn part_behind<'b>(front: &[u8], path: &'b [u8]) -> Option<&'b [u8]>
 }
 
 /// The route of a path, which is taken undecoded.
-pub fn route_of(path: &[u8]) -> Option<Route<'_>>
+pub(crate) fn route_of(path: &[u8]) -> Option<Route<'_>>
     ensures { option_map (λ route. (route.kind, route.part.now)) result ≡ route_of path.now }
 {
     if let Some(part) = part_behind(b"/v1/requests/", path) {

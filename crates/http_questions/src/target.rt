@@ -6,7 +6,7 @@ use memchr::memchr;
 
 /// A target, undecoded.
 #[derive(Clone, Copy, Debug, Drop)]
-pub struct Target<'b> {
+pub(crate) struct Target<'b> {
     pub path: &'b [u8],
     /// What stands behind the first `?`, if there is one.
     pub query: Option<&'b [u8]>,
@@ -22,7 +22,7 @@ fn split_mark(target: &[u8]) -> Option<(&[u8], &[u8])>
 }
 
 /// The path and the query of a target.
-pub fn split_target(target: &[u8]) -> Target<'_>
+pub(crate) fn split_target(target: &[u8]) -> Target<'_>
     ensures path { result.path.now ≡ path_of target.now }
     ensures query { option_map (λ query. query.now) result.query ≡ query_of target.now }
 {

@@ -1,0 +1,5 @@
+pub mod Coming
+pub mod Exporting
+pub mod NameLemmas
+pub mod NumberLemmas
+pub mod Serving

@@ -1,0 +1,70 @@
+-- A list of messages with their outcomes, and one more.
+use Rattle.std.proofs.Common.{◌≡◌, List, [], ◌∷◌, ◌++◌, sym, subst, ap, ◌∙◌, append_assoc, append-nil}
+use Rattle.po_read.specs.Texts.{Text}
+use Rattle.units.specs.Office.{Office}
+use Rattle.request_book.specs.Book.{OfficeWithBook}
+use Rattle.http_questions.specs.Queries.{UnitName}
+use Rattle.http_questions.specs.Asked.{Asked}
+use Rattle.http_questions.specs.Asked as ask
+use Rattle.commands.specs.Exchanges.{Exchange, HasDelivered}
+use Rattle.http_api.specs.Outcomes.{Outcome, UnitShown, CountsShown, TextExported, IsOutcome, unit_shown, unit_without_language, unit_absent, unit_lost, counts_shown, counts_without_language, counts_lost, text_exported, text_without_language, text_too_long, text_lost}
+use Rattle.http_api.specs.Served.{exchange_in, office_behind, AreOutcomes, exchanges_of, ServesOn}
+use Rattle.http_api.specs.Answering.{Came}
+
+-- ---- what is said of an outcome holds on
+
+module _ (Honest Whole StillHonest StillWhole : Type 0) (honest : StillHonest → Honest) (whole : StillHonest → StillWhole → Whole) (office : Office) where
+  unit_still : (name : UnitName) (o : Outcome) → UnitShown Honest Whole office name o → UnitShown StillHonest StillWhole office name o
+  unit_still name o (unit_shown text is fact) = unit_shown text is (λ h. fact (honest h))
+  unit_still name o (unit_without_language is fact) = unit_without_language is (λ h w. fact (honest h) (whole h w))
+  unit_still name o (unit_absent is fact) = unit_absent is (λ h w. fact (honest h) (whole h w))
+  unit_still name o (unit_lost lost is) = unit_lost lost is
+
+  counts_still : (lang : Text) (o : Outcome) → CountsShown Honest Whole office lang o → CountsShown StillHonest StillWhole office lang o
+  counts_still lang o (counts_shown text is fact) = counts_shown text is (λ h. fact (honest h))
+  counts_still lang o (counts_without_language is fact) = counts_without_language is (λ h w. fact (honest h) (whole h w))
+  counts_still lang o (counts_lost lost is) = counts_lost lost is
+
+  text_still : (lang : Text) (o : Outcome) → TextExported Honest Whole office lang o → TextExported StillHonest StillWhole office lang o
+  text_still lang o (text_exported text is fact within) = text_exported text is (λ h. fact (honest h)) (λ h. within (honest h))
+  text_still lang o (text_without_language is fact) = text_without_language is (λ h w. fact (honest h) (whole h w))
+  text_still lang o (text_too_long is fact) = text_too_long is (λ h w. fact (honest h) (whole h w))
+  text_still lang o (text_lost lost is) = text_lost lost is
+
+  is_still : (a : Asked) (o : Outcome) → IsOutcome Honest Whole office a o → IsOutcome StillHonest StillWhole office a o
+  is_still (ask.refused refusal) o is = is
+  is_still (ask.request number callers body) o is = is
+  is_still (ask.export lang) o is = text_still lang o is
+  is_still (ask.unit name) o is = unit_still name o is
+  is_still (ask.stats lang) o is = counts_still lang o is
+
+-- ---- one message more
+
+exchanges-more : (os : List Outcome) (o : Outcome) → exchanges_of (os ++ o ∷ []) ≡ exchanges_of os ++ exchange_in o
+exchanges-more [] o = append-nil (exchange_in o)
+exchanges-more (x ∷ os) o = ap (λ xs. exchange_in x ++ xs) (exchanges-more os o) ∙ sym (append_assoc (exchange_in x) (exchanges_of os) (exchange_in o))
+
+each_more : (Honest Whole StillHonest StillWhole : Type 0) → (StillHonest → Honest) → (StillHonest → StillWhole → Whole) → (start : OfficeWithBook) (before : List Exchange) (questions : List Asked) (os : List Outcome) (a : Asked) (o : Outcome)
+    → AreOutcomes Honest Whole start before questions os → IsOutcome StillHonest StillWhole (office_behind start (before ++ exchanges_of os)) a o → AreOutcomes StillHonest StillWhole start before (questions ++ a ∷ []) (os ++ o ∷ [])
+each_more Honest Whole StillHonest StillWhole honest whole start before [] [] a o each is =
+    let P : List Exchange → Type 0 = λ xs. IsOutcome StillHonest StillWhole (office_behind start xs) a o in (subst P (append-nil before) is, tt)
+each_more Honest Whole StillHonest StillWhole honest whole start before [] (x ∷ os) a o each is = absurd each
+each_more Honest Whole StillHonest StillWhole honest whole start before (b ∷ questions) [] a o each is = absurd each
+each_more Honest Whole StillHonest StillWhole honest whole start before (b ∷ questions) (x ∷ os) a o each is =
+    let P : List Exchange → Type 0 = λ xs. IsOutcome StillHonest StillWhole (office_behind start xs) a o in (
+      is_still Honest Whole StillHonest StillWhole honest whole (office_behind start before) b x each.0,
+      each_more Honest Whole StillHonest StillWhole honest whole start (before ++ exchange_in x) questions os a o each.1 (subst P (sym (append_assoc before (exchange_in x) (exchanges_of os))) is),
+    )
+
+pub serves : (Honest Whole StillHonest StillWhole : Type 0) (old new : OfficeWithBook) (a : Asked) (o : Outcome) → Came Honest Whole StillHonest StillWhole old new a o → ServesOn Honest Whole StillHonest StillWhole old new a o
+serves Honest Whole StillHonest StillWhole old new a o came = λ start done outcomes served.
+    let P : List Exchange → Type 0 = λ xs. HasDelivered StillHonest StillWhole start new xs in
+    record {
+      delivered = subst P (sym (exchanges-more outcomes o)) (came.did start (exchanges_of outcomes) served.delivered);
+      each = each_more Honest Whole StillHonest StillWhole came.honest came.whole start [] done outcomes a o served.each
+          (came.is (office_behind start (exchanges_of outcomes)) (λ h w. ap (λ meaning. meaning.office) (served.delivered.left h w)));
+    }
+
+-- the same of what is asked in other words
+pub answered : (Honest Whole StillHonest StillWhole : Type 0) (old new : OfficeWithBook) (a b : Asked) (o : Outcome) → a ≡ b → Came Honest Whole StillHonest StillWhole old new b o → ServesOn Honest Whole StillHonest StillWhole old new a o
+answered Honest Whole StillHonest StillWhole old new a b o is came = let P : Asked → Type 0 = λ x. ServesOn Honest Whole StillHonest StillWhole old new x o in subst P (sym is) (serves Honest Whole StillHonest StillWhole old new b o came)

@@ -1,0 +1,4 @@
+pub mod Answering
+pub mod Outcomes
+pub mod Posts
+pub mod Served

@@ -1,0 +1,99 @@
+-- What came of what a message asks, and the bytes that tell it. This project's own rule: a question is answered from the office as the
+-- requests before it left it.
+use Rattle.std.specs.Prelude.{◌≡◌, ◌<◌, ◌≤◌, ◌⊎◌, List, length, ℕ, Bool, Some, None, Result, Ok, Err, IsSome, IsSomeAnd, ⊤}
+use Rattle.std.specs.FinMap as maps
+use Rattle.sha2.specs.Sha256.{sha256}
+use Rattle.po_read.specs.Texts.{Text}
+use Rattle.units.specs.Office.{Office}
+use Rattle.units.specs.Limits.{export_limit}
+use Rattle.request_book.specs.Replies.{Reply}
+use Rattle.deliveries.specs.ExportText.{export_text}
+use Rattle.views.specs.UnitTexts.{unit_text_at}
+use Rattle.views.specs.CountsTexts.{counts_text_at}
+use Rattle.tables.specs.declared.faults.Lost.{Lost}
+use Rattle.tables.specs.declared.faults.Lost.TheVariants as lost
+use Rattle.http_answers.specs.declared.answer.Content.TheVariants.{Json, PoText}
+use Rattle.http_answers.specs.declared.refusal.Refusal.{Refusal}
+use Rattle.http_answers.specs.declared.refusal.Refusal.TheVariants.{Malformed, NoLanguage, NoUnit, Memory, Disk, LongExport}
+use Rattle.http_answers.specs.Answers.{answer_text, refusal_text}
+use Rattle.http_questions.specs.Queries.{UnitName}
+use Rattle.http_questions.specs.Asked.{Asked}
+use Rattle.http_questions.specs.Asked as ask
+use Rattle.commands.specs.Exchanges.{Exchange, asked, malformed, unread}
+use Rattle.request_book.specs.declared.act.Request.{Request}
+use Rattle.http_api.specs.Posts.{IsPosted}
+
+pub data Outcome : Type 0 where
+  -- what came of a request
+  posted : Exchange → Outcome
+  -- the JSON text that a question asks for
+  shown : Text → Outcome
+  -- the PO text of a language
+  exported : List ℕ → Outcome
+  -- an error
+  failed : Refusal → Outcome
+
+-- ---- the bytes
+
+abbrev pub lost_refusal : Lost → Refusal
+lost_refusal lost.Memory = Memory
+lost_refusal lost.Disk = Disk
+
+abbrev pub result_answer : Result Reply Lost → Bool → List ℕ
+result_answer (Ok reply) last = answer_text reply.status Json reply.body last
+result_answer (Err lost) last = refusal_text (lost_refusal lost) last
+
+abbrev pub exchange_answer : Exchange → Bool → List ℕ
+exchange_answer (asked request result) last = result_answer result last
+exchange_answer malformed last = refusal_text Malformed last
+exchange_answer unread last = refusal_text Memory last
+
+-- the answer that tells an outcome, and whether nothing more is read behind it
+abbrev pub outcome_answer : Outcome → Bool → List ℕ
+outcome_answer (posted exchange) last = exchange_answer exchange last
+outcome_answer (shown text) last = answer_text 200 Json text last
+outcome_answer (exported text) last = answer_text 200 (PoText (sha256 text)) text last
+outcome_answer (failed refusal) last = refusal_text refusal last
+
+-- ---- what came of a message, over tables of which something is said only while they are honest and whole
+
+-- what came of a message that brings a request: it reached the desk, or there is none, or there was no memory to read it
+abbrev pub IsPost : List ℕ → List (List ℕ) → List ℕ → Exchange → Type 0
+IsPost number callers body (asked request result) = IsPosted number callers body request
+IsPost number callers body malformed = (request : Request) → IsPosted number callers body request → ⊥
+IsPost number callers body unread = ⊤
+
+-- a unit's view
+pub data UnitShown (Honest Whole : Type 0) (office : Office) (name : UnitName) (o : Outcome) : Type 0 where
+  unit_shown : (text : Text) → o ≡ shown text → (Honest → unit_text_at office name.0 name.1 ≡ Some text) → UnitShown Honest Whole office name o
+  unit_without_language : o ≡ failed NoLanguage → (Honest → Whole → maps.get office.headers name.0 ≡ None) → UnitShown Honest Whole office name o
+  unit_absent : o ≡ failed NoUnit
+      → (Honest → Whole → IsSome (maps.get office.headers name.0) × (maps.get office.units (name.0, name.1) ≡ None))
+      → UnitShown Honest Whole office name o
+  unit_lost : (lost : Lost) → o ≡ failed (lost_refusal lost) → UnitShown Honest Whole office name o
+
+-- a language's counts
+pub data CountsShown (Honest Whole : Type 0) (office : Office) (lang : Text) (o : Outcome) : Type 0 where
+  counts_shown : (text : Text) → o ≡ shown text → (Honest → counts_text_at office lang ≡ Some text) → CountsShown Honest Whole office lang o
+  counts_without_language : o ≡ failed NoLanguage → (Honest → Whole → maps.get office.headers lang ≡ None) → CountsShown Honest Whole office lang o
+  counts_lost : (lost : Lost) → o ≡ failed (lost_refusal lost) → CountsShown Honest Whole office lang o
+
+-- a language's text
+pub data TextExported (Honest Whole : Type 0) (office : Office) (lang : Text) (o : Outcome) : Type 0 where
+  text_exported : (text : List ℕ) → o ≡ exported text → (Honest → export_text office lang ≡ Some text) → (Honest → length text ≤ export_limit)
+      → TextExported Honest Whole office lang o
+  text_without_language : o ≡ failed NoLanguage → (Honest → Whole → export_text office lang ≡ None) → TextExported Honest Whole office lang o
+  text_too_long : o ≡ failed LongExport → (Honest → Whole → IsSomeAnd (export_text office lang) (λ text. export_limit < length text))
+      → TextExported Honest Whole office lang o
+  text_lost : (lost : Lost) → o ≡ failed (lost_refusal lost) → TextExported Honest Whole office lang o
+
+-- a message fails a test; where a part of it is malformed, there may be no memory to find that out
+abbrev pub TestFailed : Refusal → Outcome → Type 0
+TestFailed refusal o = (o ≡ failed refusal) ⊎ ((refusal ≡ Malformed) × (o ≡ failed Memory))
+
+abbrev pub IsOutcome : (Honest Whole : Type 0) → Office → Asked → Outcome → Type 0
+IsOutcome Honest Whole office (ask.refused refusal) o = TestFailed refusal o
+IsOutcome Honest Whole office (ask.request number callers body) o = (x : Exchange) × (o ≡ posted x) × IsPost number callers body x
+IsOutcome Honest Whole office (ask.export lang) o = TextExported Honest Whole office lang o
+IsOutcome Honest Whole office (ask.unit name) o = UnitShown Honest Whole office name o
+IsOutcome Honest Whole office (ask.stats lang) o = CountsShown Honest Whole office lang o

@@ -1,0 +1,167 @@
+//! What a message is answered.
+ghost use Rattle.std.specs.Prelude.{◌≡◌, [], ◌∷◌, List, ℕ, Result};
+ghost use Rattle.request_book.specs.Replies.{Reply};
+ghost use Rattle.tables.specs.declared.faults.Lost.{Lost};
+ghost use Rattle.http_answers.specs.Answers.{answer_text, refusal_text};
+ghost use Rattle.http_answers.specs.declared.answer.Content.TheVariants.{Json};
+ghost use Rattle.http_heads.specs.Values.{AreValues};
+ghost use Rattle.http_questions.specs.Asked.{Asked as AskedValue, request, unit, stats};
+ghost use Rattle.http_questions.specs.Askings.{IsAsked};
+ghost use Rattle.http_questions.specs.Pairs.{name_of};
+ghost use Rattle.commands.specs.Exchanges.{Exchange, asked, Delivers};
+ghost use Rattle.commands.specs.Writers.{writer_at};
+ghost use Rattle.http_api.specs.Outcomes.{Outcome, posted, lost_refusal, result_answer, exchange_answer, outcome_answer};
+ghost use Rattle.http_api.specs.Served.{Serves};
+ghost use Rattle.http_api.specs.Answering.{ComesTo, Tells, Writes, query_refusal};
+
+use crate::exports::answer_export;
+use crate::faults::ServeFault;
+use crate::posts::request_of;
+use http_answers::{Refusal, write_json, write_refusal};
+use http_questions::{Asked, RequestParts, UnitName};
+use office::{Desk, QueryFault};
+use request_book::{Request, RequestFault};
+use std::alloc::Global;
+use tables::{Lost, Tables};
+use units::{ByteSink, Lang};
+
+fn lost_refusal(lost: Lost) -> Refusal
+    ensures { result ≡ lost_refusal lost }
+{
+    match lost {
+        Lost::Memory => Refusal::Memory,
+        Lost::Disk => Refusal::Disk,
+    }
+}
+
+fn query_refusal(fault: QueryFault) -> Refusal
+    ensures { result ≡ query_refusal fault }
+{
+    match fault {
+        QueryFault::NoLanguage => Refusal::NoLanguage,
+        QueryFault::NoUnit => Refusal::NoUnit,
+        QueryFault::Memory => Refusal::Memory,
+        QueryFault::Disk => Refusal::Disk,
+    }
+}
+
+/// Writes an answer with a body in JSON.
+fn send_json<W: ByteSink>(w: &mut W, status: u16, body: &str, last: bool) -> Result<(), ServeFault>
+    ensures { Tells (writer_at W.taken W.failed w.old) (writer_at W.taken W.failed w.new) (answer_text status Json body.now last) result }
+{
+    match write_json(w, status, body, last) {
+        Ok(()) => Ok(()),
+        Err(fault) => Err(ServeFault::from(fault)),
+    }
+}
+
+/// Writes an answer that is an error.
+pub(crate) fn send_refusal<W: ByteSink>(
+    w: &mut W,
+    refusal: Refusal,
+    last: bool,
+) -> Result<(), ServeFault>
+    ensures { Tells (writer_at W.taken W.failed w.old) (writer_at W.taken W.failed w.new) (refusal_text refusal last) result }
+{
+    match write_refusal(w, refusal, last) {
+        Ok(()) => Ok(()),
+        Err(fault) => Err(ServeFault::from(fault)),
+    }
+}
+
+/// Delivers a request and writes its answer.
+fn answer_request<T: Tables, W: ByteSink>(
+    desk: &mut Desk<T>,
+    request: &Request,
+    last: bool,
+    w: &mut W,
+) -> Result<(), ServeFault>
+    ensures told { (told : Result Reply Lost)
+        × Delivers T.is_honest T.is_whole T.means desk.old desk.new (asked request.now told ∷ [])
+        × Tells (writer_at W.taken W.failed w.old) (writer_at W.taken W.failed w.new) (result_answer told last) result }
+    ensures honest { T.is_honest desk.new → T.is_honest desk.old }
+    ensures whole { T.is_honest desk.new → T.is_whole desk.new → T.is_whole desk.old }
+{
+    match desk.deliver(request) {
+        Ok(reply) => send_json(w, reply.status(), reply.body(), last),
+        Err(lost) => send_refusal(w, lost_refusal(lost), last),
+    }
+}
+
+/// Answers a message that brings a request, if it brings one.
+pub(crate) fn answer_post<T: Tables, W: ByteSink>(
+    alloc: Global,
+    desk: &mut Desk<T>,
+    parts: RequestParts<'_>,
+    last: bool,
+    w: &mut W,
+) -> Result<(), ServeFault>
+    ensures { (callers : List (List ℕ)) → AreValues parts.entry.callers callers → (x : Exchange)
+        × ComesTo T.is_honest T.is_whole T.means desk.old desk.new (request parts.entry.number.now callers parts.entry.body.now) (posted x)
+        × Tells (writer_at W.taken W.failed w.old) (writer_at W.taken W.failed w.new) (exchange_answer x last) result }
+{
+    match request_of(alloc, parts) {
+        Ok(request) => answer_request(desk, &request, last, w),
+        Err(RequestFault::Malformed) => send_refusal(w, Refusal::Malformed, last),
+        Err(RequestFault::Memory) => send_refusal(w, Refusal::Memory, last),
+    }
+}
+
+/// Answers with a unit's view.
+pub(crate) fn answer_unit<T: Tables, W: ByteSink>(
+    desk: &mut Desk<T>,
+    name: &UnitName,
+    last: bool,
+    w: &mut W,
+) -> Result<(), ServeFault>
+    ensures { (o : Outcome)
+        × ComesTo T.is_honest T.is_whole T.means desk.old desk.new (unit (name_of name.now)) o
+        × Tells (writer_at W.taken W.failed w.old) (writer_at W.taken W.failed w.new) (outcome_answer o last) result }
+{
+    match desk.unit(&name.lang, &name.key) {
+        Ok(text) => send_json(w, 200, text.as_str(), last),
+        Err(fault) => send_refusal(w, query_refusal(fault), last),
+    }
+}
+
+/// Answers with a language's counts.
+pub(crate) fn answer_stats<T: Tables, W: ByteSink>(
+    desk: &mut Desk<T>,
+    lang: &Lang,
+    last: bool,
+    w: &mut W,
+) -> Result<(), ServeFault>
+    ensures { (o : Outcome)
+        × ComesTo T.is_honest T.is_whole T.means desk.old desk.new (stats lang.now) o
+        × Tells (writer_at W.taken W.failed w.old) (writer_at W.taken W.failed w.new) (outcome_answer o last) result }
+{
+    match desk.stats(lang) {
+        Ok(text) => send_json(w, 200, text.as_str(), last),
+        Err(fault) => send_refusal(w, query_refusal(fault), last),
+    }
+}
+
+/// Answers what a message asks; `last` says whether nothing more is read behind it. A request is delivered, and the other questions
+/// leave the tables as they were.
+///
+/// `Write` where the writer failed. `Memory` and `Disk` where an export broke off whose head was written: where nothing is written yet,
+/// they are answered, by 503 and 507.
+pub fn answer<T: Tables, W: ByteSink>(
+    alloc: Global,
+    desk: &mut Desk<T>,
+    asked: Asked<'_>,
+    last: bool,
+    w: &mut W,
+) -> Result<(), ServeFault>
+    ensures { (question : AskedValue) → IsAsked asked.entry question → (o : Outcome)
+        × Serves T.is_honest T.is_whole T.means desk.old desk.new question o
+        × Writes (T.is_honest desk.new) (writer_at W.taken W.failed w.old) (writer_at W.taken W.failed w.new) (outcome_answer o last) result }
+{
+    match asked {
+        Asked::Refused(refusal) => send_refusal(w, refusal, last),
+        Asked::Request(parts) => answer_post(alloc, desk, parts, last, w),
+        Asked::Export(lang) => answer_export(desk, &lang, last, w),
+        Asked::Unit(name) => answer_unit(desk, &name, last, w),
+        Asked::Stats(lang) => answer_stats(desk, &lang, last, w),
+    }
+}

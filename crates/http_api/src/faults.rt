@@ -1,0 +1,32 @@
+//! Why a connection is given up.
+
+use thiserror::Error;
+use units::SinkFault;
+
+/// Why a connection was given up. The writer has taken a beginning of the answers.
+#[derive(Clone, Copy, Debug, Drop, PartialEq, Eq, Error)]
+pub enum ServeFault {
+    /// A read failed.
+    #[error("a read failed")]
+    Read = 1,
+    /// A write failed.
+    #[error("a write failed")]
+    Write = 2,
+    /// A growth was refused: there is no room for a message, or for an export whose head was written.
+    #[error("out of memory")]
+    Memory = 3,
+    /// The disk failed under an export whose head was written.
+    #[error("the disk failed")]
+    Disk = 4,
+}
+
+impl From<SinkFault> for ServeFault {
+    ghost use Rattle.std.specs.Prelude.{◌≡◌};
+    ghost use Rattle.http_api.specs.declared.faults.ServeFault.TheVariants.{Write};
+
+    ghost from_gives = { λ _ e. e ≡ Write };
+
+    fn from(_fault: SinkFault) -> ServeFault {
+        ServeFault::Write
+    }
+}

@@ -1,0 +1,41 @@
+use Rattle.std.proofs.Common.{◌≡◌, List, ℕ, Option, Some, None, option_map, take, sym, ap, ◌∙◌}
+use Rattle.http_questions.specs.Streams.{first_head}
+use Rattle.http_messages.proofs.FrontLemmas.{no_head, refused_head, cut_short, whole_message}
+use Rattle.http_messages.proofs.ReadingLemmas.{more_behind, fault_behind}
+use Rattle.http_messages.proofs.inbox.Inbox.read_message.Goals as goal
+
+-- the head that was found
+found : (bytes : List ℕ) (r : Option ℕ) (n : ℕ) → r ≡ Some n → option_map (λ k. take k bytes) r ≡ first_head bytes → Some (take n bytes) ≡ first_head bytes
+found bytes r n is cut = sym (ap (option_map (λ k. take k bytes)) is) ∙ cut
+
+none_found : (bytes : List ℕ) (r : Option ℕ) → r ≡ None → option_map (λ k. take k bytes) r ≡ first_head bytes → first_head bytes ≡ None
+none_found bytes r is cut = sym cut ∙ ap (option_map (λ k. take k bytes)) is
+
+pub returns-in_default-clause-arrives : goal.returns-in_default-clause-arrives
+returns-in_default-clause-arrives g c =
+    no_head (g.R.ByteSource.left c.read_head.new.source) c.read_head.new.self c.in_ok-_more._more (none_found c.read_head.new.self c.head_end.result c.in_default.is c.head_end.ensures.cut)
+    c.in_ok-_more.ensures.whole c.in_ok-_more.ensures.end c.without_head.result c.without_head.ensures
+
+pub returns-in-Err-clause-arrives : goal.returns-in-Err-clause-arrives
+returns-in-Err-clause-arrives g c =
+    refused_head (g.R.ByteSource.left c.read_head.new.source) c.read_head.new.self c.in-Some.head c.in-Err.refusal (found c.read_head.new.self c.head_end.result c.in-Some.head c.in-Some.is c.head_end.ensures.cut)
+    c.in-Some.ensures.within c.in-Err.ensures.err
+
+pub returns-in_err-read_up_to-clause-fault : goal.returns-in_err-read_up_to-clause-fault
+returns-in_err-read_up_to-clause-fault g c =
+    fault_behind c.in_err-read_up_to.field-0.0 c.from_residual-in_err-read_up_to.result c.from_residual-in_err-read_up_to.ensures.1 c.in_ok-_more.ensures.read c.in_err-read_up_to.ensures.fault
+
+pub returns-then-not-branch-clause-arrives : goal.returns-then-not-branch-clause-arrives
+returns-then-not-branch-clause-arrives g c =
+    cut_short (g.R.ByteSource.left c.read_up_to.new.source) c.read_head.new.self c.in_ok-read_up_to.ensures.read.piece c.read_up_to.new.self c.in-Some.head c.in-Ok.size
+    (found c.read_head.new.self c.head_end.result c.in-Some.head c.in-Some.is c.head_end.ensures.cut) c.in-Some.ensures.within c.in-Ok.ensures.ok c.in_ok-read_up_to.ensures.read.behind
+    (c.in_ok-read_up_to.ensures.short c.if-not-branch.true) (c.in_ok-read_up_to.ensures.end c.if-not-branch.true)
+
+pub returns-clause-read : goal.returns-clause-read
+returns-clause-read g c = more_behind c.in_ok-_more.ensures.read c.in_ok-read_up_to.ensures.read
+
+pub returns-clause-arrives : goal.returns-clause-arrives
+returns-clause-arrives g c =
+    whole_message (g.R.ByteSource.left c.read_up_to.new.source) c.read_head.new.self c.in_ok-read_up_to.ensures.read.piece c.read_up_to.new.self c.in-Some.head c.in-Ok.size
+    (found c.read_head.new.self c.head_end.result c.in-Some.head c.in-Some.is c.head_end.ensures.cut) c.in-Some.ensures.within c.in-Ok.ensures.ok c.in_ok-read_up_to.ensures.read.behind
+    (c.in_ok-read_up_to.ensures.whole c.if-not-branch.false)

@@ -1,0 +1,71 @@
+-- What arrives of a stream, message by message. RFC 9112, section 2.1; the limits are this project's own.
+use Rattle.std.specs.Prelude.{◌≡◌, ◌<◌, ◌≤◌, ◌+◌, ℕ, List, [], ◌++◌, length, take, drop, Option, Some, None}
+use Rattle.units.specs.Streams.{prepend_known, IsAtEnd, RoseOrStands}
+use Rattle.http_heads.specs.Heads.{Head, head_of}
+use Rattle.http_answers.specs.declared.refusal.Refusal.{Refusal}
+use Rattle.http_answers.specs.declared.refusal.Refusal.TheVariants.{Malformed}
+use Rattle.http_questions.specs.Asked.{Asking, ending, asking_of}
+use Rattle.http_questions.specs.Streams.{with_head, step, first_step}
+use Rattle.http_messages.specs.declared.inbox.ReadFault.{ReadFault}
+use Rattle.http_messages.specs.declared.inbox.ReadFault.TheVariants.{Source, Memory}
+use Rattle.http_messages.specs.declared.inbox.Arrival.{Arrival}
+use Rattle.http_messages.specs.declared.inbox.Arrival.TheVariants as arrival
+
+-- ---- reading
+
+-- The source gave a piece, which stands behind what was there.
+pub record ReadBehind (left_old left_new : Option (List ℕ)) (failed_old failed_new : ℕ) (old new : List ℕ) : Type 0 where
+  pub piece : List ℕ
+  pub read : left_old ≡ prepend_known piece left_new
+  pub behind : new ≡ old ++ piece
+  pub count : failed_new ≡ failed_old
+
+-- what a fault says of the source's count of failures
+abbrev pub CauseOf : ReadFault → ℕ → ℕ → Type 0
+CauseOf Source failed_old failed_new = RoseOrStands failed_old failed_new
+CauseOf Memory failed_old failed_new = failed_new ≡ failed_old
+
+-- Reading broke off behind some bytes.
+pub record WasCutOff (left_old left_new : Option (List ℕ)) (failed_old failed_new : ℕ) (fault : ReadFault) : Type 0 where
+  pub piece : List ℕ
+  pub read : left_old ≡ prepend_known piece left_new
+  pub cause : CauseOf fault failed_old failed_new
+
+-- ---- what stands at the front
+
+-- what a message asks whose head these bytes are
+abbrev pub asking_with : Option Head → List ℕ → Asking
+asking_with None body = ending Malformed
+asking_with (Some head) body = asking_of head body
+
+-- what the first message asks, by how many bytes its head and its body have
+abbrev pub asking_in : List ℕ → ℕ → ℕ → Asking
+asking_in bytes head body = asking_with (head_of (take head bytes)) (take body (drop head bytes))
+
+-- the first message fails a test that ends the connection
+abbrev pub IsRefused : List ℕ → Refusal → Type 0
+IsRefused bytes refusal = first_step bytes ≡ step (ending refusal) []
+
+-- whatever follows, or as the bytes stand, where nothing follows
+pub data RefusedNow (left : Option (List ℕ)) (bytes : List ℕ) (refusal : Refusal) : Type 0 where
+  whatever_follows : ((rest : List ℕ) → IsRefused (bytes ++ rest) refusal) → RefusedNow left bytes refusal
+  at_the_end : IsAtEnd left → IsRefused bytes refusal → RefusedNow left bytes refusal
+
+-- The bytes that were read, and those that a source has left: there are none; or the first message is refused; or it is whole, and is
+-- the stream's first message whatever follows.
+abbrev pub Arrives : Option (List ℕ) → List ℕ → Arrival → Type 0
+Arrives left bytes arrival.End = (bytes ≡ []) × IsAtEnd left
+Arrives left bytes (arrival.Refused refusal) = (0 < length bytes) × RefusedNow left bytes refusal
+Arrives left bytes (arrival.Message head body) =
+    (0 < length bytes) × (head + body ≤ length bytes)
+    × ((rest : List ℕ) → first_step (bytes ++ rest) ≡ step (asking_in bytes head body) (drop (head + body) bytes ++ rest))
+
+-- ---- a head, and the body that it wants
+
+-- behind this head a body of this size is read; the stream may end in it
+pub record WantsBody (head : Option Head) (size : ℕ) : Type 0 where
+  pub whole : (behind : List ℕ) → size ≤ length behind → with_head head behind ≡ step (asking_with head (take size behind)) (drop size behind)
+  pub short : (behind : List ℕ) → length behind < size → with_head head behind ≡ step (ending Malformed) []
+
+abbrev pub RefusesHead : Option Head → Refusal → Type 0
+RefusesHead head refusal = (behind : List ℕ) → with_head head behind ≡ step (ending refusal) []

@@ -1,0 +1,234 @@
+//! What was read of a stream, and the messages in it.
+ghost use Rattle.std.specs.Prelude.{◌≡◌, ◌+◌, ◌<◌, ◌≤◌, nat_le, nat_lt, [], length, take, drop, true, false, None, IfSome, IfOk, OnOk, IfErr, OnErr, option_map, if◌then◌else◌};
+ghost use Rattle.units.specs.Streams.{IsAtEnd};
+ghost use Rattle.http_heads.specs.Heads.{head_of};
+ghost use Rattle.http_answers.specs.declared.refusal.Refusal.TheVariants.{LongHead, Malformed};
+ghost use Rattle.http_questions.specs.Asked.{body_limit};
+ghost use Rattle.http_questions.specs.Askings.{IsAsking, MayTakeMemory};
+ghost use Rattle.http_questions.specs.Streams.{head_limit, first_head};
+ghost use Rattle.http_messages.specs.Arrivals.{ReadBehind, WasCutOff, asking_in, WantsBody, RefusesHead, Arrives};
+ghost use Rattle.http_messages.specs.declared.inbox.Arrival.TheVariants.{Refused, End};
+
+use http_answers::Refusal;
+use http_heads::{Head, head_length};
+use http_questions::{Asked, Asking, asking_of, body_size};
+use std::alloc::{AllocError, Global};
+use std::marker::Model;
+use thiserror::Error;
+use units::{ByteSource, SourceFault};
+
+/// How many bytes a head has at most.
+const HEAD_LIMIT: usize = 8_192;
+
+const ROOM: usize = 16_384;
+
+/// Why no message was read.
+#[derive(Clone, Copy, Debug, Drop, PartialEq, Eq, Error)]
+pub enum ReadFault {
+    /// A read of the source failed.
+    #[error("the source failed")]
+    Source,
+    /// A growth was refused.
+    #[error("out of memory")]
+    Memory,
+}
+
+impl From<SourceFault> for ReadFault {
+    ghost use Rattle.std.specs.Prelude.{◌≡◌};
+    ghost use Rattle.http_messages.specs.declared.inbox.ReadFault.TheVariants.{Source};
+
+    ghost from_gives = { λ _ e. e ≡ Source };
+
+    fn from(_fault: SourceFault) -> ReadFault {
+        ReadFault::Source
+    }
+}
+
+impl From<AllocError> for ReadFault {
+    ghost use Rattle.std.specs.Prelude.{◌≡◌};
+    ghost use Rattle.http_messages.specs.declared.inbox.ReadFault.TheVariants.{Memory};
+
+    ghost from_gives = { λ _ e. e ≡ Memory };
+
+    fn from(_refused: AllocError) -> ReadFault {
+        ReadFault::Memory
+    }
+}
+
+/// What stands at the front of what was read.
+#[derive(Clone, Copy, Debug, Drop, PartialEq, Eq)]
+pub enum Arrival {
+    /// Nothing: the stream has ended.
+    End,
+    /// Bytes that fail a test before any route counts, or a message that the stream ended in. The connection ends.
+    Refused(Refusal),
+    /// A message, by how many bytes its head and its body have.
+    Message { head: usize, body: usize },
+}
+
+/// There was no memory to read what a message asks.
+#[derive(Clone, Copy, Debug, Drop, PartialEq, Eq)]
+pub struct Unread {
+    /// Whether the connection ends behind it.
+    pub ends: bool,
+}
+
+/// What was read of a stream, and not yet taken off.
+#[derive(Drop)]
+pub struct Inbox {
+    bytes: Vec<u8>,
+}
+
+impl Model for Inbox {
+    ghost use Rattle.std.specs.Prelude.{List, ℕ};
+
+    ghost Value = { List ℕ };
+
+    ghost view = { λ inbox. inbox.bytes.items };
+}
+
+impl Inbox {
+    /// Nothing was read yet.
+    pub fn new(alloc: Global) -> Inbox
+        ensures { result ≡ [] }
+    {
+        Inbox {
+            bytes: Vec::new(alloc),
+        }
+    }
+
+    /// Reads once. Tells whether there was anything to read.
+    fn read_some<R: ByteSource>(&mut self, source: &mut R) -> Result<bool, ReadFault>
+        ensures read { OnOk result (ReadBehind (R.left source.old) (R.left source.new) (R.failed source.old) (R.failed source.new) self.old self.new) }
+        ensures some { IfOk result (λ more. more ≡ true → length self.old < length self.new) }
+        ensures none { IfOk result (λ more. more ≡ false → self.new ≡ self.old) }
+        ensures end { IfOk result (λ more. more ≡ false → IsAtEnd (R.left source.new)) }
+        ensures fault { IfErr result (WasCutOff (R.left source.old) (R.left source.new) (R.failed source.old) (R.failed source.new)) }
+    {
+        let mut room = [0u8; ROOM];
+        let count = source.read(&mut room)?;
+        self.bytes.extend_from_slice(&room[..count])?;
+        Ok(count > 0)
+    }
+
+    /// How many bytes the head at the front has, if one ends within the limit.
+    fn head_end(&self) -> Option<usize>
+        ensures cut { option_map (λ n. take n self.now) result ≡ first_head self.now }
+        ensures within { IfSome result (λ n. n ≤ length self.now) }
+        ensures most { IfSome result (λ n. n ≤ head_limit) }
+    {
+        let limit = HEAD_LIMIT.min(self.bytes.len());
+        head_length(&self.bytes[..limit])
+    }
+
+    /// Reads until a head ends at the front, or there are too many bytes for one. Tells whether it came so far before the source's end.
+    fn read_head<R: ByteSource>(&mut self, source: &mut R) -> Result<bool, ReadFault>
+        ensures read { OnOk result (ReadBehind (R.left source.old) (R.left source.new) (R.failed source.old) (R.failed source.new) self.old self.new) }
+        ensures whole { IfOk result (λ more. more ≡ true → first_head self.new ≡ None → head_limit ≤ length self.new) }
+        ensures end { IfOk result (λ more. more ≡ false → IsAtEnd (R.left source.new)) }
+        ensures fault { IfErr result (WasCutOff (R.left source.old) (R.left source.new) (R.failed source.old) (R.failed source.new)) }
+    {
+        while self.bytes.len() < HEAD_LIMIT && self.head_end().is_none() {
+            if !self.read_some(source)? {
+                return Ok(false);
+            }
+        }
+        Ok(true)
+    }
+
+    /// Reads until there are so many bytes. Tells whether it came so far before the source's end.
+    fn read_up_to<R: ByteSource>(&mut self, source: &mut R, most: usize) -> Result<bool, ReadFault>
+        ensures read { OnOk result (ReadBehind (R.left source.old) (R.left source.new) (R.failed source.old) (R.failed source.new) self.old self.new) }
+        ensures whole { IfOk result (λ more. more ≡ true → most ≤ length self.new) }
+        ensures short { IfOk result (λ more. more ≡ false → length self.new < most) }
+        ensures end { IfOk result (λ more. more ≡ false → IsAtEnd (R.left source.new)) }
+        ensures fault { IfErr result (WasCutOff (R.left source.old) (R.left source.new) (R.failed source.old) (R.failed source.new)) }
+    {
+        while self.bytes.len() < most {
+            if !self.read_some(source)? {
+                return Ok(false);
+            }
+        }
+        Ok(true)
+    }
+
+    /// How many bytes the body behind this head has.
+    fn body_behind(&self, head: usize) -> Result<usize, Refusal>
+        requires within { head ≤ length self.now }
+        ensures ok { IfOk result (WantsBody (head_of (take head self.now))) }
+        ensures err { IfErr result (RefusesHead (head_of (take head self.now))) }
+        ensures most { IfOk result (λ size. size ≤ body_limit) }
+    {
+        let Some(head) = Head::read(&self.bytes[..head]) else {
+            return Err(Refusal::Malformed);
+        };
+        Ok(body_size(&head)? as usize)
+    }
+
+    /// What stands there where no head ends in the bytes.
+    fn without_head(&self) -> Arrival
+        ensures { result ≡ (if nat_le head_limit (length self.now) then Refused LongHead else if nat_lt 0 (length self.now) then Refused Malformed else End) }
+    {
+        if self.bytes.len() >= HEAD_LIMIT {
+            Arrival::Refused(Refusal::LongHead)
+        } else if self.bytes.is_empty() {
+            Arrival::End
+        } else {
+            Arrival::Refused(Refusal::Malformed)
+        }
+    }
+
+    /// Reads until a message stands at the front, whole or refused, or the source ends. What was read behind it stays.
+    ///
+    /// An error where a read failed, or where a growth was refused: then bytes may be lost, and nothing more should be read.
+    pub fn read_message<R: ByteSource>(&mut self, source: &mut R) -> Result<Arrival, ReadFault>
+        ensures read { OnOk result (ReadBehind (R.left source.old) (R.left source.new) (R.failed source.old) (R.failed source.new) self.old self.new) }
+        ensures arrives { IfOk result (Arrives (R.left source.new) self.new) }
+        ensures fault { IfErr result (WasCutOff (R.left source.old) (R.left source.new) (R.failed source.old) (R.failed source.new)) }
+    {
+        let _more = self.read_head(source)?;
+        let Some(head) = self.head_end() else {
+            return Ok(self.without_head());
+        };
+        let body = match self.body_behind(head) {
+            Ok(size) => size,
+            Err(refusal) => return Ok(Arrival::Refused(refusal)),
+        };
+        if !self.read_up_to(source, head + body)? {
+            return Ok(Arrival::Refused(Refusal::Malformed));
+        }
+        Ok(Arrival::Message { head, body })
+    }
+
+    /// What the message asks that stands at the front with so many bytes of its head and its body.
+    ///
+    /// An error where a growth was refused: then the message fails no test but the last, by which a part of it may be malformed.
+    pub fn asking(&self, alloc: Global, head: usize, body: usize) -> Result<Asking<'_>, Unread>
+        requires within { head + body ≤ length self.now }
+        ensures asking { IfOk result (λ asking. IsAsking asking (asking_in self.now head body)) }
+        ensures memory { OnErr result (MayTakeMemory (asking_in self.now head body).asked) }
+        ensures ends { IfErr result (λ unread. unread.ends ≡ (asking_in self.now head body).ends) }
+    {
+        let (front, behind) = self.bytes.split_at(head);
+        let Some(head) = Head::read(front) else {
+            return Ok(Asking {
+                asked: Asked::Refused(Refusal::Malformed),
+                ends: true,
+            });
+        };
+        match asking_of(alloc, &head, &behind[..body]) {
+            Ok(asking) => Ok(asking),
+            Err(_) => Err(Unread {
+                ends: head.closes(),
+            }),
+        }
+    }
+
+    /// Takes bytes off the front.
+    pub fn take_off(&mut self, count: usize)
+        requires { count ≤ length self.old }
+        ensures { self.new ≡ drop count self.old }
+    {
+        self.bytes.drain(..count);
+    }
+}
