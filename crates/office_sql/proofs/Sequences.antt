@@ -1,9 +1,11 @@
 -- One step of a transaction after another.
-use Rattle.std.proofs.Common.{Result, Ok, Err, OnOk, IfOk, subst, ◌∙◌, arith}
+use Rattle.std.proofs.Common.{List, Result, Ok, Err, OnOk, IfOk, subst, ◌∙◌, arith}
 use Rattle.std.specs.Result.{IsErr}
 use Rattle.sqlite.specs.Effect.{Database}
 use Rattle.sqlite.specs.State.{State, HasCleanDisk, Survives, KeepsCommit}
 use Rattle.sqlite.proofs.StateLemmas.{survives_then}
+use Rattle.sqlite.specs.Table.{Table}
+use Rattle.office_sql.specs.Creation.{IsBegun, CreatesInside}
 use Rattle.office_sql.specs.Inside.{IsSteady, StaysInside, IsInside, IsRead, Then}
 
 module _ (a b c : State) where
@@ -68,6 +70,27 @@ module _ (a b c : State) where
     survives = survives_all one.survives two.survives;
   }
 
+  -- tables after tables
+  pub creates_both : {A B D E : Type 0} (x : A) (y : B) (z : D) (first second : List Table)
+      → CreatesInside {E = E} a b (Ok x) first → CreatesInside {E = E} b c (Ok y) second → CreatesInside {E = E} a c (Ok z) second
+  creates_both x y z first second one two = record {
+    made = two.made;
+    stays = λ clean. stays_both (one.stays (before two.survives clean)) (two.stays clean);
+    kept = keeps_both (before two.survives) one.kept two.kept;
+    survives = survives_all one.survives two.survives;
+  }
+
+  -- an error behind tables, of those that follow
+  pub creates_fails : {A B C D E : Type 0} (x : A) (r : Result B E) (given : Result C D) (first second third : List Table) → IsErr given
+      → CreatesInside {E = E} a b (Ok x) first → CreatesInside b c r second → CreatesInside a c given third
+  creates_fails x r (Ok y) first second third is one two = absurd (let none = is in cc)
+  creates_fails x r (Err e) first second third is one two = record {
+    made = λ clean. tt;
+    stays = λ clean. tt;
+    kept = keeps_both (before two.survives) one.kept two.kept;
+    survives = survives_all one.survives two.survives;
+  }
+
 -- an error behind three queries
 pub fails_third : {A B C D E : Type 0} (a b c d : State) (x : A) (y : B) (r : Result C E) (given : Result D E) (P : Database → A → Type 0) (Q : Database → B → Type 0)
     (R : Database → C → Type 0) (T : Database → D → Type 0) → IsErr given → IsRead {E = E} a b (Ok x) P → IsRead {E = E} b c (Ok y) Q → IsRead c d r R → IsRead a d given T
@@ -86,6 +109,10 @@ module _ (a b : State) where
 
   pub steady_write : {A E : Type 0} (x : A) (P : Database → Database → Type 0) → IsInside {E = E} a b (Ok x) P → IsSteady b
   steady_write x P one = record { inside = λ clean. (one.stays clean).inside; ready = λ clean is_open. one.ready clean }
+
+  -- behind tables others may follow
+  pub begun_next : {A E : Type 0} (x : A) (tables : List Table) → CreatesInside {E = E} a b (Ok x) tables → IsBegun tables b
+  begun_next x tables one = record { inside = λ clean. (one.stays clean).inside; has = λ clean is_open. one.made clean }
 
   -- a step that failed
   pub read_failed : {A B E : Type 0} (e : E) (P : Database → A → Type 0) (Q : Database → B → Type 0) → IsRead a b (Err e) P → IsRead a b (Err e) Q

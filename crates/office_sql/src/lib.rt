@@ -4,17 +4,16 @@
 //! said of values is said while the disk returns what was written.
 #![tactic(auto)]
 
-pub mod commits;
 pub mod create;
 pub mod languages;
 pub mod look_ups;
 pub mod office_reads;
 pub mod policy;
-pub mod record_reads;
+mod record_reads;
 pub mod records;
 pub mod suggestions;
 pub mod team;
 pub mod template;
-pub mod unit_reads;
+mod unit_reads;
 pub mod units;
 pub mod votes;

@@ -7,7 +7,10 @@ ghost use Rattle.office_sql.specs.Answers.{ShowsLanguage, ShowsMember, ShowsPoli
 use sqlite::{Alter, Error, Row, Transaction, params};
 
 /// The role of a member of the team. None, where the team has nobody of that name.
-pub fn find_member<S: Alter>(tx: &mut Transaction<'_, S>, name: &str) -> Result<Option<Row>, Error>
+pub(crate) fn find_member<S: Alter>(
+    tx: &mut Transaction<'_, S>,
+    name: &str,
+) -> Result<Option<Row>, Error>
     requires steady { IsSteady (state S.Store tx.old.conn.now) }
     ensures same_reference { tx.new.conn.ghost_name ≡ tx.old.conn.ghost_name }
     ensures found { IsRead (state S.Store tx.old.conn.now) (state S.Store tx.new.conn.now) result
@@ -18,7 +21,7 @@ pub fn find_member<S: Alter>(tx: &mut Transaction<'_, S>, name: &str) -> Result<
 }
 
 /// The header and the plural rule of a language. None, where the office has no such language.
-pub fn find_language<S: Alter>(
+pub(crate) fn find_language<S: Alter>(
     tx: &mut Transaction<'_, S>,
     lang: &str,
 ) -> Result<Option<Row>, Error>
