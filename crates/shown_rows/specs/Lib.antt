@@ -1,1 +1,2 @@
 pub mod ShownFound
+pub mod TablesRead

@@ -1,9 +1,11 @@
 -- What the rows that a look at a unit shows stand for.
-use Rattle.std.specs.Prelude.{◌≡◌, Option, Some, None, map, option_map, unwrap_or}
+use Rattle.std.specs.Prelude.{◌≡◌, [], Option, Some, None, map, option_map, unwrap_or}
 use Rattle.sqlite.specs.Order.{Row}
+use Rattle.po_read.specs.Texts.{Text}
 use Rattle.po_read.specs.declared.entry.Entry.{Entry}
 use Rattle.plural_expr.specs.Trees.{number}
 use Rattle.plural_expr.specs.Values.{Rule}
+use Rattle.units.specs.Openings.{plain_entry}
 use Rattle.units.specs.Rules.{by_result, rule_in}
 use Rattle.units.specs.declared.unit.Key.{Key}
 use Rattle.units.specs.declared.unit.Role.{Role}
@@ -11,6 +13,7 @@ use Rattle.units.specs.declared.unit.Role.TheVariants.{Guest}
 use Rattle.units.specs.declared.unit.Suggestion.{Suggestion}
 use Rattle.units.specs.declared.unit.UnitView.{UnitView}
 use Rattle.deliveries.specs.declared.values.Found.{Found}
+use Rattle.row_values.specs.Readings.{header_read}
 use Rattle.office_sql.specs.declared.look_ups.SuggestionRows.{SuggestionRows}
 use Rattle.office_sql.specs.declared.look_ups.UnitRows.{UnitRows}
 use Rattle.office_sql.specs.declared.look_ups.ViewRows.{ViewRows}
@@ -30,6 +33,10 @@ suggestion_shown rows = record {
 
 abbrev pub rule_of_header : Entry → Rule
 rule_of_header header = by_result (λ fault. record { count = 1; tree = number 0 }) (λ rule. rule) (rule_in (Some header))
+
+-- of the text of a header's column
+abbrev pub rule_of_column : Text → Rule
+rule_of_column column = rule_of_header (unwrap_or (header_read column) (plain_entry [] []))
 
 -- of a language's row
 abbrev pub shown_rule : Row → Rule

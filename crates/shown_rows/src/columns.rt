@@ -1,8 +1,10 @@
 //! Columns of rows that are shown, as they are read.
-ghost use Rattle.std.specs.Prelude.{◌≡◌, IfOk, unwrap_or};
+ghost use Rattle.std.specs.Prelude.{◌≡◌, ◌↔◌, true, IfOk, unwrap_or};
+ghost use Rattle.sqlite.specs.Order.{column};
+ghost use Rattle.sqlite.specs.declared.types.Value.TheVariants.{Text as Words};
 ghost use Rattle.request_book.specs.Acts.{IsNumber};
 ghost use Rattle.row_values.specs.Readings.{previous_read};
-ghost use Rattle.units.specs.Units.{no_previous};
+ghost use Rattle.units.specs.Units.{no_previous as nothing_previous};
 ghost use Rattle.office_sql.specs.Keys.{text_at};
 ghost use Rattle.office_in_rows.specs.Meaning as meaning;
 ghost use Rattle.office_in_rows.specs.Values as values;
@@ -10,18 +12,32 @@ ghost use Rattle.office_in_rows.specs.Values as values;
 use crate::faults::Failure;
 use po_read::{Forms, Items, PoString, Previous, Text};
 use row_values::{
-    accept_at_from, flag_from, forms_from, name_from, number_from, plural_from, previous_from,
-    revision_from, role_from, state_from, texts_from, vote_from,
+    accept_at_from, flag_from, forms_from, key_from, lang_from, name_from, number_from,
+    plural_from, previous_from, revision_from, role_from, state_from, texts_from, vote_from,
 };
 use sqlite::Row;
+use sqlite::types::ValueRef;
 use std::alloc::Global;
-use units::{AcceptAt, Name, Revision, Role, UnitState, VoteValue};
+use units::{AcceptAt, Key, Lang, Name, Revision, Role, UnitState, VoteValue, no_previous};
 use uuid::Uuid;
 
-/// The list of texts in a column.
+/// Whether a column is this text.
+pub(crate) fn is_text(row: &Row, at: usize, text: &str) -> bool
+    ensures { (result ≡ true) ↔ (column row.now at ≡ Words text.now) }
+{
+    match row.get_ref(at) {
+        Ok(ValueRef::Text(bytes)) => bytes == text.as_bytes(),
+        _ => false,
+    }
+}
+
+/// The list of texts in a column. Most are empty, and need no reading.
 pub(crate) fn texts_at(alloc: Global, row: &Row, at: usize) -> Result<Items<Text>, Failure>
     ensures { IfOk result (λ v. v ≡ values.texts_at at row.now) }
 {
+    if is_text(row, at, "[]") {
+        return Ok(Items::new(alloc));
+    }
     let column: String = row.get(at)?;
     Ok(texts_from(alloc, column.as_str())?)
 }
@@ -53,10 +69,29 @@ pub(crate) fn name_at(alloc: Global, row: &Row, at: usize) -> Result<Name, Failu
     Ok(name_from(alloc, column.as_str())?)
 }
 
-/// The previous strings in a column.
-pub(crate) fn previous_at(alloc: Global, row: &Row, at: usize) -> Result<Previous, Failure>
-    ensures { IfOk result (λ v. v ≡ unwrap_or (previous_read (text_at at row.now)) no_previous) }
+/// The language in a column.
+pub(crate) fn lang_at(alloc: Global, row: &Row, at: usize) -> Result<Lang, Failure>
+    ensures { IfOk result (λ v. v ≡ text_at at row.now) }
 {
+    let column: String = row.get(at)?;
+    Ok(lang_from(alloc, column.as_str())?)
+}
+
+/// The key in a column.
+pub(crate) fn key_at(alloc: Global, row: &Row, at: usize) -> Result<Key, Failure>
+    ensures { IfOk result (λ v. v ≡ meaning.key_at at row.now) }
+{
+    let column: String = row.get(at)?;
+    Ok(key_from(alloc, column.as_str())?)
+}
+
+/// The previous strings in a column, of which most have none.
+pub(crate) fn previous_at(alloc: Global, row: &Row, at: usize) -> Result<Previous, Failure>
+    ensures { IfOk result (λ v. v ≡ unwrap_or (previous_read (text_at at row.now)) nothing_previous) }
+{
+    if is_text(row, at, "[null,null,null]") {
+        return Ok(no_previous());
+    }
     let column: String = row.get(at)?;
     Ok(previous_from(alloc, column.as_str())?)
 }

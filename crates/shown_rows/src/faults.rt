@@ -4,6 +4,7 @@ use row_values::RowFault;
 use sqlite::{Error, ErrorCode};
 use std::alloc::{AllocError, AllocFailed};
 use tables::Lost;
+use units::Memory;
 
 /// Why a call answers nothing: what it comes to for the caller of tables.
 #[derive(Debug, Clone, Copy, Drop)]
@@ -29,6 +30,17 @@ impl<T: Drop> From<AllocFailed<T>> for Failure {
     ghost from_gives = { λ _ failure. failure.lost ≡ Memory };
 
     fn from(_refused: AllocFailed<T>) -> Failure {
+        Failure { lost: Lost::Memory }
+    }
+}
+
+impl From<Memory> for Failure {
+    ghost use Rattle.std.specs.Prelude.{◌≡◌};
+    ghost use Rattle.tables.specs.declared.faults.Lost.TheVariants.{Memory};
+
+    ghost from_gives = { λ _ failure. failure.lost ≡ Memory };
+
+    fn from(_refused: Memory) -> Failure {
         Failure { lost: Lost::Memory }
     }
 }

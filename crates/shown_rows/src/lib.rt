@@ -1,13 +1,19 @@
-//! What the rows that queries show stand for: a record, and what an act on a unit needs to know. Each reader answers what the
-//! definitions read off its rows, or fails; what a failure comes to is said here too.
+//! What the rows that queries show stand for: a record, what an act on a unit needs to know, and the whole office. Each reader answers
+//! what the definitions read off its rows, or fails; what a failure comes to is said here too.
 #![tactic(auto)]
 
 mod columns;
 mod faults;
+mod kept_rule;
+mod office_read;
+mod office_tables;
 mod records;
+mod unit_tables;
 mod units_read;
 mod views;
 
 pub use faults::Failure;
+pub use kept_rule::KeptRule;
+pub use office_read::office_in;
 pub use records::record_in;
 pub use views::found_in;

@@ -1,5 +1,5 @@
 //! A unit with its suggestions and their votes, and the template's entry of a key, as their rows are read.
-ghost use Rattle.std.specs.Prelude.{◌≡◌, [], ◌∷◌, IfOk, OnOk, map, unwrap_or};
+ghost use Rattle.std.specs.Prelude.{◌≡◌, [], ◌∷◌, ◌++◌, IfOk, OnOk, map, unwrap_or};
 ghost use Rattle.std.specs.FinMap as maps;
 ghost use Rattle.row_values.specs.Readings.{previous_read};
 ghost use Rattle.units.specs.Units.{no_previous as nothing_previous};
@@ -7,6 +7,7 @@ ghost use Rattle.office_sql.specs.Keys.{text_at};
 ghost use Rattle.office_in_rows.specs.Shown.{shown_votes, shown_entry, shown_unit};
 ghost use Rattle.office_in_rows.specs.Values as values;
 ghost use Rattle.shown_rows.specs.ShownFound.{suggestion_shown};
+ghost use Rattle.shown_rows.specs.TablesRead.{with_votes};
 
 use crate::columns::{
     flag_at, forms_at, name_at, number_at, plural_at, previous_at, revision_at, state_at, texts_at,
@@ -67,31 +68,43 @@ fn empty_form(alloc: Global) -> Result<Forms, Failure>
     }
 }
 
+/// A key, and the forms of what nobody has translated.
+fn untranslated(alloc: Global, key: &Key) -> Result<(Key, Forms), Failure>
+    ensures { IfOk result (λ v. v ≡ (key.now, [] ∷ [])) }
+{
+    let forms = empty_form(alloc)?;
+    Ok((key.duplicate()?, forms))
+}
+
 /// The template's entry of a key.
 pub(crate) fn entry_in(alloc: Global, key: &Key, row: &Row) -> Result<Entry, Failure>
     ensures { IfOk result (λ v. v ≡ shown_entry key.now row.now) }
 {
     let columns = entry_columns(alloc, row)?;
-    let forms = empty_form(alloc)?;
-    let key = key.duplicate()?;
-    Ok(Entry {
-        translator: Items::new(alloc),
-        extracted: columns.extracted,
-        references: columns.references,
-        flags: columns.flags,
-        previous: no_previous(),
-        ctx: key.ctx,
-        id: key.id,
-        plural: columns.plural,
-        forms,
-        obsolete: false,
-    })
+    match untranslated(alloc, key) {
+        Ok((key, forms)) => Ok(Entry {
+            translator: Items::new(alloc),
+            extracted: columns.extracted,
+            references: columns.references,
+            flags: columns.flags,
+            previous: no_previous(),
+            ctx: key.ctx,
+            id: key.id,
+            plural: columns.plural,
+            forms,
+            obsolete: false,
+        }),
+        Err(failure) => {
+            drop(columns);
+            Err(failure)
+        }
+    }
 }
 
 // ---- suggestions
 
 /// Puts in the vote of a row.
-fn put_vote(alloc: Global, votes: &mut Votes, row: &Row) -> Result<(), Failure>
+pub(crate) fn put_vote(alloc: Global, votes: &mut Votes, row: &Row) -> Result<(), Failure>
     ensures { OnOk result (votes.new ≡ maps.insert votes.old (text_at 0 row.now) (values.vote_at 1 row.now)) }
 {
     let voter = name_at(alloc, row, 0)?;
@@ -111,14 +124,13 @@ fn votes_in(alloc: Global, rows: &[Row]) -> Result<Votes, Failure>
     Ok(votes)
 }
 
-/// A suggestion with the votes on it.
-fn suggestion_in(alloc: Global, rows: &SuggestionRows) -> Result<Suggestion, Failure>
-    ensures { IfOk result (λ v. v ≡ suggestion_shown rows.now) }
+/// The suggestion of a row, with these votes on it.
+pub(crate) fn suggestion_with(alloc: Global, row: &Row, votes: Votes) -> Result<Suggestion, Failure>
+    ensures { IfOk result (λ v. v ≡ with_votes votes row.now) }
 {
-    let number = number_at(&rows.suggestion, 0)?;
-    let suggester = name_at(alloc, &rows.suggestion, 2)?;
-    let forms = forms_at(alloc, &rows.suggestion, 3)?;
-    let votes = votes_in(alloc, rows.votes.as_slice())?;
+    let number = number_at(row, 0)?;
+    let suggester = name_at(alloc, row, 2)?;
+    let forms = forms_at(alloc, row, 3)?;
     Ok(Suggestion {
         number,
         suggester,
@@ -127,16 +139,34 @@ fn suggestion_in(alloc: Global, rows: &SuggestionRows) -> Result<Suggestion, Fai
     })
 }
 
-/// The suggestions of rows.
-pub(crate) fn suggestions_in(
+/// A suggestion with the votes on it.
+fn suggestion_in(alloc: Global, rows: &SuggestionRows) -> Result<Suggestion, Failure>
+    ensures { IfOk result (λ v. v ≡ suggestion_shown rows.now) }
+{
+    let votes = votes_in(alloc, rows.votes.as_slice())?;
+    suggestion_with(alloc, &rows.suggestion, votes)
+}
+
+/// Puts the suggestion of a row behind those before it.
+fn push_suggestion(
     alloc: Global,
-    rows: &[SuggestionRows],
-) -> Result<Items<Suggestion>, Failure>
+    all: &mut Items<Suggestion>,
+    rows: &SuggestionRows,
+) -> Result<(), Failure>
+    ensures { OnOk result (all.new ≡ all.old ++ suggestion_shown rows.now ∷ []) }
+{
+    let suggestion = suggestion_in(alloc, rows)?;
+    all.push(suggestion)?;
+    Ok(())
+}
+
+/// The suggestions of rows.
+fn suggestions_in(alloc: Global, rows: &[SuggestionRows]) -> Result<Items<Suggestion>, Failure>
     ensures { IfOk result (λ v. v ≡ map suggestion_shown rows.now) }
 {
     let mut all = Items::new(alloc);
     for row in rows {
-        all.push(suggestion_in(alloc, row)?)?;
+        push_suggestion(alloc, &mut all, row)?;
     }
     Ok(all)
 }
@@ -195,7 +225,7 @@ fn unit_numbers(row: &Row) -> Result<UnitNumbers, Failure>
 }
 
 /// The unit of a key, with these suggestions.
-pub(crate) fn unit_in(
+pub(crate) fn unit_with(
     alloc: Global,
     key: &Key,
     row: &Row,
@@ -217,4 +247,17 @@ pub(crate) fn unit_in(
         previous: texts.previous,
         suggestions,
     })
+}
+
+/// The unit of a key, with the suggestions of these rows.
+pub(crate) fn unit_in(
+    alloc: Global,
+    key: &Key,
+    row: &Row,
+    suggestions: &[SuggestionRows],
+) -> Result<Unit, Failure>
+    ensures { IfOk result (λ v. v ≡ shown_unit key.now (map suggestion_shown suggestions.now) row.now) }
+{
+    let suggestions = suggestions_in(alloc, suggestions)?;
+    unit_with(alloc, key, row, suggestions)
 }

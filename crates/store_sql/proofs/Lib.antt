@@ -6,3 +6,4 @@ pub mod WritesInTurn
 pub mod Created
 pub mod ActsCommitted
 pub mod Made
+pub mod ChangesCommitted

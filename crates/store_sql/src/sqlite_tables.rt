@@ -5,7 +5,9 @@ ghost use Rattle.std.specs.FinMap as maps;
 ghost use Rattle.sqlite.specs.Held.{Held, held_code, state};
 ghost use Rattle.request_book.specs.Book.{row_of, with_record};
 ghost use Rattle.deliveries.specs.UnitAccess.{found_of, with_view};
+ghost use Rattle.deliveries.specs.OfficeChanges.{changed};
 ghost use Rattle.deliveries.specs.OfficeRules.{KeepsRules};
+ghost use Rattle.deliveries.specs.declared.values.Change.TheVariants.{OneRole, NewPolicy};
 ghost use Rattle.tables.specs.Kept.{IsKept};
 ghost use Rattle.tables.specs.Stops.{Nothing};
 ghost use Rattle.tables.specs.declared.faults.Lost.TheVariants.{Disk};
@@ -14,7 +16,7 @@ ghost use Rattle.store_sql.specs.Faults.{RefusesIn};
 ghost use Rattle.store_sql.specs.Kept.{KeepsOffice, is_honest, is_whole, means, may_leave, is_stopped};
 ghost use Rattle.store_sql.specs.Making.{AreMade, IsHandedBack};
 
-use crate::commits::commit_given;
+use crate::commits::{commit_given, commit_policy_given, commit_role_given};
 use crate::faults::OpenFault;
 use crate::making::make;
 use crate::records::read_record;
@@ -22,12 +24,12 @@ use crate::strings::key_fits;
 use crate::views::read_view;
 use deliveries::Found;
 use request_book::Record;
-use shown_rows::Failure;
+use shown_rows::{Failure, KeptRule};
 use sqlite::{Alter, Connection};
 use std::alloc::Global;
 use std::marker::Model;
 use tables::{Lost, Start};
-use units::{Key, Lang, Name, UnitView};
+use units::{Key, Lang, Name, Policy, Role, UnitView};
 use uuid::Uuid;
 
 /// An office with its book in the eight tables of a file.
@@ -36,6 +38,8 @@ pub struct SqliteTables<S: Alter> {
     /// A failure of the disk came: nothing is asked of the connection any more.
     stopped: bool,
     alloc: Global,
+    /// The plural rule that the last look read: what it is beside its columns is the type's own promise.
+    kept_rule: Option<KeptRule>,
 }
 
 impl<S: Alter> Model for SqliteTables<S> {
@@ -72,6 +76,7 @@ impl<S: Alter> SqliteTables<S> {
                 connection,
                 stopped: false,
                 alloc,
+                kept_rule: None,
             }),
             Err(fault) => Err((fault, connection)),
         }
@@ -86,7 +91,9 @@ impl<S: Alter> SqliteTables<S> {
             connection,
             stopped: _,
             alloc: _,
+            kept_rule,
         } = self;
+        drop(kept_rule);
         connection
     }
 
@@ -129,7 +136,14 @@ impl<S: Alter> SqliteTables<S> {
         if self.stopped {
             return Err(Lost::Disk);
         }
-        match read_view(&mut self.connection, self.alloc, lang, key, name) {
+        match read_view(
+            &mut self.connection,
+            self.alloc,
+            lang,
+            key,
+            name,
+            &mut self.kept_rule,
+        ) {
             Ok(found) => Ok(found),
             Err(failure) => Err(self.lost(failure)),
         }
@@ -156,6 +170,44 @@ impl<S: Alter> SqliteTables<S> {
         }
         key_fits(key);
         match commit_given(&mut self.connection, self.alloc, row, lang, view) {
+            Ok(()) => Ok(()),
+            Err(failure) => Err(self.lost(failure)),
+        }
+    }
+
+    /// Writes a request's record and a member's role, where a guest isn't in the team; or neither. The number must be new, and what the
+    /// commit leaves must keep the rules.
+    pub fn commit_role(&mut self, row: Record, name: &Name, role: Role) -> Result<(), Lost>
+        requires new { is_honest S.Store self.old → IsTrue (is_none (maps.get (means S.Store self.old).book row.number)) }
+        requires rules { is_honest S.Store self.old → KeepsRules (record { office = changed (means S.Store self.old).office (OneRole name.now role); book = with_record (means S.Store self.old).book row }) }
+        ensures done { is_honest S.Store self.new → OnOk result (means S.Store self.new ≡ record { office = changed (means S.Store self.old).office (OneRole name.now role); book = with_record (means S.Store self.old).book row }) }
+        ensures same { is_honest S.Store self.new → is_whole S.Store self.new → OnErr result (means S.Store self.new ≡ means S.Store self.old) }
+        ensures kept { IsKept (is_honest S.Store) (is_whole S.Store) (means S.Store) (may_leave S.Store) (is_stopped S.Store) self.old self.new result Disk
+            (λ m. m ≡ record { office = changed (means S.Store self.old).office (OneRole name.now role); book = with_record (means S.Store self.old).book row }) }
+    {
+        if self.stopped {
+            return Err(Lost::Disk);
+        }
+        match commit_role_given(&mut self.connection, self.alloc, row, name, role) {
+            Ok(()) => Ok(()),
+            Err(failure) => Err(self.lost(failure)),
+        }
+    }
+
+    /// Writes a request's record and the policy; or neither. Under a policy without reviews each approved unit becomes translated at its next
+    /// revision. The number must be new, and what the commit leaves must keep the rules.
+    pub fn commit_policy(&mut self, row: Record, policy: &Policy) -> Result<(), Lost>
+        requires new { is_honest S.Store self.old → IsTrue (is_none (maps.get (means S.Store self.old).book row.number)) }
+        requires rules { is_honest S.Store self.old → KeepsRules (record { office = changed (means S.Store self.old).office (NewPolicy policy.now); book = with_record (means S.Store self.old).book row }) }
+        ensures done { is_honest S.Store self.new → OnOk result (means S.Store self.new ≡ record { office = changed (means S.Store self.old).office (NewPolicy policy.now); book = with_record (means S.Store self.old).book row }) }
+        ensures same { is_honest S.Store self.new → is_whole S.Store self.new → OnErr result (means S.Store self.new ≡ means S.Store self.old) }
+        ensures kept { IsKept (is_honest S.Store) (is_whole S.Store) (means S.Store) (may_leave S.Store) (is_stopped S.Store) self.old self.new result Disk
+            (λ m. m ≡ record { office = changed (means S.Store self.old).office (NewPolicy policy.now); book = with_record (means S.Store self.old).book row }) }
+    {
+        if self.stopped {
+            return Err(Lost::Disk);
+        }
+        match commit_policy_given(&mut self.connection, self.alloc, row, policy) {
             Ok(()) => Ok(()),
             Err(failure) => Err(self.lost(failure)),
         }

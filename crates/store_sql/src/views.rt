@@ -9,18 +9,19 @@ ghost use Rattle.store_sql.specs.Kept.{KeepsOffice};
 use crate::strings::key_fits;
 use deliveries::Found;
 use office_sql::look_ups::look_up_view;
-use shown_rows::{Failure, found_in};
+use shown_rows::{Failure, KeptRule, found_in};
 use sqlite::{Alter, Connection};
 use std::alloc::Global;
 use units::{Key, Lang, Name};
 
-/// What an act on a unit needs to know. None, where the language isn't there.
+/// What an act on a unit needs to know. None, where the language isn't there. The plural rule that it has is kept for the next time.
 pub fn read_view<S: Alter>(
     connection: &mut Connection<S>,
     alloc: Global,
     lang: &Lang,
     key: &Key,
     name: &Name,
+    kept: &mut Option<KeptRule>,
 ) -> Result<Option<Found>, Failure>
     requires autocommit { connection.old.in_transaction ≡ false }
     requires keeps { KeepsOffice (state S.Store connection.old) }
@@ -30,6 +31,6 @@ pub fn read_view<S: Alter>(
     key_fits(key);
     let text = key.text(alloc)?;
     let rows = look_up_view(connection, lang.as_str(), text.as_str(), name.as_str())?;
-    let found = found_in(alloc, key, &rows)?;
+    let found = found_in(alloc, key, &rows, kept)?;
     Ok(found)
 }

@@ -1,0 +1,168 @@
+//! The team, the policy, the template and the languages of whole tables, put into an office.
+ghost use Rattle.std.specs.Prelude.{◌≡◌, IfOk, OnOk};
+ghost use Rattle.std.specs.FinMap as finite;
+ghost use Rattle.units.specs.Openings.{closed_policy};
+ghost use Rattle.office_maps.specs.Rows as maps_read;
+ghost use Rattle.office_maps.specs.OfficeIn.{office_in};
+ghost use Rattle.office_sql.specs.Keys.{text_at};
+ghost use Rattle.office_in_rows.specs.Values as values;
+ghost use Rattle.office_in_rows.specs.Meaning as meaning;
+ghost use Rattle.office_in_rows.specs.Shown.{shown_entry, shown_header};
+ghost use Rattle.office_at_hand.specs.OfficeShown.{team_shown, policy_shown, template_shown, headers_shown};
+
+use crate::columns::{key_at, lang_at, role_at};
+use crate::faults::Failure;
+use crate::units_read::entry_in;
+use crate::views::{header_in, policy_in};
+use deliveries::{Change, Language};
+use office_maps::OfficeMaps;
+use po_read::{Catalogue, Entry, Items};
+use row_values::rule_from;
+use sqlite::Row;
+use std::alloc::Global;
+use std::collections::BTreeMap;
+use tables::Lost;
+use template_update::{Counts, Plan};
+use units::Role;
+
+// ---- the team and the policy
+
+/// Puts in the member of a row.
+fn put_member(team: &mut BTreeMap<String, Role>, row: &Row) -> Result<(), Failure>
+    ensures { OnOk result (maps_read.team_in team.new ≡ finite.insert (maps_read.team_in team.old) (text_at 1 row.now) (values.role_at 0 row.now)) }
+{
+    let role = role_at(row, 0)?;
+    let name: String = row.get(1)?;
+    team.insert(name, role)?;
+    Ok(())
+}
+
+/// The team of rows.
+fn team_in(alloc: Global, rows: &[Row]) -> Result<BTreeMap<String, Role>, Failure>
+    ensures { IfOk result (λ team. maps_read.team_in team ≡ team_shown rows.now) }
+{
+    let mut team = BTreeMap::new(alloc);
+    for row in rows {
+        put_member(&mut team, row)?;
+    }
+    Ok(team)
+}
+
+/// Puts the team of rows in.
+pub(crate) fn put_team(alloc: Global, maps: &mut OfficeMaps, rows: &[Row]) -> Result<(), Failure>
+    ensures { OnOk result (office_in maps.new ≡ record (office_in maps.old) { team = team_shown rows.now }) }
+{
+    maps.team = team_in(alloc, rows)?;
+    Ok(())
+}
+
+/// Puts the policy of a row in the place of the closed one.
+pub(crate) fn put_policy(maps: &mut OfficeMaps, row: &Option<Row>) -> Result<(), Failure>
+    requires { (office_in maps.old).policy ≡ closed_policy }
+    ensures { OnOk result (office_in maps.new ≡ record (office_in maps.old) { policy = policy_shown row.now }) }
+{
+    match row {
+        Some(row) => {
+            maps.policy = policy_in(row)?;
+            Ok(())
+        }
+        None => Ok(()),
+    }
+}
+
+// ---- the template
+
+/// The template's entry of a row.
+fn template_entry(alloc: Global, row: &Row) -> Result<Entry, Failure>
+    ensures { IfOk result (λ entry. entry ≡ shown_entry (meaning.key_at 4 row.now) row.now) }
+{
+    let key = key_at(alloc, row, 4)?;
+    entry_in(alloc, &key, row)
+}
+
+/// The template's entries of rows.
+fn entries_in(alloc: Global, rows: &[Row]) -> Result<Vec<Entry>, Failure>
+    ensures { IfOk result (λ entries. entries.items ≡ template_shown rows.now) }
+{
+    let mut entries = Vec::new(alloc);
+    for row in rows {
+        entries.push(template_entry(alloc, row)?)?;
+    }
+    Ok(entries)
+}
+
+/// The template of rows.
+fn template_in(alloc: Global, rows: &[Row]) -> Result<Catalogue, Failure>
+    ensures { IfOk result (λ template. template ≡ template_shown rows.now) }
+{
+    let entries = entries_in(alloc, rows)?;
+    match Catalogue::try_new(alloc, entries)? {
+        Some(template) => Ok(template),
+        None => Err(Failure { lost: Lost::Disk }),
+    }
+}
+
+/// Puts the template of rows into an office without units.
+pub(crate) fn put_template(
+    alloc: Global,
+    maps: &mut OfficeMaps,
+    rows: &[Row],
+) -> Result<(), Failure>
+    requires { (office_in maps.old).units ≡ finite.empty }
+    ensures { OnOk result (office_in maps.new ≡ record (office_in maps.old) { template = template_shown rows.now }) }
+{
+    let template = template_in(alloc, rows)?;
+    maps.change(alloc, Change::NewTemplate(template, Vec::new(alloc)))?;
+    Ok(())
+}
+
+// ---- the languages
+
+/// The language of a row.
+fn language_in(alloc: Global, row: &Row) -> Result<Language, Failure>
+    ensures { IfOk result (λ language. language.header ≡ shown_header row.now) }
+{
+    let column: String = row.get(1)?;
+    let header = header_in(alloc, row)?;
+    match rule_from(alloc, &header, column.as_str()) {
+        Ok(rule) => Ok(Language { header, rule }),
+        Err(fault) => {
+            drop(header);
+            Err(Failure::from(fault))
+        }
+    }
+}
+
+/// Puts the language of a row in, without units.
+fn put_language(alloc: Global, maps: &mut OfficeMaps, row: &Row) -> Result<(), Failure>
+    ensures { OnOk result (office_in maps.new
+        ≡ record (office_in maps.old) { headers = finite.insert (office_in maps.old).headers (text_at 2 row.now) (shown_header row.now) }) }
+{
+    let lang = lang_at(alloc, row, 2)?;
+    let language = language_in(alloc, row)?;
+    let plan = Plan {
+        units: Items::new(alloc),
+        counts: Counts::Loaded {
+            loaded: 0,
+            missing: 0,
+            obsolete: 0,
+        },
+    };
+    maps.change(alloc, Change::NewLanguage(lang, language, plan))?;
+    Ok(())
+}
+
+/// Puts the languages of rows into an office without languages.
+pub(crate) fn put_languages(
+    alloc: Global,
+    maps: &mut OfficeMaps,
+    rows: &[Row],
+) -> Result<(), Failure>
+    requires { (office_in maps.old).headers ≡ finite.empty }
+    ensures { OnOk result (office_in maps.new ≡ record (office_in maps.old) { headers = headers_shown rows.now }) }
+{
+    for row in rows {
+        put_language(alloc, maps, row)?;
+    }
+    Ok(())
+}

@@ -1,0 +1,11 @@
+use Rattle.sqlite.specs.Held.{state}
+use Rattle.office_sql.proofs.Sequences.{writes_both, steady_write}
+use Rattle.store_sql.proofs.create.put_german.Goals as goal
+
+pub put_demo_unit-requires : goal.put_demo_unit-requires
+put_demo_unit-requires g c = record { steady = steady_write (state g.S.Store c.args.tx.now.conn.now) (state g.S.Store c.put_demo_language.new.tx.conn.now) _ _ c.in_ok-put_demo_language.ensures.put }
+
+pub returns-clause-put : goal.returns-clause-put
+returns-clause-put g c =
+    writes_both (state g.S.Store c.args.tx.now.conn.now) (state g.S.Store c.put_demo_language.new.tx.conn.now) (state g.S.Store c.put_demo_unit.new.tx.conn.now) _ _ _ _
+    c.in_ok-put_demo_language.ensures.put c.put_demo_unit.ensures.put
