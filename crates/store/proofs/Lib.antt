@@ -1,7 +1,2 @@
 pub mod Records
 pub mod Started
-pub mod EntriesCut
-pub mod Handings
-pub mod LanguageUnits
-pub mod Countings
-pub mod OfficeUnits

@@ -1,7 +1,6 @@
 -- What tables begin with keeps the rules.
 use Rattle.std.proofs.Common.{◌≡◌, sym, subst, ◌∙◌}
 use Rattle.std.specs.FinMap as maps
-use Rattle.request_book.specs.Book.{OfficeWithBook}
 use Rattle.deliveries.specs.OfficeRules.{KeepsRules}
 use Rattle.deliveries.proofs.rules.StartLemmas.{demo_starts, opening_starts}
 use Rattle.office_maps.specs.declared.office_maps.OfficeMaps.{OfficeMaps}

@@ -1,4 +1,2 @@
 pub mod Meanings
 pub mod Seen
-pub mod Handing
-pub mod Counting

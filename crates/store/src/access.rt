@@ -2,10 +2,9 @@
 
 ghost use Rattle.std.specs.Prelude.{◌≡◌, false, ⊤};
 
-use crate::counting::counts;
-use crate::handing::hand_entries;
 use crate::plain::PlainTables;
 use deliveries::{Change, Found};
+use office_entries::{counts, hand_entries};
 use office_maps::OfficeMaps;
 use request_book::Record;
 use tables::{Counts, EachFault, EntrySink, Lost, Tables};

@@ -2,13 +2,9 @@
 #![tactic(auto)]
 
 mod access;
-mod counting;
-mod entries;
-mod handing;
 mod maps;
 mod plain;
 mod start;
 
-pub use entries::{obsolete_entry, translated};
 pub use plain::PlainTables;
 pub use tables::{Counts, EachFault, EntrySink, Lost, Start, Tables};

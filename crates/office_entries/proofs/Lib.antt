@@ -1,0 +1,5 @@
+pub mod EntriesCut
+pub mod Handings
+pub mod LanguageUnits
+pub mod Countings
+pub mod OfficeUnits

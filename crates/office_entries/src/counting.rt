@@ -1,0 +1,110 @@
+//! How many units of a language are in each state.
+
+ghost use Rattle.std.specs.Prelude.{◌≡◌, ◌+◌, ◌<◌, ◌^◌, [], ◌∷◌, IfOk};
+ghost use Rattle.units.specs.Units as spec;
+ghost use Rattle.units.specs.Office.{entry_of, units_of};
+ghost use Rattle.units.specs.Offices.{IsOffice};
+ghost use Rattle.office_maps.specs.OfficeIn.{office_in};
+ghost use Rattle.tables.specs.Counts.{counts_in, counts_of};
+ghost use Rattle.office_entries.specs.Counting.{none_counted, plus, one_more, AreWithin};
+
+use office_maps::{OfficeMaps, OrderedKey, Place, Template};
+use std::alloc::{AllocError, Global};
+use tables::Counts;
+use units::{Lang, ShownState, Unit, has_flag};
+
+fn none_counted() -> Counts
+    ensures { result ≡ none_counted }
+{
+    Counts {
+        approved: 0,
+        needs_editing: 0,
+        obsolete: 0,
+        read_only: 0,
+        suggestions: 0,
+        translated: 0,
+        untranslated: 0,
+    }
+}
+
+/// Whether the template's entry of a key has the flag `read-only`.
+fn is_read_only(template: &Template, key: &OrderedKey) -> bool
+    ensures { result ≡ spec.is_read_only (entry_of template.now.catalogue key.now.key) }
+{
+    match template.entry_of(key) {
+        Some(entry) => has_flag("read-only", entry),
+        None => false,
+    }
+}
+
+/// What callers see as the state of a unit.
+fn shown_state(template: &Template, place: &Place, unit: &Unit) -> ShownState
+    ensures { unit.now.key ≡ place.now.key.key → result ≡ spec.shown_state (entry_of template.now.catalogue unit.now.key) unit.now }
+{
+    if is_read_only(template, &place.key) {
+        ShownState::ReadOnly
+    } else {
+        unit.shown_state(&None)
+    }
+}
+
+/// Raises a count, as far as there is room.
+fn raise(count: &mut usize, by: usize)
+    ensures { count.old + by < 2 ^ 64 → count.new ≡ count.old + by }
+{
+    *count = count.saturating_add(by);
+}
+
+fn add_shown(counts: &mut Counts, state: ShownState)
+    ensures { AreWithin counts.old → counts.new ≡ one_more state counts.old }
+{
+    match state {
+        ShownState::Untranslated => raise(&mut counts.untranslated, 1),
+        ShownState::NeedsEditing => raise(&mut counts.needs_editing, 1),
+        ShownState::Translated => raise(&mut counts.translated, 1),
+        ShownState::Approved => raise(&mut counts.approved, 1),
+        ShownState::ReadOnly => raise(&mut counts.read_only, 1),
+    }
+}
+
+/// Adds a unit, where it stands at its key's place and the counts have room.
+fn add(counts: &mut Counts, template: &Template, place: &Place, unit: &Unit)
+    ensures { unit.now.key ≡ place.now.key.key → AreWithin (plus counts.old (counts_in template.now.catalogue (unit.now ∷ [])))
+        → counts.new ≡ plus counts.old (counts_in template.now.catalogue (unit.now ∷ [])) }
+{
+    if unit.obsolete {
+        raise(&mut counts.obsolete, 1);
+        return;
+    }
+    raise(&mut counts.suggestions, unit.suggestions.as_slice().len());
+    add_shown(counts, shown_state(template, place, unit));
+}
+
+/// The counts of a language's units.
+fn count_units(alloc: Global, office: &OfficeMaps, lang: &Lang) -> Result<Counts, AllocError>
+    ensures { IsOffice (office_in office.now) → IfOk result
+        (λ counts. counts ≡ counts_in (office_in office.now).template (units_of (office_in office.now) lang.now)) }
+{
+    let first = Place::first_of(alloc, lang)?;
+    let mut counts = none_counted();
+    for (place, unit) in office.units.range(first..) {
+        if *lang != place.lang {
+            break;
+        }
+        add(&mut counts, &office.template, place, unit);
+    }
+    Ok(counts)
+}
+
+/// How many units of a language callers see in each state, of an office that keeps its rules; nothing where the language isn't there.
+/// It is one walk over the language's units, and copies none.
+///
+/// `AllocError` where a growth was refused.
+pub fn counts(alloc: Global, office: &OfficeMaps, lang: &Lang) -> Result<Option<Counts>, AllocError>
+    ensures { IsOffice (office_in office.now) → IfOk result (λ counts. counts ≡ counts_of (office_in office.now) lang.now) }
+{
+    if !office.has_language(lang) {
+        return Ok(None);
+    }
+    Ok(Some(count_units(alloc, office, lang)?))
+}

@@ -1,9 +1,0 @@
-use Rattle.std.proofs.Common.{map, drop}
-use Rattle.office_maps.specs.OfficeIn.{office_in}
-use Rattle.deliveries.specs.EntryTexts.{with_its_unit}
-use Rattle.store.specs.Handing.{HandedSoFar}
-use Rattle.store.proofs.handing.hand_template.Given as goal
-
-abbrev pub invariant-loop-entry : goal.invariant-loop-entry
-invariant-loop-entry g l =
-    HandedSoFar g.S.EntrySink.Took l.fn.sink l.sink (map (with_its_unit (office_in l.office) l.lang) l.entries) (map (with_its_unit (office_in l.office) l.lang) (drop l.entry-index l.entries))
