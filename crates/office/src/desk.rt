@@ -139,6 +139,8 @@ impl<T: Tables> Desk<T> {
         // Offices that alike lists lead to export equal bytes.
         ensures commuting { T.is_honest self.new → OnOk result
             (ExportsTheSame (T.means self.old).office lang.now (W.taken w.old) (W.taken w.new)) }
+        // No write failed.
+        ensures count { T.is_honest self.new → OnOk result (W.failed w.new ≡ W.failed w.old) }
         // What a stop may leave, and that only a failed disk answers `Disk`.
         ensures kept { IsKept T.is_honest T.is_whole T.means T.may_leave T.is_stopped self.old self.new result ExportDisk Nothing }
     {

@@ -42,6 +42,8 @@ pub(crate) fn export<T: Tables, W: ByteSink>(
     // Offices that alike lists lead to export equal bytes.
     ensures commuting { T.is_honest tables.new → OnOk result
         (ExportsTheSame (T.means tables.old).office lang.now (W.taken w.old) (W.taken w.new)) }
+    // No write failed.
+    ensures count { T.is_honest tables.new → OnOk result (W.failed w.new ≡ W.failed w.old) }
     ensures kept { IsKept T.is_honest T.is_whole T.means T.may_leave T.is_stopped tables.old tables.new result Disk Nothing }
 {
     let mut sink = ExportSink {

@@ -1,4 +1,4 @@
-use Rattle.std.proofs.Common.{rules, refl, subst, sym}
+use Rattle.std.proofs.Common.{◌≡◌, rules, refl, subst, sym}
 use Rattle.deliveries.specs.ExportText.{export_text}
 use Rattle.deliveries.specs.OfficeRules.{KeepsRules}
 use Rattle.tables.specs.Entries.{entries_of}
@@ -58,3 +58,8 @@ returns-clause-spelled g c = λ honest.
 pub returns-clause-commuting : goal.returns-clause-commuting
 returns-clause-commuting g c = λ honest.
     exports_the_same (g.T.Tables.means c.args.tables.now).office c.args.lang.now (g.W.ByteSink.taken c.args.w.now) _ _ (returns-clause-text g c honest)
+
+pub returns-clause-count : goal.returns-clause-count
+returns-clause-count g c = λ honest.
+    let same : g.W.ByteSink.failed c.each_entry.new.sink.w.now ≡ g.W.ByteSink.failed c.args.w.now = (c.in_ok-each_entry.ensures.all honest).1.sent.count in
+    search rules
