@@ -6,3 +6,8 @@ pub mod MembersSet
 pub mod PolicySet
 pub mod Renewals
 pub mod UnitsUnapproved
+pub mod TemplateEmptied
+pub mod Additions
+pub mod SuggestionsAdded
+pub mod UnitActions
+pub mod UnitsEmptied

@@ -1,2 +1,4 @@
 pub mod Taken
 pub mod Renewed
+pub mod Added
+pub mod Emptied
