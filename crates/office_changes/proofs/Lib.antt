@@ -10,4 +10,5 @@ pub mod TemplateEmptied
 pub mod Additions
 pub mod SuggestionsAdded
 pub mod UnitActions
+pub mod Orphans
 pub mod UnitsEmptied

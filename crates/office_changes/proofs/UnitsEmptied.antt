@@ -4,7 +4,6 @@ use Rattle.std.specs.List.{AllByRecursion}
 use Rattle.std.specs.List.Sorted.{IsPermutation}
 use Rattle.sqlite.specs.declared.types.Value.TheVariants.{Null}
 use Rattle.sqlite.specs.declared.error.Error.{Error}
-use Rattle.sqlite.specs.Order.{Row}
 use Rattle.sqlite_value.specs.Keys.{joined}
 use Rattle.sqlite.specs.Tree.{Trees}
 use Rattle.sqlite.specs.Term.{col}
@@ -22,7 +21,6 @@ use Rattle.sqlite_rules.specs.Action.{Writes}
 use Rattle.sqlite_rules.specs.Calls.{ids_of}
 use Rattle.sqlite_rules.specs.declared.error.Rowids.TheVariants.{Given}
 use Rattle.sqlite_rules.specs.Edit.{Edit, edit_of, taken_by}
-use Rattle.sqlite_rules.specs.Lists.{Has}
 use Rattle.sqlite_rules.proofs.ListLemmas.{all_from, all_has}
 use Rattle.keyed.specs.ApartRows.{AreApart, AreIdsOf, IsRemoved}
 use Rattle.keyed.specs.PlainQueries.{passes, shows}
@@ -35,6 +33,7 @@ use Rattle.office_sql.specs.Inside.{AreTables, IsReady, IsSteady, IsInside}
 use Rattle.office_sql.proofs.Steps.{executes_inside, one_changes, table_apart}
 use Rattle.office_sql.proofs.TableRows.{units, units_listed}
 use Rattle.office_changes.specs.Emptied.{EmptiesUnits}
+use Rattle.office_changes.proofs.Orphans.{none_left, no_suggestions, no_votes}
 use Rattle.office_changes.proofs.Removals.{query_of}
 use Rattle.office_changes.proofs.UnitActions.{units_set_off, leads_leave}
 
@@ -48,10 +47,6 @@ delete_is = refl
 delete_plain : IsPlain (understood office_schema delete_text)
 unfolding understood same_name joined everything
 delete_plain = (refl, refl)
-
-none_left : (rows : List Row) → ((x : Row) → Has rows x → ⊥) → rows ≡ []
-none_left [] none = refl
-none_left (x ∷ rows) none = absurd (none x (inl refl))
 
 module _ (old new : Trees) (ids : List ℤ) (tables : AreTables old) (are : AreIdsOf (λ row. true) (old unit_tree) ids) where
   abbrev edit : Edit
@@ -89,7 +84,10 @@ deletes old new count ready ran =
     answers_permuted unit_tree [] (col 1 0 ∷ []) (overlay db []) [] did.1 (did.2.answer Null) in
     let apart : AreApart (db unit_tree) = table_apart db 5 units refl ready.tables in
     let it = empties db new.now.trees (ids_of did.1) ready.tables (are_ids_of_answer [] [] (db unit_tree) did.1 apart answer) did.3 in
-    (record { units = it.0; others = it.1 }, record { schema = did.0; sound = w.sound; tables = it.2 })
+    let suggestions = no_suggestions new.now did.0 w.sound it.0 in (
+      record { units = it.0; suggestions = suggestions; votes = no_votes new.now did.0 w.sound suggestions; others = it.1 },
+      record { schema = did.0; sound = w.sound; tables = it.2 },
+    )
 
 pub empties_units : (old new : State) (r : Result ℕ Error) → IsSteady old → (HasCleanDisk new → IsTrue old.in_transaction → ExecutesInside 0 delete_text [] old new r) → Survives old new (λ _. ⊥)
     → IsInside old new r EmptiesUnits
