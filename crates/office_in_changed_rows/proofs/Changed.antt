@@ -6,7 +6,9 @@ use Rattle.std.specs.FinMap as maps
 use Rattle.sqlite.specs.Order.{Row}
 use Rattle.sqlite.specs.Effect.{Database}
 use Rattle.sqlite.specs.Tree.{Trees}
+use Rattle.sqlite_schema.specs.declared.schema.Table.{Table}
 use Rattle.sqlite_rules.specs.Lists.{Has}
+use Rattle.sqlite_rules.proofs.ListLemmas.{all_from, all_has}
 use Rattle.po_read.specs.Texts.{Text, text_cmp}
 use Rattle.units.specs.Office.{Office}
 use Rattle.units.specs.declared.unit.Role.{Role}
@@ -23,6 +25,14 @@ use Rattle.office_in_changed_rows.specs.Commits.{PutsNumberedRecord}
 -- the rows of each other table are as they were
 abbrev pub Spares : ℕ → Database → Database → Type 0
 Spares tree old new = AllByRecursion (λ t. t.tree ≢ tree → new.trees t.tree ≡ old.trees t.tree) office_schema.tables
+
+pub spares_same : (tree : ℕ) (old new : Database) → new ≡ old → Spares tree old new
+spares_same tree old new is = all_from (λ t. t.tree ≢ tree → new.trees t.tree ≡ old.trees t.tree) office_schema.tables (λ (t : Table) there apart. ap (λ (d : Database). d.trees t.tree) is)
+
+pub spares_both : (tree : ℕ) (old mid new : Database) → Spares tree old mid → Spares tree mid new → Spares tree old new
+spares_both tree old mid new one two = all_from (λ t. t.tree ≢ tree → new.trees t.tree ≡ old.trees t.tree) office_schema.tables (λ (t : Table) there apart.
+    all_has (λ (z : Table). z.tree ≢ tree → new.trees z.tree ≡ mid.trees z.tree) office_schema.tables t two there apart
+    ∙ all_has (λ (z : Table). z.tree ≢ tree → mid.trees z.tree ≡ old.trees z.tree) office_schema.tables t one there apart)
 
 abbrev trees_of : (units suggestions votes : List Row) → Trees
 trees_of units suggestions votes tree = cond (nat_eq tree unit_tree) units (cond (nat_eq tree suggestion_tree) suggestions votes)

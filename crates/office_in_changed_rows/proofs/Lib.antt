@@ -5,3 +5,8 @@ pub mod Policy
 pub mod States
 pub mod Units
 pub mod PolicyCommits
+pub mod AddedSuggestions
+pub mod PlannedUnits
+pub mod LanguageCommits
+pub mod Template
+pub mod TemplateCommits

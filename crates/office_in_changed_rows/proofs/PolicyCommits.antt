@@ -1,13 +1,11 @@
 -- What the commit of a policy makes of the office with its book.
-use Rattle.std.proofs.Common.{◌≡◌, ◌≢◌, List, map, Bool, true, false, if◌then◌else◌, pos, ◌+ℤ◌, refl, sym, ap, subst, ◌∙◌}
+use Rattle.std.proofs.Common.{◌≡◌, List, map, Bool, true, false, if◌then◌else◌, pos, ◌+ℤ◌, refl, sym, ap, subst, ◌∙◌}
 use Rattle.std.specs.FinMap as maps
 use Rattle.sqlite.specs.Order.{Row, column}
 use Rattle.sqlite.specs.Effect.{Database}
 use Rattle.sqlite_sql.specs.Ops.{fits_i64}
-use Rattle.sqlite_schema.specs.declared.schema.Table.{Table}
 use Rattle.sqlite_rules.specs.Edit.{id_in}
 use Rattle.sqlite_rules.specs.Lists.{Has}
-use Rattle.sqlite_rules.proofs.ListLemmas.{all_from}
 use Rattle.keyed.specs.ApartRows.{AreApart}
 use Rattle.units.specs.Changes.{unapproved, with_policy}
 use Rattle.units.specs.Office.{Place}
@@ -17,13 +15,13 @@ use Rattle.deliveries.specs.OfficeRules.{KeepsRules}
 use Rattle.request_book.specs.Book.{with_record}
 use Rattle.request_book.specs.declared.book.Record.{Record}
 use Rattle.office_sql.specs.Inside.{AreOfficeTables}
-use Rattle.office_sql.specs.Schema.{office_schema, policy_tree, unit_tree, suggestion_tree, vote_tree}
+use Rattle.office_sql.specs.Schema.{policy_tree, unit_tree, suggestion_tree, vote_tree}
 use Rattle.office_sql.proofs.Steps.{table_apart}
 use Rattle.office_sql.proofs.TableRows.{policies}
 use Rattle.office_changes.specs.Renewed.{is_approved_row, unapproved_row, AreRenewed, RenewsRows, UnapprovesUnits}
 use Rattle.office_in_rows.specs.Meaning.{AreNumbered, book_in, template_in, headers_in, team_in, policy_in, units_in, office_of_rows, meaning_in}
 use Rattle.office_in_changed_rows.specs.Commits.{PutsNumberedRecord, PutsPolicy, UnapprovesUnless, MakesPolicy}
-use Rattle.office_in_changed_rows.proofs.Changed.{Spares, units_same, suggestions_same, commits_change}
+use Rattle.office_in_changed_rows.proofs.Changed.{Spares, spares_same, units_same, suggestions_same, commits_change}
 use Rattle.office_in_changed_rows.proofs.Policy.{policy_put}
 use Rattle.office_in_changed_rows.proofs.Units.{entries_back, units_unapproved, has_next}
 
@@ -59,11 +57,8 @@ module _ (old mid next after : Database) (row : Record) (policy : Policy) (ready
   renewed_rows : UnapprovesUnits next after → RenewsRows unit_tree is_approved_row unapproved_row next after
   renewed_rows unapproves = unapproves (subst (λ (rows : List Row). (r : Row) → Has rows r → is_approved_row r ≡ true → fits_i64 (id_in (column r 7) +ℤ pos 1) ≡ true) (sym units_before) (λ r there approved. has_next old ready rules r there))
 
-  all_spared : after ≡ next → Spares unit_tree next after
-  all_spared is = all_from (λ t. t.tree ≢ unit_tree → after.trees t.tree ≡ next.trees t.tree) office_schema.tables (λ (t : Table) there apart. ap (λ (d : Database). d.trees t.tree) is)
-
   spares : (reviews : Bool) → UnapprovesUnless reviews next after → Spares unit_tree next after
-  spares true is = all_spared is
+  spares true is = spares_same unit_tree next after is
   spares false unapproves = (renewed_rows unapproves).others
 
   units_are : (reviews : Bool) (made : UnapprovesUnless reviews next after) → units_in after.trees ≡ maps.from_entries (

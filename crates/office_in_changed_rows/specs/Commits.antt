@@ -1,21 +1,34 @@
 -- What a commit of a change of an office makes of the tables: its request's record, whose number is 16 bytes, and the rows that the change
 -- writes.
-use Rattle.std.specs.Prelude.{◌≡◌, ℤ, pos, Bool, true, false, [], ◌∷◌, Option, Some, None}
+use Rattle.std.specs.Prelude.{◌≡◌, ℕ, ◌+◌, ℤ, pos, Bool, true, false, List, [], ◌∷◌, Option, Some, None, unwrap_or}
 use Rattle.sqlite.specs.declared.types.Value.TheVariants.{Null, Int, Text as Words}
 use Rattle.sqlite.specs.Order.{Row}
 use Rattle.sqlite.specs.Effect.{Database}
+use Rattle.po_read.specs.declared.entry.Entry.{Entry}
+use Rattle.po_read.specs.Strings.{is_forms}
 use Rattle.po_read.specs.Texts.{Text}
+use Rattle.units.specs.KeyTexts.{HasStrings}
+use Rattle.units.specs.Rules.{plural_field}
+use Rattle.units.specs.Units.{key_of, key_text}
 use Rattle.units.specs.declared.unit.Policy.{Policy}
 use Rattle.units.specs.declared.unit.Role.{Role}
+use Rattle.units.specs.declared.unit.Unit.{Unit}
+use Rattle.template_update.specs.declared.plans.Plan.{Plan}
+use Rattle.deliveries.specs.OfficeActs.{LanguagePlan}
+use Rattle.deliveries.specs.declared.values.Language.{Language}
 use Rattle.request_book.specs.Acts.{IsNumber}
 use Rattle.request_book.specs.declared.book.Record.{Record}
 use Rattle.row_values.specs.Numbers.{role_number, flag_number}
+use Rattle.row_values.specs.Written.{ArePrevious, texts_text, header_text}
 use Rattle.office_sql.specs.Inside.{PutsRow, HoldsValues, Then}
 use Rattle.office_sql.specs.Keys.{first_text, row_number, has_text}
-use Rattle.office_sql.specs.Schema.{record_tree, team_tree, policy_tree}
+use Rattle.office_sql.specs.Rows.{text_or_null}
+use Rattle.office_sql.specs.Schema.{record_tree, team_tree, policy_tree, template_tree, language_tree}
+use Rattle.office_changes.specs.Emptied.{EmptiesUnits}
 use Rattle.office_changes.specs.Renewed.{UnapprovesUnits}
 use Rattle.office_changes.specs.Taken.{TakesRows}
 use Rattle.office_in_rows.specs.Cells.{record_cells}
+use Rattle.office_in_changed_rows.specs.UnitWrites.{LeavesTables, WritesNumberedUnit, WritesUnits, WritesPlansBack}
 
 abbrev pub PutsNumberedRecord : Record → Database → Database → Type 0
 PutsNumberedRecord row old new = PutsRow record_tree first_text (HoldsValues (record_cells row)) old new × IsNumber row.number
@@ -51,3 +64,56 @@ WritesPolicy policy = Then (PutsPolicy policy) (UnapprovesUnless policy.reviews)
 
 abbrev pub MakesPolicy : Record → Policy → Database → Database → Type 0
 MakesPolicy row policy = Then (PutsNumberedRecord row) (WritesPolicy policy)
+
+-- ---- a unit
+
+abbrev pub WritesRecordAndUnit : Record → Text → Unit → Database → Database → Type 0
+WritesRecordAndUnit row lang unit = Then (PutsNumberedRecord row) (WritesNumberedUnit lang unit)
+
+-- ---- a language
+
+-- its code, its header, and the value of the header's field `Plural-Forms`
+abbrev pub language_cells : Text → Entry → Row
+language_cells lang header = Words lang ∷ Words (header_text header) ∷ Words (unwrap_or (plural_field (Some header)) []) ∷ []
+
+-- and the header's strings are those of a catalogue
+abbrev pub PutsLanguage : Text → Entry → Database → Database → Type 0
+PutsLanguage lang header old new =
+    LeavesTables (PutsRow language_tree first_text (HoldsValues (language_cells lang header))) old new × (is_forms header.forms ≡ true) × ArePrevious header.previous
+
+-- with its units
+abbrev pub WritesLanguage : Text → Entry → List Unit → Database → Database → Type 0
+WritesLanguage lang header units = Then (PutsLanguage lang header) (WritesUnits lang units)
+
+abbrev pub MakesLanguage : Record → Text → Language → Plan → Database → Database → Type 0
+MakesLanguage row lang language plan = Then (PutsNumberedRecord row) (WritesLanguage lang language.header plan.units)
+
+-- ---- a template
+
+-- its rowid is the entry's place, and the column of that name is null
+abbrev pub entry_row : ℕ → Entry → Row
+entry_row place entry =
+    Int (pos place) ∷ Null ∷ Words (key_text (key_of entry)) ∷ text_or_null entry.plural ∷ Words (texts_text entry.extracted) ∷ Words (texts_text entry.references) ∷ Words (texts_text entry.flags) ∷ []
+
+-- and the key's strings are those of a catalogue
+abbrev pub PutsEntry : ℕ → Entry → Database → Database → Type 0
+PutsEntry place entry old new = LeavesTables (PutsRow template_tree row_number (λ row. row ≡ entry_row place entry)) old new × HasStrings (key_of entry)
+
+-- from this place on
+abbrev pub PutsEntries : ℕ → List Entry → Database → Database → Type 0
+PutsEntries place [] old new = new ≡ old
+PutsEntries place (entry ∷ more) old new = Then (PutsEntry place entry) (PutsEntries (place + 1) more) old new
+
+-- in the place of the one that is there
+abbrev pub PutsTemplate : List Entry → Database → Database → Type 0
+PutsTemplate entries = Then (LeavesTables (TakesRows template_tree (λ row. true))) (PutsEntries 0 entries)
+
+-- the units of plans in the place of all that are there
+abbrev pub WritesPlans : List LanguagePlan → Database → Database → Type 0
+WritesPlans plans = Then (LeavesTables EmptiesUnits) (WritesPlansBack plans)
+
+abbrev pub WritesTemplate : List Entry → List LanguagePlan → Database → Database → Type 0
+WritesTemplate entries plans = Then (PutsTemplate entries) (WritesPlans plans)
+
+abbrev pub MakesTemplate : Record → List Entry → List LanguagePlan → Database → Database → Type 0
+MakesTemplate row entries plans = Then (PutsNumberedRecord row) (WritesTemplate entries plans)

@@ -1,1 +1,2 @@
+pub mod UnitWrites
 pub mod Commits
