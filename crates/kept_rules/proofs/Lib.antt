@@ -1,0 +1,4 @@
+pub mod Tests
+pub mod UnitTests
+pub mod TemplateTests
+pub mod ContentTests
