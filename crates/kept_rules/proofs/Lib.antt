@@ -2,3 +2,8 @@ pub mod Tests
 pub mod UnitTests
 pub mod TemplateTests
 pub mod ContentTests
+pub mod MapRows
+pub mod PlaceTests
+pub mod TeamTests
+pub mod LanguageTests
+pub mod OfficeTests

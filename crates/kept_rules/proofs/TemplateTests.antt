@@ -1,11 +1,10 @@
 -- What the tests of a template's entry tell.
-use Rattle.std.proofs.Common.{◌≡◌, List, [], ◌∷◌, Bool, true, false, not, ◌&&◌, refl, sym, ◌∙◌, ap, length}
+use Rattle.std.proofs.Common.{◌≡◌, [], ◌∷◌, Bool, true, false, not, ◌&&◌, refl, length}
 use Rattle.std.specs.Bool.{Decides}
 use Rattle.std.specs.Prelude.{◌==◌, codes}
-use Rattle.std.proofs.lemmas.Bool.Decides.{Decides-at, Decides-and}
+use Rattle.std.proofs.lemmas.Bool.Decides.{Decides-at}
 use Rattle.po_read.specs.declared.entry.Entry.{Entry}
 use Rattle.po_read.specs.Entries.{is_header}
-use Rattle.po_read.specs.Texts.{Text}
 use Rattle.units.specs.Offices.{IsTemplateEntry}
 use Rattle.units.specs.Units.{has_flag, no_previous}
 use Rattle.kept_rules.specs.Parts.{IsUntouched}

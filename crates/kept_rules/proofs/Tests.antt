@@ -1,5 +1,5 @@
 -- What several tests tell together.
-use Rattle.std.proofs.Common.{◌≡◌, ℕ, ◌+◌, ◌<◌, ◌≤◌, List, [], ◌∷◌, Bool, true, false, ◌&&◌, refl, sym, ◌∙◌, ap, subst, length, take, get_or}
+use Rattle.std.proofs.Common.{◌≡◌, ℕ, ◌+◌, ◌<◌, ◌≤◌, List, [], ◌∷◌, Bool, true, false, ◌&&◌, refl, sym, ◌∙◌, subst, length, take, get_or}
 use Rattle.std.specs.Bool.{Decides}
 use Rattle.std.specs.List.{list_all, AllByRecursion}
 use Rattle.std.specs.Prelude.{All}
@@ -33,3 +33,25 @@ all_passed P xs i past all = (λ e. All-same P xs (take i xs) (sym (take_all i x
 pub one_failed : {X : Type 0} (P : X → Type 0) (xs : List X) (i : ℕ) (x : X) (b : Bool) → i < length xs → x ≡ get_or xs i x → Decides b (P x) → b ≡ false → Decides false (All P xs)
 one_failed P xs i x b within is tells failed =
     (λ e. absurd (false≢true e), λ all. absurd (false≢true (sym failed ∙ tells.1 (subst P (sym is) (All-get_or P xs i x within all)))))
+
+-- ---- a walk that stops at the first of what is left that fails
+
+pub record IsLeft {X : Type 0} (P : X → Type 0) (rest all : List X) : Type 0 where
+  pub back : AllByRecursion P rest → AllByRecursion P all
+  pub on : AllByRecursion P all → AllByRecursion P rest
+
+pub left_begun : {X : Type 0} (P : X → Type 0) (rest all : List X) → rest ≡ all → IsLeft P rest all
+left_begun P rest all is = record { back = λ h. subst (AllByRecursion P) is h; on = λ h. subst (AllByRecursion P) (sym is) h }
+
+pub left_next : {X : Type 0} (P : X → Type 0) (rest next all : List X) (x : X) → rest ≡ x ∷ next → P x → IsLeft P rest all → IsLeft P next all
+left_next P rest next all x is here left = record {
+  back = λ h. left.back (subst (AllByRecursion P) (sym is) (here, h));
+  on = λ h. (subst (AllByRecursion P) is (left.on h)).1;
+}
+
+pub left_failed : {X : Type 0} (P : X → Type 0) (rest next all : List X) (x : X) (b : Bool) → rest ≡ x ∷ next → Decides b (P x) → b ≡ false → IsLeft P rest all → Decides false (AllByRecursion P all)
+left_failed P rest next all x b is tells failed left =
+    (λ e. absurd (false≢true e), λ h. absurd (false≢true (sym failed ∙ tells.1 (subst (AllByRecursion P) is (left.on h)).0)))
+
+pub left_passed : {X : Type 0} (P : X → Type 0) (rest all : List X) → rest ≡ [] → IsLeft P rest all → Decides true (AllByRecursion P all)
+left_passed P rest all is left = (λ e. left.back (subst (AllByRecursion P) (sym is) tt), λ h. refl)

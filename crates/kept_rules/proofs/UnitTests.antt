@@ -1,23 +1,23 @@
 -- What the tests of a unit tell.
-use Rattle.std.proofs.Common.{◌≡◌, ◌≤◌, ℕ, List, [], ◌∷◌, Bool, true, false, not, ◌&&◌, ◌||◌, eqb, leb, length, Option, Some, None, is_some, refl, sym, ◌∙◌, ap, IsTrue, arith}
+use Rattle.std.proofs.Common.{◌≡◌, ◌≤◌, ℕ, List, [], ◌∷◌, Bool, true, not, ◌&&◌, ◌||◌, length, Option, Some, None, is_some, refl, ◌∙◌, ap, IsTrue, arith}
 use Rattle.std.specs.Bool.{Decides}
 use Rattle.std.specs.List.{list_all}
 use Rattle.std.specs.FinMap as maps
 use Rattle.std.specs.Prelude.{◌==◌, nat_le, All}
-use Rattle.std.proofs.lemmas.Bool.Decides.{Decides-at, Decides-like, Decides-eqb, Decides-or, nat_tests}
+use Rattle.std.proofs.lemmas.Bool.Decides.{Decides-at, Decides-eqb, nat_tests}
 use Rattle.po_lex.specs.Lines.{is_comment_text}
 use Rattle.po_read.specs.Strings.{form_limit}
-use Rattle.po_read.specs.Texts.{Text, is_empty}
+use Rattle.po_read.specs.Texts.{is_empty}
 use Rattle.plural_expr.specs.Values.{Rule}
 use Rattle.units.specs.Limits.{suggestion_limit, vote_limit, is_revision, revision_limit}
-use Rattle.units.specs.Units.{forms_needed, no_previous, is_needs_editing}
+use Rattle.units.specs.Units.{forms_needed}
 use Rattle.units.specs.Offices.{IsUnit}
 use Rattle.units.specs.declared.unit.Unit.{Unit}
 use Rattle.units.specs.declared.unit.Suggestion.{Suggestion}
 use Rattle.kept_rules.specs.Parts.{HasForms, IsPutAway, HasItsForms, KeepsPrevious, HasItsTexts, HasFewSuggestions}
 use Rattle.kept_rules.proofs.Tests.{holds, three_tell, all_tell, all_tell_by_recursion}
 
-Decides-le : (m n : ℕ) → Decides (nat_le m n) (m ≤ n)
+pub Decides-le : (m n : ℕ) → Decides (nat_le m n) (m ≤ n)
 Decides-le m n = (λ e. grind (arith, nat_tests), λ h. grind (arith, nat_tests))
 
 pub forms_told : (rule : Rule) (unit : Unit) (count : ℕ) (r a b : Bool) → r ≡ (a && (b && true)) → count ≡ forms_needed rule unit.plural → a ≡ (length unit.forms == count) →

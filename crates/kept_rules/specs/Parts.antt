@@ -1,14 +1,21 @@
 -- The parts of an office's rules that are tested one by one. Only inner clauses and proofs cite this file.
-use Rattle.std.specs.Prelude.{◌≡◌, ◌≤◌, [], ◌∷◌, length, true, false, not, None, IsTrue, All}
-use Rattle.std.specs.List.{AllByRecursion}
+use Rattle.std.specs.Prelude.{◌≡◌, ◌≤◌, [], ◌∷◌, length, true, false, not, Some, None, IsSome, IsOk, IsTrue, All}
+use Rattle.std.specs.List.{list_any, AllByRecursion}
 use Rattle.std.specs.FinMap as maps
 use Rattle.po_lex.specs.Lines.{is_comment_text}
 use Rattle.po_read.specs.declared.entry.Entry.{Entry}
-use Rattle.po_read.specs.Texts.{is_empty}
+use Rattle.po_read.specs.Entries.{is_header}
 use Rattle.po_read.specs.Strings.{form_limit}
+use Rattle.po_read.specs.Texts.{Text, text_cmp, is_empty}
+use Rattle.po_read.specs.Valid.{IsValid}
 use Rattle.plural_expr.specs.Values.{Rule}
-use Rattle.units.specs.Limits.{suggestion_limit, vote_limit}
-use Rattle.units.specs.Units.{forms_needed, no_previous, is_needs_editing}
+use Rattle.units.specs.Limits.{is_accept_at, language_limit, team_limit, unit_limit, suggestion_limit, vote_limit}
+use Rattle.units.specs.Units.{forms_needed, no_previous, is_below, is_approved, is_needs_editing, key_of}
+use Rattle.units.specs.Office.{Office, Place, entry_of, units_of}
+use Rattle.units.specs.Offices.{IsUnit, IsTemplateEntry}
+use Rattle.units.specs.Rules.{rule_in, rule_at}
+use Rattle.units.specs.declared.unit.Role.{Role}
+use Rattle.units.specs.declared.unit.Role.TheVariants.{Guest, Manager}
 use Rattle.units.specs.declared.unit.Unit.{Unit}
 
 -- ---- of a unit
@@ -44,3 +51,52 @@ pub record IsUntouched (entry : Entry) : Type 0 where
   pub unworked : entry.forms ≡ [] ∷ []
   pub uncommented : entry.translator ≡ []
   pub unchanged : entry.previous ≡ no_previous
+
+-- ---- of a team
+
+pub record IsTeam (team : maps.FinMap text_cmp Role) : Type 0 where
+  pub managed : IsTrue (list_any (λ role. not (is_below role Manager)) (maps.values team))
+  pub members : (name : Text) (role : Role) → maps.get team name ≡ Some role → is_below Guest role ≡ true
+  pub few : maps.len team ≤ team_limit
+
+-- ---- of a unit at its place
+
+-- what its language has no part in
+pub record StandsRight (office : Office) (place : Place) (unit : Unit) : Type 0 where
+  pub key : unit.key ≡ place.1
+  pub exact : unit.obsolete ≡ false → IsSome (entry_of office.template place.1)
+  pub reviewed : office.policy.reviews ≡ false → is_approved unit.state ≡ false
+
+pub record IsPlaced (office : Office) (place : Place) (unit : Unit) : Type 0 where
+  pub stands : StandsRight office place unit
+  pub language : IsSome (maps.get office.headers place.0)
+  pub rules : IsUnit (rule_at office place.0) unit
+
+abbrev pub ArePlaced : Office → Type 0
+ArePlaced office = (place : Place) (unit : Unit) → maps.get office.units place ≡ Some unit → IsPlaced office place unit
+
+-- ---- of a language
+
+pub record IsLanguage (header : Entry) : Type 0 where
+  pub plain : is_header header ≡ true
+  pub valid : IsValid (header ∷ [])
+  pub ruled : IsOk (rule_in (Some header))
+
+-- the language has the unit of an entry
+abbrev pub HasUnit : Office → Text → Entry → Type 0
+HasUnit office lang entry =
+    (unit : Unit) × (maps.get office.units (lang, key_of entry) ≡ Some unit) × (unit.obsolete ≡ false) × (unit.plural ≡ entry.plural)
+
+pub record KeepsLanguage (office : Office) (lang : Text) : Type 0 where
+  pub headed : (header : Entry) → maps.get office.headers lang ≡ Some header → IsLanguage header
+  pub few : length (units_of office lang) ≤ unit_limit
+  pub complete : All (HasUnit office lang) office.template
+
+-- ---- of an office, apart from its languages and units
+
+pub record IsFrame (office : Office) : Type 0 where
+  pub team : IsTeam office.team
+  pub accepting : is_accept_at office.policy.accept_at ≡ true
+  pub template_valid : IsValid office.template
+  pub template_plain : All IsTemplateEntry office.template
+  pub few_languages : maps.len office.headers ≤ language_limit

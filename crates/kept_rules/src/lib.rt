@@ -2,8 +2,11 @@
 #![tactic(auto)]
 
 mod contents;
+mod language_rules;
+mod office_rules;
+mod place_rules;
 mod template_rules;
 mod unit_rules;
 
 pub use contents::is_content;
-pub use unit_rules::is_unit;
+pub use office_rules::keeps_office_rules;

@@ -133,7 +133,7 @@ fn has_few_suggestions(unit: &Unit) -> bool
 }
 
 /// Whether a unit keeps the rules of one, under the plural rule of its language.
-pub fn is_unit(rule: &PluralForms, unit: &Unit) -> bool
+pub(crate) fn is_unit(rule: &PluralForms, unit: &Unit) -> bool
     ensures { (result ≡ true) ↔ IsUnit rule.now unit.now }
 {
     let _ = unit.revision.number();

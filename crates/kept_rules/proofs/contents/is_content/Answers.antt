@@ -1,6 +1,6 @@
-use Rattle.std.proofs.Common.{◌≡◌, ◌≤◌, Option, Some, sym, subst, String, string_bytes, codes}
+use Rattle.std.proofs.Common.{◌≡◌, Option, Some, sym, subst, String, string_bytes, codes}
 use Rattle.std.specs.Option.{IsSomeAnd}
-use Rattle.serde_json.specs.Data.{Members, object, put, members_depth}
+use Rattle.serde_json.specs.Data.{object, put}
 use Rattle.serde_json.specs.Read.{read}
 use Rattle.uuid.specs.Parts.{zero_bytes}
 use Rattle.request_book.specs.Words.{number_data}

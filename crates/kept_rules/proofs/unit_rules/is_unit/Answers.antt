@@ -1,5 +1,3 @@
-use Rattle.std.proofs.Common.{◌∙◌, sym, ap}
-use Rattle.units.specs.Limits.{is_revision}
 use Rattle.kept_rules.proofs.UnitTests.{unit_told}
 use Rattle.kept_rules.proofs.unit_rules.is_unit.Goals as goal
 
