@@ -55,7 +55,7 @@ module _ {S : Type 0} (g : store.Ghosts S) (old new : Held S) (r : Result Unit F
   pub act_done : HasCleanDisk (state g new) → OnOk r (meaning_in (state g new).now.trees ≡ left)
   act_done = means_made g old new r (MakesAct row lang view) keeps commits left rules makes
 
-  pub act_kept : (s : Result Unit Lost) (before after : Bool) → IsSettled g → before ≡ false → (OnOk r (IsTrue (state g new).is_open) → OnOk s (IsTrue (state g new).is_open))
-      → IfErr s (λ e. e ≡ Disk → after ≡ true)
+  pub act_kept : (s : Result Unit Lost) (before after : Bool × Bool) → IsSettled g → before.0 ≡ false → (OnOk r (IsTrue (state g new).is_open) → OnOk s (IsTrue (state g new).is_open))
+      → IfErr s (λ e. e ≡ Disk → after.0 ≡ true)
       → IsKept (is_honest g) (is_whole g) (means g) (may_leave g) (is_stopped g) (old, before) (new, after) s Disk (λ m. m ≡ left)
   act_kept = kept_committed g old new r (MakesAct row lang view) keeps commits left rules makes

@@ -5,5 +5,6 @@ pub mod ViewsRead
 pub mod WritesInTurn
 pub mod Created
 pub mod ActsCommitted
+pub mod AtHand
 pub mod Made
 pub mod ChangesCommitted

@@ -25,7 +25,7 @@ module _ {S : Type 0} (g : store.Ghosts S) where
   IsLeft = (h : Held S) → IsTrue (state g h).is_open → (state g h).may_leave (state g h).committed.trees
 
   -- stopped tables answer Disk, and nothing is asked of them
-  pub kept_stopped : {A : Type 0} (tables : Held S × Bool) → IsSettled → is_stopped g tables ≡ true
+  pub kept_stopped : {A : Type 0} (tables : Held S × (Bool × Bool)) → IsSettled → is_stopped g tables ≡ true
       → IsKept {A = A} (is_honest g) (is_whole g) (means g) (may_leave g) (is_stopped g) tables tables (Err Disk) Disk Nothing
   kept_stopped tables settled stopped = record {
     honest = λ clean. clean;
@@ -65,8 +65,8 @@ module _ {S : Type 0} (g : store.Ghosts S) where
     on_ok (Err e) f h = h
 
     -- the result of the call is that of the look-up, or says less
-    pub kept_looked_up : {B : Type 0} (s : Result B Lost) (before after : Bool) → IsSettled → IsLeft → before ≡ false → (OnOk r (IsTrue (state g new).is_open) → OnOk s (IsTrue (state g new).is_open))
-        → IfErr s (λ e. e ≡ Disk → after ≡ true)
+    pub kept_looked_up : {B : Type 0} (s : Result B Lost) (before after : Bool × Bool) → IsSettled → IsLeft → before.0 ≡ false → (OnOk r (IsTrue (state g new).is_open) → OnOk s (IsTrue (state g new).is_open))
+        → IfErr s (λ e. e ≡ Disk → after.0 ≡ true)
         → IsKept (is_honest g) (is_whole g) (means g) (may_leave g) (is_stopped g) (old, before) (new, after) s Disk Nothing
     kept_looked_up s before after settled left ran passes disk = record {
       honest = early;
@@ -131,8 +131,8 @@ module _ {S : Type 0} (g : store.Ghosts S) where
           (λ (same : StaysIdle (state g old) (state g new)). subst (λ (d : Database). KeepsRules (meaning_in d.trees)) (sym same.now) (keeps.rules (clean_before clean) same.was_open)) (commits.made clean) (commits.same clean is_open);
     }
 
-    pub kept_committed : {B : Type 0} (s : Result B Lost) (before after : Bool) → IsSettled → before ≡ false → (OnOk r (IsTrue (state g new).is_open) → OnOk s (IsTrue (state g new).is_open))
-        → IfErr s (λ e. e ≡ Disk → after ≡ true)
+    pub kept_committed : {B : Type 0} (s : Result B Lost) (before after : Bool × Bool) → IsSettled → before.0 ≡ false → (OnOk r (IsTrue (state g new).is_open) → OnOk s (IsTrue (state g new).is_open))
+        → IfErr s (λ e. e ≡ Disk → after.0 ≡ true)
         → IsKept (is_honest g) (is_whole g) (means g) (may_leave g) (is_stopped g) (old, before) (new, after) s Disk (λ m. m ≡ meaning)
     kept_committed s before after settled ran passes disk = record {
       honest = clean_before;

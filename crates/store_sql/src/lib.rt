@@ -10,6 +10,7 @@ mod sqlite_tables;
 mod strings;
 mod unit_writes;
 mod views;
+mod whole_office;
 
 pub use faults::OpenFault;
 pub use sqlite_tables::SqliteTables;

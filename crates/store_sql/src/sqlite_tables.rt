@@ -1,5 +1,5 @@
 //! The tables.
-ghost use Rattle.std.specs.Prelude.{◌≡◌, ◌≢◌, Bool, false, true, Ok, Err, IfOk, IfErr, OnOk, OnErr, IsTrue, is_none, option_map};
+ghost use Rattle.std.specs.Prelude.{◌≡◌, ◌≢◌, Bool, false, true, Ok, Err, IfOk, IfErr, OnOk, OnErr, IsTrue, is_none, is_some, option_map};
 ghost use Rattle.std.specs.Coded.{coded×, coded_bool};
 ghost use Rattle.std.specs.FinMap as maps;
 ghost use Rattle.sqlite.specs.Held.{Held, held_code, state};
@@ -10,10 +10,16 @@ ghost use Rattle.deliveries.specs.OfficeRules.{KeepsRules};
 ghost use Rattle.deliveries.specs.declared.values.Change.TheVariants.{OneRole, NewPolicy};
 ghost use Rattle.tables.specs.Kept.{IsKept};
 ghost use Rattle.tables.specs.Stops.{Nothing};
+ghost use Rattle.tables.specs.Sinks.{WasCutShort};
+ghost use Rattle.tables.specs.Entries.{entries_of};
+ghost use Rattle.tables.specs.Counts.{counts_of};
+ghost use Rattle.tables.specs.declared.faults.EachFault.TheVariants.{NoTables};
+ghost use Rattle.units.specs.Offices.{IsOffice};
+ghost use Rattle.office_maps.specs.OfficeIn.{office_in};
 ghost use Rattle.tables.specs.declared.faults.Lost.TheVariants.{Disk};
 ghost use Rattle.office_sql.specs.Schema.{no_schema};
 ghost use Rattle.store_sql.specs.Faults.{RefusesIn};
-ghost use Rattle.store_sql.specs.Kept.{KeepsOffice, is_honest, is_whole, means, may_leave, is_stopped};
+ghost use Rattle.store_sql.specs.Kept.{KeepsOffice, IsAtHand, is_honest, is_whole, means, may_leave, is_stopped, is_loaded};
 ghost use Rattle.store_sql.specs.Making.{AreMade, IsHandedBack};
 
 use crate::commits::{commit_given, commit_policy_given, commit_role_given};
@@ -22,13 +28,16 @@ use crate::making::make;
 use crate::records::read_record;
 use crate::strings::key_fits;
 use crate::views::read_view;
+use crate::whole_office::{forget, keep, read_office};
 use deliveries::Found;
+use office_entries::{counts, hand_entries};
+use office_maps::OfficeMaps;
 use request_book::Record;
 use shown_rows::{Failure, KeptRule};
 use sqlite::{Alter, Connection};
 use std::alloc::Global;
 use std::marker::Model;
-use tables::{Lost, Start};
+use tables::{Counts, EachFault, EntrySink, Lost, Start};
 use units::{Key, Lang, Name, Policy, Role, UnitView};
 use uuid::Uuid;
 
@@ -40,16 +49,18 @@ pub struct SqliteTables<S: Alter> {
     alloc: Global,
     /// The plural rule that the last look read: what it is beside its columns is the type's own promise.
     kept_rule: Option<KeptRule>,
+    /// The office, where it was read whole and nothing was written since.
+    office: Option<OfficeMaps>,
 }
 
 impl<S: Alter> Model for SqliteTables<S> {
-    ghost Value = { Held S × Bool };
+    ghost Value = { Held S × (Bool × Bool) };
 
-    ghost coded = { coded× (held_code S.code) coded_bool };
+    ghost coded = { coded× (held_code S.code) (coded× coded_bool coded_bool) };
 
-    ghost view = { λ t. (t.connection, t.stopped) };
+    ghost view = { λ t. (t.connection, (t.stopped, is_some t.office)) };
 
-    ghost invariant = { λ t. (t.connection.in_transaction ≡ false) × KeepsOffice (state S.Store t.connection) };
+    ghost invariant = { λ t. (t.connection.in_transaction ≡ false) × KeepsOffice (state S.Store t.connection) × IsAtHand (state S.Store t.connection) t.office };
 }
 
 impl<S: Alter> SqliteTables<S> {
@@ -77,6 +88,7 @@ impl<S: Alter> SqliteTables<S> {
                 stopped: false,
                 alloc,
                 kept_rule: None,
+                office: None,
             }),
             Err(fault) => Err((fault, connection)),
         }
@@ -92,8 +104,10 @@ impl<S: Alter> SqliteTables<S> {
             stopped: _,
             alloc: _,
             kept_rule,
+            office,
         } = self;
         drop(kept_rule);
+        drop(office);
         connection
     }
 
@@ -122,7 +136,10 @@ impl<S: Alter> SqliteTables<S> {
         }
         match read_record(&mut self.connection, self.alloc, *number) {
             Ok(record) => Ok(record),
-            Err(failure) => Err(self.lost(failure)),
+            Err(failure) => {
+                forget(&mut self.office);
+                Err(self.lost(failure))
+            }
         }
     }
 
@@ -145,7 +162,83 @@ impl<S: Alter> SqliteTables<S> {
             &mut self.kept_rule,
         ) {
             Ok(found) => Ok(found),
+            Err(failure) => {
+                forget(&mut self.office);
+                Err(self.lost(failure))
+            }
+        }
+    }
+
+    /// Reads what acts on the office need: team, policy, template, headers and units. `office` then shows it.
+    pub fn office_rows(&mut self) -> Result<(), Lost>
+        ensures loaded { OnOk result (is_loaded S.Store self.new) }
+        ensures same { is_honest S.Store self.new → is_whole S.Store self.new → means S.Store self.new ≡ means S.Store self.old }
+        ensures kept { IsKept (is_honest S.Store) (is_whole S.Store) (means S.Store) (may_leave S.Store) (is_stopped S.Store) self.old self.new result Disk Nothing }
+    {
+        if self.stopped {
+            return Err(Lost::Disk);
+        }
+        if self.office.is_some() {
+            return Ok(());
+        }
+        match read_office(&mut self.connection, self.alloc) {
+            Ok(maps) => {
+                keep(&mut self.office, maps);
+                Ok(())
+            }
             Err(failure) => Err(self.lost(failure)),
+        }
+    }
+
+    /// The office that was read, in maps; it isn't copied.
+    pub fn office(&self) -> &OfficeMaps
+        requires loaded { is_loaded S.Store self.now }
+        ensures { is_honest S.Store self.now → is_whole S.Store self.now → office_in result.now ≡ (means S.Store self.now).office }
+    {
+        self.at_hand()
+    }
+
+    /// The office that is at hand.
+    fn at_hand(&self) -> &OfficeMaps
+        requires loaded { is_loaded S.Store self.now }
+        ensures whole { is_honest S.Store self.now → is_whole S.Store self.now }
+        ensures office { is_honest S.Store self.now → office_in result.now ≡ (means S.Store self.now).office }
+        ensures rules { is_honest S.Store self.now → IsOffice (office_in result.now) }
+    {
+        match &self.office {
+            Some(maps) => maps,
+            None => unreachable!(),
+        }
+    }
+
+    /// Hands the entries of a language to a sink: its header, the template's entries in order, each with its unit, and the obsolete
+    /// units that have a translation, in the order of their keys. None where the language isn't there. After a fault the sink has
+    /// taken a beginning of them.
+    pub fn each_entry<K: EntrySink>(
+        &mut self,
+        lang: &Lang,
+        sink: &mut K,
+    ) -> Result<(), EachFault<K::Refusal>>
+        ensures all { is_honest S.Store self.new → OnOk result (K.Took sink.old (entries_of (means S.Store self.old).office lang.now) sink.new) }
+        ensures cut { is_honest S.Store self.new → IfErr result (WasCutShort K.Took K.Refuses sink.old sink.new (entries_of (means S.Store self.old).office lang.now)) }
+        ensures same { is_honest S.Store self.new → is_whole S.Store self.new → means S.Store self.new ≡ means S.Store self.old }
+        ensures kept { IsKept (is_honest S.Store) (is_whole S.Store) (means S.Store) (may_leave S.Store) (is_stopped S.Store) self.old self.new result (NoTables Disk) Nothing }
+    {
+        match self.office_rows() {
+            Ok(()) => hand_entries(self.alloc, self.at_hand(), lang, sink),
+            Err(lost) => Err(EachFault::NoTables(lost)),
+        }
+    }
+
+    /// How many units of a language callers see in each state; nothing where the language isn't there.
+    pub fn counts(&mut self, lang: &Lang) -> Result<Option<Counts>, Lost>
+        ensures answer { is_honest S.Store self.new → IfOk result (λ r. r ≡ counts_of (means S.Store self.old).office lang.now) }
+        ensures same { is_honest S.Store self.new → is_whole S.Store self.new → means S.Store self.new ≡ means S.Store self.old }
+        ensures kept { IsKept (is_honest S.Store) (is_whole S.Store) (means S.Store) (may_leave S.Store) (is_stopped S.Store) self.old self.new result Disk Nothing }
+    {
+        match self.office_rows() {
+            Ok(()) => Ok(counts(self.alloc, self.at_hand(), lang)?),
+            Err(lost) => Err(lost),
         }
     }
 
@@ -169,6 +262,7 @@ impl<S: Alter> SqliteTables<S> {
             return Err(Lost::Disk);
         }
         key_fits(key);
+        forget(&mut self.office);
         match commit_given(&mut self.connection, self.alloc, row, lang, view) {
             Ok(()) => Ok(()),
             Err(failure) => Err(self.lost(failure)),
@@ -188,6 +282,7 @@ impl<S: Alter> SqliteTables<S> {
         if self.stopped {
             return Err(Lost::Disk);
         }
+        forget(&mut self.office);
         match commit_role_given(&mut self.connection, self.alloc, row, name, role) {
             Ok(()) => Ok(()),
             Err(failure) => Err(self.lost(failure)),
@@ -207,6 +302,7 @@ impl<S: Alter> SqliteTables<S> {
         if self.stopped {
             return Err(Lost::Disk);
         }
+        forget(&mut self.office);
         match commit_policy_given(&mut self.connection, self.alloc, row, policy) {
             Ok(()) => Ok(()),
             Err(failure) => Err(self.lost(failure)),
@@ -217,7 +313,7 @@ impl<S: Alter> SqliteTables<S> {
     fn lost(&mut self, failure: Failure) -> Lost
         ensures result { result ≡ failure.lost }
         ensures connection { self.new.0 ≡ self.old.0 }
-        ensures stops { result ≡ Disk → self.new.1 ≡ true }
+        ensures stops { result ≡ Disk → self.new.1.0 ≡ true }
     {
         if let Lost::Disk = failure.lost {
             self.stopped = true;

@@ -1,3 +1,4 @@
+use Rattle.std.specs.Prelude.{is_some}
 use Rattle.std.proofs.Common.{◌≡◌, Ok, Err, sym, subst}
 use Rattle.sqlite.specs.Held.{state}
 use Rattle.sqlite.specs.State.{HasCleanDisk}
@@ -10,6 +11,7 @@ use Rattle.office_in_changed_rows.specs.Commits.{MakesRole}
 use Rattle.office_in_rows.specs.Meaning.{meaning_in}
 use Rattle.store_sql.specs.Kept.{is_honest, is_whole, means, may_leave, is_stopped}
 use Rattle.store_sql.proofs.ChangesCommitted.{left_by_change, role_made, change_keeps, change_done, change_kept}
+use Rattle.store_sql.proofs.AtHand.{none_at_hand}
 use Rattle.store_sql.proofs.sqlite_tables.SqliteTables.commit_role.Goals as goal
 
 pub invariant_of-self : goal.invariant_of-self
@@ -20,6 +22,7 @@ invariant_of-self g c =
       c.in-Ok.ensures.committed.ended,
       change_keeps g.S.Store old c.commit_role_given.new.connection (Ok c.in-Ok.field-0) c.args.row (OneRole c.args.name.now c.args.role) (MakesRole c.args.row c.args.name.now c.args.role)
           c.self.invariant.1 rules c.in-Ok.ensures.committed (role_made (state g.S.Store old) c.args.row c.args.name.now c.args.role c.self.invariant.1),
+      none_at_hand (state g.S.Store c.commit_role_given.new.connection) c.forget.new.office c.forget.ensures,
     )
 
 pub returns-in-Ok-clause-done : goal.returns-in-Ok-clause-done
@@ -37,11 +40,11 @@ returns-in-Ok-clause-kept g c =
     let old = c.self.inside.connection in
     let rules : HasCleanDisk (state g.S.Store old) → KeepsRules (left_by_change (state g.S.Store old).now.trees c.args.row (OneRole c.args.name.now c.args.role)) =
     subst (λ t. is_honest g.S.Store t → KeepsRules (left_by_change (state g.S.Store t.0).now.trees c.args.row (OneRole c.args.name.now c.args.role))) (sym c.self.view_is) c.requires.rules in
-    subst (λ t. IsKept {A = Unit} {E = Lost} (is_honest g.S.Store) (is_whole g.S.Store) (means g.S.Store) (may_leave g.S.Store) (is_stopped g.S.Store) t (c.commit_role_given.new.connection, c.self.inside.stopped) (Ok c.in-Ok.field-0) Disk
+    subst (λ t. IsKept {A = Unit} {E = Lost} (is_honest g.S.Store) (is_whole g.S.Store) (means g.S.Store) (may_leave g.S.Store) (is_stopped g.S.Store) t (c.commit_role_given.new.connection, (c.self.inside.stopped, is_some c.forget.new.office)) (Ok c.in-Ok.field-0) Disk
     (λ m. m ≡ left_by_change (state g.S.Store t.0).now.trees c.args.row (OneRole c.args.name.now c.args.role)))
     c.self.view_is
     (change_kept g.S.Store old c.commit_role_given.new.connection (Ok c.in-Ok.field-0) c.args.row (OneRole c.args.name.now c.args.role) (MakesRole c.args.row c.args.name.now c.args.role)
-    c.self.invariant.1 rules c.in-Ok.ensures.committed (role_made (state g.S.Store old) c.args.row c.args.name.now c.args.role c.self.invariant.1) (Ok c.in-Ok.field-0) c.self.inside.stopped c.self.inside.stopped
+    c.self.invariant.1 rules c.in-Ok.ensures.committed (role_made (state g.S.Store old) c.args.row c.args.name.now c.args.role c.self.invariant.1) (Ok c.in-Ok.field-0) (c.self.inside.stopped, is_some c.self.inside.office) (c.self.inside.stopped, is_some c.forget.new.office)
     (λ h db is_open left. g.met.S.Store.settled h.store db is_open left) c.if-self.false (λ is_open. is_open) tt)
 
 pub returns-in-Err-clause-kept : goal.returns-in-Err-clause-kept
@@ -50,11 +53,11 @@ returns-in-Err-clause-kept g c =
     let rules : HasCleanDisk (state g.S.Store old) → KeepsRules (left_by_change (state g.S.Store old).now.trees c.args.row (OneRole c.args.name.now c.args.role)) =
     subst (λ t. is_honest g.S.Store t → KeepsRules (left_by_change (state g.S.Store t.0).now.trees c.args.row (OneRole c.args.name.now c.args.role))) (sym c.self.view_is) c.requires.rules in
     let kept = change_kept g.S.Store old c.commit_role_given.new.connection (Err c.in-Err.failure) c.args.row (OneRole c.args.name.now c.args.role) (MakesRole c.args.row c.args.name.now c.args.role)
-    c.self.invariant.1 rules c.in-Err.ensures.committed (role_made (state g.S.Store old) c.args.row c.args.name.now c.args.role c.self.invariant.1) (Err c.lost.result) c.self.inside.stopped c.lost.new.self.1
+    c.self.invariant.1 rules c.in-Err.ensures.committed (role_made (state g.S.Store old) c.args.row c.args.name.now c.args.role c.self.invariant.1) (Err c.lost.result) (c.self.inside.stopped, is_some c.self.inside.office) c.lost.new.self.1
     (λ h db is_open left. g.met.S.Store.settled h.store db is_open left) c.if-self.false (λ is_open. tt) c.lost.ensures.stops in
     subst (λ t. IsKept {A = Unit} {E = Lost} (is_honest g.S.Store) (is_whole g.S.Store) (means g.S.Store) (may_leave g.S.Store) (is_stopped g.S.Store) t c.lost.new.self (Err c.lost.result) Disk
     (λ m. m ≡ left_by_change (state g.S.Store t.0).now.trees c.args.row (OneRole c.args.name.now c.args.role)))
     c.self.view_is
-    (subst (λ h. IsKept {A = Unit} {E = Lost} (is_honest g.S.Store) (is_whole g.S.Store) (means g.S.Store) (may_leave g.S.Store) (is_stopped g.S.Store) (old, c.self.inside.stopped) (h, c.lost.new.self.1) (Err c.lost.result) Disk
+    (subst (λ h. IsKept {A = Unit} {E = Lost} (is_honest g.S.Store) (is_whole g.S.Store) (means g.S.Store) (may_leave g.S.Store) (is_stopped g.S.Store) (old, (c.self.inside.stopped, is_some c.self.inside.office)) (h, c.lost.new.self.1) (Err c.lost.result) Disk
     (λ m. m ≡ left_by_change (state g.S.Store old).now.trees c.args.row (OneRole c.args.name.now c.args.role)))
     (sym c.lost.ensures.connection) kept)

@@ -7,9 +7,10 @@ pub invariant_of-result : goal.invariant_of-result
 invariant_of-result g c = (
   c.in-Ok.ensures.committed.ended,
   keeps_made g.S.Store c.args.start.now (state g.S.Store c.args.connection) c.make.new.connection c.in-Ok.field-0 c.in-Ok.ensures.committed,
+  tt,
 )
 
 pub returns-in-Ok-clause-made : goal.returns-in-Ok-clause-made
 returns-in-Ok-clause-made g c =
     are_made g.S.Store c.args.start.now (state g.S.Store c.args.connection) c.make.new.connection c.in-Ok.field-0 c.in-Ok.ensures.committed
-    (λ h db is_open left. g.met.S.Store.settled h.store db is_open left) false refl
+    (λ h db is_open left. g.met.S.Store.settled h.store db is_open left) (false, false) refl
