@@ -4,7 +4,7 @@ use Rattle.std.specs.Prelude.{length, unwrap_or, IsNone, IsSomeAnd, IfOk, IfErr,
 use Rattle.po_read.specs.Texts.{Text}
 use Rattle.units.specs.Office.{Office}
 use Rattle.units.specs.Limits.{export_limit}
-use Rattle.units.specs.Streams.{Took, TookBeginning, RoseOrStands}
+use Rattle.units.specs.Streams.{Took, TookBeginning}
 use Rattle.units.proofs.Taking.{took_both, took_then_beginning, beginning_of_longer}
 use Rattle.request_book.specs.Book.{OfficeWithBook}
 use Rattle.deliveries.specs.ExportText.{export_text}
@@ -20,7 +20,7 @@ use Rattle.http_questions.specs.Asked as ask
 use Rattle.commands.specs.Writers.{Writer, TakesAll, TakesPart}
 use Rattle.http_api.specs.declared.faults.ServeFault.{ServeFault}
 use Rattle.http_api.specs.declared.faults.ServeFault.TheVariants as fault
-use Rattle.http_api.specs.Outcomes.{exported, failed, outcome_answer, text_exported, text_without_language, text_too_long, text_lost}
+use Rattle.http_api.specs.Outcomes.{Outcome, exported, failed, outcome_answer, text_exported, text_without_language, text_too_long, text_lost}
 use Rattle.http_api.specs.Answering.{Came, Tells, Writes, BreaksOff, IsReceipt, IsMeasured, IsUnmeasured, export_refusal, export_fault}
 use Rattle.http_api.proofs.Coming.{told}
 
@@ -65,13 +65,17 @@ some_same : {a b : List ℕ} → Some a ≡ Some b → a ≡ b
 some_same e = cc
 
 -- the text behind the head was written
-pub text_written : {T : Type 0} {Honest StillHonest : Type 0} (w0 w1 w2 : Writer) (receipt written : ExportReceipt) (o : Option (List ℕ)) (text : List ℕ) (last : Bool) (x : T) → (StillHonest → Honest)
-    → (Honest → IsReceipt o text receipt) → TakesAll w0 w1 (head_text (export_head receipt last)) → (StillHonest → WasExported o w1.taken w2.taken written) → Writes StillHonest w0 w2 (outcome_answer (exported text) last) (Ok x)
-text_written w0 w1 w2 receipt written o text last x honest is head was = λ h.
+pub text_written : {T : Type 0} {Honest StillHonest : Type 0} (Stopped : Type 0) (w0 w1 w2 : Writer) (receipt written : ExportReceipt) (o : Option (List ℕ)) (text : List ℕ) (last : Bool) (x : T) → (StillHonest → Honest)
+    → (Honest → IsReceipt o text receipt) → TakesAll w0 w1 (head_text (export_head receipt last)) → (StillHonest → WasExported o w1.taken w2.taken written) → (StillHonest → w2.failed ≡ w1.failed)
+    → Writes StillHonest Stopped w0 w2 (exported text) last (Ok x)
+text_written Stopped w0 w1 w2 receipt written o text last x honest is head was count = λ h.
     let out = was h in
     let same : out.whole ≡ text = some_same (sym out.is ∙ (is (honest h)).is) in
-    let both : Took w0.taken w2.taken (head_text (export_head receipt last) ++ text) = took_both w0.taken w1.taken w2.taken (head_text (export_head receipt last)) text head.taken (subst (Took w1.taken w2.taken) same out.taken) in
-    subst (Took w0.taken w2.taken) (head_is receipt o text last (is (honest h))) both
+    let both : TakesAll w0 w2 (head_text (export_head receipt last) ++ text) = record {
+      taken = took_both w0.taken w1.taken w2.taken (head_text (export_head receipt last)) text head.taken (subst (Took w1.taken w2.taken) same out.taken);
+      count = count h ∙ head.count;
+    } in
+    subst (TakesAll w0 w2) (head_is receipt o text last (is (honest h))) both
 
 -- or a beginning of it
 begun : (w0 w1 w2 : Writer) (receipt : ExportReceipt) (o : Option (List ℕ)) (text : List ℕ) (last : Bool) → IsReceipt o text receipt → TakesAll w0 w1 (head_text (export_head receipt last)) → TookBeginning w1.taken w2.taken text
@@ -79,52 +83,48 @@ begun : (w0 w1 w2 : Writer) (receipt : ExportReceipt) (o : Option (List ℕ)) (t
 begun w0 w1 w2 receipt o text last is head part =
     subst (TookBeginning w0.taken w2.taken) (head_is receipt o text last is) (took_then_beginning w0.taken w1.taken w2.taken (head_text (export_head receipt last)) text head.taken part)
 
-cut_cause : (w1 w2 : Writer) (o : Option (List ℕ)) (text : List ℕ) (receipt : ExportReceipt) (f : ExportFault) → IsReceipt o text receipt → WasCut o w1.taken w2.taken w1.failed w2.failed f → (f ≡ export.Device → RoseOrStands w1.failed w2.failed) × TookBeginning w1.taken w2.taken text
-cut_cause w1 w2 o text receipt export.NoLanguage is cut = absurd (no_text o is.is cut.0)
+cut_cause : {Stopped : Type 0} (w1 w2 : Writer) (o : Option (List ℕ)) (text : List ℕ) (receipt : ExportReceipt) (f : ExportFault) → IsReceipt o text receipt → WasCut o w1.taken w2.taken w1.failed w2.failed f → (f ≡ export.Disk → Stopped)
+    → BreaksOff Stopped (exported text) (export_fault f) w1.failed w2.failed × TookBeginning w1.taken w2.taken text
+cut_cause w1 w2 o text receipt export.NoLanguage is cut stopped = absurd (no_text o is.is cut.0)
   where
     no_text : (o : Option (List ℕ)) → o ≡ Some text → IsNone o → ⊥
     no_text None e none = cc
     no_text (Some x) e none = cc
-cut_cause w1 w2 o text receipt export.Device is cut =
+cut_cause w1 w2 o text receipt export.Device is cut stopped =
     let failed : Failed w1.taken w2.taken w1.failed w2.failed text = (let P : Option (List ℕ) → Type 0 = λ t. IsSomeAnd t (Failed w1.taken w2.taken w1.failed w2.failed) in subst P is.is cut) in
-    (λ e. failed.count, failed.beginning)
-cut_cause w1 w2 o text receipt export.Memory is cut = (λ e. cc, (let P : Option (List ℕ) → Type 0 = λ t. TookBeginning w1.taken w2.taken (unwrap_or t []) in subst P is.is cut))
-cut_cause w1 w2 o text receipt export.Disk is cut = (λ e. cc, (let P : Option (List ℕ) → Type 0 = λ t. TookBeginning w1.taken w2.taken (unwrap_or t []) in subst P is.is cut))
-cut_cause w1 w2 o text receipt export.Long is cut =
+    (failed.count, failed.beginning)
+cut_cause w1 w2 o text receipt export.Memory is cut stopped = (tt, (let P : Option (List ℕ) → Type 0 = λ t. TookBeginning w1.taken w2.taken (unwrap_or t []) in subst P is.is cut))
+cut_cause w1 w2 o text receipt export.Disk is cut stopped = ((tt, stopped refl), (let P : Option (List ℕ) → Type 0 = λ t. TookBeginning w1.taken w2.taken (unwrap_or t []) in subst P is.is cut))
+cut_cause w1 w2 o text receipt export.Long is cut stopped =
     let long : IsTooLong w1.taken w2.taken text = (let P : Option (List ℕ) → Type 0 = λ t. IsSomeAnd t (IsTooLong w1.taken w2.taken) in subst P is.is cut) in
     let more = long.long in let less = is.within in absurd (omega arith)
 
-pub text_broke_off : {T : Type 0} {Honest StillHonest : Type 0} (w0 w1 w2 : Writer) (receipt : ExportReceipt) (o : Option (List ℕ)) (text : List ℕ) (last : Bool) (f : ExportFault) (r : Result T ServeFault) → r ≡ Err (export_fault f) → (StillHonest → Honest)
-    → (Honest → IsReceipt o text receipt) → TakesAll w0 w1 (head_text (export_head receipt last)) → (StillHonest → WasCut o w1.taken w2.taken w1.failed w2.failed f) → Writes StillHonest w0 w2 (outcome_answer (exported text) last) r
-text_broke_off {StillHonest = StillHonest} w0 w1 w2 receipt o text last f r is honest holds head cut = subst (Writes StillHonest w0 w2 (outcome_answer (exported text) last)) (sym is) (λ h. (
-    let parts = cut_cause w1 w2 o text receipt f (holds (honest h)) (cut h) in
-    record { beginning = begun w0 w1 w2 receipt o text last (holds (honest h)) head parts.1; cause = by f parts.0 }
+pub text_broke_off : {T : Type 0} {Honest StillHonest Stopped : Type 0} (w0 w1 w2 : Writer) (receipt : ExportReceipt) (o : Option (List ℕ)) (text : List ℕ) (last : Bool) (f : ExportFault) (r : Result T ServeFault) → r ≡ Err (export_fault f) → (StillHonest → Honest)
+    → (Honest → IsReceipt o text receipt) → TakesAll w0 w1 (head_text (export_head receipt last)) → (StillHonest → WasCut o w1.taken w2.taken w1.failed w2.failed f) → (f ≡ export.Disk → Stopped)
+    → Writes StillHonest Stopped w0 w2 (exported text) last r
+text_broke_off {StillHonest = StillHonest} {Stopped = Stopped} w0 w1 w2 receipt o text last f r is honest holds head cut stopped = subst (Writes StillHonest Stopped w0 w2 (exported text) last) (sym is) (λ h. (
+    let parts = cut_cause {Stopped = Stopped} w1 w2 o text receipt f (holds (honest h)) (cut h) stopped in
+    let P : ℕ → Type 0 = λ n. BreaksOff Stopped (exported text) (export_fault f) n w2.failed in
+    record { beginning = begun w0 w1 w2 receipt o text last (holds (honest h)) head parts.1; cause = subst P head.count parts.0 }
     ))
-  where
-    by : (f : ExportFault) → (f ≡ export.Device → RoseOrStands w1.failed w2.failed) → BreaksOff (export_fault f) w0.failed w2.failed
-    by export.NoLanguage rose = tt
-    by export.Device rose = let P : ℕ → Type 0 = λ n. RoseOrStands n w2.failed in subst P head.count (rose refl)
-    by export.Memory rose = tt
-    by export.Disk rose = tt
-    by export.Long rose = tt
 
 -- only a beginning of the head was written
-pub head_broke_off : {T : Type 0} {Honest StillHonest : Type 0} (w0 w1 : Writer) (receipt : ExportReceipt) (o : Option (List ℕ)) (text : List ℕ) (last : Bool) (r : Result T ServeFault) → IsErrAnd r (λ e. e ≡ fault.Write) → (StillHonest → Honest)
-    → (Honest → IsReceipt o text receipt) → TakesPart w0 w1 (head_text (export_head receipt last)) → Writes StillHonest w0 w1 (outcome_answer (exported text) last) r
-head_broke_off w0 w1 receipt o text last (Ok x) is honest holds part = absurd is
-head_broke_off w0 w1 receipt o text last (Err e) is honest holds part = λ h. record {
+pub head_broke_off : {T : Type 0} {Honest StillHonest : Type 0} (Stopped : Type 0) (w0 w1 : Writer) (receipt : ExportReceipt) (o : Option (List ℕ)) (text : List ℕ) (last : Bool) (r : Result T ServeFault) → IsErrAnd r (λ e. e ≡ fault.Write) → (StillHonest → Honest)
+    → (Honest → IsReceipt o text receipt) → TakesPart w0 w1 (head_text (export_head receipt last)) → Writes StillHonest Stopped w0 w1 (exported text) last r
+head_broke_off Stopped w0 w1 receipt o text last (Ok x) is honest holds part = absurd is
+head_broke_off Stopped w0 w1 receipt o text last (Err e) is honest holds part = λ h. record {
   beginning = subst (TookBeginning w0.taken w1.taken) (head_is receipt o text last (holds (honest h))) (beginning_of_longer w0.taken w1.taken (head_text (export_head receipt last)) text part.beginning);
-  cause = let P : ServeFault → Type 0 = λ f. BreaksOff f w0.failed w1.failed in subst P (sym is) part.count;
+  cause = let P : ServeFault → Type 0 = λ f. BreaksOff Stopped (exported text) f w0.failed w1.failed in subst P (sym is) part.count;
 }
 
 -- ---- an answer
 
 -- what was told at once was written
-pub tells_writes : {T : Type 0} (Honest : Type 0) (old new : Writer) (text : List ℕ) (r : Result T ServeFault) → Tells old new text r → Writes Honest old new text r
-tells_writes Honest old new text (Ok x) tells = λ h. tells.taken
-tells_writes Honest old new text (Err f) tells = λ h. record {
+pub tells_writes : {T : Type 0} (Honest Stopped : Type 0) (old new : Writer) (o : Outcome) (last : Bool) (r : Result T ServeFault) → Tells old new (outcome_answer o last) r → Writes Honest Stopped old new o last r
+tells_writes Honest Stopped old new o last (Ok x) tells = λ h. tells
+tells_writes Honest Stopped old new o last (Err f) tells = λ h. record {
   beginning = tells.1.beginning;
-  cause = let P : ServeFault → Type 0 = λ f. BreaksOff f old.failed new.failed in subst P (sym tells.0) tells.1.count;
+  cause = let P : ServeFault → Type 0 = λ f. BreaksOff Stopped o f old.failed new.failed in subst P (sym tells.0) tells.1.count;
 }
 
 pub receipt_of : (o : Option (List ℕ)) (receipt : ExportReceipt) → IsMeasured o receipt → IsReceipt o (unwrap_or o []) receipt

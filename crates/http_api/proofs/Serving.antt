@@ -1,5 +1,5 @@
 -- A list of messages with their outcomes, and one more.
-use Rattle.std.proofs.Common.{◌≡◌, List, [], ◌∷◌, ◌++◌, sym, subst, ap, ◌∙◌, append_assoc, append-nil}
+use Rattle.std.proofs.Common.{◌≡◌, List, [], ◌∷◌, ◌++◌, refl, sym, subst, ap, ◌∙◌, append_assoc, append-nil}
 use Rattle.po_read.specs.Texts.{Text}
 use Rattle.units.specs.Office.{Office}
 use Rattle.request_book.specs.Book.{OfficeWithBook}
@@ -8,7 +8,7 @@ use Rattle.http_questions.specs.Asked.{Asked}
 use Rattle.http_questions.specs.Asked as ask
 use Rattle.commands.specs.Exchanges.{Exchange, HasDelivered}
 use Rattle.http_api.specs.Outcomes.{Outcome, UnitShown, CountsShown, TextExported, IsOutcome, unit_shown, unit_without_language, unit_absent, unit_lost, counts_shown, counts_without_language, counts_lost, text_exported, text_without_language, text_too_long, text_lost}
-use Rattle.http_api.specs.Served.{exchange_in, office_behind, AreOutcomes, exchanges_of, ServesOn}
+use Rattle.http_api.specs.Served.{exchange_in, office_behind, AreOutcomes, exchanges_of, HasServed}
 use Rattle.http_api.specs.Answering.{Came}
 
 -- ---- what is said of an outcome holds on
@@ -56,8 +56,9 @@ each_more Honest Whole StillHonest StillWhole honest whole start before (b ∷ q
       each_more Honest Whole StillHonest StillWhole honest whole start (before ++ exchange_in x) questions os a o each.1 (subst P (sym (append_assoc before (exchange_in x) (exchanges_of os))) is),
     )
 
-pub serves : (Honest Whole StillHonest StillWhole : Type 0) (old new : OfficeWithBook) (a : Asked) (o : Outcome) → Came Honest Whole StillHonest StillWhole old new a o → ServesOn Honest Whole StillHonest StillWhole old new a o
-serves Honest Whole StillHonest StillWhole old new a o came = λ start done outcomes served.
+pub serves : (Honest Whole StillHonest StillWhole : Type 0) (start old new : OfficeWithBook) (done : List Asked) (outcomes : List Outcome) (a : Asked) (o : Outcome)
+    → HasServed Honest Whole start old done outcomes → Came Honest Whole StillHonest StillWhole old new a o → HasServed StillHonest StillWhole start new (done ++ a ∷ []) (outcomes ++ o ∷ [])
+serves Honest Whole StillHonest StillWhole start old new done outcomes a o served came =
     let P : List Exchange → Type 0 = λ xs. HasDelivered StillHonest StillWhole start new xs in
     record {
       delivered = subst P (sym (exchanges-more outcomes o)) (came.did start (exchanges_of outcomes) served.delivered);
@@ -65,6 +66,9 @@ serves Honest Whole StillHonest StillWhole old new a o came = λ start done outc
           (came.is (office_behind start (exchanges_of outcomes)) (λ h w. ap (λ meaning. meaning.office) (served.delivered.left h w)));
     }
 
--- the same of what is asked in other words
-pub answered : (Honest Whole StillHonest StillWhole : Type 0) (old new : OfficeWithBook) (a b : Asked) (o : Outcome) → a ≡ b → Came Honest Whole StillHonest StillWhole old new b o → ServesOn Honest Whole StillHonest StillWhole old new a o
-answered Honest Whole StillHonest StillWhole old new a b o is came = let P : Asked → Type 0 = λ x. ServesOn Honest Whole StillHonest StillWhole old new x o in subst P (sym is) (serves Honest Whole StillHonest StillWhole old new b o came)
+pub none_served : (Honest Whole : Type 0) (start : OfficeWithBook) → HasServed Honest Whole start start [] []
+none_served Honest Whole start = record { delivered = record { left = λ h w. refl; answers = λ h. refl }; each = tt }
+
+-- what came of a message, said of what it asks in other words
+pub asked_so : (Honest Whole StillHonest StillWhole : Type 0) (old new : OfficeWithBook) (a b : Asked) (o : Outcome) → a ≡ b → Came Honest Whole StillHonest StillWhole old new b o → Came Honest Whole StillHonest StillWhole old new a o
+asked_so Honest Whole StillHonest StillWhole old new a b o is came = let P : Asked → Type 0 = λ x. Came Honest Whole StillHonest StillWhole old new x o in subst P (sym is) came

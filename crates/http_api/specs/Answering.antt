@@ -1,10 +1,10 @@
 -- What one message comes to, over tables of which something is said only while they are honest and whole, and what is written of it.
 -- This project's own words, for the code's own steps.
-use Rattle.std.specs.Prelude.{◌≡◌, ◌<◌, ◌≤◌, List, length, ℕ, Option, Some, None, IsSomeAnd, Result, MatchResult, ⊤}
+use Rattle.std.specs.Prelude.{◌≡◌, ◌<◌, ◌≤◌, List, length, ℕ, Option, Some, None, IsSomeAnd, Result, MatchResult, Bool, ⊤}
 use Rattle.sha2.specs.Sha256.{sha256}
 use Rattle.units.specs.Limits.{export_limit}
 use Rattle.units.specs.Office.{Office}
-use Rattle.units.specs.Streams.{Took, TookBeginning, RoseOrStands}
+use Rattle.units.specs.Streams.{TookBeginning, RoseOrStands}
 use Rattle.request_book.specs.Book.{OfficeWithBook}
 use Rattle.http_answers.specs.declared.refusal.Refusal.{Refusal}
 use Rattle.http_answers.specs.declared.refusal.Refusal.TheVariants.{NoLanguage, NoUnit, Memory, Disk, LongExport}
@@ -18,7 +18,7 @@ use Rattle.commands.specs.Writers.{Writer, TakesAll, TakesPart}
 use Rattle.http_questions.specs.Asked.{Asked}
 use Rattle.http_api.specs.declared.faults.ServeFault.{ServeFault}
 use Rattle.http_api.specs.declared.faults.ServeFault.TheVariants as fault
-use Rattle.http_api.specs.Outcomes.{Outcome, IsOutcome}
+use Rattle.http_api.specs.Outcomes.{Outcome, IsExported, outcome_answer, IsOutcome}
 use Rattle.http_api.specs.Served.{exchange_in}
 
 -- A message has its outcome: what reached the desk went on from what was there, and a question was answered from the office that the
@@ -40,22 +40,23 @@ ComesTo is_honest is_whole means old new asked outcome =
 abbrev pub Tells : {T : Type 0} → Writer → Writer → List ℕ → Result T ServeFault → Type 0
 Tells old new text result = MatchResult result (λ _. TakesAll old new text) (λ e. (e ≡ fault.Write) × TakesPart old new text)
 
--- why an answer breaks off: the writer failed, or memory or the disk did behind the head of an export
-abbrev pub BreaksOff : ServeFault → ℕ → ℕ → Type 0
-BreaksOff fault.Read failed_old failed_new = ⊥
-BreaksOff fault.Write failed_old failed_new = RoseOrStands failed_old failed_new
-BreaksOff fault.Memory failed_old failed_new = ⊤
-BreaksOff fault.Disk failed_old failed_new = ⊤
+-- why an answer breaks off: the writer failed; or behind the head of a language's text memory ran out, or the disk failed, which stopped the
+-- tables
+abbrev pub BreaksOff : (Stopped : Type 0) → Outcome → ServeFault → ℕ → ℕ → Type 0
+BreaksOff Stopped o fault.Read failed_old failed_new = ⊥
+BreaksOff Stopped o fault.Write failed_old failed_new = RoseOrStands failed_old failed_new
+BreaksOff Stopped o fault.Memory failed_old failed_new = IsExported o
+BreaksOff Stopped o fault.Disk failed_old failed_new = IsExported o × Stopped
 
 -- Only a beginning of an answer was written.
-pub record WroteBeginning (old new : Writer) (text : List ℕ) (fault : ServeFault) : Type 0 where
-  pub beginning : TookBeginning old.taken new.taken text
-  pub cause : BreaksOff fault old.failed new.failed
+pub record WroteBeginning (Stopped : Type 0) (old new : Writer) (o : Outcome) (last : Bool) (fault : ServeFault) : Type 0 where
+  pub beginning : TookBeginning old.taken new.taken (outcome_answer o last)
+  pub cause : BreaksOff Stopped o fault old.failed new.failed
 
 -- an answer was written, or a beginning of it; what an export wrote is known while the tables are honest
-abbrev pub Writes : {T : Type 0} → (Honest : Type 0) → Writer → Writer → List ℕ → Result T ServeFault → Type 0
-Writes Honest old new text result =
-    MatchResult result (λ _. Honest → Took old.taken new.taken text) (λ fault. Honest → WroteBeginning old new text fault)
+abbrev pub Writes : {T : Type 0} → (Honest Stopped : Type 0) → Writer → Writer → Outcome → Bool → Result T ServeFault → Type 0
+Writes Honest Stopped old new o last result =
+    MatchResult result (λ _. Honest → TakesAll old new (outcome_answer o last)) (λ fault. Honest → WroteBeginning Stopped old new o last fault)
 
 -- ---- errors
 

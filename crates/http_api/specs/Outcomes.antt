@@ -33,6 +33,12 @@ pub data Outcome : Type 0 where
   -- an error
   failed : Refusal → Outcome
 
+abbrev pub IsExported : Outcome → Type 0
+IsExported (posted exchange) = ⊥
+IsExported (shown text) = ⊥
+IsExported (exported text) = ⊤
+IsExported (failed refusal) = ⊥
+
 -- ---- the bytes
 
 abbrev pub lost_refusal : Lost → Refusal

@@ -36,16 +36,3 @@ exchanges_of outcomes = flat_map exchange_in outcomes
 pub record HasServed (Honest Whole : Type 0) (before after : OfficeWithBook) (asked : List Asked) (outcomes : List Outcome) : Type 0 where
   pub delivered : HasDelivered Honest Whole before after (exchanges_of outcomes)
   pub each : AreOutcomes Honest Whole before [] asked outcomes
-
--- ---- one message more
-
--- whatever was served before, this came behind it
-abbrev pub ServesOn : (Honest Whole StillHonest StillWhole : Type 0) → OfficeWithBook → OfficeWithBook → Asked → Outcome → Type 0
-ServesOn Honest Whole StillHonest StillWhole old new asked outcome =
-    (start : OfficeWithBook) (done : List Asked) (came : List Outcome) → HasServed Honest Whole start old done came
-    → HasServed StillHonest StillWhole start new (done ++ asked ∷ []) (came ++ outcome ∷ [])
-
--- the same of tables, by the words that their type has for itself
-abbrev pub Serves : {S : Type 0} → (S → Type 0) → (S → Type 0) → (S → OfficeWithBook) → S → S → Asked → Outcome → Type 0
-Serves is_honest is_whole means old new asked outcome =
-    ServesOn (is_honest old) (is_whole old) (is_honest new) (is_whole new) (means old) (means new) asked outcome

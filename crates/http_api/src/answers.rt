@@ -1,5 +1,5 @@
 //! What a message is answered.
-ghost use Rattle.std.specs.Prelude.{◌≡◌, [], ◌∷◌, List, ℕ, Result};
+ghost use Rattle.std.specs.Prelude.{◌≡◌, [], ◌∷◌, List, ℕ, Result, true};
 ghost use Rattle.request_book.specs.Replies.{Reply};
 ghost use Rattle.tables.specs.declared.faults.Lost.{Lost};
 ghost use Rattle.http_answers.specs.Answers.{answer_text, refusal_text};
@@ -11,7 +11,6 @@ ghost use Rattle.http_questions.specs.Pairs.{name_of};
 ghost use Rattle.commands.specs.Exchanges.{Exchange, asked, Delivers};
 ghost use Rattle.commands.specs.Writers.{writer_at};
 ghost use Rattle.http_api.specs.Outcomes.{Outcome, posted, lost_refusal, result_answer, exchange_answer, outcome_answer};
-ghost use Rattle.http_api.specs.Served.{Serves};
 ghost use Rattle.http_api.specs.Answering.{ComesTo, Tells, Writes, query_refusal};
 
 use crate::exports::answer_export;
@@ -146,7 +145,7 @@ pub(crate) fn answer_stats<T: Tables, W: ByteSink>(
 ///
 /// `Write` where the writer failed. `Memory` and `Disk` where an export broke off whose head was written: where nothing is written yet,
 /// they are answered, by 503 and 507.
-pub fn answer<T: Tables, W: ByteSink>(
+pub(crate) fn answer<T: Tables, W: ByteSink>(
     alloc: Global,
     desk: &mut Desk<T>,
     asked: Asked<'_>,
@@ -154,8 +153,9 @@ pub fn answer<T: Tables, W: ByteSink>(
     w: &mut W,
 ) -> Result<(), ServeFault>
     ensures { (question : AskedValue) → IsAsked asked.entry question → (o : Outcome)
-        × Serves T.is_honest T.is_whole T.means desk.old desk.new question o
-        × Writes (T.is_honest desk.new) (writer_at W.taken W.failed w.old) (writer_at W.taken W.failed w.new) (outcome_answer o last) result }
+        × ComesTo T.is_honest T.is_whole T.means desk.old desk.new question o
+        × Writes (T.is_honest desk.new) (T.is_stopped desk.new ≡ true)
+        (writer_at W.taken W.failed w.old) (writer_at W.taken W.failed w.new) o last result }
 {
     match asked {
         Asked::Refused(refusal) => send_refusal(w, refusal, last),

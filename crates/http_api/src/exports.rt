@@ -1,9 +1,9 @@
 //! A language's text as an answer: it is made twice, once to measure it, and once to write it.
-ghost use Rattle.std.specs.Prelude.{◌≡◌, List, ℕ, None, IfOk, OnOk, IfErr};
+ghost use Rattle.std.specs.Prelude.{◌≡◌, List, ℕ, None, IfOk, OnOk, IfErr, true};
 ghost use Rattle.deliveries.specs.ExportText.{export_text};
 ghost use Rattle.http_questions.specs.Asked.{export};
 ghost use Rattle.commands.specs.Writers.{writer_at};
-ghost use Rattle.http_api.specs.Outcomes.{Outcome, exported, outcome_answer};
+ghost use Rattle.http_api.specs.Outcomes.{Outcome, exported};
 ghost use Rattle.http_api.specs.Answering.{ComesTo, Writes, IsReceipt, IsMeasured, IsUnmeasured, export_refusal, export_fault};
 
 use crate::answers::send_refusal;
@@ -73,7 +73,8 @@ fn write_export<T: Tables, W: ByteSink>(
     w: &mut W,
 ) -> Result<(), ServeFault>
     ensures wrote { (text : List ℕ) → (T.is_honest desk.old → IsReceipt (export_text (T.means desk.old).office lang.now) text receipt)
-        → Writes (T.is_honest desk.new) (writer_at W.taken W.failed w.old) (writer_at W.taken W.failed w.new) (outcome_answer (exported text) last) result }
+        → Writes (T.is_honest desk.new) (T.is_stopped desk.new ≡ true)
+        (writer_at W.taken W.failed w.old) (writer_at W.taken W.failed w.new) (exported text) last result }
     ensures honest { T.is_honest desk.new → T.is_honest desk.old }
     ensures whole { T.is_honest desk.new → T.is_whole desk.new → T.is_whole desk.old }
     ensures same { T.is_honest desk.new → T.is_whole desk.new → T.means desk.new ≡ T.means desk.old }
@@ -100,7 +101,8 @@ pub(crate) fn answer_export<T: Tables, W: ByteSink>(
 ) -> Result<(), ServeFault>
     ensures { (o : Outcome)
         × ComesTo T.is_honest T.is_whole T.means desk.old desk.new (export lang.now) o
-        × Writes (T.is_honest desk.new) (writer_at W.taken W.failed w.old) (writer_at W.taken W.failed w.new) (outcome_answer o last) result }
+        × Writes (T.is_honest desk.new) (T.is_stopped desk.new ≡ true)
+        (writer_at W.taken W.failed w.old) (writer_at W.taken W.failed w.new) o last result }
 {
     match measure(desk, lang) {
         Ok(receipt) => write_export(desk, lang, receipt, last, w),

@@ -1,5 +1,6 @@
 //! Why a connection is given up.
 
+use http_messages::ReadFault;
 use thiserror::Error;
 use units::SinkFault;
 
@@ -18,6 +19,32 @@ pub enum ServeFault {
     /// The disk failed under an export whose head was written.
     #[error("the disk failed")]
     Disk = 4,
+}
+
+impl ServeFault {
+    ghost use Rattle.std.specs.Prelude.{◌≡◌};
+    ghost use Rattle.http_api.specs.Faults.{serve_fault_number};
+
+    /// The fault's number.
+    pub fn number(self) -> u8
+        ensures { result ≡ serve_fault_number self }
+    {
+        self as u8
+    }
+}
+
+impl From<ReadFault> for ServeFault {
+    ghost use Rattle.std.specs.Prelude.{◌≡◌};
+    ghost use Rattle.http_api.specs.Faults.{fault_of};
+
+    ghost from_gives = { λ cause e. e ≡ fault_of cause };
+
+    fn from(cause: ReadFault) -> ServeFault {
+        match cause {
+            ReadFault::Source => ServeFault::Read,
+            ReadFault::Memory => ServeFault::Memory,
+        }
+    }
 }
 
 impl From<SinkFault> for ServeFault {

@@ -1,10 +1,13 @@
-//! The office over HTTP: what each message of a stream is answered.
+//! The office over HTTP: what the messages of a connection are answered.
 #![tactic(auto)]
 
 mod answers;
+mod connection;
 mod exports;
 mod faults;
+mod laws;
 mod posts;
 
-pub use answers::answer;
+pub use connection::{Served, serve};
 pub use faults::ServeFault;
+pub use laws::messages_stand_alone;

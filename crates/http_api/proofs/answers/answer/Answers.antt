@@ -7,16 +7,16 @@ use Rattle.http_questions.specs.Pairs.{name_of}
 use Rattle.http_api.specs.Outcomes.{posted, failed}
 use Rattle.http_api.proofs.Coming.{told}
 use Rattle.http_api.proofs.Exporting.{tells_writes}
-use Rattle.http_api.proofs.Serving.{answered}
+use Rattle.http_api.proofs.Serving.{asked_so}
 use Rattle.http_api.proofs.answers.answer.Goals as goal
 
 pub returns-in-Refused : goal.returns-in-Refused
 returns-in-Refused g c = λ question is.
     let P : AskedValue → Type 0 = λ asked. IsAsked asked question in (
       failed c.in-Refused.refusal,
-      answered _ _ _ _ _ _ question (ask.refused c.in-Refused.refusal) (failed c.in-Refused.refusal) (subst P c.in-Refused.is is)
+      asked_so _ _ _ _ _ _ question (ask.refused c.in-Refused.refusal) (failed c.in-Refused.refusal) (subst P c.in-Refused.is is)
           (told _ _ _ _ _ _ (ask.refused c.in-Refused.refusal) (failed c.in-Refused.refusal) refl (λ h. h) (λ h w. w) (λ h w. refl) (λ office place. inl refl)),
-      tells_writes _ (writer_at g.W.ByteSink.taken g.W.ByteSink.failed c.args.w.now) (writer_at g.W.ByteSink.taken g.W.ByteSink.failed c.send_refusal.new.w) _ c.send_refusal.result c.send_refusal.ensures,
+      tells_writes _ _ (writer_at g.W.ByteSink.taken g.W.ByteSink.failed c.args.w.now) (writer_at g.W.ByteSink.taken g.W.ByteSink.failed c.send_refusal.new.w) (failed c.in-Refused.refusal) c.args.last c.send_refusal.result c.send_refusal.ensures,
     )
 
 pub returns-in-Request : goal.returns-in-Request
@@ -25,23 +25,23 @@ returns-in-Request g c = λ question is.
     let parts = subst P c.in-Request.is is in
     let came = c.answer_post.ensures parts.0 parts.1 in (
       posted came.0,
-      answered _ _ _ _ _ _ question (ask.request c.in-Request.parts.number.now parts.0 c.in-Request.parts.body.now) (posted came.0) parts.2 came.1,
-      tells_writes _ (writer_at g.W.ByteSink.taken g.W.ByteSink.failed c.args.w.now) (writer_at g.W.ByteSink.taken g.W.ByteSink.failed c.answer_post.new.w) _ c.answer_post.result came.2,
+      asked_so _ _ _ _ _ _ question (ask.request c.in-Request.parts.number.now parts.0 c.in-Request.parts.body.now) (posted came.0) parts.2 came.1,
+      tells_writes _ _ (writer_at g.W.ByteSink.taken g.W.ByteSink.failed c.args.w.now) (writer_at g.W.ByteSink.taken g.W.ByteSink.failed c.answer_post.new.w) (posted came.0) c.args.last c.answer_post.result came.2,
     )
 
 pub returns-in-Export : goal.returns-in-Export
 returns-in-Export g c = λ question is.
     let P : AskedValue → Type 0 = λ asked. IsAsked asked question in
     let came = c.answer_export.ensures in
-    (came.0, answered _ _ _ _ _ _ question (ask.export c.in-Export.lang) came.0 (subst P c.in-Export.is is) came.1, came.2)
+    (came.0, asked_so _ _ _ _ _ _ question (ask.export c.in-Export.lang) came.0 (subst P c.in-Export.is is) came.1, came.2)
 
 pub returns-in-Unit : goal.returns-in-Unit
 returns-in-Unit g c = λ question is.
     let P : AskedValue → Type 0 = λ asked. IsAsked asked question in
     let came = c.answer_unit.ensures in (
       came.0,
-      answered _ _ _ _ _ _ question (ask.unit (name_of c.in-Unit.name)) came.0 (subst P c.in-Unit.is is) came.1,
-      tells_writes _ (writer_at g.W.ByteSink.taken g.W.ByteSink.failed c.args.w.now) (writer_at g.W.ByteSink.taken g.W.ByteSink.failed c.answer_unit.new.w) _ c.answer_unit.result came.2,
+      asked_so _ _ _ _ _ _ question (ask.unit (name_of c.in-Unit.name)) came.0 (subst P c.in-Unit.is is) came.1,
+      tells_writes _ _ (writer_at g.W.ByteSink.taken g.W.ByteSink.failed c.args.w.now) (writer_at g.W.ByteSink.taken g.W.ByteSink.failed c.answer_unit.new.w) came.0 c.args.last c.answer_unit.result came.2,
     )
 
 pub returns-in-Stats : goal.returns-in-Stats
@@ -49,6 +49,6 @@ returns-in-Stats g c = λ question is.
     let P : AskedValue → Type 0 = λ asked. IsAsked asked question in
     let came = c.answer_stats.ensures in (
       came.0,
-      answered _ _ _ _ _ _ question (ask.stats c.in-Stats.lang) came.0 (subst P c.in-Stats.is is) came.1,
-      tells_writes _ (writer_at g.W.ByteSink.taken g.W.ByteSink.failed c.args.w.now) (writer_at g.W.ByteSink.taken g.W.ByteSink.failed c.answer_stats.new.w) _ c.answer_stats.result came.2,
+      asked_so _ _ _ _ _ _ question (ask.stats c.in-Stats.lang) came.0 (subst P c.in-Stats.is is) came.1,
+      tells_writes _ _ (writer_at g.W.ByteSink.taken g.W.ByteSink.failed c.args.w.now) (writer_at g.W.ByteSink.taken g.W.ByteSink.failed c.answer_stats.new.w) came.0 c.args.last c.answer_stats.result came.2,
     )

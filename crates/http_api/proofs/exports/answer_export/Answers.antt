@@ -24,5 +24,5 @@ pub returns-in-Err : goal.returns-in-Err
 returns-in-Err g c = (
   failed (export_refusal c.in-Err.fault),
   export_refused _ _ _ _ _ _ c.args.lang.now c.in-Err.fault c.in-Err.ensures.honest c.in-Err.ensures.whole c.in-Err.ensures.same c.in-Err.ensures.err,
-  tells_writes _ (writer_at g.W.ByteSink.taken g.W.ByteSink.failed c.args.w.now) (writer_at g.W.ByteSink.taken g.W.ByteSink.failed c.send_refusal.new.w) _ c.send_refusal.result (refusal_same (writer_at g.W.ByteSink.taken g.W.ByteSink.failed c.args.w.now) (writer_at g.W.ByteSink.taken g.W.ByteSink.failed c.send_refusal.new.w) c.send_refusal.result c.args.last c.export_refusal.result _ c.export_refusal.ensures c.send_refusal.ensures),
+  tells_writes _ _ (writer_at g.W.ByteSink.taken g.W.ByteSink.failed c.args.w.now) (writer_at g.W.ByteSink.taken g.W.ByteSink.failed c.send_refusal.new.w) (failed (export_refusal c.in-Err.fault)) c.args.last c.send_refusal.result (refusal_same (writer_at g.W.ByteSink.taken g.W.ByteSink.failed c.args.w.now) (writer_at g.W.ByteSink.taken g.W.ByteSink.failed c.send_refusal.new.w) c.send_refusal.result c.args.last c.export_refusal.result _ c.export_refusal.ensures c.send_refusal.ensures),
 )

@@ -1,4 +1,4 @@
-use Rattle.std.proofs.Common.{ap, Result, Err}
+use Rattle.std.proofs.Common.{◌≡◌, true, ap, Result, Err}
 use Rattle.http_api.specs.declared.faults.ServeFault.{ServeFault}
 use Rattle.commands.specs.Writers.{writer_at}
 use Rattle.http_api.proofs.Exporting.{text_written, text_broke_off, head_broke_off}
@@ -6,12 +6,12 @@ use Rattle.http_api.proofs.exports.write_export.Goals as goal
 
 pub returns-in_err-write_head-clause-wrote : goal.returns-in_err-write_head-clause-wrote
 returns-in_err-write_head-clause-wrote g c = λ text holds.
-    head_broke_off (writer_at g.W.ByteSink.taken g.W.ByteSink.failed c.args.w.now) (writer_at g.W.ByteSink.taken g.W.ByteSink.failed c.write_head.new.w) c.args.receipt _ text c.args.last c.from_residual.result c.from_residual.ensures.1 (λ h. h) holds c.in_err-write_head.ensures
+    head_broke_off _ (writer_at g.W.ByteSink.taken g.W.ByteSink.failed c.args.w.now) (writer_at g.W.ByteSink.taken g.W.ByteSink.failed c.write_head.new.w) c.args.receipt _ text c.args.last c.from_residual.result c.from_residual.ensures.1 (λ h. h) holds c.in_err-write_head.ensures
 
 pub returns-in-Ok-clause-wrote : goal.returns-in-Ok-clause-wrote
 returns-in-Ok-clause-wrote g c = λ text holds.
-    text_written {T = Unit {0}} (writer_at g.W.ByteSink.taken g.W.ByteSink.failed c.args.w.now) (writer_at g.W.ByteSink.taken g.W.ByteSink.failed c.write_head.new.w) (writer_at g.W.ByteSink.taken g.W.ByteSink.failed c.export.new.w) c.args.receipt c.in-Ok._written _ text c.args.last tt c.in-Ok.ensures.kept.honest holds c.in_ok-write_head.ensures c.in-Ok.ensures.text
+    text_written {T = Unit {0}} (g.T.Tables.is_stopped c.export.new.self ≡ true) (writer_at g.W.ByteSink.taken g.W.ByteSink.failed c.args.w.now) (writer_at g.W.ByteSink.taken g.W.ByteSink.failed c.write_head.new.w) (writer_at g.W.ByteSink.taken g.W.ByteSink.failed c.export.new.w) c.args.receipt c.in-Ok._written _ text c.args.last tt c.in-Ok.ensures.kept.honest holds c.in_ok-write_head.ensures c.in-Ok.ensures.text c.in-Ok.ensures.count
 
 pub returns-in-Err-clause-wrote : goal.returns-in-Err-clause-wrote
 returns-in-Err-clause-wrote g c = λ text holds.
-    text_broke_off {T = Unit {0}} (writer_at g.W.ByteSink.taken g.W.ByteSink.failed c.args.w.now) (writer_at g.W.ByteSink.taken g.W.ByteSink.failed c.write_head.new.w) (writer_at g.W.ByteSink.taken g.W.ByteSink.failed c.export.new.w) c.args.receipt _ text c.args.last c.in-Err.fault (Err c.export_fault.result) (ap {A = ServeFault} {B = Result (Unit {0}) ServeFault} (λ e. Err e) c.export_fault.ensures) c.in-Err.ensures.kept.honest holds c.in_ok-write_head.ensures c.in-Err.ensures.err
+    text_broke_off {T = Unit {0}} (writer_at g.W.ByteSink.taken g.W.ByteSink.failed c.args.w.now) (writer_at g.W.ByteSink.taken g.W.ByteSink.failed c.write_head.new.w) (writer_at g.W.ByteSink.taken g.W.ByteSink.failed c.export.new.w) c.args.receipt _ text c.args.last c.in-Err.fault (Err c.export_fault.result) (ap {A = ServeFault} {B = Result (Unit {0}) ServeFault} (λ e. Err e) c.export_fault.ensures) c.in-Err.ensures.kept.honest holds c.in_ok-write_head.ensures c.in-Err.ensures.err c.in-Err.ensures.kept.disk

@@ -1,0 +1,46 @@
+-- A message for which there was no memory to read what it asks.
+use Rattle.std.proofs.Common.{◌≡◌, Bool, inr, refl}
+use Rattle.request_book.specs.Book.{OfficeWithBook}
+use Rattle.tables.specs.declared.faults.Lost.TheVariants as lost
+use Rattle.http_answers.specs.declared.refusal.Refusal.TheVariants.{Memory}
+use Rattle.http_answers.specs.Answers.{refusal_text}
+use Rattle.http_questions.specs.Asked.{Asked}
+use Rattle.http_questions.specs.Asked as ask
+use Rattle.http_questions.specs.Askings.{MayTakeMemory}
+use Rattle.commands.specs.Exchanges.{unread}
+use Rattle.commands.proofs.Going.{stays}
+use Rattle.http_api.specs.Outcomes.{Outcome, posted, failed, outcome_answer, unit_lost, counts_lost, text_lost}
+use Rattle.http_api.specs.Answering.{Came}
+use Rattle.http_api.proofs.Coming.{told, posts}
+
+pub record ToldOfMemory (Honest Whole : Type 0) (meaning : OfficeWithBook) (asked : Asked) : Type 0 where
+  pub outcome : Outcome
+  pub came : Came Honest Whole Honest Whole meaning meaning asked outcome
+  pub text : (last : Bool) → outcome_answer outcome last ≡ refusal_text Memory last
+
+pub unread_told : (Honest Whole : Type 0) (meaning : OfficeWithBook) (asked : Asked) → MayTakeMemory asked → ToldOfMemory Honest Whole meaning asked
+unread_told Honest Whole meaning (ask.refused refusal) may = record {
+  outcome = failed Memory;
+  came = told Honest Whole Honest Whole meaning meaning (ask.refused refusal) (failed Memory) refl (λ h. h) (λ h w. w) (λ h w. refl) (λ office place. inr (may, refl));
+  text = λ last. refl;
+}
+unread_told Honest Whole meaning (ask.request number callers body) may = record {
+  outcome = posted unread;
+  came = posts Honest Whole Honest Whole meaning meaning number callers body unread tt (λ h. h) (λ h w. w) (stays Honest Whole meaning _ refl refl);
+  text = λ last. refl;
+}
+unread_told Honest Whole meaning (ask.export lang) may = record {
+  outcome = failed Memory;
+  came = told Honest Whole Honest Whole meaning meaning (ask.export lang) (failed Memory) refl (λ h. h) (λ h w. w) (λ h w. refl) (λ office place. text_lost lost.Memory refl);
+  text = λ last. refl;
+}
+unread_told Honest Whole meaning (ask.unit name) may = record {
+  outcome = failed Memory;
+  came = told Honest Whole Honest Whole meaning meaning (ask.unit name) (failed Memory) refl (λ h. h) (λ h w. w) (λ h w. refl) (λ office place. unit_lost lost.Memory refl);
+  text = λ last. refl;
+}
+unread_told Honest Whole meaning (ask.stats lang) may = record {
+  outcome = failed Memory;
+  came = told Honest Whole Honest Whole meaning meaning (ask.stats lang) (failed Memory) refl (λ h. h) (λ h w. w) (λ h w. refl) (λ office place. counts_lost lost.Memory refl);
+  text = λ last. refl;
+}

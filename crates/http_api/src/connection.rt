@@ -1,0 +1,199 @@
+//! One connection.
+ghost use Rattle.std.specs.Prelude.{◌≡◌, ◌≤◌, ◌+◌, ◌||◌, [], length, drop, true, List, ℕ, IfOk, IfSome, OnOk, MatchResult, if◌then◌else◌};
+ghost use Rattle.http_answers.specs.Answers.{refusal_text};
+ghost use Rattle.http_messages.specs.Arrivals.{asking_in};
+ghost use Rattle.commands.specs.Writers.{writer_at, TakesAll};
+ghost use Rattle.http_api.specs.declared.connection.Next.TheVariants.{Last};
+ghost use Rattle.http_api.specs.Outcomes.{Outcome, outcome_answer};
+ghost use Rattle.http_api.specs.Answering.{ComesTo, Tells, Writes, WroteBeginning};
+ghost use Rattle.http_api.specs.Steps.{next_of, Stepped, SteppedOff};
+ghost use Rattle.http_api.specs.Connection.{AllServed, SomeServed};
+
+use crate::answers::{answer, send_refusal};
+use crate::faults::ServeFault;
+use http_answers::Refusal;
+use http_messages::{Arrival, Inbox};
+use office::Desk;
+use std::alloc::Global;
+use tables::Tables;
+use units::{ByteSink, ByteSource};
+
+/// How many messages a connection answers at most.
+const ANSWER_LIMIT: u64 = 1_000_000_000;
+
+/// What came of a connection.
+#[derive(Clone, Copy, Debug, PartialEq, Eq, Drop)]
+pub struct Served {
+    /// How many messages were answered.
+    pub answered: u64,
+}
+
+/// What follows a step.
+#[derive(Clone, Copy, Drop)]
+enum Next {
+    /// The stream has ended.
+    End,
+    /// The answer was the last one.
+    Last,
+    /// More is read.
+    More,
+}
+
+fn next_of(last: bool) -> Next
+    ensures { result ≡ next_of last }
+{
+    if last { Next::Last } else { Next::More }
+}
+
+fn is_last(ends: bool, full: bool) -> bool
+    ensures { result ≡ (ends || full) }
+{
+    ends || full
+}
+
+/// Hands on what the writer holds back: a client that waits for the answer gets it.
+fn hand_on<W: ByteSink>(w: &mut W) -> Result<(), ServeFault>
+    ensures { Tells (writer_at W.taken W.failed w.old) (writer_at W.taken W.failed w.new) [] result }
+{
+    match w.flush() {
+        Ok(()) => Ok(()),
+        Err(fault) => Err(ServeFault::from(fault)),
+    }
+}
+
+/// Answers what fails a test before any route counts. The connection ends.
+fn refuse<W: ByteSink>(refusal: Refusal, w: &mut W) -> Result<Next, ServeFault>
+    ensures told { Tells (writer_at W.taken W.failed w.old) (writer_at W.taken W.failed w.new) (refusal_text refusal true) result }
+    ensures next { IfOk result (λ next. next ≡ Last) }
+{
+    send_refusal(w, refusal, true)?;
+    hand_on(w)?;
+    Ok(Next::Last)
+}
+
+/// Answers the message at the front, by how many bytes its head and its body have; `full` says that no more may be answered. Tells
+/// whether the answer is the last one.
+fn answer_front<T: Tables, W: ByteSink>(
+    alloc: Global,
+    desk: &mut Desk<T>,
+    inbox: &Inbox,
+    head: usize,
+    body: usize,
+    full: bool,
+    w: &mut W,
+) -> Result<bool, ServeFault>
+    requires within { head + body ≤ length inbox.now }
+    ensures answered { (o : Outcome)
+        × ComesTo T.is_honest T.is_whole T.means desk.old desk.new (asking_in inbox.now head body).asked o
+        × Writes (T.is_honest desk.new) (T.is_stopped desk.new ≡ true)
+        (writer_at W.taken W.failed w.old) (writer_at W.taken W.failed w.new) o ((asking_in inbox.now head body).ends || full) result }
+    ensures last { IfOk result (λ last. last ≡ ((asking_in inbox.now head body).ends || full)) }
+{
+    match inbox.asking(alloc, head, body) {
+        Ok(asking) => {
+            let last = is_last(asking.ends, full);
+            answer(alloc, desk, asking.asked, last, w)?;
+            Ok(last)
+        }
+        Err(unread) => {
+            let last = is_last(unread.ends, full);
+            send_refusal(w, Refusal::Memory, last)?;
+            Ok(last)
+        }
+    }
+}
+
+/// Answers the message at the front, and takes it off.
+fn serve_message<T: Tables, W: ByteSink>(
+    alloc: Global,
+    desk: &mut Desk<T>,
+    inbox: &mut Inbox,
+    head: usize,
+    body: usize,
+    full: bool,
+    w: &mut W,
+) -> Result<Next, ServeFault>
+    requires within { head + body ≤ length inbox.old }
+    ensures answered { (o : Outcome)
+        × ComesTo T.is_honest T.is_whole T.means desk.old desk.new (asking_in inbox.old head body).asked o
+        × Writes (T.is_honest desk.new) (T.is_stopped desk.new ≡ true)
+        (writer_at W.taken W.failed w.old) (writer_at W.taken W.failed w.new) o ((asking_in inbox.old head body).ends || full) result }
+    ensures next { IfOk result (λ next. next ≡ next_of ((asking_in inbox.old head body).ends || full)) }
+    ensures behind { OnOk result (inbox.new ≡ drop (head + body) inbox.old) }
+{
+    let last = answer_front(alloc, desk, inbox, head, body, full, w)?;
+    inbox.take_off(head);
+    inbox.take_off(body);
+    hand_on(w)?;
+    Ok(next_of(last))
+}
+
+/// Reads a message and answers it.
+fn serve_one<T: Tables, R: ByteSource, W: ByteSink>(
+    alloc: Global,
+    desk: &mut Desk<T>,
+    source: &mut R,
+    inbox: &mut Inbox,
+    full: bool,
+    w: &mut W,
+) -> Result<Next, ServeFault>
+    ensures { MatchResult result
+        (Stepped ((desk.new ≡ desk.old) × (w.new ≡ w.old))
+        (ComesTo T.is_honest T.is_whole T.means desk.old desk.new)
+        (λ o last. T.is_honest desk.new → TakesAll (writer_at W.taken W.failed w.old) (writer_at W.taken W.failed w.new) (outcome_answer o last))
+        (R.left source.old) (R.left source.new) (R.failed source.old) (R.failed source.new) inbox.old inbox.new full)
+        (λ fault. SteppedOff ((desk.new ≡ desk.old) × (w.new ≡ w.old))
+        (ComesTo T.is_honest T.is_whole T.means desk.old desk.new)
+        (λ o last. T.is_honest desk.new
+        → WroteBeginning (T.is_stopped desk.new ≡ true) (writer_at W.taken W.failed w.old) (writer_at W.taken W.failed w.new) o last fault)
+        (R.left source.old) (R.left source.new) (R.failed source.old) (R.failed source.new) inbox.old full fault) }
+{
+    match inbox.read_message(source)? {
+        Arrival::End => Ok(Next::End),
+        Arrival::Refused(refusal) => refuse(refusal, w),
+        Arrival::Message { head, body } => serve_message(alloc, desk, inbox, head, body, full, w),
+    }
+}
+
+/// Serves one connection: answers what the bytes of the source ask, message by message, whatever pieces they come in. A request is
+/// delivered to the desk, and answered by its reply; other questions are answered from the office as the requests before them left it.
+/// Nothing more is read behind a message that ends the connection, or behind the 1,000,000,000th answer. Before more is read, the
+/// answers so far are handed on.
+///
+/// Answers how many messages were answered. After a fault the writer has taken a beginning of the answers, and the tables are those of
+/// a beginning of the requests that has each one whose answer was written whole: a request that was recorded and not answered gets its
+/// reply when it is sent again. `Read` and `Write` where the source or the writer failed; `Memory` where a growth was refused, to read
+/// or within an export whose head was written; `Disk` where the disk failed within such an export. Want of memory and a failed disk are
+/// else answered, by 503 and 507.
+pub fn serve<T: Tables, R: ByteSource, W: ByteSink>(
+    alloc: Global,
+    desk: &mut Desk<T>,
+    source: &mut R,
+    w: &mut W,
+) -> Result<Served, ServeFault>
+    // What comes of the bytes that the source gives.
+    ensures served { (bytes : List ℕ) × IfSome (R.left source.old) (λ all. bytes ≡ all) × MatchResult result
+        (λ served. AllServed (T.is_honest desk.new) (T.is_whole desk.new) (T.means desk.old) (T.means desk.new) bytes
+        (writer_at W.taken W.failed w.old) (writer_at W.taken W.failed w.new) served.answered)
+        (SomeServed (T.is_honest desk.new) (T.is_whole desk.new) (T.is_stopped desk.new ≡ true) (T.means desk.old) (T.means desk.new) bytes
+        (R.failed source.old) (R.failed source.new) (writer_at W.taken W.failed w.old) (writer_at W.taken W.failed w.new)) }
+    ensures honest { T.is_honest desk.new → T.is_honest desk.old }
+    ensures whole { T.is_honest desk.new → T.is_whole desk.new → T.is_whole desk.old }
+{
+    let mut inbox = Inbox::new(alloc);
+    for answered in 0..ANSWER_LIMIT {
+        let full = answered + 1 == ANSWER_LIMIT;
+        match serve_one(alloc, desk, source, &mut inbox, full, w)? {
+            Next::End => return Ok(Served { answered }),
+            Next::Last => {
+                return Ok(Served {
+                    answered: answered + 1,
+                });
+            }
+            Next::More => {}
+        }
+    }
+    Ok(Served {
+        answered: ANSWER_LIMIT,
+    })
+}
