@@ -28,8 +28,7 @@ pub fitting_told : (t : OfficeMaps) (place : Place) (entry : Entry) (unit : Unit
     Decides b ((unit.obsolete ≡ false) × (unit.plural ≡ entry.plural)) → Decides b (HasUnit (office_in t) place.lang entry)
 fitting_told t place entry unit b key is tells =
     let there : maps.get (office_in t).units (place.lang, key_of entry) ≡ Some unit =
-    ap (λ k. maps.get (office_in t).units (place.lang, k)) (sym key) ∙ (unit_at t (place_of place) ∙ sym is) in
-    (
+    ap (λ k. maps.get (office_in t).units (place.lang, k)) (sym key) ∙ (unit_at t (place_of place) ∙ sym is) in (
       λ e. let h = tells.0 e in (unit, there, h.0, h.1),
       λ h.
           let both : Some unit ≡ Some h.0 = sym there ∙ h.1 in

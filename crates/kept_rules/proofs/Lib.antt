@@ -7,3 +7,5 @@ pub mod PlaceTests
 pub mod TeamTests
 pub mod LanguageTests
 pub mod OfficeTests
+pub mod BookTests
+pub mod GivenLemmas

@@ -1,6 +1,6 @@
 -- What the tests of an office tell.
-use Rattle.std.proofs.Common.{◌≡◌, ◌≤◌, Bool, true, false, cond, ◌&&◌, List, [], ◌∷◌, length, map, Option, Some, None, is_some, IsTrue, refl, sym, ap, subst, ◌∙◌, All, arith}
-use Rattle.std.specs.Prelude.{IsSome, Contains, filter, nat_le}
+use Rattle.std.proofs.Common.{◌≡◌, ◌≤◌, Bool, true, false, cond, ◌&&◌, List, [], ◌∷◌, length, map, Option, Some, None, is_some, refl, sym, ap, subst, ◌∙◌, All, arith}
+use Rattle.std.specs.Prelude.{IsSome, filter, nat_le}
 use Rattle.std.specs.Bool.{Decides}
 use Rattle.std.specs.List.{AllByRecursion}
 use Rattle.std.specs.Ordering.{eq_by_cmp}
@@ -21,6 +21,7 @@ use Rattle.units.specs.declared.unit.Key.{Key}
 use Rattle.units.specs.declared.unit.Unit.{Unit}
 use Rattle.template_update.proofs.Listed.{all_imply, found_one, found_each, tied_keys}
 use Rattle.deliveries.proofs.rules.Replaced.{all_rows}
+use Rattle.kept_rules.specs.Given.{AreAll}
 use Rattle.kept_rules.specs.Parts.{IsTeam, ArePlaced, HasUnit, KeepsLanguage, IsFrame}
 use Rattle.kept_rules.proofs.LanguageTests.{KeepsIfThere}
 use Rattle.kept_rules.proofs.Tests.{holds, three_tell}
@@ -68,13 +69,10 @@ module _ (office : Office) where
 
   -- ---- all rules
 
-  abbrev pub Covers : List Text → Type 0
-  Covers langs = (lang : Text) → IsTrue (maps.contains_key office.headers lang) → Contains langs lang
-
   abbrev KeepEach : List Text → Type 0
   KeepEach langs = All (KeepsIfThere office) langs
 
-  office_of : (langs : List Text) → Covers langs → IsFrame office → ArePlaced office → KeepEach langs → IsOffice office
+  office_of : (langs : List Text) → AreAll office.headers langs → IsFrame office → ArePlaced office → KeepEach langs → IsOffice office
   office_of langs covers frame placed each = record {
     managed = frame.team.managed;
     members = frame.team.members;
@@ -135,7 +133,7 @@ module _ (office : Office) where
   pub no_office : (b : Bool) → Decides b (IsFrame office) → b ≡ false → Decides false (IsOffice office)
   no_office b tells failed = (λ e. absurd (false≢true e), λ rules. absurd (false≢true (sym failed ∙ tells.1 (frame_of rules))))
 
-  pub office_told : (langs : List Text) (b r p q : Bool) → Covers langs → Decides b (IsFrame office) → b ≡ true → r ≡ (p && (q && true)) → Decides p (ArePlaced office) → Decides q (KeepEach langs) →
+  pub office_told : (langs : List Text) (b r p q : Bool) → AreAll office.headers langs → Decides b (IsFrame office) → b ≡ true → r ≡ (p && (q && true)) → Decides p (ArePlaced office) → Decides q (KeepEach langs) →
       Decides r (IsOffice office)
   office_told langs b r p q covers frame framed e placed each =
       three_tell {P = ArePlaced office} {Q = KeepEach langs} r p q true e

@@ -1,2 +1,4 @@
 pub mod Parts
 pub mod Contents
+pub mod Given
+pub mod Books

@@ -87,11 +87,7 @@ fn has_unit(office: &OfficeMaps, lang: &Lang, entry: &Entry) -> Result<bool, All
 }
 
 /// Whether a language has the units of all these entries.
-fn has_each_unit(
-    office: &OfficeMaps,
-    lang: &Lang,
-    entries: &[Entry],
-) -> Result<bool, AllocError>
+fn has_each_unit(office: &OfficeMaps, lang: &Lang, entries: &[Entry]) -> Result<bool, AllocError>
     ensures { IfOk result (λ has. (has ≡ true) ↔ All (HasUnit (office_in office.now) lang.now) entries.now) }
 {
     for entry in entries {

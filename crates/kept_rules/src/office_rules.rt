@@ -1,15 +1,14 @@
 //! Whether an office keeps the rules of one.
 
-ghost use Rattle.std.specs.Prelude.{◌≡◌, ◌≤◌, ◌↔◌, true, not, IsTrue, IfOk, Contains};
+ghost use Rattle.std.specs.Prelude.{◌≡◌, ◌↔◌, true, not, IfOk};
 ghost use Rattle.std.specs.List.{list_any, list_all};
 ghost use Rattle.std.specs.FinMap as maps;
-ghost use Rattle.po_read.specs.Texts.{Text};
-ghost use Rattle.units.specs.Limits.{language_limit};
 ghost use Rattle.units.specs.Units.{is_below};
 ghost use Rattle.units.specs.Offices.{IsOffice};
 ghost use Rattle.units.specs.declared.unit.Role.TheVariants.{Guest, Manager};
 ghost use Rattle.office_maps.specs.OfficeIn.{office_in};
 ghost use Rattle.office_maps.specs.Rows.{team_in};
+ghost use Rattle.kept_rules.specs.Given.{AreAll};
 ghost use Rattle.kept_rules.specs.Parts.{IsTeam, IsFrame};
 
 use crate::language_rules::keep_languages;
@@ -64,7 +63,7 @@ pub fn keeps_office_rules(
     office: &OfficeMaps,
     langs: &[Lang],
 ) -> Result<bool, AllocError>
-    requires all { (lang : Text) → IsTrue (maps.contains_key (office_in office.now).headers lang) → Contains langs.now lang }
+    requires all { AreAll (office_in office.now).headers langs.now }
     ensures { IfOk result (λ holds. (holds ≡ true) ↔ IsOffice (office_in office.now)) }
 {
     if !keeps_frame(office) {

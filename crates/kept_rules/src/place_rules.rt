@@ -38,7 +38,11 @@ fn stands_right(office: &OfficeMaps, place: &Place, unit: &Unit) -> bool
     ensures { (result ≡ true) ↔ StandsRight (office_in office.now) (place_of place.now) unit.now }
 {
     let keyed = has_its_key(place, unit);
-    hold_all(keyed, is_exact(office, place, unit), is_reviewed(office, unit))
+    hold_all(
+        keyed,
+        is_exact(office, place, unit),
+        is_reviewed(office, unit),
+    )
 }
 
 /// Whether a unit keeps the rules at its place.

@@ -14,10 +14,7 @@ use units::has_flag;
 pub(crate) fn is_header(entry: &Entry) -> bool
     ensures { result ≡ is_header entry.now }
 {
-    entry.ctx.is_none()
-        && entry.id.as_str().is_empty()
-        && entry.plural.is_none()
-        && !entry.obsolete
+    entry.ctx.is_none() && entry.id.as_str().is_empty() && entry.plural.is_none() && !entry.obsolete
 }
 
 /// Whether the only form is empty.
@@ -35,14 +32,22 @@ fn is_untouched(entry: &Entry) -> bool
     ensures { (result ≡ true) ↔ IsUntouched entry.now }
 {
     let bare = entry.translator.as_slice().is_empty();
-    hold_all(is_one_empty(&entry.forms), bare, has_no_previous(&entry.previous))
+    hold_all(
+        is_one_empty(&entry.forms),
+        bare,
+        has_no_previous(&entry.previous),
+    )
 }
 
 /// Whether an entry is current, no header's and not fuzzy.
 fn is_plain(entry: &Entry) -> bool
     ensures { result ≡ (not entry.now.obsolete && (not (is_header entry.now) && not (has_flag (codes "fuzzy") entry.now))) }
 {
-    hold_all(!entry.obsolete, !is_header(entry), !has_flag("fuzzy", entry))
+    hold_all(
+        !entry.obsolete,
+        !is_header(entry),
+        !has_flag("fuzzy", entry),
+    )
 }
 
 /// Whether an entry may be one of a template.

@@ -65,7 +65,11 @@ fn is_put_away(unit: &Unit) -> bool
     ensures { (result ≡ true) ↔ IsPutAway unit.now }
 {
     hold_forms(&unit.forms);
-    hold_all(unit.suggestions.as_slice().is_empty(), is_single(unit), true)
+    hold_all(
+        unit.suggestions.as_slice().is_empty(),
+        is_single(unit),
+        true,
+    )
 }
 
 fn has_its_forms(rule: &PluralForms, unit: &Unit) -> bool
@@ -114,7 +118,11 @@ fn has_its_texts(unit: &Unit) -> bool
     ensures { (result ≡ true) ↔ HasItsTexts unit.now }
 {
     let named = is_named(&unit.key);
-    hold_all(named, keeps_previous(unit), are_comment_texts(unit.comment.as_slice()))
+    hold_all(
+        named,
+        keeps_previous(unit),
+        are_comment_texts(unit.comment.as_slice()),
+    )
 }
 
 fn have_few_votes(suggestions: &[Suggestion]) -> bool
