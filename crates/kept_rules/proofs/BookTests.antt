@@ -276,9 +276,6 @@ module _ (office : Office) (book : Book) (statuses : BTreeMap Text ℕ) (are : A
   records_of rules place unit there =
       All-weaker (λ s. IsSome (maps.get book s.number)) (HasStatus statuses) (λ s is. is_there s.number ∙ is) unit.suggestions (rules.recorded place unit there)
 
-  pub unrecorded : (b : Bool) → Decides b (HasRecords statuses office) → b ≡ false → Decides false Kept
-  unrecorded b tells failed = (λ e. absurd (false≢true e), λ rules. absurd (false≢true (sym failed ∙ tells.1 (records_of rules))))
-
   pub rules_told : (k r a b c : Bool) → Decides k (IsOffice office) → k ≡ true → r ≡ (a && (b && c)) → Decides a (HasRecords statuses office) → Decides b (IsDistinct text_eq (all_numbers office)) →
       Decides c (HasStatuses book) → Decides r Kept
   rules_told k r a b c tells keeps e recorded own have =

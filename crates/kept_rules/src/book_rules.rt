@@ -113,9 +113,6 @@ pub fn keeps_rules(
         return Ok(false);
     }
     let recorded = are_recorded(statuses, office);
-    if !recorded {
-        return Ok(false);
-    }
     let own = have_own_numbers(alloc, office)?;
     Ok(hold_all(recorded, own, are_statuses(statuses)))
 }

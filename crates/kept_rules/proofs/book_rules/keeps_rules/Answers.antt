@@ -1,10 +1,6 @@
 use Rattle.office_maps.specs.OfficeIn.{office_in}
-use Rattle.kept_rules.proofs.BookTests.{unrecorded, rules_told}
+use Rattle.kept_rules.proofs.BookTests.{rules_told}
 use Rattle.kept_rules.proofs.book_rules.keeps_rules.Goals as goal
-
-pub returns-then-not-recorded : goal.returns-then-not-recorded
-returns-then-not-recorded c = λ book are.
-    unrecorded (office_in c.args.office.now) book c.args.statuses.now are c.are_recorded-recorded.result c.are_recorded-recorded.ensures c.if-not-recorded.true
 
 pub returns : goal.returns
 returns c = λ book are.
