@@ -22,14 +22,14 @@ use Rattle.request_book.specs.Book.{with_record}
 use Rattle.request_book.specs.declared.book.Record.{Record}
 use Rattle.row_values.specs.Written.{ArePrevious, IsHeaderEntry, header_text}
 use Rattle.keyed.specs.RowMaps.{OneEach}
-use Rattle.office_sql.specs.Inside.{AreOfficeTables}
+use Rattle.office_sql.specs.Inside.{AreOfficeTables, Then}
 use Rattle.office_sql.specs.Keys.{first_text}
 use Rattle.office_sql.specs.Schema.{language_tree}
 use Rattle.office_sql.proofs.Steps.{table_apart}
 use Rattle.office_sql.proofs.TableRows.{languages, one_language}
 use Rattle.office_in_rows.specs.Meaning.{AreNumbered, book_in, template_in, headers_in, team_in, policy_in, units_in, office_of_rows, meaning_in}
 use Rattle.office_in_rows.proofs.RowsPut.{header_put}
-use Rattle.office_in_changed_rows.specs.Commits.{PutsNumberedRecord, PutsLanguage, MakesLanguage}
+use Rattle.office_in_changed_rows.specs.Commits.{PutsNumberedRecord, PutsLanguage, WritesLanguage, MakesLanguage}
 use Rattle.office_in_changed_rows.specs.UnitWrites.{WritesUnits}
 use Rattle.office_in_changed_rows.proofs.Changed.{units_same, commits_change}
 use Rattle.office_in_changed_rows.proofs.PlannedUnits.{HasUnits, in_turn, rows, units_in_turn}
@@ -88,9 +88,16 @@ header_fits office lang header plan row old forms previous rules =
     let it = rules.office.ruled lang header there in
     record { plain = it.0; one_form = one_form header it.0 it.1; form = forms; previous = previous }
 
+makes_language : (old after : Database) (row : Record) (lang : Text) (language : Language) (plan : Plan) → AreOfficeTables old → AreNumbered old.trees
+    → KeepsRules (record { office = with_language (office_of_rows old.trees) lang language.header plan; book = with_record (book_in old.trees) row })
+    → Then (PutsNumberedRecord row) (WritesLanguage lang language.header plan.units) old after
+    → (meaning_in after.trees ≡ record { office = with_language (office_of_rows old.trees) lang language.header plan; book = with_record (book_in old.trees) row }) × AreNumbered after.trees
+makes_language old after row lang language plan ready numbered rules (mid, recorded, (next, put, written)) =
+    made old mid next after row lang language.header plan.units ready recorded put written
+    (header_fits (office_of_rows old.trees) lang language.header plan row old put.1 put.2 rules) numbered
+
 pub commits_language : (old after : Database) (row : Record) (lang : Text) (language : Language) (plan : Plan) → AreOfficeTables old → AreNumbered old.trees
     → KeepsRules (record { office = with_language (office_of_rows old.trees) lang language.header plan; book = with_record (book_in old.trees) row }) → MakesLanguage row lang language plan old after
     → (meaning_in after.trees ≡ record { office = with_language (office_of_rows old.trees) lang language.header plan; book = with_record (book_in old.trees) row }) × AreNumbered after.trees
-commits_language old after row lang language plan ready numbered rules (mid, recorded, (next, put, written)) =
-    made old mid next after row lang language.header plan.units ready recorded put written
-    (header_fits (office_of_rows old.trees) lang language.header plan row old put.1 put.2 rules) numbered
+unfolding MakesLanguage
+commits_language old after row lang language plan ready numbered rules it = makes_language old after row lang language plan ready numbered rules it

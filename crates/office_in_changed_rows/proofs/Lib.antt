@@ -6,6 +6,7 @@ pub mod States
 pub mod Units
 pub mod PolicyCommits
 pub mod AddedSuggestions
+pub mod UnitCommits
 pub mod PlannedUnits
 pub mod LanguageCommits
 pub mod Template

@@ -13,12 +13,12 @@ use Rattle.deliveries.specs.OfficeRules.{KeepsRules}
 use Rattle.request_book.specs.Book.{with_record}
 use Rattle.request_book.specs.declared.book.Record.{Record}
 use Rattle.keyed.specs.RowMaps.{map_of}
-use Rattle.office_sql.specs.Inside.{AreOfficeTables}
+use Rattle.office_sql.specs.Inside.{AreOfficeTables, Then}
 use Rattle.office_sql.specs.Schema.{template_tree, record_tree, team_tree, policy_tree, language_tree}
 use Rattle.office_changes.specs.Emptied.{EmptiesUnits}
 use Rattle.office_changes.specs.Taken.{TakesRows}
 use Rattle.office_in_rows.specs.Meaning.{AreNumbered, book_in, template_in, headers_in, team_in, policy_in, place_of_row, unit_of_row, units_in, office_of_rows, meaning_in}
-use Rattle.office_in_changed_rows.specs.Commits.{PutsNumberedRecord, PutsEntries, MakesTemplate}
+use Rattle.office_in_changed_rows.specs.Commits.{PutsNumberedRecord, PutsEntries, WritesTemplate, MakesTemplate}
 use Rattle.office_in_changed_rows.specs.UnitWrites.{LeavesTables, WritesPlansBack}
 use Rattle.office_in_changed_rows.proofs.Changed.{Spares, commits_change}
 use Rattle.office_in_changed_rows.proofs.PlannedUnits.{HasUnits, from_last, from_none, plans_from_last}
@@ -67,10 +67,17 @@ module _ (old mid gone next empty after : Database) (row : Record) (entries : Li
       let policy : policy_in after.trees ≡ policy_in old.trees = ap (λ (rows : List Row). policy_in (λ tree. rows)) same_policy in
       λ i. record { template = template i; headers = headers i; units = units_are i; team = team i; policy = policy i }
 
-pub commits_template : (old after : Database) (row : Record) (entries : List Entry) (plans : List LanguagePlan) → AreOfficeTables old → AreNumbered old.trees
-    → KeepsRules (record { office = with_template (office_of_rows old.trees) entries plans; book = with_record (book_in old.trees) row }) → MakesTemplate row entries plans old after
+makes_template : (old after : Database) (row : Record) (entries : List Entry) (plans : List LanguagePlan) → AreOfficeTables old → AreNumbered old.trees
+    → KeepsRules (record { office = with_template (office_of_rows old.trees) entries plans; book = with_record (book_in old.trees) row })
+    → Then (PutsNumberedRecord row) (WritesTemplate entries plans) old after
     → (meaning_in after.trees ≡ record { office = with_template (office_of_rows old.trees) entries plans; book = with_record (book_in old.trees) row }) × AreNumbered after.trees
-commits_template old after row entries plans ready numbered rules (mid, recorded, (next, (gone, taken, put), (empty, emptied, written))) =
+makes_template old after row entries plans ready numbered rules (mid, recorded, (next, (gone, taken, put), (empty, emptied, written))) =
     commits_change old mid after row (with_template (office_of_rows old.trees) entries plans) ready numbered recorded
     (same_records old mid gone next empty after row entries plans ready recorded taken put emptied written)
     (office_is old mid gone next empty after row entries plans ready recorded taken put emptied written (each_plain entries rules.office.template_plain))
+
+pub commits_template : (old after : Database) (row : Record) (entries : List Entry) (plans : List LanguagePlan) → AreOfficeTables old → AreNumbered old.trees
+    → KeepsRules (record { office = with_template (office_of_rows old.trees) entries plans; book = with_record (book_in old.trees) row }) → MakesTemplate row entries plans old after
+    → (meaning_in after.trees ≡ record { office = with_template (office_of_rows old.trees) entries plans; book = with_record (book_in old.trees) row }) × AreNumbered after.trees
+unfolding MakesTemplate
+commits_template old after row entries plans ready numbered rules it = makes_template old after row entries plans ready numbered rules it

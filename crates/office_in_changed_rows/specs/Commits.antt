@@ -67,7 +67,7 @@ MakesPolicy row policy = Then (PutsNumberedRecord row) (WritesPolicy policy)
 
 -- ---- a unit
 
-abbrev pub WritesRecordAndUnit : Record → Text → Unit → Database → Database → Type 0
+unfoldable pub WritesRecordAndUnit : Record → Text → Unit → Database → Database → Type 0
 WritesRecordAndUnit row lang unit = Then (PutsNumberedRecord row) (WritesNumberedUnit lang unit)
 
 -- ---- a language
@@ -85,7 +85,7 @@ PutsLanguage lang header old new =
 abbrev pub WritesLanguage : Text → Entry → List Unit → Database → Database → Type 0
 WritesLanguage lang header units = Then (PutsLanguage lang header) (WritesUnits lang units)
 
-abbrev pub MakesLanguage : Record → Text → Language → Plan → Database → Database → Type 0
+unfoldable pub MakesLanguage : Record → Text → Language → Plan → Database → Database → Type 0
 MakesLanguage row lang language plan = Then (PutsNumberedRecord row) (WritesLanguage lang language.header plan.units)
 
 -- ---- a template
@@ -115,5 +115,5 @@ WritesPlans plans = Then (LeavesTables EmptiesUnits) (WritesPlansBack plans)
 abbrev pub WritesTemplate : List Entry → List LanguagePlan → Database → Database → Type 0
 WritesTemplate entries plans = Then (PutsTemplate entries) (WritesPlans plans)
 
-abbrev pub MakesTemplate : Record → List Entry → List LanguagePlan → Database → Database → Type 0
+unfoldable pub MakesTemplate : Record → List Entry → List LanguagePlan → Database → Database → Type 0
 MakesTemplate row entries plans = Then (PutsNumberedRecord row) (WritesTemplate entries plans)

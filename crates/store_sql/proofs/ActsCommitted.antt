@@ -21,7 +21,8 @@ use Rattle.deliveries.specs.UnitAccess.{with_view}
 use Rattle.deliveries.specs.OfficeRules.{KeepsRules}
 use Rattle.office_sql.specs.Inside.{AreOfficeTables}
 use Rattle.office_in_rows.specs.Meaning.{meaning_in, office_of_rows, book_in, AreNumbered}
-use Rattle.office_in_rows.proofs.CommitLaws.{commits_record, commits_unit}
+use Rattle.office_in_rows.proofs.CommitLaws.{commits_record}
+use Rattle.office_in_changed_rows.proofs.UnitCommits.{commits_view}
 use Rattle.store_sql.specs.Kept.{KeepsOffice, is_honest, is_whole, means, may_leave, is_stopped}
 use Rattle.store_sql.proofs.StillKept.{IsSettled, keeps_committed, means_made, kept_committed}
 use Rattle.store_sql.specs.Writes.{MakesAct}
@@ -36,7 +37,7 @@ pub act_made : (s : State) (row : Record) (lang : Text) (key : Key) (view : Opti
 act_made s row lang key None keeps strings previous rules db clean is_open tables made =
     commits_record s.now db row (keeps.idle.ready clean is_open) (keeps.numbered clean is_open) made.1 made.0
 act_made s row lang key (Some view) keeps strings previous rules db clean is_open tables made =
-    commits_unit s.now db lang key view row (keeps.idle.ready clean is_open) (keeps.numbered clean is_open) made.1.1 (rules clean) strings previous made.2.1 (made.0, made.1.0, made.2.0)
+    commits_view s.now db row lang key view (keeps.idle.ready clean is_open) (keeps.numbered clean is_open) (rules clean) strings previous made
 
 module _ {S : Type 0} (g : store.Ghosts S) (old new : Held S) (r : Result Unit Failure) (row : Record) (lang : Text) (key : Key) (view : Option UnitView) (keeps : KeepsOffice (state g old))
     (strings : HasStrings key) (previous : IfSome view (λ v. ArePrevious v.unit.previous))

@@ -4,50 +4,15 @@ ghost use Rattle.row_values.specs.Written.{ArePrevious};
 ghost use Rattle.sqlite.specs.Held.{state};
 ghost use Rattle.office_sql.specs.Whole.{IsIdle, IsCommit};
 ghost use Rattle.office_in_changed_rows.specs.Commits.{MakesRole, MakesPolicy};
-ghost use Rattle.store_sql.specs.Writes.{PutsNumberedRecord, WritesRecordAndUnit, MakesAct};
+ghost use Rattle.store_sql.specs.Writes.{MakesAct};
 
 use crate::strings::view_fits;
-use crate::unit_writes::{put_record_and_unit, put_record_of};
-use office_commits::{commit_policy, commit_role};
+use office_commits::{commit_policy, commit_record, commit_role, commit_unit};
 use request_book::Record;
 use shown_rows::Failure;
 use sqlite::{Alter, Connection};
 use std::alloc::Global;
-use units::{Lang, Name, Policy, Role, Unit, UnitView};
-
-/// Records a request that changes nothing else.
-pub fn commit_row<S: Alter>(
-    connection: &mut Connection<S>,
-    alloc: Global,
-    row: &Record,
-) -> Result<(), Failure>
-    requires autocommit { connection.old.in_transaction ≡ false }
-    requires idle { IsIdle (state S.Store connection.old) }
-    ensures committed { IsCommit (state S.Store connection.old) (state S.Store connection.new) result (PutsNumberedRecord row.now) }
-{
-    let mut tx = connection.transaction();
-    put_record_of(&mut tx, alloc, row)?;
-    tx.commit()?;
-    Ok(())
-}
-
-/// Records a request and writes the unit that it makes.
-pub fn commit_row_and_unit<S: Alter>(
-    connection: &mut Connection<S>,
-    alloc: Global,
-    row: &Record,
-    lang: &Lang,
-    unit: &Unit,
-) -> Result<(), Failure>
-    requires autocommit { connection.old.in_transaction ≡ false }
-    requires idle { IsIdle (state S.Store connection.old) }
-    ensures committed { IsCommit (state S.Store connection.old) (state S.Store connection.new) result (WritesRecordAndUnit row.now lang.now unit.now) }
-{
-    let mut tx = connection.transaction();
-    put_record_and_unit(&mut tx, alloc, row, lang, unit)?;
-    tx.commit()?;
-    Ok(())
-}
+use units::{Lang, Name, Policy, Role, UnitView};
 
 /// Records a request and writes the unit's new view, if it has one.
 pub fn commit_act<S: Alter>(
@@ -62,8 +27,8 @@ pub fn commit_act<S: Alter>(
     ensures committed { IsCommit (state S.Store connection.old) (state S.Store connection.new) result (MakesAct row.now lang.now view.now) }
 {
     match view {
-        Some(view) => commit_row_and_unit(connection, alloc, row, lang, &view.unit),
-        None => commit_row(connection, alloc, row),
+        Some(view) => commit_unit(connection, alloc, row, lang, &view.unit),
+        None => commit_record(connection, alloc, row),
     }
 }
 

@@ -8,7 +8,6 @@ mod making;
 mod records;
 mod sqlite_tables;
 mod strings;
-mod unit_writes;
 mod views;
 mod whole_office;
 

@@ -1,0 +1,2 @@
+pub mod WritesInTurn
+pub mod PlannedWrites
