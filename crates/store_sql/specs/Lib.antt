@@ -2,3 +2,4 @@ pub mod Kept
 pub mod Writes
 pub mod Faults
 pub mod Making
+pub mod Changes

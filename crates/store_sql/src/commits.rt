@@ -3,16 +3,15 @@ ghost use Rattle.std.specs.Prelude.{◌≡◌, false, IfSome};
 ghost use Rattle.row_values.specs.Written.{ArePrevious};
 ghost use Rattle.sqlite.specs.Held.{state};
 ghost use Rattle.office_sql.specs.Whole.{IsIdle, IsCommit};
-ghost use Rattle.office_in_changed_rows.specs.Commits.{MakesRole, MakesPolicy};
 ghost use Rattle.store_sql.specs.Writes.{MakesAct};
 
 use crate::strings::view_fits;
-use office_commits::{commit_policy, commit_record, commit_role, commit_unit};
+use office_commits::{commit_record, commit_unit};
 use request_book::Record;
 use shown_rows::Failure;
 use sqlite::{Alter, Connection};
 use std::alloc::Global;
-use units::{Lang, Name, Policy, Role, UnitView};
+use units::{Lang, UnitView};
 
 /// Records a request and writes the unit's new view, if it has one.
 pub fn commit_act<S: Alter>(
@@ -48,39 +47,6 @@ pub fn commit_given<S: Alter>(
     view_fits(&view);
     let written = commit_act(connection, alloc, &row, lang, &view);
     drop(view);
-    drop(row);
-    written
-}
-
-/// Records a request and sets a member's role, for a record that is given away.
-pub fn commit_role_given<S: Alter>(
-    connection: &mut Connection<S>,
-    alloc: Global,
-    row: Record,
-    name: &Name,
-    role: Role,
-) -> Result<(), Failure>
-    requires autocommit { connection.old.in_transaction ≡ false }
-    requires idle { IsIdle (state S.Store connection.old) }
-    ensures committed { IsCommit (state S.Store connection.old) (state S.Store connection.new) result (MakesRole row name.now role) }
-{
-    let written = commit_role(connection, alloc, &row, name, role);
-    drop(row);
-    written
-}
-
-/// Records a request and sets the policy, for a record that is given away.
-pub fn commit_policy_given<S: Alter>(
-    connection: &mut Connection<S>,
-    alloc: Global,
-    row: Record,
-    policy: &Policy,
-) -> Result<(), Failure>
-    requires autocommit { connection.old.in_transaction ≡ false }
-    requires idle { IsIdle (state S.Store connection.old) }
-    ensures committed { IsCommit (state S.Store connection.old) (state S.Store connection.new) result (MakesPolicy row policy.now) }
-{
-    let written = commit_policy(connection, alloc, &row, policy);
     drop(row);
     written
 }

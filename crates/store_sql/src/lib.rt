@@ -1,11 +1,13 @@
 //! Tables of an office with its book on SQLite: the eight tables of a file, read and written in transactions.
 #![tactic(auto)]
 
+mod changes;
 mod commits;
 mod create;
 mod faults;
 mod making;
 mod records;
+mod rows;
 mod sqlite_tables;
 mod strings;
 mod views;

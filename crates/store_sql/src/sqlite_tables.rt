@@ -1,66 +1,28 @@
-//! The tables.
-ghost use Rattle.std.specs.Prelude.{◌≡◌, ◌≢◌, Bool, false, true, Ok, Err, IfOk, IfErr, OnOk, OnErr, IsTrue, is_none, is_some, option_map};
-ghost use Rattle.std.specs.Coded.{coded×, coded_bool};
-ghost use Rattle.std.specs.FinMap as maps;
-ghost use Rattle.sqlite.specs.Held.{Held, held_code, state};
-ghost use Rattle.request_book.specs.Book.{row_of, with_record};
-ghost use Rattle.deliveries.specs.UnitAccess.{found_of, with_view};
-ghost use Rattle.deliveries.specs.OfficeChanges.{changed};
-ghost use Rattle.deliveries.specs.OfficeRules.{KeepsRules};
-ghost use Rattle.deliveries.specs.declared.values.Change.TheVariants.{OneRole, NewPolicy};
-ghost use Rattle.tables.specs.Kept.{IsKept};
-ghost use Rattle.tables.specs.Stops.{Nothing};
-ghost use Rattle.tables.specs.Sinks.{WasCutShort};
-ghost use Rattle.tables.specs.Entries.{entries_of};
-ghost use Rattle.tables.specs.Counts.{counts_of};
-ghost use Rattle.tables.specs.declared.faults.EachFault.TheVariants.{NoTables};
-ghost use Rattle.units.specs.Offices.{IsOffice};
-ghost use Rattle.office_maps.specs.OfficeIn.{office_in};
-ghost use Rattle.tables.specs.declared.faults.Lost.TheVariants.{Disk};
+//! Tables on SQLite.
+ghost use Rattle.std.specs.Prelude.{◌≡◌, ◌≢◌, false, IfOk, IfErr, OnOk};
+ghost use Rattle.sqlite.specs.Held.{state};
 ghost use Rattle.office_sql.specs.Schema.{no_schema};
 ghost use Rattle.store_sql.specs.Faults.{RefusesIn};
-ghost use Rattle.store_sql.specs.Kept.{KeepsOffice, IsAtHand, is_honest, is_whole, means, may_leave, is_stopped, is_loaded};
+ghost use Rattle.store_sql.specs.Kept.{KeepsOwnRules, own_rules_prop};
 ghost use Rattle.store_sql.specs.Making.{AreMade, IsHandedBack};
 
-use crate::commits::{commit_given, commit_policy_given, commit_role_given};
 use crate::faults::OpenFault;
-use crate::making::make;
-use crate::records::read_record;
-use crate::strings::key_fits;
-use crate::views::read_view;
-use crate::whole_office::{forget, keep, read_office};
-use deliveries::Found;
-use office_entries::{counts, hand_entries};
+use crate::rows::Rows;
+use deliveries::{Change, Found};
 use office_maps::OfficeMaps;
 use request_book::Record;
-use shown_rows::{Failure, KeptRule};
 use sqlite::{Alter, Connection};
 use std::alloc::Global;
-use std::marker::Model;
-use tables::{Counts, EachFault, EntrySink, Lost, Start};
-use units::{Key, Lang, Name, Policy, Role, UnitView};
+use tables::{Counts, EachFault, EntrySink, Lost, Start, Tables};
+use units::{Key, Lang, Name, UnitView};
 use uuid::Uuid;
 
-/// An office with its book in the eight tables of a file.
+/// An office with its book in the eight tables of a file. They keep the rules of an office with its book, and are stopped once the disk
+/// has failed.
+#[derive(Drop)]
 pub struct SqliteTables<S: Alter> {
-    connection: Connection<S>,
-    /// A failure of the disk came: nothing is asked of the connection any more.
-    stopped: bool,
-    alloc: Global,
-    /// The plural rule that the last look read: what it is beside its columns is the type's own promise.
-    kept_rule: Option<KeptRule>,
-    /// The office, where it was read whole and nothing was written since.
-    office: Option<OfficeMaps>,
-}
-
-impl<S: Alter> Model for SqliteTables<S> {
-    ghost Value = { Held S × (Bool × Bool) };
-
-    ghost coded = { coded× (held_code S.code) (coded× coded_bool coded_bool) };
-
-    ghost view = { λ t. (t.connection, (t.stopped, is_some t.office)) };
-
-    ghost invariant = { λ t. (t.connection.in_transaction ≡ false) × KeepsOffice (state S.Store t.connection) × IsAtHand (state S.Store t.connection) t.office };
+    rows: Rows<S>,
+    ghost kept: { KeepsOwnRules S.Store rows } by { own_rules_prop S.Store rows },
 }
 
 impl<S: Alter> SqliteTables<S> {
@@ -75,249 +37,112 @@ impl<S: Alter> SqliteTables<S> {
         start: &Start,
     ) -> Result<SqliteTables<S>, (OpenFault, Connection<S>)>
         requires autocommit { connection.in_transaction ≡ false }
-        ensures made { IfOk result (AreMade S.Store start.now) }
+        ensures made { IfOk result (λ tables. AreMade S.Store start.now tables.rows) }
         ensures allowed { OnOk result ((state S.Store connection).now.schema ≡ no_schema) }
         ensures refused { IfErr result (λ refusal. RefusesIn (state S.Store connection).now.schema refusal.0) }
         ensures untouched { IfErr result (λ refusal. (state S.Store connection).now.schema ≢ no_schema → refusal.1 ≡ connection) }
         ensures handed_back { IfErr result (λ refusal. IsHandedBack start.now (state S.Store connection) (state S.Store refusal.1)) }
     {
-        let mut connection = connection;
-        match make(&mut connection, start) {
-            Ok(()) => Ok(SqliteTables {
-                connection,
-                stopped: false,
-                alloc,
-                kept_rule: None,
-                office: None,
-            }),
-            Err(fault) => Err((fault, connection)),
+        match Rows::create(connection, alloc, start) {
+            Ok(rows) => {
+                rows.rules();
+                Ok(SqliteTables { rows })
+            }
+            Err(refusal) => Err(refusal),
         }
     }
 
     /// The connection, between transactions.
     pub fn into_connection(self) -> Connection<S>
-        ensures held { result ≡ self.0 }
+        ensures held { result ≡ self.rows.0 }
         ensures between { result.in_transaction ≡ false }
     {
-        let SqliteTables {
-            connection,
-            stopped: _,
-            alloc: _,
-            kept_rule,
-            office,
-        } = self;
-        drop(kept_rule);
-        drop(office);
-        connection
+        let SqliteTables { rows } = self;
+        rows.into_connection()
+    }
+}
+
+impl<S: Alter + Drop> Tables for SqliteTables<S> {
+    ghost use Rattle.store_sql.specs.Kept as kept;
+
+    ghost is_honest = { λ t. kept.is_honest S.Store t.rows };
+
+    ghost is_whole = { λ t. kept.is_whole S.Store t.rows };
+
+    ghost means = { λ t. kept.means S.Store t.rows };
+
+    ghost may_leave = { λ t. kept.may_leave S.Store t.rows };
+
+    ghost is_stopped = { λ t. kept.is_stopped S.Store t.rows };
+
+    ghost is_loaded = { λ t. kept.is_loaded S.Store t.rows };
+
+    ghost rules = { λ t honest whole. t.kept honest whole };
+
+    fn stopped(&self) -> bool {
+        self.rows.stopped()
     }
 
-    /// The rules of an office with its book hold. (A law: what it reads says so, and is compiled away.)
-    pub fn rules(&self)
-        ensures { is_honest S.Store self.now → is_whole S.Store self.now → KeepsRules (means S.Store self.now) }
-    {
-        let _read = self.stopped;
+    fn record_of(&mut self, number: &Uuid) -> Result<Option<Record>, Lost> {
+        let rows = &mut self.rows;
+        let answer = rows.record_of(number);
+        rows.rules();
+        answer
     }
 
-    /// Whether they answer `Disk` until they are opened again.
-    pub fn stopped(&self) -> bool
-        ensures { result ≡ is_stopped S.Store self.now }
-    {
-        self.stopped
+    fn view_of(&mut self, lang: &Lang, key: &Key, name: &Name) -> Result<Option<Found>, Lost> {
+        let rows = &mut self.rows;
+        let answer = rows.view_of(lang, key, name);
+        rows.rules();
+        answer
     }
 
-    /// What is recorded under a request's number: its content and its first reply.
-    pub fn record_of(&mut self, number: &Uuid) -> Result<Option<Record>, Lost>
-        ensures answer { is_honest S.Store self.new → IfOk result (λ r. r ≡ option_map (row_of number.now) (maps.get (means S.Store self.old).book number.now)) }
-        ensures same { is_honest S.Store self.new → is_whole S.Store self.new → means S.Store self.new ≡ means S.Store self.old }
-        ensures kept { IsKept (is_honest S.Store) (is_whole S.Store) (means S.Store) (may_leave S.Store) (is_stopped S.Store) self.old self.new result Disk Nothing }
-    {
-        if self.stopped {
-            return Err(Lost::Disk);
-        }
-        match read_record(&mut self.connection, self.alloc, *number) {
-            Ok(record) => Ok(record),
-            Err(failure) => {
-                forget(&mut self.office);
-                Err(self.lost(failure))
-            }
-        }
+    fn office_rows(&mut self) -> Result<(), Lost> {
+        let rows = &mut self.rows;
+        let answer = rows.office_rows();
+        rows.rules();
+        answer
     }
 
-    /// What an act on a unit needs to know: the language's plural rule, the policy, the caller's role, and the unit's view, if there
-    /// is one. Nothing where the language isn't there.
-    pub fn view_of(&mut self, lang: &Lang, key: &Key, name: &Name) -> Result<Option<Found>, Lost>
-        ensures answer { is_honest S.Store self.new → IfOk result (λ r. r ≡ found_of (means S.Store self.old).office lang.now key.now name.now) }
-        ensures same { is_honest S.Store self.new → is_whole S.Store self.new → means S.Store self.new ≡ means S.Store self.old }
-        ensures kept { IsKept (is_honest S.Store) (is_whole S.Store) (means S.Store) (may_leave S.Store) (is_stopped S.Store) self.old self.new result Disk Nothing }
-    {
-        if self.stopped {
-            return Err(Lost::Disk);
-        }
-        match read_view(
-            &mut self.connection,
-            self.alloc,
-            lang,
-            key,
-            name,
-            &mut self.kept_rule,
-        ) {
-            Ok(found) => Ok(found),
-            Err(failure) => {
-                forget(&mut self.office);
-                Err(self.lost(failure))
-            }
-        }
+    fn office(&self) -> &OfficeMaps {
+        self.rows.at_hand()
     }
 
-    /// Reads what acts on the office need: team, policy, template, headers and units. `office` then shows it.
-    pub fn office_rows(&mut self) -> Result<(), Lost>
-        ensures loaded { OnOk result (is_loaded S.Store self.new) }
-        ensures same { is_honest S.Store self.new → is_whole S.Store self.new → means S.Store self.new ≡ means S.Store self.old }
-        ensures kept { IsKept (is_honest S.Store) (is_whole S.Store) (means S.Store) (may_leave S.Store) (is_stopped S.Store) self.old self.new result Disk Nothing }
-    {
-        if self.stopped {
-            return Err(Lost::Disk);
-        }
-        if self.office.is_some() {
-            return Ok(());
-        }
-        match read_office(&mut self.connection, self.alloc) {
-            Ok(maps) => {
-                keep(&mut self.office, maps);
-                Ok(())
-            }
-            Err(failure) => Err(self.lost(failure)),
-        }
-    }
-
-    /// The office that was read, in maps; it isn't copied.
-    pub fn office(&self) -> &OfficeMaps
-        requires loaded { is_loaded S.Store self.now }
-        ensures { is_honest S.Store self.now → is_whole S.Store self.now → office_in result.now ≡ (means S.Store self.now).office }
-    {
-        self.at_hand()
-    }
-
-    /// The office that is at hand.
-    fn at_hand(&self) -> &OfficeMaps
-        requires loaded { is_loaded S.Store self.now }
-        ensures whole { is_honest S.Store self.now → is_whole S.Store self.now }
-        ensures office { is_honest S.Store self.now → office_in result.now ≡ (means S.Store self.now).office }
-        ensures rules { is_honest S.Store self.now → IsOffice (office_in result.now) }
-    {
-        match &self.office {
-            Some(maps) => maps,
-            None => unreachable!(),
-        }
-    }
-
-    /// Hands the entries of a language to a sink: its header, the template's entries in order, each with its unit, and the obsolete
-    /// units that have a translation, in the order of their keys. None where the language isn't there. After a fault the sink has
-    /// taken a beginning of them.
-    pub fn each_entry<K: EntrySink>(
-        &mut self,
-        lang: &Lang,
-        sink: &mut K,
-    ) -> Result<(), EachFault<K::Refusal>>
-        ensures all { is_honest S.Store self.new → OnOk result (K.Took sink.old (entries_of (means S.Store self.old).office lang.now) sink.new) }
-        ensures cut { is_honest S.Store self.new → IfErr result (WasCutShort K.Took K.Refuses sink.old sink.new (entries_of (means S.Store self.old).office lang.now)) }
-        ensures same { is_honest S.Store self.new → is_whole S.Store self.new → means S.Store self.new ≡ means S.Store self.old }
-        ensures kept { IsKept (is_honest S.Store) (is_whole S.Store) (means S.Store) (may_leave S.Store) (is_stopped S.Store) self.old self.new result (NoTables Disk) Nothing }
-    {
-        match self.office_rows() {
-            Ok(()) => hand_entries(self.alloc, self.at_hand(), lang, sink),
-            Err(lost) => Err(EachFault::NoTables(lost)),
-        }
-    }
-
-    /// How many units of a language callers see in each state; nothing where the language isn't there.
-    pub fn counts(&mut self, lang: &Lang) -> Result<Option<Counts>, Lost>
-        ensures answer { is_honest S.Store self.new → IfOk result (λ r. r ≡ counts_of (means S.Store self.old).office lang.now) }
-        ensures same { is_honest S.Store self.new → is_whole S.Store self.new → means S.Store self.new ≡ means S.Store self.old }
-        ensures kept { IsKept (is_honest S.Store) (is_whole S.Store) (means S.Store) (may_leave S.Store) (is_stopped S.Store) self.old self.new result Disk Nothing }
-    {
-        match self.office_rows() {
-            Ok(()) => Ok(counts(self.alloc, self.at_hand(), lang)?),
-            Err(lost) => Err(lost),
-        }
-    }
-
-    /// Writes a request's record and its unit's new view, if it has one; or neither. The number must be new, and what the commit
-    /// leaves must keep the rules.
-    pub fn commit_unit(
+    fn commit_unit(
         &mut self,
         row: Record,
         lang: &Lang,
         key: &Key,
         view: Option<UnitView>,
-    ) -> Result<(), Lost>
-        requires new { is_honest S.Store self.old → IsTrue (is_none (maps.get (means S.Store self.old).book row.number)) }
-        requires rules { is_honest S.Store self.old → KeepsRules (record { office = with_view (means S.Store self.old).office lang.now key.now view; book = with_record (means S.Store self.old).book row }) }
-        ensures done { is_honest S.Store self.new → OnOk result (means S.Store self.new ≡ record { office = with_view (means S.Store self.old).office lang.now key.now view; book = with_record (means S.Store self.old).book row }) }
-        ensures same { is_honest S.Store self.new → is_whole S.Store self.new → OnErr result (means S.Store self.new ≡ means S.Store self.old) }
-        ensures kept { IsKept (is_honest S.Store) (is_whole S.Store) (means S.Store) (may_leave S.Store) (is_stopped S.Store) self.old self.new result Disk
-            (λ m. m ≡ record { office = with_view (means S.Store self.old).office lang.now key.now view; book = with_record (means S.Store self.old).book row }) }
-    {
-        if self.stopped {
-            return Err(Lost::Disk);
-        }
-        key_fits(key);
-        forget(&mut self.office);
-        match commit_given(&mut self.connection, self.alloc, row, lang, view) {
-            Ok(()) => Ok(()),
-            Err(failure) => Err(self.lost(failure)),
-        }
+    ) -> Result<(), Lost> {
+        let rows = &mut self.rows;
+        let answer = rows.commit_unit(row, lang, key, view);
+        rows.rules();
+        answer
     }
 
-    /// Writes a request's record and a member's role, where a guest isn't in the team; or neither. The number must be new, and what the
-    /// commit leaves must keep the rules.
-    pub fn commit_role(&mut self, row: Record, name: &Name, role: Role) -> Result<(), Lost>
-        requires new { is_honest S.Store self.old → IsTrue (is_none (maps.get (means S.Store self.old).book row.number)) }
-        requires rules { is_honest S.Store self.old → KeepsRules (record { office = changed (means S.Store self.old).office (OneRole name.now role); book = with_record (means S.Store self.old).book row }) }
-        ensures done { is_honest S.Store self.new → OnOk result (means S.Store self.new ≡ record { office = changed (means S.Store self.old).office (OneRole name.now role); book = with_record (means S.Store self.old).book row }) }
-        ensures same { is_honest S.Store self.new → is_whole S.Store self.new → OnErr result (means S.Store self.new ≡ means S.Store self.old) }
-        ensures kept { IsKept (is_honest S.Store) (is_whole S.Store) (means S.Store) (may_leave S.Store) (is_stopped S.Store) self.old self.new result Disk
-            (λ m. m ≡ record { office = changed (means S.Store self.old).office (OneRole name.now role); book = with_record (means S.Store self.old).book row }) }
-    {
-        if self.stopped {
-            return Err(Lost::Disk);
-        }
-        forget(&mut self.office);
-        match commit_role_given(&mut self.connection, self.alloc, row, name, role) {
-            Ok(()) => Ok(()),
-            Err(failure) => Err(self.lost(failure)),
-        }
+    fn commit_office(&mut self, row: Record, change: Option<Change>) -> Result<(), Lost> {
+        let rows = &mut self.rows;
+        let answer = rows.commit_office(row, change);
+        rows.rules();
+        answer
     }
 
-    /// Writes a request's record and the policy; or neither. Under a policy without reviews each approved unit becomes translated at its next
-    /// revision. The number must be new, and what the commit leaves must keep the rules.
-    pub fn commit_policy(&mut self, row: Record, policy: &Policy) -> Result<(), Lost>
-        requires new { is_honest S.Store self.old → IsTrue (is_none (maps.get (means S.Store self.old).book row.number)) }
-        requires rules { is_honest S.Store self.old → KeepsRules (record { office = changed (means S.Store self.old).office (NewPolicy policy.now); book = with_record (means S.Store self.old).book row }) }
-        ensures done { is_honest S.Store self.new → OnOk result (means S.Store self.new ≡ record { office = changed (means S.Store self.old).office (NewPolicy policy.now); book = with_record (means S.Store self.old).book row }) }
-        ensures same { is_honest S.Store self.new → is_whole S.Store self.new → OnErr result (means S.Store self.new ≡ means S.Store self.old) }
-        ensures kept { IsKept (is_honest S.Store) (is_whole S.Store) (means S.Store) (may_leave S.Store) (is_stopped S.Store) self.old self.new result Disk
-            (λ m. m ≡ record { office = changed (means S.Store self.old).office (NewPolicy policy.now); book = with_record (means S.Store self.old).book row }) }
-    {
-        if self.stopped {
-            return Err(Lost::Disk);
-        }
-        forget(&mut self.office);
-        match commit_policy_given(&mut self.connection, self.alloc, row, policy) {
-            Ok(()) => Ok(()),
-            Err(failure) => Err(self.lost(failure)),
-        }
+    fn each_entry<K: EntrySink>(
+        &mut self,
+        lang: &Lang,
+        sink: &mut K,
+    ) -> Result<(), EachFault<K::Refusal>> {
+        let rows = &mut self.rows;
+        let answer = rows.each_entry(lang, sink);
+        rows.rules();
+        answer
     }
 
-    /// What a failure comes to: one of the disk stops the tables.
-    fn lost(&mut self, failure: Failure) -> Lost
-        ensures result { result ≡ failure.lost }
-        ensures connection { self.new.0 ≡ self.old.0 }
-        ensures stops { result ≡ Disk → self.new.1.0 ≡ true }
-    {
-        if let Lost::Disk = failure.lost {
-            self.stopped = true;
-        }
-        failure.lost
+    fn counts(&mut self, lang: &Lang) -> Result<Option<Counts>, Lost> {
+        let rows = &mut self.rows;
+        let answer = rows.counts(lang);
+        rows.rules();
+        answer
     }
 }

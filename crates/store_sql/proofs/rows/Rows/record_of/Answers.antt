@@ -13,7 +13,7 @@ use Rattle.office_in_rows.specs.Meaning.{book_in}
 use Rattle.store_sql.specs.Kept.{is_honest, is_whole, means, may_leave, is_stopped}
 use Rattle.store_sql.proofs.AtHand.{at_hand_still, none_at_hand}
 use Rattle.store_sql.proofs.StillKept.{keeps_still, kept_looked_up}
-use Rattle.store_sql.proofs.sqlite_tables.SqliteTables.record_of.Goals as goal
+use Rattle.store_sql.proofs.rows.Rows.record_of.Goals as goal
 
 pub invariant_of-self : goal.invariant_of-self
 invariant_of-self g c =

@@ -10,7 +10,7 @@ use Rattle.office_in_rows.specs.Meaning.{meaning_in}
 use Rattle.store_sql.specs.Kept.{is_honest, is_whole, means, may_leave, is_stopped}
 use Rattle.store_sql.proofs.ActsCommitted.{left_by_act, act_keeps, act_done, act_kept}
 use Rattle.store_sql.proofs.AtHand.{none_at_hand}
-use Rattle.store_sql.proofs.sqlite_tables.SqliteTables.commit_unit.Goals as goal
+use Rattle.store_sql.proofs.rows.Rows.commit_unit.Goals as goal
 
 pub invariant_of-self : goal.invariant_of-self
 invariant_of-self g c =

@@ -2,7 +2,7 @@ use Rattle.std.proofs.Common.{◌≡◌, ◌∙◌, ap}
 use Rattle.request_book.specs.Book.{OfficeWithBook}
 use Rattle.units.specs.Office.{Office}
 use Rattle.tables.specs.Counts.{counts_of}
-use Rattle.store_sql.proofs.sqlite_tables.SqliteTables.counts.Goals as goal
+use Rattle.store_sql.proofs.rows.Rows.counts.Goals as goal
 
 pub returns-in_ok-counts-in-Ok-clause-answer : goal.returns-in_ok-counts-in-Ok-clause-answer
 returns-in_ok-counts-in-Ok-clause-answer g c = λ clean.

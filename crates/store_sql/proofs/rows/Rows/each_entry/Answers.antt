@@ -7,7 +7,7 @@ use Rattle.tables.specs.declared.faults.EachFault.TheVariants.{NoTables}
 use Rattle.tables.specs.declared.faults.Lost.TheVariants.{Disk}
 use Rattle.store_sql.specs.Kept.{is_honest, is_whole, means, may_leave, is_stopped}
 use Rattle.store_sql.proofs.AtHand.{all_handed, cut_short, no_disk_handed, kept_then, kept_no_entries, took_none}
-use Rattle.store_sql.proofs.sqlite_tables.SqliteTables.each_entry.Goals as goal
+use Rattle.store_sql.proofs.rows.Rows.each_entry.Goals as goal
 
 pub returns-in-Ok : goal.returns-in-Ok
 returns-in-Ok g c =

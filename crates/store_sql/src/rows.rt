@@ -1,0 +1,311 @@
+//! The rows of tables, by the clauses of the trait.
+ghost use Rattle.std.specs.Prelude.{◌≡◌, ◌≢◌, Bool, false, true, Ok, Err, IfOk, IfErr, OnOk, OnErr, is_some, option_map};
+ghost use Rattle.std.specs.Coded.{coded×, coded_bool};
+ghost use Rattle.std.specs.FinMap as maps;
+ghost use Rattle.sqlite.specs.Held.{Held, held_code, state};
+ghost use Rattle.request_book.specs.Book.{row_of, with_record};
+ghost use Rattle.deliveries.specs.UnitAccess.{found_of, with_view};
+ghost use Rattle.deliveries.specs.OfficeChanges.{changed_by};
+ghost use Rattle.deliveries.specs.OfficeRules.{KeepsRules};
+ghost use Rattle.tables.specs.Kept.{IsKept};
+ghost use Rattle.tables.specs.Stops.{Nothing};
+ghost use Rattle.tables.specs.Sinks.{WasCutShort};
+ghost use Rattle.tables.specs.Entries.{entries_of};
+ghost use Rattle.tables.specs.Counts.{counts_of};
+ghost use Rattle.tables.specs.declared.faults.EachFault.TheVariants.{NoTables};
+ghost use Rattle.units.specs.Offices.{IsOffice};
+ghost use Rattle.office_maps.specs.OfficeIn.{office_in};
+ghost use Rattle.tables.specs.declared.faults.Lost.TheVariants.{Disk};
+ghost use Rattle.office_sql.specs.Schema.{no_schema};
+ghost use Rattle.store_sql.specs.Faults.{RefusesIn};
+ghost use Rattle.store_sql.specs.Kept.{KeepsOffice, KeepsOwnRules, IsAtHand, is_honest, is_whole, means, may_leave, is_stopped, is_loaded};
+ghost use Rattle.store_sql.specs.Making.{AreMade, IsHandedBack};
+
+use crate::changes::commit_change;
+use crate::commits::commit_given;
+use crate::faults::OpenFault;
+use crate::making::make;
+use crate::records::read_record;
+use crate::strings::key_fits;
+use crate::views::read_view;
+use crate::whole_office::{forget, keep, read_office};
+use deliveries::{Change, Found};
+use office_entries::{counts, hand_entries};
+use office_maps::OfficeMaps;
+use request_book::Record;
+use shown_rows::{Failure, KeptRule};
+use sqlite::{Alter, Connection};
+use std::alloc::Global;
+use std::marker::Model;
+use tables::{Counts, EachFault, EntrySink, Lost, Start};
+use units::{Key, Lang, Name, UnitView};
+use uuid::Uuid;
+
+/// A connection to the eight tables of a file, between transactions, and what was read of them.
+pub(crate) struct Rows<S: Alter> {
+    connection: Connection<S>,
+    /// A failure of the disk came: nothing is asked of the connection any more.
+    stopped: bool,
+    alloc: Global,
+    /// The plural rule that the last look read: what it is beside its columns is the type's own promise.
+    kept_rule: Option<KeptRule>,
+    /// The office, where it was read whole and nothing was written since.
+    office: Option<OfficeMaps>,
+}
+
+impl<S: Alter> Model for Rows<S> {
+    ghost Value = { Held S × (Bool × Bool) };
+
+    ghost coded = { coded× (held_code S.code) (coded× coded_bool coded_bool) };
+
+    ghost view = { λ t. (t.connection, (t.stopped, is_some t.office)) };
+
+    ghost invariant = { λ t. (t.connection.in_transaction ≡ false) × KeepsOffice (state S.Store t.connection) × IsAtHand (state S.Store t.connection) t.office };
+}
+
+// It is written out, so that a caller does not prove again how each part is dropped.
+impl<S: Alter + Drop> Drop for Rows<S> {
+    fn drop(self) {
+        let Rows {
+            connection: _,
+            stopped: _,
+            alloc: _,
+            kept_rule: _,
+            office: _,
+        } = self;
+    }
+}
+
+impl<S: Alter> Rows<S> {
+    /// Makes the eight tables in a database that has none, and the rows of a start, in one transaction: the office of the start, of
+    /// which nothing is recorded.
+    ///
+    /// On a fault the connection is handed back with its rows as before: `Exists` where an office is there already, `Foreign` where
+    /// other tables are, `Memory` where a growth was refused, `Disk` where the disk failed.
+    pub(crate) fn create(
+        connection: Connection<S>,
+        alloc: Global,
+        start: &Start,
+    ) -> Result<Rows<S>, (OpenFault, Connection<S>)>
+        requires autocommit { connection.in_transaction ≡ false }
+        ensures made { IfOk result (AreMade S.Store start.now) }
+        ensures allowed { OnOk result ((state S.Store connection).now.schema ≡ no_schema) }
+        ensures refused { IfErr result (λ refusal. RefusesIn (state S.Store connection).now.schema refusal.0) }
+        ensures untouched { IfErr result (λ refusal. (state S.Store connection).now.schema ≢ no_schema → refusal.1 ≡ connection) }
+        ensures handed_back { IfErr result (λ refusal. IsHandedBack start.now (state S.Store connection) (state S.Store refusal.1)) }
+    {
+        let mut connection = connection;
+        match make(&mut connection, start) {
+            Ok(()) => Ok(Rows {
+                connection,
+                stopped: false,
+                alloc,
+                kept_rule: None,
+                office: None,
+            }),
+            Err(fault) => Err((fault, connection)),
+        }
+    }
+
+    /// The connection, between transactions.
+    pub(crate) fn into_connection(self) -> Connection<S>
+        ensures held { result ≡ self.0 }
+        ensures between { result.in_transaction ≡ false }
+    {
+        let Rows {
+            connection,
+            stopped: _,
+            alloc: _,
+            kept_rule,
+            office,
+        } = self;
+        drop(kept_rule);
+        drop(office);
+        connection
+    }
+
+    /// The rules of an office with its book hold. (A law: what it reads says so, and is compiled away.)
+    pub(crate) fn rules(&self)
+        ensures { KeepsOwnRules S.Store self.now }
+    {
+        let _read = self.stopped;
+    }
+
+    /// Whether they answer `Disk` until they are opened again.
+    pub(crate) fn stopped(&self) -> bool
+        ensures { result ≡ is_stopped S.Store self.now }
+    {
+        self.stopped
+    }
+
+    /// What is recorded under a request's number: its content and its first reply.
+    pub(crate) fn record_of(&mut self, number: &Uuid) -> Result<Option<Record>, Lost>
+        ensures answer { is_honest S.Store self.new → IfOk result (λ r. r ≡ option_map (row_of number.now) (maps.get (means S.Store self.old).book number.now)) }
+        ensures same { is_honest S.Store self.new → is_whole S.Store self.new → means S.Store self.new ≡ means S.Store self.old }
+        ensures kept { IsKept (is_honest S.Store) (is_whole S.Store) (means S.Store) (may_leave S.Store) (is_stopped S.Store) self.old self.new result Disk Nothing }
+    {
+        if self.stopped {
+            return Err(Lost::Disk);
+        }
+        match read_record(&mut self.connection, self.alloc, *number) {
+            Ok(record) => Ok(record),
+            Err(failure) => {
+                forget(&mut self.office);
+                Err(self.lost(failure))
+            }
+        }
+    }
+
+    /// What an act on a unit needs to know: the language's plural rule, the policy, the caller's role, and the unit's view, if there
+    /// is one. Nothing where the language isn't there.
+    pub(crate) fn view_of(
+        &mut self,
+        lang: &Lang,
+        key: &Key,
+        name: &Name,
+    ) -> Result<Option<Found>, Lost>
+        ensures answer { is_honest S.Store self.new → IfOk result (λ r. r ≡ found_of (means S.Store self.old).office lang.now key.now name.now) }
+        ensures same { is_honest S.Store self.new → is_whole S.Store self.new → means S.Store self.new ≡ means S.Store self.old }
+        ensures kept { IsKept (is_honest S.Store) (is_whole S.Store) (means S.Store) (may_leave S.Store) (is_stopped S.Store) self.old self.new result Disk Nothing }
+    {
+        if self.stopped {
+            return Err(Lost::Disk);
+        }
+        match read_view(
+            &mut self.connection,
+            self.alloc,
+            lang,
+            key,
+            name,
+            &mut self.kept_rule,
+        ) {
+            Ok(found) => Ok(found),
+            Err(failure) => {
+                forget(&mut self.office);
+                Err(self.lost(failure))
+            }
+        }
+    }
+
+    /// Reads what acts on the office need: team, policy, template, headers and units. `office` then shows it.
+    pub(crate) fn office_rows(&mut self) -> Result<(), Lost>
+        ensures loaded { OnOk result (is_loaded S.Store self.new) }
+        ensures same { is_honest S.Store self.new → is_whole S.Store self.new → means S.Store self.new ≡ means S.Store self.old }
+        ensures kept { IsKept (is_honest S.Store) (is_whole S.Store) (means S.Store) (may_leave S.Store) (is_stopped S.Store) self.old self.new result Disk Nothing }
+    {
+        if self.stopped {
+            return Err(Lost::Disk);
+        }
+        if self.office.is_some() {
+            return Ok(());
+        }
+        match read_office(&mut self.connection, self.alloc) {
+            Ok(maps) => {
+                keep(&mut self.office, maps);
+                Ok(())
+            }
+            Err(failure) => Err(self.lost(failure)),
+        }
+    }
+
+    /// The office that was read, in maps; it isn't copied.
+    pub(crate) fn at_hand(&self) -> &OfficeMaps
+        requires loaded { is_loaded S.Store self.now }
+        ensures whole { is_honest S.Store self.now → is_whole S.Store self.now }
+        ensures office { is_honest S.Store self.now → office_in result.now ≡ (means S.Store self.now).office }
+        ensures rules { is_honest S.Store self.now → IsOffice (office_in result.now) }
+    {
+        match &self.office {
+            Some(maps) => maps,
+            None => unreachable!(),
+        }
+    }
+
+    /// Hands the entries of a language to a sink: its header, the template's entries in order, each with its unit, and the obsolete
+    /// units that have a translation, in the order of their keys. None where the language isn't there. After a fault the sink has
+    /// taken a beginning of them.
+    pub(crate) fn each_entry<K: EntrySink>(
+        &mut self,
+        lang: &Lang,
+        sink: &mut K,
+    ) -> Result<(), EachFault<K::Refusal>>
+        ensures all { is_honest S.Store self.new → OnOk result (K.Took sink.old (entries_of (means S.Store self.old).office lang.now) sink.new) }
+        ensures cut { is_honest S.Store self.new → IfErr result (WasCutShort K.Took K.Refuses sink.old sink.new (entries_of (means S.Store self.old).office lang.now)) }
+        ensures same { is_honest S.Store self.new → is_whole S.Store self.new → means S.Store self.new ≡ means S.Store self.old }
+        ensures kept { IsKept (is_honest S.Store) (is_whole S.Store) (means S.Store) (may_leave S.Store) (is_stopped S.Store) self.old self.new result (NoTables Disk) Nothing }
+    {
+        match self.office_rows() {
+            Ok(()) => hand_entries(self.alloc, self.at_hand(), lang, sink),
+            Err(lost) => Err(EachFault::NoTables(lost)),
+        }
+    }
+
+    /// How many units of a language callers see in each state; nothing where the language isn't there.
+    pub(crate) fn counts(&mut self, lang: &Lang) -> Result<Option<Counts>, Lost>
+        ensures answer { is_honest S.Store self.new → IfOk result (λ r. r ≡ counts_of (means S.Store self.old).office lang.now) }
+        ensures same { is_honest S.Store self.new → is_whole S.Store self.new → means S.Store self.new ≡ means S.Store self.old }
+        ensures kept { IsKept (is_honest S.Store) (is_whole S.Store) (means S.Store) (may_leave S.Store) (is_stopped S.Store) self.old self.new result Disk Nothing }
+    {
+        match self.office_rows() {
+            Ok(()) => Ok(counts(self.alloc, self.at_hand(), lang)?),
+            Err(lost) => Err(lost),
+        }
+    }
+
+    /// Writes a request's record and its unit's new view, if it has one; or neither. The number must be new, and what the commit
+    /// leaves must keep the rules.
+    pub(crate) fn commit_unit(
+        &mut self,
+        row: Record,
+        lang: &Lang,
+        key: &Key,
+        view: Option<UnitView>,
+    ) -> Result<(), Lost>
+        requires rules { is_honest S.Store self.old → KeepsRules (record { office = with_view (means S.Store self.old).office lang.now key.now view; book = with_record (means S.Store self.old).book row }) }
+        ensures done { is_honest S.Store self.new → OnOk result (means S.Store self.new ≡ record { office = with_view (means S.Store self.old).office lang.now key.now view; book = with_record (means S.Store self.old).book row }) }
+        ensures same { is_honest S.Store self.new → is_whole S.Store self.new → OnErr result (means S.Store self.new ≡ means S.Store self.old) }
+        ensures kept { IsKept (is_honest S.Store) (is_whole S.Store) (means S.Store) (may_leave S.Store) (is_stopped S.Store) self.old self.new result Disk
+            (λ m. m ≡ record { office = with_view (means S.Store self.old).office lang.now key.now view; book = with_record (means S.Store self.old).book row }) }
+    {
+        if self.stopped {
+            return Err(Lost::Disk);
+        }
+        key_fits(key);
+        forget(&mut self.office);
+        match commit_given(&mut self.connection, self.alloc, row, lang, view) {
+            Ok(()) => Ok(()),
+            Err(failure) => Err(self.lost(failure)),
+        }
+    }
+
+    /// Writes a request's record and what its act changes, if it changes anything; or neither. The number must be new, and what the
+    /// commit leaves must keep the rules.
+    pub(crate) fn commit_office(&mut self, row: Record, change: Option<Change>) -> Result<(), Lost>
+        requires rules { is_honest S.Store self.old → KeepsRules (record { office = changed_by (means S.Store self.old).office change; book = with_record (means S.Store self.old).book row }) }
+        ensures done { is_honest S.Store self.new → OnOk result (means S.Store self.new ≡ record { office = changed_by (means S.Store self.old).office change; book = with_record (means S.Store self.old).book row }) }
+        ensures same { is_honest S.Store self.new → is_whole S.Store self.new → OnErr result (means S.Store self.new ≡ means S.Store self.old) }
+        ensures kept { IsKept (is_honest S.Store) (is_whole S.Store) (means S.Store) (may_leave S.Store) (is_stopped S.Store) self.old self.new result Disk
+            (λ m. m ≡ record { office = changed_by (means S.Store self.old).office change; book = with_record (means S.Store self.old).book row }) }
+    {
+        if self.stopped {
+            return Err(Lost::Disk);
+        }
+        forget(&mut self.office);
+        match commit_change(&mut self.connection, self.alloc, row, change) {
+            Ok(()) => Ok(()),
+            Err(failure) => Err(self.lost(failure)),
+        }
+    }
+
+    /// What a failure comes to: one of the disk stops the tables.
+    fn lost(&mut self, failure: Failure) -> Lost
+        ensures result { result ≡ failure.lost }
+        ensures connection { self.new.0 ≡ self.old.0 }
+        ensures stops { result ≡ Disk → self.new.1.0 ≡ true }
+    {
+        if let Lost::Disk = failure.lost {
+            self.stopped = true;
+        }
+        failure.lost
+    }
+}
