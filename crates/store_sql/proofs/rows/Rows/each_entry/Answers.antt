@@ -1,4 +1,4 @@
-use Rattle.std.proofs.Common.{◌≡◌, Ok, Err, ◌∙◌, ap, refl}
+use Rattle.std.proofs.Common.{◌∙◌, ap, refl}
 use Rattle.request_book.specs.Book.{OfficeWithBook}
 use Rattle.units.specs.Office.{Office}
 use Rattle.office_maps.specs.OfficeIn.{office_in}
