@@ -1,0 +1,106 @@
+//! Streams in memory, which may fail. Nothing is known of what they hold.
+ghost use Rattle.std.specs.Prelude.{None};
+
+use crate::words::{has, most};
+use std::alloc::Global;
+use units::{ByteSink, ByteSource, SinkFault, SourceFault};
+
+/// A source that gives a piece at a time, and fails once it gave so many bytes.
+#[derive(Drop)]
+pub(crate) struct Given<'a> {
+    left: &'a [u8],
+    piece: usize,
+    before_fault: usize,
+    failures: u64,
+}
+
+impl<'a> Given<'a> {
+    /// A source of these bytes, as a row's words have it.
+    pub(crate) fn new(words: &str, left: &'a [u8], piece: usize) -> Given<'a> {
+        Given {
+            left,
+            piece,
+            before_fault: most(words, "reader"),
+            failures: 0,
+        }
+    }
+}
+
+impl<'a> ByteSource for Given<'a> {
+    ghost left = { λ _. None };
+
+    ghost failed = { λ s. s.failures };
+
+    fn read(&mut self, room: &mut [u8]) -> Result<usize, SourceFault> {
+        if self.before_fault == 0 {
+            self.failures = self.failures.saturating_add(1);
+            return Err(SourceFault);
+        }
+        let most = self.piece.min(self.before_fault).min(room.len());
+        let count = most.min(self.left.len());
+        let (front, rest) = self.left.split_at(count);
+        room[..count].copy_from_slice(front);
+        self.left = rest;
+        self.before_fault -= count;
+        Ok(count)
+    }
+
+    fn failures(&self) -> u64 {
+        self.failures
+    }
+}
+
+/// A sink that takes a piece at a time, and fails once it took so many bytes.
+#[derive(Drop)]
+pub(crate) struct Kept {
+    bytes: Vec<u8>,
+    piece: usize,
+    before_fault: usize,
+    flushes: bool,
+    failures: u64,
+}
+
+impl Kept {
+    /// A sink as a row's words have it.
+    pub(crate) fn new(alloc: Global, words: &str, piece: usize) -> Kept {
+        Kept {
+            bytes: Vec::new(alloc),
+            piece,
+            before_fault: most(words, "writer"),
+            flushes: !has(words, "flush"),
+            failures: 0,
+        }
+    }
+
+    pub(crate) fn bytes(&self) -> &[u8] {
+        self.bytes.as_slice()
+    }
+}
+
+impl ByteSink for Kept {
+    ghost taken = { λ _. None };
+
+    ghost failed = { λ s. s.failures };
+
+    fn write(&mut self, bytes: &[u8]) -> Result<usize, SinkFault> {
+        let count = self.piece.min(self.before_fault).min(bytes.len());
+        if count == 0 || self.bytes.extend_from_slice(&bytes[..count]).is_err() {
+            self.failures = self.failures.saturating_add(1);
+            return Err(SinkFault);
+        }
+        self.before_fault -= count;
+        Ok(count)
+    }
+
+    fn flush(&mut self) -> Result<(), SinkFault> {
+        if self.flushes {
+            return Ok(());
+        }
+        self.failures = self.failures.saturating_add(1);
+        Err(SinkFault)
+    }
+
+    fn failures(&self) -> u64 {
+        self.failures
+    }
+}
