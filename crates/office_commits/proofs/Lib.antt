@@ -1,2 +1,3 @@
 pub mod WritesInTurn
 pub mod PlannedWrites
+pub mod Transactions
