@@ -1,0 +1,5 @@
+pub mod Labels
+pub mod OfficeLists
+pub mod ListedOnce
+pub mod ListingQuery
+pub mod Looks

@@ -1,0 +1,30 @@
+-- What a read inside a transaction needs and keeps, where the tables may be any. This project's own words.
+use Rattle.std.specs.Prelude.{◌≡◌, Result, OnOk, IfOk, IsTrue}
+use Rattle.sqlite.specs.Effect.{Database, IsDatabase}
+use Rattle.sqlite.specs.State.{State, HasCleanDisk, KeepsCommit, Survives}
+use Rattle.office_sql.specs.Schema.{office_schema}
+use Rattle.office_sql.specs.Inside.{StaysInside}
+use Rattle.office_found.specs.Found.{IsLabelled}
+
+-- A transaction is open, over such a database unless the connection is shut.
+pub record IsOver (Holds : Database → Type 0) (s : State) : Type 0 where
+  pub inside : HasCleanDisk s → IsTrue s.in_transaction
+  pub holds : HasCleanDisk s → IsTrue s.is_open → Holds s.now
+
+-- the names and the places are those of an office's tables
+pub record HasLabels (db : Database) : Type 0 where
+  pub sound : IsDatabase db
+  pub labelled : IsLabelled db.schema
+
+-- the tables are an office's
+pub record HasSchema (db : Database) : Type 0 where
+  pub sound : IsDatabase db
+  pub schema : db.schema ≡ office_schema
+
+-- A query answers by what the connection shows, and changes nothing; however it ends, nothing is committed.
+pub record IsLook {A E : Type 0} (old new : State) (result : Result A E) (IsAnswer : Database → A → Type 0) : Type 0 where
+  pub answer : HasCleanDisk new → IfOk result (IsAnswer old.now)
+  pub same : HasCleanDisk new → OnOk result (new.now ≡ old.now)
+  pub stays : HasCleanDisk new → OnOk result (StaysInside old new)
+  pub kept : HasCleanDisk new → KeepsCommit old new
+  pub survives : Survives old new (λ _. ⊥)

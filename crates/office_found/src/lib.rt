@@ -1,0 +1,4 @@
+//! Whether a connection's tables are those of an office, where nobody knows yet what it holds.
+//!
+//! What is said of values is said while the disk returns what was written.
+#![tactic(auto)]
