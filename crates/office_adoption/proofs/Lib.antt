@@ -1,0 +1,4 @@
+pub mod Looked
+pub mod Langs
+pub mod Read
+pub mod Kept

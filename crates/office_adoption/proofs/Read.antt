@@ -1,0 +1,100 @@
+-- The office and the statuses that all rows of the tables show are those that the rows mean.
+use Rattle.std.proofs.Common.{◌≡◌, List, [], ◌∷◌, map, Option, Some, None, Result, Ok, Err, IfOk, IfErr, OnOk, refl, sym, ap, subst, ◌∙◌, ℕ}
+use Rattle.std.specs.Prelude.{All}
+use Rattle.std.specs.BTreeMap.{BTreeMap}
+use Rattle.std.proofs.lemmas.List.Elements.{recursion_from_All}
+use Rattle.std.proofs.lemmas.List.Sorted.{IsPermutation-sym}
+use Rattle.sqlite.specs.Order.{Row, column}
+use Rattle.sqlite.specs.Effect.{Database}
+use Rattle.sqlite_rules.proofs.ListLemmas.{all_has}
+use Rattle.keyed.proofs.RemovedRows.{to_mapped, has_permuted}
+use Rattle.po_read.specs.Texts.{Text}
+use Rattle.office_sql.specs.Schema.{record_tree, policy_tree}
+use Rattle.office_sql.specs.Keys.{columns}
+use Rattle.office_sql.specs.Inside.{AreOfficeTables}
+use Rattle.office_sql.specs.Answers.{ShowsPolicy}
+use Rattle.office_sql.proofs.Steps.{table_apart}
+use Rattle.office_sql.proofs.TableRows.{policies}
+use Rattle.office_sql.proofs.RowNumbers.{one_row_number}
+use Rattle.units.specs.Office.{Office}
+use Rattle.office_scans.specs.declared.look_ups.WholeOffice.{WholeOffice}
+use Rattle.office_scans.specs.WholeOffice.{ShowsWholeOffice}
+use Rattle.office_at_hand.proofs.WholeOffice.{whole_office}
+use Rattle.record_scans.specs.RecordTable.{ShowsRecords}
+use Rattle.kept_rules.specs.Given.{AreAll, AreStatusesOf}
+use Rattle.book_at_hand.specs.BookShown.{book_shown, IsRecordRow}
+use Rattle.book_at_hand.proofs.WholeBook.{all_numbered, whole_book}
+use Rattle.office_adoption.specs.declared.faults.AdoptionFault.{AdoptionFault}
+use Rattle.office_adoption.specs.declared.faults.AdoptionFault.TheVariants.{Memory, Disk, OtherForm, UnreadRow, BrokenRules}
+use Rattle.office_adoption.specs.declared.office_read.ReadOffice.{ReadOffice}
+use Rattle.office_adoption.specs.Adoption.{HasFirstForm, AreContents, Refuses}
+use Rattle.office_adoption.specs.Reading.{ShowsFirstForm, IsOfRows, HasLangs, RefusesRows, IsReadOf, AreStatusesIn}
+
+-- ---- the form
+
+module _ (db : Database) (found : Option Row) (shows : ShowsPolicy db found) where
+  pub first_form : ShowsFirstForm found → HasFirstForm db
+  first_form first =
+      let it = subst (ShowsPolicy db) first.1 shows in
+      (it.0, it.1, it.2, ap (λ r. column r 0) it.3 ∙ first.2)
+
+  pub first_form_shown : AreOfficeTables db → HasFirstForm db → ShowsFirstForm found
+  first_form_shown office first = by found refl
+    where
+      by : (o : Option Row) → found ≡ o → ShowsFirstForm found
+      by (Some row) is =
+          let it = subst (ShowsPolicy db) is shows in
+          let same = one_row_number (db.trees policy_tree) (table_apart db.trees 2 policies refl office.tables) it.0 first.0 it.1 first.1 (it.2 ∙ sym first.2) in
+          (row, is, ap (λ r. column r 0) (sym it.3) ∙ ap (λ r. column r 2) same ∙ first.3)
+      by None is = absurd (subst (ShowsPolicy db) is shows first.0 first.1 first.2)
+
+-- ---- the office
+
+module _ (db : Database) (office : AreOfficeTables db) (rows : WholeOffice) (shows : ShowsWholeOffice db rows) where
+  pub office_is_read : (read : ReadOffice) → IsOfRows rows read → ShowsFirstForm rows.office.policy → IsReadOf db read
+  office_is_read read it first = record {
+    form = first_form db rows.office.policy shows.office.policy first;
+    office = it.office ∙ whole_office db office rows shows;
+  }
+
+  pub rows_refused : (fault : AdoptionFault) → RefusesRows rows fault → Refuses db fault
+  rows_refused OtherForm h = λ first. h (first_form_shown db rows.office.policy shows.office.policy office first)
+  rows_refused BrokenRules h = absurd h
+  rows_refused Memory h = tt
+  rows_refused Disk h = tt
+  rows_refused UnreadRow h = tt
+
+-- ---- the book
+
+module _ (db : Database) (rows : List Row) (shows : ShowsRecords db rows) (stand : All IsRecordRow rows) where
+  -- as it is shown
+  abbrev shown : Row → Row
+  shown = columns (2 ∷ 3 ∷ 4 ∷ 1 ∷ [])
+
+  all_contents : AreContents db.trees
+  all_contents row there =
+      IsRecordRow.content (all_has IsRecordRow rows (shown row) (recursion_from_All IsRecordRow rows stand)
+      (has_permuted rows (map shown (db.trees record_tree)) (shown row) (IsPermutation-sym (map shown (db.trees record_tree)) rows shows.all) (to_mapped shown (db.trees record_tree) row there)))
+
+  pub statuses_are_read : AreOfficeTables db → (statuses : BTreeMap Text ℕ) → AreStatusesOf (book_shown rows) statuses → AreStatusesIn db statuses
+  statuses_are_read office statuses are = record {
+    statuses_are = subst (λ book. AreStatusesOf book statuses) (sym (whole_book db rows shows stand office)) are;
+    numbered = all_numbered db rows shows stand;
+    contents = all_contents;
+  }
+
+-- ---- the office, or why not
+
+pub offices_read : (db : Database) → AreOfficeTables db → (rows : WholeOffice) → ShowsWholeOffice db rows → (r : Result ReadOffice AdoptionFault) → IfOk r (IsOfRows rows)
+    → OnOk r (ShowsFirstForm rows.office.policy) → IfOk r (IsReadOf db)
+offices_read db office rows shows (Ok read) it first = office_is_read db office rows shows read it first
+offices_read db office rows shows (Err fault) it first = tt
+
+pub langs_read : (rows : WholeOffice) (r : Result ReadOffice AdoptionFault) → IfOk r (IsOfRows rows) → IfOk r HasLangs
+langs_read rows (Ok read) it = subst (λ m. AreAll m read.langs.items) (sym (ap (λ (o : Office). o.headers) it.office)) it.langs
+langs_read rows (Err fault) it = tt
+
+pub rows_all_refused : {C : Type 0} (db : Database) (rows : WholeOffice) (r : Result ReadOffice AdoptionFault) → (C → AreOfficeTables db) → (C → ShowsWholeOffice db rows)
+    → IfErr r (RefusesRows rows) → IfErr r (λ fault. C → Refuses db fault)
+rows_all_refused db rows (Ok read) office shows h = tt
+rows_all_refused db rows (Err fault) office shows h = λ clean. rows_refused db (office clean) rows (shows clean) fault h

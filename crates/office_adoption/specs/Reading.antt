@@ -1,0 +1,87 @@
+-- What the readers of rows that are to be adopted answer. Only inner clauses and proofs cite this file.
+use Rattle.std.specs.Prelude.{◌≡◌, ◌⊎◌, ◌↔◌, ⊤, ℕ, pos, Option, Some}
+use Rattle.std.specs.BTreeMap.{BTreeMap}
+use Rattle.sqlite.specs.declared.error.Error.{Error}
+use Rattle.sqlite.specs.declared.error.Error.TheVariants.{SqliteFailure}
+use Rattle.sqlite.specs.declared.error.ErrorCode.TheVariants.{OutOfMemory}
+use Rattle.sqlite.specs.declared.types.Value.TheVariants.{Int}
+use Rattle.sqlite.specs.Order.{Row, column}
+use Rattle.sqlite.specs.Effect.{Database}
+use Rattle.po_read.specs.Texts.{Text}
+use Rattle.tables.specs.declared.faults.Lost.{Lost}
+use Rattle.tables.specs.declared.faults.Lost.TheVariants as lost
+use Rattle.units.specs.Office.{Office}
+use Rattle.request_book.specs.Book.{OfficeWithBook}
+use Rattle.deliveries.specs.OfficeRules.{KeepsRules}
+use Rattle.office_maps.specs.OfficeIn.{office_in}
+use Rattle.office_in_rows.specs.Meaning.{office_of_rows, book_in, AreNumbered}
+use Rattle.office_scans.specs.declared.look_ups.WholeOffice.{WholeOffice}
+use Rattle.office_at_hand.specs.OfficeShown.{headers_shown, office_shown}
+use Rattle.kept_rules.specs.Given.{AreAll, AreStatusesOf}
+use Rattle.office_adoption.specs.declared.faults.AdoptionFault.{AdoptionFault}
+use Rattle.office_adoption.specs.declared.faults.AdoptionFault.TheVariants.{Memory, Disk, OtherForm, UnreadRow, BrokenRules}
+use Rattle.office_adoption.specs.declared.office_read.ReadOffice.{ReadOffice}
+use Rattle.office_adoption.specs.Adoption.{HasFirstForm, AreContents}
+
+-- ---- faults
+
+-- why a statement gives nothing
+pub record IsOfStatement (error : Error) (fault : AdoptionFault) : Type 0 where
+  pub memory : (fault ≡ Memory) ↔ (error ≡ SqliteFailure OutOfMemory)
+  pub others : (fault ≡ Memory) ⊎ (fault ≡ Disk)
+
+-- why rows at hand are not read
+abbrev pub unread : Lost → AdoptionFault
+unread lost.Memory = Memory
+unread lost.Disk = UnreadRow
+
+-- ---- the office
+
+-- what the policy's row shows
+abbrev pub ShowsFirstForm : Option Row → Type 0
+ShowsFirstForm found = (row : Row) × (found ≡ Some row) × (column row 0 ≡ Int (pos 1))
+
+-- the office that all rows show, and all its languages
+pub record IsOfRows (rows : WholeOffice) (read : ReadOffice) : Type 0 where
+  pub office : office_in read.maps ≡ office_shown rows
+  pub langs : AreAll (headers_shown rows.office.languages.items) read.langs.items
+
+abbrev pub RefusesRows : WholeOffice → AdoptionFault → Type 0
+RefusesRows rows OtherForm = ¬ ShowsFirstForm rows.office.policy
+RefusesRows rows BrokenRules = ⊥
+RefusesRows rows _ = ⊤
+
+-- its languages are all here
+abbrev pub HasLangs : ReadOffice → Type 0
+HasLangs read = AreAll (office_in read.maps).headers read.langs.items
+
+-- the office of tables in their first form
+pub record IsReadOf (db : Database) (read : ReadOffice) : Type 0 where
+  pub form : HasFirstForm db
+  pub office : office_in read.maps ≡ office_of_rows db.trees
+
+-- ---- the book
+
+-- the statuses of all records, whose numbers and contents stand for some
+pub record AreStatusesIn (db : Database) (statuses : BTreeMap Text ℕ) : Type 0 where
+  pub statuses_are : AreStatusesOf (book_in db.trees) statuses
+  pub numbered : AreNumbered db.trees
+  pub contents : AreContents db.trees
+
+-- an office keeps the rules with the book of the rows
+pub record KeepsBook (office : Office) (db : Database) : Type 0 where
+  pub numbered : AreNumbered db.trees
+  pub contents : AreContents db.trees
+  pub rules : KeepsRules (record { office = office; book = book_in db.trees })
+
+-- what is true of an office with its book that is refused so
+abbrev pub RefusesWith : OfficeWithBook → AdoptionFault → Type 0
+RefusesWith with_book BrokenRules = ¬ KeepsRules with_book
+RefusesWith with_book OtherForm = ⊥
+RefusesWith with_book _ = ⊤
+
+-- neither its form nor its rules refuse it
+abbrev pub IsUntold : AdoptionFault → Type 0
+IsUntold BrokenRules = ⊥
+IsUntold OtherForm = ⊥
+IsUntold _ = ⊤

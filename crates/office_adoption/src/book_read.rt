@@ -1,0 +1,71 @@
+//! The book of the rows, beside an office that was read.
+ghost use Rattle.std.specs.Prelude.{◌≡◌, false, IfOk, IfErr, OnOk};
+ghost use Rattle.sqlite.specs.Held.{state};
+ghost use Rattle.sqlite.specs.State.{HasCleanDisk};
+ghost use Rattle.request_book.specs.Book.{Book};
+ghost use Rattle.deliveries.specs.OfficeRules.{KeepsRules};
+ghost use Rattle.office_maps.specs.OfficeIn.{office_in};
+ghost use Rattle.office_sql.specs.Whole.{IsIdle, IsLookUp};
+ghost use Rattle.office_in_rows.specs.Meaning.{book_in};
+ghost use Rattle.kept_rules.specs.Given.{AreStatusesOf};
+ghost use Rattle.office_adoption.specs.Reading.{AreStatusesIn, HasLangs, KeepsBook, RefusesWith, IsUntold};
+
+use crate::faults::AdoptionFault;
+use crate::office_read::ReadOffice;
+use book_at_hand::statuses_in;
+use kept_rules::keeps_rules;
+use record_scans::look_up_records;
+use sqlite::{Alter, Connection};
+use std::alloc::Global;
+use std::collections::BTreeMap;
+use uuid::Uuid;
+
+/// The statuses of all records.
+fn read_statuses<S: Alter>(
+    connection: &mut Connection<S>,
+    alloc: Global,
+) -> Result<BTreeMap<Uuid, u16>, AdoptionFault>
+    requires autocommit { connection.old.in_transaction ≡ false }
+    requires idle { IsIdle (state S.Store connection.old) }
+    ensures found { IsLookUp (state S.Store connection.old) (state S.Store connection.new) result AreStatusesIn }
+    ensures refused { IfErr result IsUntold }
+{
+    let rows = look_up_records(connection)?;
+    match statuses_in(alloc, rows.as_slice()) {
+        Ok(statuses) => Ok(statuses),
+        Err(failure) => Err(AdoptionFault::unread(failure)),
+    }
+}
+
+/// Tests the rules, for a book of whose records these are the statuses.
+fn keep_rules(
+    alloc: Global,
+    read: &ReadOffice,
+    statuses: &BTreeMap<Uuid, u16>,
+) -> Result<(), AdoptionFault>
+    requires langs { HasLangs read.now }
+    ensures kept { (book : Book) → AreStatusesOf book statuses.now → OnOk result (KeepsRules (record { office = office_in read.now.maps; book = book })) }
+    ensures refused { (book : Book) → AreStatusesOf book statuses.now → IfErr result (RefusesWith (record { office = office_in read.now.maps; book = book })) }
+{
+    if keeps_rules(alloc, &read.maps, read.langs.as_slice(), statuses)? {
+        Ok(())
+    } else {
+        Err(AdoptionFault::BrokenRules)
+    }
+}
+
+/// Tests the rules of an office that was read, with the book of the rows.
+pub fn keep_book<S: Alter>(
+    connection: &mut Connection<S>,
+    alloc: Global,
+    read: &ReadOffice,
+) -> Result<(), AdoptionFault>
+    requires autocommit { connection.old.in_transaction ≡ false }
+    requires idle { IsIdle (state S.Store connection.old) }
+    requires langs { HasLangs read.now }
+    ensures found { IsLookUp (state S.Store connection.old) (state S.Store connection.new) result (λ db _. KeepsBook (office_in read.now.maps) db) }
+    ensures refused { IfErr result (λ fault. HasCleanDisk (state S.Store connection.new) → RefusesWith (record { office = office_in read.now.maps; book = book_in (state S.Store connection.old).now.trees }) fault) }
+{
+    let statuses = read_statuses(connection, alloc)?;
+    keep_rules(alloc, read, &statuses)
+}

@@ -1,0 +1,50 @@
+//! All that is asked of tables before they are adopted.
+ghost use Rattle.std.specs.Prelude.{◌≡◌, false, Ok, Err, IfErr, MatchResult};
+ghost use Rattle.sqlite.specs.Held.{state};
+ghost use Rattle.sqlite.specs.State.{HasCleanDisk};
+ghost use Rattle.office_sql.specs.Whole.{IsIdle, IsLookUp};
+ghost use Rattle.office_adoption.specs.Adoption.{IsAdoptedAs, Refuses};
+
+use crate::book_read::keep_book;
+use crate::faults::AdoptionFault;
+use crate::office_read::{ReadOffice, read_office};
+use office_maps::OfficeMaps;
+use sqlite::{Alter, Connection};
+use std::alloc::Global;
+
+/// The office alone, where its book keeps the rules.
+fn where_kept(
+    read: ReadOffice,
+    kept: Result<(), AdoptionFault>,
+) -> Result<OfficeMaps, AdoptionFault>
+    ensures { MatchResult kept (λ _. result ≡ Ok read.maps) (λ fault. result ≡ Err fault) }
+{
+    let ReadOffice { maps, langs } = read;
+    drop(langs);
+    match kept {
+        Ok(()) => Ok(maps),
+        Err(fault) => {
+            drop(maps);
+            Err(fault)
+        }
+    }
+}
+
+/// The office of the eight tables, if their rows are those of an office with its book in the first form of the tables: each row is read,
+/// each record's content is a request's, and the rules of an office with its book hold.
+///
+/// Nothing is changed. `OtherForm` where the tables have another form, `UnreadRow` where a row stands for nothing or a record's content is
+/// no request's, `BrokenRules` where the rules don't hold, `Memory` where a growth was refused, `Disk` where the disk failed.
+pub fn tested_tables<S: Alter>(
+    connection: &mut Connection<S>,
+    alloc: Global,
+) -> Result<OfficeMaps, AdoptionFault>
+    requires autocommit { connection.old.in_transaction ≡ false }
+    requires idle { IsIdle (state S.Store connection.old) }
+    ensures adopted { IsLookUp (state S.Store connection.old) (state S.Store connection.new) result IsAdoptedAs }
+    ensures refused { IfErr result (λ fault. HasCleanDisk (state S.Store connection.new) → Refuses (state S.Store connection.old).now fault) }
+{
+    let read = read_office(connection, alloc)?;
+    let kept = keep_book(connection, alloc, &read);
+    where_kept(read, kept)
+}
