@@ -22,10 +22,10 @@ use uuid::Uuid;
 /// Notes the status of a record's reply under its number.
 ///
 /// `AllocError` where a growth was refused.
-pub fn note_status(statuses: &mut BTreeMap<Uuid, u16>, record: &Record) -> Result<(), AllocError>
-    ensures { (book : Book) → AreStatusesOf book statuses.old → OnOk result (AreStatusesOf (with_record book record.now) statuses.new) }
+pub fn note_status(statuses: &mut BTreeMap<Uuid, u16>, known: &Record) -> Result<(), AllocError>
+    ensures { (book : Book) → AreStatusesOf book statuses.old → OnOk result (AreStatusesOf (with_record book known.now) statuses.new) }
 {
-    let before = statuses.insert(record.number, record.reply.status())?;
+    let before = statuses.insert(known.number, known.reply.status())?;
     let _ = before;
     Ok(())
 }
