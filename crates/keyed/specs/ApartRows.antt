@@ -4,15 +4,18 @@ use Rattle.std.specs.Ordering.{is_eq}
 use Rattle.sqlite.specs.declared.types.Value.TheVariants.{Int}
 use Rattle.sqlite.specs.Order.{Row, value_cmp}
 use Rattle.sqlite.specs.Tree.{rowid}
-use Rattle.sqlite_trees.specs.Tree.{IsTable}
+use Rattle.sqlite_trees.specs.Tree.{IsAscending}
 use Rattle.sqlite_trees.specs.View.{is_int}
 use Rattle.sqlite_rules.specs.Lists.{Has}
+
+-- each rowid differs from those of the rows behind it, so no row stands twice
+abbrev pub AreOnce : List Row → Type 0
+AreOnce = IsAscending (λ r s. is_eq (value_cmp (rowid r) (rowid s)) ≡ false)
 
 pub record AreApart (rows : List Row) : Type 0 where
   pub ints : (r : Row) → Has rows r → is_int (rowid r) ≡ true
   pub apart : (r s : Row) → Has rows r → Has rows s → is_eq (value_cmp (rowid r) (rowid s)) ≡ true → r ≡ s
-  -- the rowids rise, so no row stands twice
-  pub rising : IsTable rows
+  pub once : AreOnce rows
 
 -- the rows that pass the test are gone, and the others stay
 pub record IsRemoved (test : Row → Bool) (old new : List Row) : Type 0 where

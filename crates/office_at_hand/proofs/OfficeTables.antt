@@ -1,8 +1,8 @@
 -- The team, the policy, the headers and the template that the rows stand for: what reads of the whole tables show of them.
 use Rattle.std.proofs.Common.{◌≡◌, inl, inr, pos, true, false, List, [], ◌∷◌, map, Option, Some, None, unwrap_or, refl, sym, ap, subst, ◌∙◌}
 use Rattle.std.proofs.lemmas.Bool.{false_from_ne_true}
-use Rattle.std.specs.declared.cmp.Ordering.TheVariants.{Less, Equal}
-use Rattle.std.specs.Ordering.{int_cmp, int_eq}
+use Rattle.std.specs.declared.cmp.Ordering.TheVariants.{Equal}
+use Rattle.std.specs.Ordering.{int_cmp, int_eq, is_eq}
 use Rattle.std.specs.Cmp.{int_cmp_total, eq_by_cmp_equiv, Equal-is, tied_itself}
 use Rattle.std.specs.Cmp.Lexicographic.{nat_list_cmp_total}
 use Rattle.std.specs.List.{IsDistinct}
@@ -16,13 +16,12 @@ use Rattle.sqlite.specs.Order.{Row, value_cmp}
 use Rattle.sqlite.specs.Tree.{rowid}
 use Rattle.sqlite.specs.Effect.{Database}
 use Rattle.sqlite_value.proofs.OrderLemmas.{value_cmp_total}
-use Rattle.sqlite_trees.specs.Tree.{IsTable}
 use Rattle.sqlite_trees.specs.View.{is_int}
 use Rattle.sqlite_trees.proofs.ListLemmas.{map-map, all-map}
 use Rattle.sqlite_rules.specs.Lists.{Has}
 use Rattle.sqlite_rules.proofs.ListLemmas.{all_has, all_from}
 use Rattle.keyed.specs.RowMaps.{OneEach}
-use Rattle.keyed.specs.ApartRows.{AreApart}
+use Rattle.keyed.specs.ApartRows.{AreApart, AreOnce}
 use Rattle.keyed.proofs.RowMaps.{get-is}
 use Rattle.keyed.proofs.RemovedRows.{from_mapped, has_permuted}
 use Rattle.po_read.specs.Texts.{text_cmp}
@@ -54,7 +53,7 @@ integer_is (Words t) e = absurd cc
 integer_is (Blob b) e = absurd cc
 
 -- no row stands twice in a table, so rowids come once
-each_once : (rows : List Row) → IsTable rows → OneEach (integer_at 0) rows → IsDistinct int_eq (map (integer_at 0) rows)
+each_once : (rows : List Row) → AreOnce rows → OneEach (integer_at 0) rows → IsDistinct int_eq (map (integer_at 0) rows)
 unfolding IsDistinct
 each_once [] up one = tt
 each_once (row ∷ rows) up one = (
@@ -65,7 +64,7 @@ each_once (row ∷ rows) up one = (
     apart : (r : Row) → Has rows r → int_eq (integer_at 0 row) (integer_at 0 r) ≡ false
     apart r there = false_from_ne_true _ (λ tied.
         let same : row ≡ r = one row r (inl refl) (inr there) (int_cmp-IsAntisymmetric _ _ ((Equal-is _).0 tied)) in
-        let less : value_cmp (rowid row) (rowid r) ≡ Less = all_has (λ s. value_cmp (rowid row) (rowid s) ≡ Less) rows r up.0 there in
+        let differ : is_eq (value_cmp (rowid row) (rowid r)) ≡ false = all_has (λ s. is_eq (value_cmp (rowid row) (rowid s)) ≡ false) rows r up.0 there in
         let itself : value_cmp (rowid row) (rowid r) ≡ Equal = subst (λ s. value_cmp (rowid row) (rowid s) ≡ Equal) same (tied_itself value_cmp_total (rowid row)) in
         cc)
 
@@ -121,7 +120,7 @@ module _ (db : Database) (office : AreOfficeTables db) where
     shown_once : IsDistinct int_eq (map (integer_at 5) rows)
     shown_once = IsDistinct-IsPermutation int_eq (eq_by_cmp_equiv int_cmp_total).symm (map (integer_at 5) (map shown all)) (map (integer_at 5) rows)
         (IsPermutation-map (integer_at 5) (map shown all) rows shows.all)
-        (subst (IsDistinct int_eq) (sym (map-map (integer_at 5) shown all)) (each_once all entries_apart.rising (one_rowid all entries_apart)))
+        (subst (IsDistinct int_eq) (sym (map-map (integer_at 5) shown all)) (each_once all entries_apart.once (one_rowid all entries_apart)))
 
     pub whole_template : template_in db.trees ≡ template_shown rows
     whole_template =

@@ -35,7 +35,7 @@ module _ (db : Database) (office : AreOfficeTables db) where
       → suggestions_in db.trees lang key ≡ map (shown_suggestion db.trees) rows
   suggestions_found lang key rows shows =
       let apart : AreApart (db.trees suggestion_tree) = table_apart db.trees 6 suggestions refl office.tables in
-      finds_suggestions db.trees lang key rows apart.rising (has_places db office.schema office.sound) (one_place db office.schema office.sound apart lang key) shows.0 shows.1
+      finds_suggestions db.trees lang key rows apart.once (has_places db office.schema office.sound) (one_place db office.schema office.sound apart lang key) shows.0 shows.1
 
   pub votes_found : (number : Text) (rows : List Row) → ShowsVotes number db rows → votes_in db.trees number ≡ shown_votes rows
   votes_found number rows = finds_votes db.trees number rows (one_vote db office.schema office.sound (table_apart db.trees 7 votes refl office.tables))

@@ -1,8 +1,8 @@
 -- A unit's suggestions, as the rows of `suggestion` stand for them: what a query by language and key finds, in the order of the places.
 use Rattle.std.proofs.Common.{◌≡◌, inl, inr, ℕ, false, List, [], ◌∷◌, map, filter, refl, sym, ap, subst, ◌∙◌}
 use Rattle.std.proofs.lemmas.Bool.{false_from_ne_true}
-use Rattle.std.specs.declared.cmp.Ordering.TheVariants.{Less, Equal}
-use Rattle.std.specs.Ordering.{int_cmp, int_eq}
+use Rattle.std.specs.declared.cmp.Ordering.TheVariants.{Equal}
+use Rattle.std.specs.Ordering.{int_cmp, int_eq, is_eq}
 use Rattle.std.specs.Cmp.{int_cmp_total, eq_by_cmp_equiv, Equal-is, tied_itself}
 use Rattle.std.specs.List.{IsDistinct}
 use Rattle.std.specs.List.Sorted.{IsPermutation}
@@ -13,11 +13,11 @@ use Rattle.std.specs.FinMap.{int_cmp-IsAntisymmetric}
 use Rattle.sqlite.specs.Order.{Row, value_cmp}
 use Rattle.sqlite.specs.Tree.{Trees, rowid}
 use Rattle.sqlite_value.proofs.OrderLemmas.{value_cmp_total}
-use Rattle.sqlite_trees.specs.Tree.{IsTable}
 use Rattle.sqlite_trees.proofs.ListLemmas.{map-map, all-map, ascending-filter}
 use Rattle.sqlite_rules.specs.Lists.{Has}
 use Rattle.sqlite_rules.proofs.ListLemmas.{all_has, all_from, has_filtered}
 use Rattle.keyed.specs.RowMaps.{OneEach}
+use Rattle.keyed.specs.ApartRows.{AreOnce}
 use Rattle.keyed.proofs.RemovedRows.{from_mapped, has_permuted}
 use Rattle.po_read.specs.Texts.{Text}
 use Rattle.office_sql.specs.Schema.{suggestion_tree}
@@ -30,7 +30,7 @@ use Rattle.office_in_rows.proofs.ShownMaps.{map_is}
 use Rattle.office_in_rows.proofs.RowsInOrder.{HoldsIntegers, in_order, in_order_answers, values_in_order}
 
 -- no row stands twice in a table, so integers that tell its rows apart come once
-each_once : (place : ℕ) (rows : List Row) → IsTable rows → OneEach (integer_at place) rows → IsDistinct int_eq (map (integer_at place) rows)
+each_once : (place : ℕ) (rows : List Row) → AreOnce rows → OneEach (integer_at place) rows → IsDistinct int_eq (map (integer_at place) rows)
 unfolding IsDistinct
 each_once place [] up one = tt
 each_once place (row ∷ rows) up one = (
@@ -41,11 +41,11 @@ each_once place (row ∷ rows) up one = (
     apart : (r : Row) → Has rows r → int_eq (integer_at place row) (integer_at place r) ≡ false
     apart r there = false_from_ne_true _ (λ tied.
         let same : row ≡ r = one row r (inl refl) (inr there) (int_cmp-IsAntisymmetric _ _ ((Equal-is _).0 tied)) in
-        let less : value_cmp (rowid row) (rowid r) ≡ Less = all_has (λ s. value_cmp (rowid row) (rowid s) ≡ Less) rows r up.0 there in
+        let differ : is_eq (value_cmp (rowid row) (rowid r)) ≡ false = all_has (λ s. is_eq (value_cmp (rowid row) (rowid s)) ≡ false) rows r up.0 there in
         let itself : value_cmp (rowid row) (rowid r) ≡ Equal = subst (λ s. value_cmp (rowid row) (rowid s) ≡ Equal) same (tied_itself value_cmp_total (rowid row)) in
         cc)
 
-module _ (trees : Trees) (lang key : Text) (rows : List Row) (table : IsTable (trees suggestion_tree)) (ints : HoldsIntegers 4 (trees suggestion_tree))
+module _ (trees : Trees) (lang key : Text) (rows : List Row) (table : AreOnce (trees suggestion_tree)) (ints : HoldsIntegers 4 (trees suggestion_tree))
     (one : OneEach (integer_at 4) (filter (is_on_unit lang key) (trees suggestion_tree)))
     (listed : IsPermutation (map (columns (1 ∷ 4 ∷ 5 ∷ 6 ∷ [])) (filter (is_on_unit lang key) (trees suggestion_tree))) rows) where
   abbrev all : List Row
