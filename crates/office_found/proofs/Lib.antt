@@ -1,5 +1,10 @@
-pub mod Labels
+pub mod NamesAndTrees
 pub mod OfficeLists
 pub mod ListedOnce
 pub mod ListingQuery
 pub mod Looks
+pub mod RowTests
+pub mod LabelTests
+pub mod RowidTests
+pub mod RowidQueries
+pub mod WholeTest

@@ -1,30 +1,28 @@
 -- In a list of objects with the names and places of an office no object stands in another's place, so a query shows each.
-use Rattle.std.proofs.Common.{◌≡◌, ◌⊎◌, inl, inr, ℕ, ◌+◌, ℤ, pos, List, [], ◌∷◌, map, filter, Bool, true, false, not, ◌&&◌, ◌||◌, eqb, refl, sym, ap, subst, ◌∙◌, arith, eq-eqb, Ordering, Less, Equal, Greater}
-use Rattle.std.proofs.lemmas.Bool.{cases_Bool, and_parts, not-true, not_from_false}
-use Rattle.std.specs.List.{AllByRecursion, AllZip, list_all}
+use Rattle.std.proofs.Common.{◌≡◌, ◌⊎◌, inl, inr, ℕ, ◌+◌, pos, List, [], ◌∷◌, map, filter, Bool, true, not, ◌&&◌, eqb, refl, sym, ap, subst, ◌∙◌, arith, eq-eqb, Ordering, Less, Equal, Greater}
+use Rattle.std.proofs.lemmas.Bool.{cases_Bool, and_parts}
+use Rattle.std.specs.List.{AllZip, list_all}
 use Rattle.std.specs.FinMap.{int_cmp-IsAntisymmetric}
 use Rattle.sqlite.specs.declared.types.Value.{Value}
 use Rattle.sqlite.specs.declared.types.Value.TheVariants.{Int}
-use Rattle.sqlite.specs.Order.{Row, column, value_cmp}
+use Rattle.sqlite.specs.Order.{Row, value_cmp}
 use Rattle.sqlite.specs.Effect.{Database, IsDatabase}
 use Rattle.sqlite.specs.Listing.{shown}
 use Rattle.sqlite.specs.Tree.{rowid}
 use Rattle.sqlite_value.proofs.OrderLemmas.{value_cmp-Int}
 use Rattle.sqlite_trees.specs.Tree.{put_row}
 use Rattle.sqlite_trees.specs.Objects.{catalog_tree}
-use Rattle.sqlite_schema.specs.declared.schema.Table.{Table}
-use Rattle.sqlite_schema.specs.declared.schema.Index.{Index}
 use Rattle.sqlite_rules.specs.Lists.{Has}
 use Rattle.sqlite_rules.specs.Edit.{put_all}
-use Rattle.sqlite_rules.proofs.ListLemmas.{all_has, test_has, has_filtered, has_kept}
+use Rattle.sqlite_rules.proofs.ListLemmas.{test_has, has_kept}
 use Rattle.sqlite_rules.proofs.TableLemmas.{has_put, put_all_has}
 use Rattle.sqlite_catalog.specs.Listing.{is_table_row, is_index_row, is_view_row, IsTableRow, IsIndexRow, IsViewRow}
 use Rattle.sqlite_catalog.proofs.LayoutLemmas.{zipped_right}
 use Rattle.keyed.proofs.RemovedRows.{from_mapped, to_mapped}
 use Rattle.office_sql.specs.Schema.{office_schema}
-use Rattle.office_found.specs.Found.{table_label, index_label, IsLabelled}
+use Rattle.office_found.specs.Found.{IsLabelled}
 use Rattle.office_found.proofs.OfficeLists.{table_name, table_tree, index_name, index_tree}
-use Rattle.office_found.proofs.Labels.{same_trees}
+use Rattle.office_found.proofs.NamesAndTrees.{same_trees}
 
 -- ---- numbers that are apart
 

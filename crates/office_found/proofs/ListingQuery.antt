@@ -1,25 +1,23 @@
 -- The query on the list of objects, where the tables have the names of an office's.
-use Rattle.std.proofs.Common.{◌≡◌, inl, inr, ℕ, zero, suc, List, [], ◌∷◌, map, filter, codes, Bool, true, Result, Ok, Err, append-nil, refl, sym, ap, subst, subst₂, ◌∙◌}
+use Rattle.std.proofs.Common.{◌≡◌, ℕ, zero, suc, List, [], ◌∷◌, map, filter, codes, true, append-nil, refl, sym, ap, subst, ◌∙◌}
 use Rattle.std.proofs.Math.Path.{fun_ext}
 use Rattle.std.specs.List.Sorted.{IsPermutation}
 use Rattle.std.proofs.lemmas.List.Sorted.{IsPermutation-sym}
 use Rattle.sqlite.specs.declared.types.Value.TheVariants.{Null}
-use Rattle.sqlite.specs.Order.{Row, column}
+use Rattle.sqlite.specs.Order.{Row}
 use Rattle.sqlite.specs.Term.{col}
 use Rattle.sqlite.specs.Command.TheVariants.{Select}
-use Rattle.sqlite.specs.Effect.{Database, IsDatabase, Reads}
+use Rattle.sqlite.specs.Effect.{Database, Reads}
 use Rattle.sqlite.specs.Program.{overlay}
 use Rattle.sqlite.specs.Listing.{understood, reads_listing, if_select, listing_schema, IsSourceOf, shown}
 use Rattle.sqlite.specs.Compile.{compiled}
-use Rattle.sqlite.specs.Clock.{timed}
-use Rattle.sqlite.specs.State.{State, Shown, ShowsRows}
+use Rattle.sqlite.specs.State.{State, Shown}
 use Rattle.sqlite.proofs.Callers.{IsPlain, command_of}
 use Rattle.sqlite_schema.specs.declared.schema.Table.{Table}
 use Rattle.sqlite_schema.specs.declared.schema.Index.{Index}
 use Rattle.sqlite_schema.specs.declared.schema.Schema.{Schema}
 use Rattle.sqlite_tied.specs.Compute.{everything}
 use Rattle.sqlite_trees.specs.Objects.{catalog_tree}
-use Rattle.sqlite_rules.specs.Lists.{Has}
 use Rattle.sqlite_rules.specs.Edit.{put_all}
 use Rattle.keyed.specs.PlainQueries.{plain_query, passes, shows}
 use Rattle.keyed.proofs.PlainQueries.{answers_permuted}
@@ -27,9 +25,9 @@ use Rattle.keyed.proofs.RemovedRows.{from_mapped, to_mapped, has_permuted}
 use Rattle.office_sql.specs.Schema.{office_schema, record_table}
 use Rattle.office_sql.specs.Keys.{columns}
 use Rattle.office_sql.proofs.Queries.{own_table, shows_columns}
-use Rattle.office_found.specs.Found.{table_label, IsLabelled, ShowsObjects, shown_object}
+use Rattle.office_found.specs.Found.{IsLabelled, ShowsObjects, shown_object}
 use Rattle.office_found.specs.Looks.{HasLabels}
-use Rattle.office_found.proofs.Labels.{same_names}
+use Rattle.office_found.proofs.NamesAndTrees.{same_names}
 use Rattle.office_found.proofs.OfficeLists.{table_name, table_tree}
 use Rattle.office_found.proofs.ListedOnce.{each_listed, only_listed}
 
@@ -99,7 +97,7 @@ objects_plain db has = subst IsPlain (sym (understood_so db.schema has.labelled)
 
 -- ---- what it answers
 
-all_pass : (rows : List Row) → filter (passes [] []) rows ≡ rows
+pub all_pass : (rows : List Row) → filter (passes [] []) rows ≡ rows
 all_pass [] = refl
 all_pass (row ∷ rows) = ap (λ more. row ∷ more) (all_pass rows)
 

@@ -1,26 +1,24 @@
 -- A database that lists the objects of an office has its schema.
-use Rattle.std.proofs.Common.{◌≡◌, inl, inr, ℕ, zero, suc, List, [], ◌∷◌, map, filter, find, length, slice_get, slice_index_or, codes, eqb, Option, Some, None, Ok, Bool, true, false, refl, sym, ap, subst, ◌∙◌}
+use Rattle.std.proofs.Common.{◌≡◌, inl, inr, ℕ, zero, suc, List, [], ◌∷◌, filter, slice_get, slice_index_or, codes, eqb, Some, Ok, Bool, true, false, refl, sym, ap, subst, ◌∙◌}
 use Rattle.std.specs.Fmt.{digits}
-use Rattle.std.specs.List.{AllByRecursion, AllZip}
-use Rattle.sqlite.specs.declared.types.Value.{Value}
-use Rattle.sqlite.specs.declared.types.Value.TheVariants.{Null, Int, Real, Text, Blob}
+use Rattle.std.specs.List.{AllByRecursion}
+use Rattle.sqlite.specs.declared.types.Value.TheVariants.{Null, Text}
 use Rattle.sqlite.specs.Order.{Row, column}
 use Rattle.sqlite_value.specs.Order.{bytes}
 use Rattle.sqlite.specs.Effect.{Database, IsDatabase}
 use Rattle.sqlite.specs.Compile.{table_defined_by}
 use Rattle.sqlite_schema.specs.declared.schema.Table.{Table}
 use Rattle.sqlite_schema.specs.declared.schema.Index.{Index}
-use Rattle.sqlite_schema.specs.declared.schema.Schema.{Schema}
 use Rattle.sqlite_trees.specs.Objects.{catalog_tree}
 use Rattle.sqlite_rules.specs.Lists.{Has}
 use Rattle.sqlite_rules.proofs.ListLemmas.{all_has, all_from, has_filtered}
 use Rattle.sqlite_catalog.specs.Listing.{is_table_row, is_index_row, IsTableRow, IsIndexRow, IsDefined, automatic}
 use Rattle.sqlite_catalog.proofs.LayoutLemmas.{zipped_left}
 use Rattle.keyed.proofs.Writes.{same_ok}
-use Rattle.office_sql.specs.Schema.{office_schema, record_text, team_text, policy_text, template_text, language_text, unit_text, suggestion_text, vote_text, record_table, team_table, policy_table, template_table, language_table, unit_table, suggestion_table, vote_table}
+use Rattle.office_sql.specs.Schema.{office_schema, record_table, team_table, policy_table, template_table, language_table, unit_table, suggestion_table, vote_table}
 use Rattle.office_sql.proofs.TablesMade.{record_is, team_is, policy_is, template_is, language_is, unit_is, suggestion_is, vote_is}
 use Rattle.office_found.specs.Found.{office_texts, IsOfficeObject, AreOfficeObjects, IsLabelled}
-use Rattle.office_found.proofs.Labels.{look, IsOneOf, told}
+use Rattle.office_found.proofs.NamesAndTrees.{look, IsOneOf, told}
 
 abbrev pub table_name : Table → List ℕ
 table_name table = table.name

@@ -11,8 +11,8 @@ use Rattle.sqlite_schema.specs.declared.schema.Index.{Index}
 use Rattle.sqlite_schema.specs.declared.schema.Schema.{Schema}
 use Rattle.sqlite_trees.specs.Objects.{catalog_tree}
 use Rattle.sqlite_rules.specs.Lists.{Has}
-use Rattle.office_sql.specs.Schema.{office_schema, record_text, team_text, policy_text, template_text, language_text, unit_text, suggestion_text, vote_text}
 use Rattle.office_sql.specs.Inside.{AreTables}
+use Rattle.office_sql.specs.Schema.{office_schema, record_text, team_text, policy_text, template_text, language_text, unit_text, suggestion_text, vote_text}
 
 -- the name, and the tree that has the rows
 abbrev pub table_label : Table → List ℕ × ℕ
@@ -43,7 +43,7 @@ IsOfficeObject kind name text =
 abbrev pub AreOfficeObjects : List Row → Type 0
 AreOfficeObjects objects = AllByRecursion (λ row. IsOfficeObject (column row 1) (column row 2) (column row 4)) objects
 
--- A database whose list of objects is that of the eight texts of an office, and whose tables have their rowids apart.
+-- The list of objects is that of the eight texts of an office, and each table has its rowids apart.
 pub record HoldsOffice (db : Database) : Type 0 where
   pub labelled : IsLabelled db.schema
   pub objects : AreOfficeObjects (db.trees catalog_tree)
@@ -57,3 +57,14 @@ shown_object object = column object 1 ∷ column object 2 ∷ column object 4 �
 pub record ShowsObjects (db : Database) (rows : List Row) : Type 0 where
   pub each : (object : Row) → Has (db.trees catalog_tree) object → Has rows (shown_object object)
   pub only : (row : Row) → Has rows row → (object : Row) × Has (db.trees catalog_tree) object × (row ≡ shown_object object)
+
+-- the row shows this name and this text
+abbrev pub IsMade : List ℕ × List ℕ → Row → Type 0
+IsMade made row = (column row 1 ≡ Text made.0) × (column row 2 ≡ Text made.1)
+
+abbrev pub IsOneMade : List (List ℕ × List ℕ) → Row → Type 0
+IsOneMade texts row = (made : List ℕ × List ℕ) × Has texts made × IsMade made row
+
+-- an office has the object that the row shows
+abbrev pub IsShownOfficeObject : Row → Type 0
+IsShownOfficeObject row = IsOfficeObject (column row 0) (column row 1) (column row 2)

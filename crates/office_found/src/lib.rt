@@ -2,3 +2,8 @@
 //!
 //! What is said of values is said while the disk returns what was written.
 #![tactic(auto)]
+
+mod labels;
+mod objects;
+pub mod offices;
+mod rowids;

@@ -1,0 +1,15 @@
+use Rattle.std.proofs.Common.{codes}
+use Rattle.sqlite.specs.Held.{state}
+use Rattle.office_sql.specs.Schema.{language_tree}
+use Rattle.office_found.proofs.Looks.{fails_to_look}
+use Rattle.office_found.proofs.RowidQueries.{apart_told, language_is}
+use Rattle.office_found.proofs.rowids.is_language_apart.Goals as goal
+
+pub returns-in_err-rows-clause-found : goal.returns-in_err-rows-clause-found
+returns-in_err-rows-clause-found g c =
+    fails_to_look _ _ (state g.S.Store c.args.tx.now.conn.now) (state g.S.Store c.query_all.new.self.conn.now) _ c.from_residual.result _ c.from_residual.ensures.0 c.in_err-rows.ensures.err c.query_all.ensures.survives
+
+pub returns-clause-found : goal.returns-clause-found
+returns-clause-found g c =
+    apart_told (codes "SELECT rowid FROM language ORDER BY rowid") language_tree language_is (state g.S.Store c.args.tx.now.conn.now) (state g.S.Store c.query_all.new.self.conn.now) c.in_ok-rows.rows.items c.are_rising.result
+    c.requires.over c.in_ok-rows.ensures.ok c.query_all.ensures.survives (rw c.deref.ensures.value at c.are_rising.ensures)
