@@ -10,7 +10,7 @@ use Rattle.units.specs.Office.{Office}
 use Rattle.office_sql.specs.Whole.{IsLookUp}
 use Rattle.office_in_rows.specs.Meaning.{book_in, meaning_in, AreNumbered}
 use Rattle.office_adoption.specs.declared.faults.AdoptionFault.{AdoptionFault}
-use Rattle.office_adoption.specs.declared.faults.AdoptionFault.TheVariants.{Memory, Disk, OtherForm, UnreadRow, BrokenRules}
+use Rattle.office_adoption.specs.declared.faults.AdoptionFault.TheVariants.{Memory, Disk, OtherTables, OtherForm, UnreadRow, BrokenRules}
 use Rattle.office_adoption.specs.declared.office_read.ReadOffice.{ReadOffice}
 use Rattle.office_adoption.specs.Adoption.{AreContents, IsAdoptedAs, Refuses}
 use Rattle.office_adoption.specs.Reading.{IsReadOf, KeepsBook, RefusesWith}
@@ -49,6 +49,7 @@ module _ (old mid new : State) (read : ReadOffice) (one : IsLookUp {E = Adoption
   refused_with : (db : Database) → IsReadOf db read → (fault : AdoptionFault) → RefusesWith (with_book db) fault → Refuses db fault
   refused_with db is BrokenRules h = λ rules. h (subst KeepsRules (sym (meant db is)) rules)
   refused_with db is OtherForm h = absurd h
+  refused_with db is OtherTables h = absurd h
   refused_with db is Memory h = tt
   refused_with db is Disk h = tt
   refused_with db is UnreadRow h = tt

@@ -25,7 +25,7 @@ use Rattle.kept_rules.specs.Given.{AreAll, AreStatusesOf}
 use Rattle.book_at_hand.specs.BookShown.{book_shown, IsRecordRow}
 use Rattle.book_at_hand.proofs.WholeBook.{all_numbered, whole_book}
 use Rattle.office_adoption.specs.declared.faults.AdoptionFault.{AdoptionFault}
-use Rattle.office_adoption.specs.declared.faults.AdoptionFault.TheVariants.{Memory, Disk, OtherForm, UnreadRow, BrokenRules}
+use Rattle.office_adoption.specs.declared.faults.AdoptionFault.TheVariants.{Memory, Disk, OtherTables, OtherForm, UnreadRow, BrokenRules}
 use Rattle.office_adoption.specs.declared.office_read.ReadOffice.{ReadOffice}
 use Rattle.office_adoption.specs.Adoption.{HasFirstForm, AreContents, Refuses}
 use Rattle.office_adoption.specs.Reading.{ShowsFirstForm, IsOfRows, HasLangs, RefusesRows, IsReadOf, AreStatusesIn}
@@ -60,6 +60,7 @@ module _ (db : Database) (office : AreOfficeTables db) (rows : WholeOffice) (sho
   pub rows_refused : (fault : AdoptionFault) → RefusesRows rows fault → Refuses db fault
   rows_refused OtherForm h = λ first. h (first_form_shown db rows.office.policy shows.office.policy office first)
   rows_refused BrokenRules h = absurd h
+  rows_refused OtherTables h = absurd h
   rows_refused Memory h = tt
   rows_refused Disk h = tt
   rows_refused UnreadRow h = tt

@@ -19,7 +19,7 @@ use Rattle.office_scans.specs.declared.look_ups.WholeOffice.{WholeOffice}
 use Rattle.office_at_hand.specs.OfficeShown.{headers_shown, office_shown}
 use Rattle.kept_rules.specs.Given.{AreAll, AreStatusesOf}
 use Rattle.office_adoption.specs.declared.faults.AdoptionFault.{AdoptionFault}
-use Rattle.office_adoption.specs.declared.faults.AdoptionFault.TheVariants.{Memory, Disk, OtherForm, UnreadRow, BrokenRules}
+use Rattle.office_adoption.specs.declared.faults.AdoptionFault.TheVariants.{Memory, Disk, OtherTables, OtherForm, UnreadRow, BrokenRules}
 use Rattle.office_adoption.specs.declared.office_read.ReadOffice.{ReadOffice}
 use Rattle.office_adoption.specs.Adoption.{HasFirstForm, AreContents}
 
@@ -49,6 +49,7 @@ pub record IsOfRows (rows : WholeOffice) (read : ReadOffice) : Type 0 where
 abbrev pub RefusesRows : WholeOffice → AdoptionFault → Type 0
 RefusesRows rows OtherForm = ¬ ShowsFirstForm rows.office.policy
 RefusesRows rows BrokenRules = ⊥
+RefusesRows rows OtherTables = ⊥
 RefusesRows rows _ = ⊤
 
 -- its languages are all here
@@ -78,10 +79,12 @@ pub record KeepsBook (office : Office) (db : Database) : Type 0 where
 abbrev pub RefusesWith : OfficeWithBook → AdoptionFault → Type 0
 RefusesWith with_book BrokenRules = ¬ KeepsRules with_book
 RefusesWith with_book OtherForm = ⊥
+RefusesWith with_book OtherTables = ⊥
 RefusesWith with_book _ = ⊤
 
 -- neither its form nor its rules refuse it
 abbrev pub IsUntold : AdoptionFault → Type 0
 IsUntold BrokenRules = ⊥
 IsUntold OtherForm = ⊥
+IsUntold OtherTables = ⊥
 IsUntold _ = ⊤

@@ -12,6 +12,8 @@ pub enum AdoptionFault {
     Memory,
     /// A statement failed: the disk did, or the connection is shut.
     Disk,
+    /// The tables aren't those of an office.
+    OtherTables,
     /// Another form of the tables than the first, or none that is told.
     OtherForm,
     /// A row stands for nothing, or what is recorded is no request's content.

@@ -10,4 +10,4 @@ mod office_read;
 mod tested;
 
 pub use faults::AdoptionFault;
-pub use tested::tested_tables;
+pub use tested::adopted_office;

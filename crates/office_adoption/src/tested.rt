@@ -1,13 +1,14 @@
 //! All that is asked of tables before they are adopted.
-ghost use Rattle.std.specs.Prelude.{◌≡◌, false, Ok, Err, IfErr, MatchResult};
+ghost use Rattle.std.specs.Prelude.{◌≡◌, false, Ok, Err, IfOk, IfErr, MatchResult};
 ghost use Rattle.sqlite.specs.Held.{state};
 ghost use Rattle.sqlite.specs.State.{HasCleanDisk};
 ghost use Rattle.office_sql.specs.Whole.{IsIdle, IsLookUp};
-ghost use Rattle.office_adoption.specs.Adoption.{IsAdoptedAs, Refuses};
+ghost use Rattle.office_adoption.specs.Adoption.{IsAdoptedAs, IsAdoptedIn, StaysAsItWas, Refuses};
 
 use crate::book_read::keep_book;
 use crate::faults::AdoptionFault;
 use crate::office_read::{ReadOffice, read_office};
+use office_found::offices::is_office;
 use office_maps::OfficeMaps;
 use sqlite::{Alter, Connection};
 use std::alloc::Global;
@@ -30,12 +31,8 @@ fn where_kept(
     }
 }
 
-/// The office of the eight tables, if their rows are those of an office with its book in the first form of the tables: each row is read,
-/// each record's content is a request's, and the rules of an office with its book hold.
-///
-/// Nothing is changed. `OtherForm` where the tables have another form, `UnreadRow` where a row stands for nothing or a record's content is
-/// no request's, `BrokenRules` where the rules don't hold, `Memory` where a growth was refused, `Disk` where the disk failed.
-pub fn tested_tables<S: Alter>(
+/// The office of the eight tables, if their rows are those of an office with its book in the first form of the tables.
+fn tested_tables<S: Alter>(
     connection: &mut Connection<S>,
     alloc: Global,
 ) -> Result<OfficeMaps, AdoptionFault>
@@ -47,4 +44,27 @@ pub fn tested_tables<S: Alter>(
     let read = read_office(connection, alloc)?;
     let kept = keep_book(connection, alloc, &read);
     where_kept(read, kept)
+}
+
+/// The office of a connection's tables, if they are an office's in their first form: each row is read, each record's content is a
+/// request's, and the rules of an office with its book hold. Nothing is changed.
+///
+/// `OtherTables` where the tables aren't an office's, `OtherForm` where they have another form, `UnreadRow` where a row stands for nothing
+/// or a record's content is no request's, `BrokenRules` where the rules don't hold, `Memory` where a growth was refused, `Disk` where the
+/// disk failed.
+pub fn adopted_office<S: Alter>(
+    connection: &mut Connection<S>,
+    alloc: Global,
+) -> Result<OfficeMaps, AdoptionFault>
+    requires autocommit { connection.old.in_transaction ≡ false }
+    ensures adopted { IfOk result (IsAdoptedIn (state S.Store connection.new)) }
+    ensures unchanged { StaysAsItWas (state S.Store connection.old) (state S.Store connection.new) }
+    ensures refused { IfErr result (λ fault. HasCleanDisk (state S.Store connection.new) → Refuses (state S.Store connection.old).now fault) }
+{
+    let _between = connection.is_autocommit();
+    if is_office(connection)? {
+        tested_tables(connection, alloc)
+    } else {
+        Err(AdoptionFault::OtherTables)
+    }
 }
