@@ -3,7 +3,7 @@
 
     tests/store.py [PROGRAM]     (PROGRAM is what tests/store/build.py has built)
 
-The program runs the rows of crates/sqlite_rows/stdin in files, one for each office, and a few requests more. Of each file, once it is
+The program runs the rows of tests/store/rows.txt in files, one for each office, and a few requests more. Of each file, once it is
 closed and without the log beside it: SQLite finds it whole, its references held, its schema that of the tables as they are written down
 here, and its rows those that the rows of the program tell. A run that is killed has to leave a file of which as much holds. Each
 statement of `office_sql` that reads or removes finds its rows by a key, and those that the bench runs by themselves are the same as
@@ -21,9 +21,9 @@ import tempfile
 import time
 
 TOP = pathlib.Path(__file__).resolve().parent.parent
-CRATE = TOP / "crates" / "sqlite_rows"
+ROWS = (TOP / "tests" / "store" / "rows.txt").read_text()
 STATEMENTS = [it for folder in ("office_sql", "office_scans") for it in sorted((TOP / "crates" / folder / "src").glob("*.rt"))]
-PROGRAM = pathlib.Path(sys.argv[1] if len(sys.argv) > 1 else "/tmp/office-store-program/crates/sqlite_rows/out/sqlite_rows").resolve()
+PROGRAM = pathlib.Path(sys.argv[1] if len(sys.argv) > 1 else "/tmp/office-store-program/crates/office_files/out/office_files").resolve()
 
 # A table's columns, each with its type, whether it is NOT NULL, and its place in the primary key; the columns of each further unique
 # key; and its references: the other table, the columns here and there, and what is done where a row that is referred to goes.
@@ -239,7 +239,7 @@ def look_at_plans(looks, db):
 
 def told_counts():
     """What the rows of the program want of each office's tables, in order."""
-    lines = (CRATE / "stdin").read_text().splitlines()
+    lines = ROWS.splitlines()
     return [line.split(" -> ", 1)[1] for line in lines if line.startswith("close -> ")]
 
 
@@ -248,9 +248,9 @@ def names(folder, count):
 
 
 def look_at_rows(looks, folder):
-    """The rows of the crate, in files."""
-    ended = run("file", folder / "office.db", given=(CRATE / "stdin").read_text())
-    looks.same("runs", "the rows, in files", ended, (0, (CRATE / "stdout").read_text(), ""))
+    """The rows, in files."""
+    ended = run("rows", folder / "office.db", given=ROWS)
+    looks.same("runs", "the rows, in files", ended, (0, f"{len(ROWS.splitlines())} rows\n", ""))
     wanted = told_counts()
     for path, told in zip(names(folder, len(wanted)), wanted):
         db = alone(path, folder)
@@ -317,7 +317,7 @@ def look_at_values(looks, folder):
         lines.append(f"{line} -> {status} {body}")
         records.append((number(n), content, status, body))
     lines.append("over -> %d as before" % len(REQUESTS))
-    ended = run("file", folder / "values.db", given="".join(line + "\n" for line in lines + ["close"]))
+    ended = run("rows", folder / "values.db", given="".join(line + "\n" for line in lines + ["close"]))
     told = "close, not %s\n%d rows\n"
     db = alone(folder / "values.db", folder)
     looks.same("runs", "requests, in a file", ended, (0, told % (counts(db), len(lines) + 1), ""))

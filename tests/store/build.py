@@ -3,9 +3,9 @@
 
     tests/store/build.py [FOLDER]     (FOLDER is /tmp/office-store-program where none is given)
 
-The program is crates/sqlite_rows with the files of this folder in the place of its own: they have words for files and for what is
-measured, which would cost the gate a quarter of an hour, and are called *.rt.txt since the gate takes code from crates/ alone. It is
-built in a copy of the repository, which stays in FOLDER for the next time. From nothing that takes as long as the crates below it.
+Its files stand in this folder and not under crates/, since it would cost the gate a quarter of an hour; they are called *.rt.txt, as the
+gate takes code from crates/ alone. It is built as the crate office_files in a copy of the repository, which stays in FOLDER for the next
+time. From nothing that takes as long as the crates below it.
 """
 import filecmp
 import pathlib
@@ -16,7 +16,8 @@ import tempfile
 
 TOP = pathlib.Path(__file__).resolve().parent.parent.parent
 FOLDER = pathlib.Path("/tmp/office-store-program")
-NAME = "sqlite_rows"
+NAME = "office_files"
+STANDS_ON = "store_sql office tables request_book units po_read sqlite anyhow"
 
 
 def program_in(folder):
@@ -42,9 +43,7 @@ def copied(folder):
         for it in folder.glob(f"crates/*/{part}/**/*"):
             if it.is_file() and it.relative_to(folder) not in files:
                 it.unlink()
-    lines = (TOP / "crates.txt").read_text().splitlines()
-    text = "".join(line + (" anyhow\n" if line.startswith(NAME + ":") else "\n") for line in lines)
-    (folder / "crates.txt").write_text(text)
+    (folder / "crates.txt").write_text((TOP / "crates.txt").read_text() + f"{NAME}: {STANDS_ON}\n")
     put(TOP / "HANDLES", folder / "HANDLES")
 
 

@@ -1,11 +1,9 @@
-//! A desk's `run` beside single deliveries.
-use crate::course::{Course, Sent, desk_opened};
+//! Runs over a list beside single deliveries.
+use crate::course::{Course, Sent};
 use crate::exports::exports;
-use crate::told::result_told;
-use office::Desk;
+use crate::offices::Offices;
 use request_book::Request;
 use std::alloc::Global;
-use store::PlainTables;
 
 /// The requests that weren't lost on their way.
 fn requests(alloc: Global, sent: &[Sent]) -> Option<Vec<Request>> {
@@ -19,31 +17,28 @@ fn requests(alloc: Global, sent: &[Sent]) -> Option<Vec<Request>> {
 }
 
 /// What a run over all requests at once answers.
-fn run_replies(alloc: Global, desk: &mut Desk<PlainTables>, sent: &[Sent]) -> Option<String> {
+fn run_replies(alloc: Global, offices: &mut Offices, sent: &[Sent]) -> Option<String> {
     let requests = requests(alloc, sent)?;
-    let mut text = String::new(alloc);
-    for outcome in desk.run(&requests).ok()? {
-        let told = result_told(alloc, &outcome)?;
-        write!(text, "{told}; ").ok()?;
-    }
-    Some(text)
+    let told = offices.run(alloc, &requests);
+    drop(requests);
+    told
 }
 
-fn run_text(alloc: Global, desk: &mut Desk<PlainTables>, sent: &[Sent]) -> Option<String> {
-    let replies = run_replies(alloc, desk, sent)?;
-    let exports = exports(alloc, desk, sent)?;
+fn run_text(alloc: Global, offices: &mut Offices, sent: &[Sent]) -> Option<String> {
+    let replies = run_replies(alloc, offices, sent)?;
+    let exports = exports(alloc, offices, sent)?;
     format!(in alloc; "{replies}{exports}").ok()
 }
 
-/// The same of a desk that was opened so.
+/// The same of offices that were opened so.
 fn new_run_text(alloc: Global, course: &Course) -> Option<String> {
-    let mut desk = desk_opened(alloc, course.opening.as_str())?;
-    let text = run_text(alloc, &mut desk, &course.sent);
-    drop(desk);
+    let mut offices = Offices::open(alloc, course.opening.as_str())?;
+    let text = run_text(alloc, &mut offices, &course.sent);
+    drop(offices);
     text
 }
 
-/// What the desk answered.
+/// What the offices answered.
 fn replies(alloc: Global, sent: &[Sent]) -> Option<String> {
     let mut text = String::new(alloc);
     for one in sent.iter().filter(|one| !one.lost) {

@@ -2,7 +2,7 @@
 use office::{Desk, QueryFault};
 use po_read::PoString;
 use std::alloc::Global;
-use store::PlainTables;
+use tables::Tables;
 use units::{Key, Lang};
 
 fn answer_told(alloc: Global, answer: Result<String, QueryFault>) -> Option<String> {
@@ -33,9 +33,9 @@ fn key_of(alloc: Global, text: &str) -> Option<Key> {
 }
 
 /// A unit as callers see it, by its language and key.
-pub(crate) fn unit_told(
+pub(crate) fn unit_told<T: Tables>(
     alloc: Global,
-    desk: &mut Desk<PlainTables>,
+    desk: &mut Desk<T>,
     place: &str,
 ) -> Option<String> {
     let (code, key) = place.split_once('|')?;
@@ -45,9 +45,9 @@ pub(crate) fn unit_told(
 }
 
 /// A language's counts.
-pub(crate) fn stats_told(
+pub(crate) fn stats_told<T: Tables>(
     alloc: Global,
-    desk: &mut Desk<PlainTables>,
+    desk: &mut Desk<T>,
     code: &str,
 ) -> Option<String> {
     let lang = Lang::try_new(alloc, code).ok()??;

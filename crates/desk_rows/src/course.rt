@@ -1,11 +1,7 @@
-//! A desk with the requests that it got so far.
-use crate::exports::{exported, exports};
-use crate::told::result_told;
-use office::Desk;
-use request_book::Request;
+//! Two offices with the requests that they got so far.
+use crate::exports::exports;
+use crate::offices::Offices;
 use std::alloc::Global;
-use store::{PlainTables, Start};
-use units::Name;
 
 /// A request's line, and the first reply to it, if it wasn't lost on its way.
 #[derive(Drop)]
@@ -15,60 +11,36 @@ pub(crate) struct Sent {
     pub(crate) reply: String,
 }
 
-/// How a desk was opened, the desk, and what was sent to it.
+/// How the offices were opened, the offices, and what was sent to them.
 #[derive(Drop)]
 pub(crate) struct Course {
     pub(crate) opening: String,
-    pub(crate) desk: Desk<PlainTables>,
+    pub(crate) offices: Offices,
     pub(crate) sent: Vec<Sent>,
 }
 
-/// The demo office, or one with this manager alone.
-fn start(alloc: Global, who: &str) -> Option<Start> {
-    if who == "demo" {
-        return Some(Start::Demo);
-    }
-    Some(Start::Opening(Name::try_new(alloc, who).ok()??))
-}
-
-/// A desk over the tables of this office.
-pub(crate) fn desk_opened(alloc: Global, who: &str) -> Option<Desk<PlainTables>> {
-    let start = start(alloc, who)?;
-    let tables = PlainTables::new(alloc, &start).ok();
-    drop(start);
-    Some(Desk::new(alloc, tables?))
-}
-
-fn course_of(alloc: Global, opening: String, desk: Desk<PlainTables>) -> Course {
+fn course_of(alloc: Global, opening: String, offices: Offices) -> Course {
     Course {
         opening,
-        desk,
+        offices,
         sent: Vec::new(alloc),
     }
 }
 
 pub(crate) fn opened(alloc: Global, who: &str) -> Option<Course> {
     let opening = String::from_str(alloc, who).ok()?;
-    match desk_opened(alloc, who) {
-        Some(desk) => Some(course_of(alloc, opening, desk)),
+    match Offices::open(alloc, who) {
+        Some(offices) => Some(course_of(alloc, opening, offices)),
         None => None,
     }
 }
 
-/// The desk's reply to a line.
-fn answered(alloc: Global, desk: &mut Desk<PlainTables>, line: &str) -> Option<String> {
-    let request = Request::from_json(alloc, line).ok()?;
-    let outcome = desk.deliver(&request);
-    drop(request);
-    result_told(alloc, &outcome)
-}
-
 /// Sends the lines once more: how many there are, or the first whose reply is another than before.
-fn repeated(alloc: Global, desk: &mut Desk<PlainTables>, sent: &[Sent]) -> Option<String> {
+fn repeated(alloc: Global, offices: &mut Offices, sent: &[Sent]) -> Option<String> {
     let mut count = 0u64;
     for one in sent.iter().filter(|one| !one.lost) {
         let line = one.line.as_str();
-        let reply = answered(alloc, desk, line)?;
+        let reply = offices.answered(alloc, line)?;
         if reply.as_str() != one.reply.as_str() {
             return format!(in alloc; "{line} gets {reply}").ok();
         }
@@ -79,7 +51,7 @@ fn repeated(alloc: Global, desk: &mut Desk<PlainTables>, sent: &[Sent]) -> Optio
 
 impl Course {
     pub(crate) fn deliver(&mut self, alloc: Global, line: String) -> Option<String> {
-        let reply = answered(alloc, &mut self.desk, line.as_str())?;
+        let reply = self.offices.answered(alloc, line.as_str())?;
         let told = reply.clone().ok()?;
         self.keep(line, false, reply)?;
         Some(told)
@@ -95,7 +67,7 @@ impl Course {
     }
 
     pub(crate) fn exports(&mut self, alloc: Global) -> Option<String> {
-        exports(alloc, &mut self.desk, &self.sent)
+        exports(alloc, &mut self.offices, &self.sent)
     }
 
     pub(crate) fn export(&mut self, alloc: Global, code: &str, room: &str) -> Option<String> {
@@ -104,18 +76,20 @@ impl Course {
         } else {
             room.parse::<usize>().ok()?
         };
-        exported(alloc, &mut self.desk, code, room)
+        self.offices.exported(alloc, code, room)
     }
 
     pub(crate) fn again(&mut self, alloc: Global) -> Option<String> {
         let before = self.exports(alloc)?;
-        let reply = answered(alloc, &mut self.desk, self.sent.last()?.line.as_str())?;
+        let reply = self
+            .offices
+            .answered(alloc, self.sent.last()?.line.as_str())?;
         self.unchanged(alloc, before, reply)
     }
 
     pub(crate) fn over(&mut self, alloc: Global) -> Option<String> {
         let before = self.exports(alloc)?;
-        let count = repeated(alloc, &mut self.desk, &self.sent)?;
+        let count = repeated(alloc, &mut self.offices, &self.sent)?;
         self.unchanged(alloc, before, count)
     }
 
@@ -127,5 +101,17 @@ impl Course {
         } else {
             format!(in alloc; "{told}, other exports: {after}").ok()
         }
+    }
+
+    /// Closes the offices, and tells how many rows the tables on SQLite have.
+    pub(crate) fn close(self, alloc: Global) -> Option<String> {
+        let Course {
+            opening,
+            offices,
+            sent,
+        } = self;
+        drop(opening);
+        drop(sent);
+        offices.close(alloc)
     }
 }

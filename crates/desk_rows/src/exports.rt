@@ -1,11 +1,12 @@
-//! Exports of a desk.
+//! Exports of a desk, and of both offices.
 use crate::course::Sent;
+use crate::offices::Offices;
 use crate::told::receipt_told;
 use crate::words::code_in;
 use office::{Desk, ExportFault, ExportReceipt};
 use std::alloc::Global;
 use std::str;
-use store::PlainTables;
+use tables::Tables;
 use units::{Lang, VecSink};
 
 /// The codes of the demo office's language and of those that the requests name.
@@ -23,9 +24,9 @@ pub(crate) fn codes<'a>(alloc: Global, sent: &'a [Sent]) -> Option<Vec<&'a str>>
 }
 
 /// Exports a language into a sink.
-fn export_into(
+fn export_into<T: Tables>(
     alloc: Global,
-    desk: &mut Desk<PlainTables>,
+    desk: &mut Desk<T>,
     code: &str,
     sink: &mut VecSink,
 ) -> Option<Result<ExportReceipt, ExportFault>> {
@@ -49,9 +50,9 @@ fn sink_with(alloc: Global, most: usize) -> VecSink {
 }
 
 /// What the export of a language into so much room is told as.
-pub(crate) fn exported(
+pub(crate) fn exported<T: Tables>(
     alloc: Global,
-    desk: &mut Desk<PlainTables>,
+    desk: &mut Desk<T>,
     code: &str,
     most: usize,
 ) -> Option<String> {
@@ -63,14 +64,10 @@ pub(crate) fn exported(
 }
 
 /// The exports of each language.
-pub(crate) fn exports(
-    alloc: Global,
-    desk: &mut Desk<PlainTables>,
-    sent: &[Sent],
-) -> Option<String> {
+pub(crate) fn exports(alloc: Global, offices: &mut Offices, sent: &[Sent]) -> Option<String> {
     let mut text = String::new(alloc);
     for code in codes(alloc, sent)? {
-        let more = exported(alloc, desk, code, usize::MAX)?;
+        let more = offices.exported(alloc, code, usize::MAX)?;
         write!(text, "{code} {more}; ").ok()?;
     }
     Some(text)

@@ -1,7 +1,5 @@
 //! What the rows above set, and what a row makes of it.
 use crate::alike::alike;
-use crate::asked::{stats_told, unit_told};
-use crate::command_told::command_told;
 use crate::course::{Course, opened};
 use crate::every::every_list;
 use crate::many::many;
@@ -16,12 +14,11 @@ struct Named {
     line: String,
 }
 
-/// The requests with names, the courses so far (the last is that of the next row), and the text that commands are given.
+/// The requests with names, and the courses that are open (the last is that of the next row).
 #[derive(Drop)]
 pub(crate) struct Stage {
     named: Vec<Named>,
     courses: Vec<Course>,
-    given: Vec<u8>,
 }
 
 impl Stage {
@@ -29,7 +26,6 @@ impl Stage {
         Stage {
             named: Vec::new(alloc),
             courses: Vec::new(alloc),
-            given: Vec::new(alloc),
         }
     }
 
@@ -54,6 +50,14 @@ impl Stage {
         self.courses.push(opened(alloc, who)?).ok()?;
         Some(String::new(alloc))
     }
+
+    /// Closes the last course.
+    fn close(&mut self, alloc: Global) -> Option<String> {
+        match self.courses.pop() {
+            Some(course) => course.close(alloc),
+            None => None,
+        }
+    }
 }
 
 /// What a deed comes to: of a request the reply. None where it can't be read.
@@ -61,9 +65,9 @@ pub(crate) fn found(alloc: Global, stage: &mut Stage, deed: &str) -> Option<Stri
     match word(deed, 0) {
         "#" => Some(String::new(alloc)),
         "open" => stage.open(alloc, word(deed, 1)),
+        "close" => stage.close(alloc),
         "every" => every_list(alloc, stage, behind(deed)),
         "number" => number_of(alloc, word(deed, 1)),
-        "run" => command_told(alloc, &mut stage.given, behind(deed)),
         _ if word(deed, 1) == "is" && !deed.starts_with('{') => stage.name(alloc, deed),
         _ => on_course(alloc, stage, deed),
     }
@@ -85,8 +89,8 @@ fn on_course(alloc: Global, stage: &mut Stage, deed: &str) -> Option<String> {
         "alike" => alike(alloc, course),
         "many" => many(alloc, course, deed),
         "export" => course.export(alloc, word(deed, 1), word(deed, 2)),
-        "unit" => unit_told(alloc, &mut course.desk, behind(deed)),
-        "stats" => stats_told(alloc, &mut course.desk, word(deed, 1)),
+        "unit" => course.offices.unit(alloc, behind(deed)),
+        "stats" => course.offices.stats(alloc, word(deed, 1)),
         _ => course.deliver(alloc, line),
     }
 }

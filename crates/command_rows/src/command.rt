@@ -1,5 +1,5 @@
 //! The command of a row.
-use crate::course::desk_opened;
+use crate::desks::desk_opened;
 use crate::streams::Streams;
 use crate::words::{has, word_behind};
 use commands::{canon_text, deliver_lines, export_text, plural_lines};
