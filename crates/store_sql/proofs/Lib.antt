@@ -7,3 +7,4 @@ pub mod ActsCommitted
 pub mod AtHand
 pub mod Made
 pub mod ChangesCommitted
+pub mod Adopted

@@ -3,3 +3,4 @@ pub mod Writes
 pub mod Faults
 pub mod Making
 pub mod Changes
+pub mod Adopting

@@ -1,5 +1,6 @@
 //! Why no tables are made.
 
+use office_adoption::AdoptionFault;
 use shown_rows::Failure;
 use tables::Lost;
 use thiserror::Error;
@@ -43,6 +44,24 @@ impl From<Failure> for OpenFault {
         match failure.lost {
             Lost::Memory => OpenFault::Memory,
             Lost::Disk => OpenFault::Disk,
+        }
+    }
+}
+
+impl From<AdoptionFault> for OpenFault {
+    ghost use Rattle.std.specs.Prelude.{◌≡◌};
+    ghost use Rattle.store_sql.specs.Adopting.{opening_fault};
+
+    ghost from_gives = { λ fault e. e ≡ opening_fault fault };
+
+    fn from(fault: AdoptionFault) -> OpenFault {
+        match fault {
+            AdoptionFault::Memory => OpenFault::Memory,
+            AdoptionFault::Disk => OpenFault::Disk,
+            AdoptionFault::OtherTables
+            | AdoptionFault::OtherForm
+            | AdoptionFault::UnreadRow
+            | AdoptionFault::BrokenRules => OpenFault::Foreign,
         }
     }
 }

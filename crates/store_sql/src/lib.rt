@@ -14,5 +14,6 @@ mod views;
 mod whole_office;
 
 pub use faults::OpenFault;
+pub use office_adoption::AdoptionFault;
 pub use sqlite_tables::SqliteTables;
 pub use tables::{Lost, Start};

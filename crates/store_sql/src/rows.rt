@@ -16,7 +16,10 @@ ghost use Rattle.tables.specs.declared.faults.EachFault.TheVariants.{NoTables};
 ghost use Rattle.units.specs.Offices.{IsOffice};
 ghost use Rattle.office_maps.specs.OfficeIn.{office_in};
 ghost use Rattle.tables.specs.declared.faults.Lost.TheVariants.{Disk};
+ghost use Rattle.sqlite.specs.State.{HasCleanDisk};
 ghost use Rattle.office_sql.specs.Schema.{no_schema};
+ghost use Rattle.office_adoption.specs.Adoption.{Refuses, StaysAsItWas};
+ghost use Rattle.store_sql.specs.Adopting.{AreAdopted};
 ghost use Rattle.store_sql.specs.Faults.{RefusesIn};
 ghost use Rattle.store_sql.specs.Kept.{KeepsOffice, KeepsOwnRules, IsAtHand, is_honest, is_whole, means, may_leave, is_stopped, is_loaded};
 ghost use Rattle.store_sql.specs.Making.{AreMade, IsHandedBack};
@@ -30,6 +33,7 @@ use crate::strings::key_fits;
 use crate::views::read_view;
 use crate::whole_office::{forget, keep, read_office};
 use deliveries::{Change, Found};
+use office_adoption::{AdoptionFault, adopted_office};
 use office_entries::{counts, hand_entries};
 use office_maps::OfficeMaps;
 use request_book::Record;
@@ -102,6 +106,29 @@ impl<S: Alter> Rows<S> {
                 alloc,
                 kept_rule: None,
                 office: None,
+            }),
+            Err(fault) => Err((fault, connection)),
+        }
+    }
+
+    /// Takes the tables of a connection over as they stand, with their office at hand, if they keep the rules.
+    pub(crate) fn adopt(
+        connection: Connection<S>,
+        alloc: Global,
+    ) -> Result<Rows<S>, (AdoptionFault, Connection<S>)>
+        requires autocommit { connection.in_transaction ≡ false }
+        ensures adopted { IfOk result (AreAdopted S.Store connection) }
+        ensures refused { IfErr result (λ refusal. HasCleanDisk (state S.Store refusal.1) → Refuses (state S.Store connection).now refusal.0) }
+        ensures handed_back { IfErr result (λ refusal. StaysAsItWas (state S.Store connection) (state S.Store refusal.1)) }
+    {
+        let mut connection = connection;
+        match adopted_office(&mut connection, alloc) {
+            Ok(maps) => Ok(Rows {
+                connection,
+                stopped: false,
+                alloc,
+                kept_rule: None,
+                office: Some(maps),
             }),
             Err(fault) => Err((fault, connection)),
         }

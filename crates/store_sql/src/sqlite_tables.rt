@@ -1,7 +1,10 @@
 //! Tables on SQLite.
 ghost use Rattle.std.specs.Prelude.{◌≡◌, ◌≢◌, false, IfOk, IfErr, OnOk};
 ghost use Rattle.sqlite.specs.Held.{state};
+ghost use Rattle.sqlite.specs.State.{HasCleanDisk};
 ghost use Rattle.office_sql.specs.Schema.{no_schema};
+ghost use Rattle.office_adoption.specs.Adoption.{Refuses, StaysAsItWas};
+ghost use Rattle.store_sql.specs.Adopting.{AreAdopted};
 ghost use Rattle.store_sql.specs.Faults.{RefusesIn};
 ghost use Rattle.store_sql.specs.Kept.{KeepsOwnRules, own_rules_prop};
 ghost use Rattle.store_sql.specs.Making.{AreMade, IsHandedBack};
@@ -9,6 +12,7 @@ ghost use Rattle.store_sql.specs.Making.{AreMade, IsHandedBack};
 use crate::faults::OpenFault;
 use crate::rows::Rows;
 use deliveries::{Change, Found};
+use office_adoption::AdoptionFault;
 use office_maps::OfficeMaps;
 use request_book::Record;
 use sqlite::{Alter, Connection};
@@ -44,6 +48,30 @@ impl<S: Alter> SqliteTables<S> {
         ensures handed_back { IfErr result (λ refusal. IsHandedBack start.now (state S.Store connection) (state S.Store refusal.1)) }
     {
         match Rows::create(connection, alloc, start) {
+            Ok(rows) => {
+                rows.rules();
+                Ok(SqliteTables { rows })
+            }
+            Err(refusal) => Err(refusal),
+        }
+    }
+
+    /// The tables of a connection, as they stand, if they are an office's in their first form: each row is read, each record's content is a
+    /// request's, and the rules of an office with its book hold. The office is then at hand.
+    ///
+    /// On a fault the connection is handed back as it was: `OtherTables` where the tables aren't an office's, `OtherForm` where they have
+    /// another form, `UnreadRow` where a row stands for nothing or a record's content is no request's, `BrokenRules` where the rules don't
+    /// hold, `Memory` where a growth was refused, `Disk` where the disk failed.
+    pub fn adopt(
+        connection: Connection<S>,
+        alloc: Global,
+    ) -> Result<SqliteTables<S>, (AdoptionFault, Connection<S>)>
+        requires autocommit { connection.in_transaction ≡ false }
+        ensures adopted { IfOk result (λ tables. AreAdopted S.Store connection tables.rows) }
+        ensures refused { IfErr result (λ refusal. HasCleanDisk (state S.Store refusal.1) → Refuses (state S.Store connection).now refusal.0) }
+        ensures handed_back { IfErr result (λ refusal. StaysAsItWas (state S.Store connection) (state S.Store refusal.1)) }
+    {
+        match Rows::adopt(connection, alloc) {
             Ok(rows) => {
                 rows.rules();
                 Ok(SqliteTables { rows })
