@@ -17,12 +17,14 @@
 //!   export LANG N -> X               the same into a sink that is full after N bytes
 //!   unit LANG|ID -> TEXT             a unit as callers see it, or `fault N`; a context stands behind a further bar
 //!   stats LANG -> TEXT               a language's counts, or `fault N`
+//!   adopt STATEMENT -> X             the demo's tables on SQLite, changed by a statement of SQL and taken over as they stand: `adopted`, or why not
 //!   number FAULT -> N                the fault's number
 //!   close -> TABLE N, ..             closes the offices, and tells how many rows each table on SQLite has that has any
 //!
 //! A delivery that is lost for want of memory is told as lost, which no row wants. A row that begins with `#` says nothing.
 #![tactic(auto)]
 
+mod adopted;
 mod alike;
 mod asked;
 mod counts;

@@ -1,4 +1,5 @@
 //! What the rows above set, and what a row makes of it.
+use crate::adopted::adopted;
 use crate::alike::alike;
 use crate::course::{Course, opened};
 use crate::every::every_list;
@@ -67,6 +68,7 @@ pub(crate) fn found(alloc: Global, stage: &mut Stage, deed: &str) -> Option<Stri
         "open" => stage.open(alloc, word(deed, 1)),
         "close" => stage.close(alloc),
         "every" => every_list(alloc, stage, behind(deed)),
+        "adopt" => adopted(alloc, behind(deed)),
         "number" => number_of(alloc, word(deed, 1)),
         _ if word(deed, 1) == "is" && !deed.starts_with('{') => stage.name(alloc, deed),
         _ => on_course(alloc, stage, deed),

@@ -12,15 +12,32 @@ use Rattle.office_in_rows.specs.Meaning.{book_in, meaning_in, AreNumbered}
 use Rattle.office_adoption.specs.declared.faults.AdoptionFault.{AdoptionFault}
 use Rattle.office_adoption.specs.declared.faults.AdoptionFault.TheVariants.{Memory, Disk, OtherTables, OtherForm, UnreadRow, BrokenRules}
 use Rattle.office_adoption.specs.declared.office_read.ReadOffice.{ReadOffice}
-use Rattle.office_adoption.specs.Adoption.{AreContents, IsAdoptedAs, Refuses}
-use Rattle.office_adoption.specs.Reading.{IsReadOf, KeepsBook, RefusesWith}
+use Rattle.office_adoption.specs.Adoption.{AreContents, StandForBook, IsAdoptedAs, Refuses}
+use Rattle.office_adoption.specs.Reading.{IsReadOf, KeepsBook, RefusesWith, RefusesBook, RefusesKept}
 use Rattle.office_adoption.proofs.Looked.{looked_on, looked_in_vain, both_looked, looked_same}
 
 -- where the rules were tested
-pub book_is_kept : {X E : Type 0} (r : Result X E) (office : Office) (db : Database) → AreNumbered db.trees → AreContents db.trees → OnOk r (KeepsRules (record { office = office; book = book_in db.trees }))
+pub book_is_kept : {X E : Type 0} (r : Result X E) (office : Office) (db : Database) → StandForBook db.trees → AreNumbered db.trees → AreContents db.trees → OnOk r (KeepsRules (record { office = office; book = book_in db.trees }))
     → IfOk r (λ _. KeepsBook office db)
-book_is_kept (Ok x) office db numbered contents rules = record { numbered = numbered; contents = contents; rules = rules }
-book_is_kept (Err e) office db numbered contents rules = tt
+book_is_kept (Ok x) office db stand numbered contents rules = record { stand = stand; numbered = numbered; contents = contents; rules = rules }
+book_is_kept (Err e) office db stand numbered contents rules = tt
+
+-- why a book, or an office with it, isn't kept
+pub book_refused : (office : Office) (db : Database) (fault : AdoptionFault) → RefusesBook db fault → RefusesKept office db fault
+book_refused office db UnreadRow h = h
+book_refused office db BrokenRules h = absurd h
+book_refused office db OtherForm h = absurd h
+book_refused office db OtherTables h = absurd h
+book_refused office db Memory h = tt
+book_refused office db Disk h = tt
+
+pub rules_refused : (office : Office) (db : Database) (fault : AdoptionFault) → RefusesWith (record { office = office; book = book_in db.trees }) fault → RefusesKept office db fault
+rules_refused office db UnreadRow h = absurd h
+rules_refused office db BrokenRules h = h
+rules_refused office db OtherForm h = absurd h
+rules_refused office db OtherTables h = absurd h
+rules_refused office db Memory h = tt
+rules_refused office db Disk h = tt
 
 -- the office alone
 module _ (old mid new : State) (read : ReadOffice) (one : IsLookUp {E = AdoptionFault} old mid (Ok read) IsReadOf) where
@@ -33,7 +50,7 @@ module _ (old mid new : State) (read : ReadOffice) (one : IsLookUp {E = Adoption
   adopted_as : (db : Database) → IsReadOf db read → KeepsBook (office_in read.maps) db → IsAdoptedAs db read.maps
   adopted_as db is kept = record {
     office = is.office;
-    rows = record { form = is.form; numbered = kept.numbered; contents = kept.contents; rules = subst KeepsRules (meant db is) kept.rules };
+    rows = record { form = is.form; office = is.stand; book = kept.stand; numbered = kept.numbered; contents = kept.contents; rules = subst KeepsRules (meant db is) kept.rules };
   }
 
   pub office_adopted : {U : Type 0} (kept : Result U AdoptionFault) (r : Result OfficeMaps AdoptionFault) → IsLookUp mid new kept (λ db _. KeepsBook (office_in read.maps) db)
@@ -46,19 +63,19 @@ module _ (old mid new : State) (read : ReadOffice) (one : IsLookUp {E = Adoption
       subst (λ s. IsLookUp old new s IsAdoptedAs) (sym is)
       (looked_in_vain old new (Err f) f _ IsAdoptedAs (both_looked old mid new read (Err f) IsReadOf (λ db _. KeepsBook (office_in read.maps) db) one two))
 
-  refused_with : (db : Database) → IsReadOf db read → (fault : AdoptionFault) → RefusesWith (with_book db) fault → Refuses db fault
+  refused_with : (db : Database) → IsReadOf db read → (fault : AdoptionFault) → RefusesKept (office_in read.maps) db fault → Refuses db fault
+  refused_with db is UnreadRow h = λ stand. h stand.1
   refused_with db is BrokenRules h = λ rules. h (subst KeepsRules (sym (meant db is)) rules)
   refused_with db is OtherForm h = absurd h
   refused_with db is OtherTables h = absurd h
   refused_with db is Memory h = tt
   refused_with db is Disk h = tt
-  refused_with db is UnreadRow h = tt
 
   pub office_refused : {U : Type 0} (kept : Result U AdoptionFault) (r : Result OfficeMaps AdoptionFault) → IsLookUp mid new kept (λ db _. KeepsBook (office_in read.maps) db)
-      → IfErr kept (λ fault. HasCleanDisk new → RefusesWith (with_book mid.now) fault)
+      → IfErr kept (λ fault. HasCleanDisk new → RefusesKept (office_in read.maps) mid.now fault)
       → MatchResult kept (λ _. r ≡ Ok read.maps) (λ fault. r ≡ Err fault) → IfErr r (λ fault. HasCleanDisk new → Refuses old.now fault)
   office_refused (Ok u) r two h is = subst (λ s. IfErr s (λ fault. HasCleanDisk new → Refuses old.now fault)) (sym is) tt
   office_refused (Err f) r two h is = subst (λ s. IfErr s (λ fault. HasCleanDisk new → Refuses old.now fault)) (sym is) (λ clean.
       let before : HasCleanDisk mid = omega (arith, clean, two.survives.clean) in
       let same = looked_same old mid new read (Err f) IsReadOf (λ db _. KeepsBook (office_in read.maps) db) one two clean in
-      refused_with old.now (one.answer before) f (subst (λ db. RefusesWith (with_book db) f) same (h clean)))
+      refused_with old.now (one.answer before) f (subst (λ db. RefusesKept (office_in read.maps) db f) same (h clean)))

@@ -1,34 +1,34 @@
 -- The office and the statuses that all rows of the tables show are those that the rows mean.
-use Rattle.std.proofs.Common.{◌≡◌, List, [], ◌∷◌, map, Option, Some, None, Result, Ok, Err, IfOk, IfErr, OnOk, refl, sym, ap, subst, ◌∙◌, ℕ}
+use Rattle.std.proofs.Common.{◌≡◌, List, Option, Some, None, Result, Ok, Err, IfOk, IfErr, OnOk, refl, sym, ap, subst, ◌∙◌, ℕ}
 use Rattle.std.specs.Prelude.{All}
 use Rattle.std.specs.BTreeMap.{BTreeMap}
-use Rattle.std.proofs.lemmas.List.Elements.{recursion_from_All}
-use Rattle.std.proofs.lemmas.List.Sorted.{IsPermutation-sym}
 use Rattle.sqlite.specs.Order.{Row, column}
 use Rattle.sqlite.specs.Effect.{Database}
-use Rattle.sqlite_rules.proofs.ListLemmas.{all_has}
-use Rattle.keyed.proofs.RemovedRows.{to_mapped, has_permuted}
 use Rattle.po_read.specs.Texts.{Text}
-use Rattle.office_sql.specs.Schema.{record_tree, policy_tree}
-use Rattle.office_sql.specs.Keys.{columns}
+use Rattle.office_sql.specs.Schema.{policy_tree}
 use Rattle.office_sql.specs.Inside.{AreOfficeTables}
 use Rattle.office_sql.specs.Answers.{ShowsPolicy}
 use Rattle.office_sql.proofs.Steps.{table_apart}
 use Rattle.office_sql.proofs.TableRows.{policies}
 use Rattle.office_sql.proofs.RowNumbers.{one_row_number}
+use Rattle.tables.specs.declared.faults.Lost.{Lost}
+use Rattle.tables.specs.declared.faults.Lost.TheVariants as lost
+use Rattle.shown_rows.specs.declared.faults.Failure.{Failure}
 use Rattle.units.specs.Office.{Office}
 use Rattle.office_scans.specs.declared.look_ups.WholeOffice.{WholeOffice}
 use Rattle.office_scans.specs.WholeOffice.{ShowsWholeOffice}
 use Rattle.office_at_hand.proofs.WholeOffice.{whole_office}
 use Rattle.record_scans.specs.RecordTable.{ShowsRecords}
+use Rattle.shown_rows.specs.RowTests.{AreOfficeRows}
 use Rattle.kept_rules.specs.Given.{AreAll, AreStatusesOf}
 use Rattle.book_at_hand.specs.BookShown.{book_shown, IsRecordRow}
 use Rattle.book_at_hand.proofs.WholeBook.{all_numbered, whole_book}
 use Rattle.office_adoption.specs.declared.faults.AdoptionFault.{AdoptionFault}
 use Rattle.office_adoption.specs.declared.faults.AdoptionFault.TheVariants.{Memory, Disk, OtherTables, OtherForm, UnreadRow, BrokenRules}
 use Rattle.office_adoption.specs.declared.office_read.ReadOffice.{ReadOffice}
-use Rattle.office_adoption.specs.Adoption.{HasFirstForm, AreContents, Refuses}
-use Rattle.office_adoption.specs.Reading.{ShowsFirstForm, IsOfRows, HasLangs, RefusesRows, IsReadOf, AreStatusesIn}
+use Rattle.office_adoption.specs.Adoption.{HasFirstForm, Refuses}
+use Rattle.office_adoption.specs.Reading.{unread, ShowsFirstForm, IsOfRows, HasLangs, RefusesRows, RefusesBook, IsReadOf, AreStatusesIn}
+use Rattle.office_adoption.proofs.Stand.{office_stands, rows_stand, all_contents, book_stands, records_stand}
 
 -- ---- the form
 
@@ -54,35 +54,45 @@ module _ (db : Database) (office : AreOfficeTables db) (rows : WholeOffice) (sho
   pub office_is_read : (read : ReadOffice) → IsOfRows rows read → ShowsFirstForm rows.office.policy → IsReadOf db read
   office_is_read read it first = record {
     form = first_form db rows.office.policy shows.office.policy first;
+    stand = office_stands db office rows shows it.stand;
     office = it.office ∙ whole_office db office rows shows;
   }
 
   pub rows_refused : (fault : AdoptionFault) → RefusesRows rows fault → Refuses db fault
+  rows_refused UnreadRow h = λ stand. h (rows_stand db office rows shows stand.0)
   rows_refused OtherForm h = λ first. h (first_form_shown db rows.office.policy shows.office.policy office first)
   rows_refused BrokenRules h = absurd h
   rows_refused OtherTables h = absurd h
   rows_refused Memory h = tt
   rows_refused Disk h = tt
-  rows_refused UnreadRow h = tt
+
+-- rows that weren't read
+pub rows_unread : (rows : WholeOffice) (failure : Failure) (fault : AdoptionFault) → fault ≡ unread failure.lost → (failure.lost ≡ lost.Disk → ¬ AreOfficeRows rows) → RefusesRows rows fault
+rows_unread rows failure fault is unread_rows = subst (RefusesRows rows) (sym is) (by failure.lost refl)
+  where
+    by : (l : Lost) → failure.lost ≡ l → RefusesRows rows (unread l)
+    by lost.Memory e = tt
+    by lost.Disk e = unread_rows e
 
 -- ---- the book
 
 module _ (db : Database) (rows : List Row) (shows : ShowsRecords db rows) (stand : All IsRecordRow rows) where
-  -- as it is shown
-  abbrev shown : Row → Row
-  shown = columns (2 ∷ 3 ∷ 4 ∷ 1 ∷ [])
-
-  all_contents : AreContents db.trees
-  all_contents row there =
-      IsRecordRow.content (all_has IsRecordRow rows (shown row) (recursion_from_All IsRecordRow rows stand)
-      (has_permuted rows (map shown (db.trees record_tree)) (shown row) (IsPermutation-sym (map shown (db.trees record_tree)) rows shows.all) (to_mapped shown (db.trees record_tree) row there)))
-
   pub statuses_are_read : AreOfficeTables db → (statuses : BTreeMap Text ℕ) → AreStatusesOf (book_shown rows) statuses → AreStatusesIn db statuses
   statuses_are_read office statuses are = record {
     statuses_are = subst (λ book. AreStatusesOf book statuses) (sym (whole_book db rows shows stand office)) are;
+    stand = book_stands db rows shows stand;
     numbered = all_numbered db rows shows stand;
-    contents = all_contents;
+    contents = all_contents db rows shows stand;
   }
+
+-- records that weren't read
+pub book_unread : {C : Type 0} (db : Database) (rows : List Row) (failure : Failure) (fault : AdoptionFault) → (C → ShowsRecords db rows) → fault ≡ unread failure.lost → (failure.lost ≡ lost.Disk → ¬ All IsRecordRow rows)
+    → C → RefusesBook db fault
+book_unread {C} db rows failure fault shows is unread_rows clean = subst (RefusesBook db) (sym is) (by failure.lost refl)
+  where
+    by : (l : Lost) → failure.lost ≡ l → RefusesBook db (unread l)
+    by lost.Memory e = tt
+    by lost.Disk e = λ stand. unread_rows e (records_stand db rows (shows clean) stand)
 
 -- ---- the office, or why not
 

@@ -17,11 +17,12 @@ use Rattle.office_maps.specs.OfficeIn.{office_in}
 use Rattle.office_in_rows.specs.Meaning.{office_of_rows, book_in, AreNumbered}
 use Rattle.office_scans.specs.declared.look_ups.WholeOffice.{WholeOffice}
 use Rattle.office_at_hand.specs.OfficeShown.{headers_shown, office_shown}
+use Rattle.shown_rows.specs.RowTests.{AreOfficeRows}
 use Rattle.kept_rules.specs.Given.{AreAll, AreStatusesOf}
 use Rattle.office_adoption.specs.declared.faults.AdoptionFault.{AdoptionFault}
 use Rattle.office_adoption.specs.declared.faults.AdoptionFault.TheVariants.{Memory, Disk, OtherTables, OtherForm, UnreadRow, BrokenRules}
 use Rattle.office_adoption.specs.declared.office_read.ReadOffice.{ReadOffice}
-use Rattle.office_adoption.specs.Adoption.{HasFirstForm, AreContents}
+use Rattle.office_adoption.specs.Adoption.{HasFirstForm, AreContents, StandForOffice, StandForBook}
 
 -- ---- faults
 
@@ -41,13 +42,15 @@ unread lost.Disk = UnreadRow
 abbrev pub ShowsFirstForm : Option Row → Type 0
 ShowsFirstForm found = (row : Row) × (found ≡ Some row) × (column row 0 ≡ Int (pos 1))
 
--- the office that all rows show, and all its languages
+-- the office that all rows show, which stand for values, and all its languages
 pub record IsOfRows (rows : WholeOffice) (read : ReadOffice) : Type 0 where
   pub office : office_in read.maps ≡ office_shown rows
   pub langs : AreAll (headers_shown rows.office.languages.items) read.langs.items
+  pub stand : AreOfficeRows rows
 
 abbrev pub RefusesRows : WholeOffice → AdoptionFault → Type 0
 RefusesRows rows OtherForm = ¬ ShowsFirstForm rows.office.policy
+RefusesRows rows UnreadRow = ¬ AreOfficeRows rows
 RefusesRows rows BrokenRules = ⊥
 RefusesRows rows OtherTables = ⊥
 RefusesRows rows _ = ⊤
@@ -59,6 +62,7 @@ HasLangs read = AreAll (office_in read.maps).headers read.langs.items
 -- the office of tables in their first form
 pub record IsReadOf (db : Database) (read : ReadOffice) : Type 0 where
   pub form : HasFirstForm db
+  pub stand : StandForOffice db.trees
   pub office : office_in read.maps ≡ office_of_rows db.trees
 
 -- ---- the book
@@ -66,11 +70,13 @@ pub record IsReadOf (db : Database) (read : ReadOffice) : Type 0 where
 -- the statuses of all records, whose numbers and contents stand for some
 pub record AreStatusesIn (db : Database) (statuses : BTreeMap Text ℕ) : Type 0 where
   pub statuses_are : AreStatusesOf (book_in db.trees) statuses
+  pub stand : StandForBook db.trees
   pub numbered : AreNumbered db.trees
   pub contents : AreContents db.trees
 
 -- an office keeps the rules with the book of the rows
 pub record KeepsBook (office : Office) (db : Database) : Type 0 where
+  pub stand : StandForBook db.trees
   pub numbered : AreNumbered db.trees
   pub contents : AreContents db.trees
   pub rules : KeepsRules (record { office = office; book = book_in db.trees })
@@ -78,13 +84,20 @@ pub record KeepsBook (office : Office) (db : Database) : Type 0 where
 -- what is true of an office with its book that is refused so
 abbrev pub RefusesWith : OfficeWithBook → AdoptionFault → Type 0
 RefusesWith with_book BrokenRules = ¬ KeepsRules with_book
+RefusesWith with_book UnreadRow = ⊥
 RefusesWith with_book OtherForm = ⊥
 RefusesWith with_book OtherTables = ⊥
 RefusesWith with_book _ = ⊤
 
--- neither its form nor its rules refuse it
-abbrev pub IsUntold : AdoptionFault → Type 0
-IsUntold BrokenRules = ⊥
-IsUntold OtherForm = ⊥
-IsUntold OtherTables = ⊥
-IsUntold _ = ⊤
+-- what is true of a book's rows that are refused so
+abbrev pub RefusesBook : Database → AdoptionFault → Type 0
+RefusesBook db UnreadRow = ¬ StandForBook db.trees
+RefusesBook db BrokenRules = ⊥
+RefusesBook db OtherForm = ⊥
+RefusesBook db OtherTables = ⊥
+RefusesBook db _ = ⊤
+
+-- what is true of an office and of a book's rows that are refused so together
+abbrev pub RefusesKept : Office → Database → AdoptionFault → Type 0
+RefusesKept office db UnreadRow = ¬ StandForBook db.trees
+RefusesKept office db fault = RefusesWith (record { office = office; book = book_in db.trees }) fault

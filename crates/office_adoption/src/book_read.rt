@@ -6,9 +6,8 @@ ghost use Rattle.request_book.specs.Book.{Book};
 ghost use Rattle.deliveries.specs.OfficeRules.{KeepsRules};
 ghost use Rattle.office_maps.specs.OfficeIn.{office_in};
 ghost use Rattle.office_sql.specs.Whole.{IsIdle, IsLookUp};
-ghost use Rattle.office_in_rows.specs.Meaning.{book_in};
 ghost use Rattle.kept_rules.specs.Given.{AreStatusesOf};
-ghost use Rattle.office_adoption.specs.Reading.{AreStatusesIn, HasLangs, KeepsBook, RefusesWith, IsUntold};
+ghost use Rattle.office_adoption.specs.Reading.{AreStatusesIn, HasLangs, KeepsBook, RefusesWith, RefusesBook, RefusesKept};
 
 use crate::faults::AdoptionFault;
 use crate::office_read::ReadOffice;
@@ -28,7 +27,7 @@ fn read_statuses<S: Alter>(
     requires autocommit { connection.old.in_transaction ≡ false }
     requires idle { IsIdle (state S.Store connection.old) }
     ensures found { IsLookUp (state S.Store connection.old) (state S.Store connection.new) result AreStatusesIn }
-    ensures refused { IfErr result IsUntold }
+    ensures refused { IfErr result (λ fault. HasCleanDisk (state S.Store connection.new) → RefusesBook (state S.Store connection.old).now fault) }
 {
     let rows = look_up_records(connection)?;
     match statuses_in(alloc, rows.as_slice()) {
@@ -64,7 +63,7 @@ pub fn keep_book<S: Alter>(
     requires idle { IsIdle (state S.Store connection.old) }
     requires langs { HasLangs read.now }
     ensures found { IsLookUp (state S.Store connection.old) (state S.Store connection.new) result (λ db _. KeepsBook (office_in read.now.maps) db) }
-    ensures refused { IfErr result (λ fault. HasCleanDisk (state S.Store connection.new) → RefusesWith (record { office = office_in read.now.maps; book = book_in (state S.Store connection.old).now.trees }) fault) }
+    ensures refused { IfErr result (λ fault. HasCleanDisk (state S.Store connection.new) → RefusesKept (office_in read.now.maps) (state S.Store connection.old).now fault) }
 {
     let statuses = read_statuses(connection, alloc)?;
     keep_rules(alloc, read, &statuses)

@@ -16,7 +16,7 @@ pub enum AdoptionFault {
     OtherTables,
     /// Another form of the tables than the first, or none that is told.
     OtherForm,
-    /// A row stands for nothing, or what is recorded is no request's content.
+    /// A row stands for no value, the template for no valid catalogue, or what is recorded is no request's content.
     UnreadRow,
     /// The rows break the rules of an office with its book.
     BrokenRules,

@@ -7,6 +7,9 @@ ghost use Rattle.sqlite.specs.State.{HasCleanDisk};
 ghost use Rattle.office_sql.specs.Keys.{text_at};
 ghost use Rattle.office_sql.specs.Whole.{IsIdle, IsLookUp};
 ghost use Rattle.office_at_hand.specs.OfficeShown.{headers_shown};
+ghost use Rattle.std.specs.List.{list_all};
+ghost use Rattle.tables.specs.declared.faults.Lost.TheVariants.{Disk};
+ghost use Rattle.shown_rows.specs.RowTests.{is_language_row, AreOfficeRows, IsUnread};
 ghost use Rattle.kept_rules.specs.Given.{AreAll};
 ghost use Rattle.office_adoption.specs.Adoption.{Refuses};
 ghost use Rattle.office_adoption.specs.Reading.{ShowsFirstForm, IsOfRows, IsReadOf, HasLangs, RefusesRows};
@@ -50,7 +53,8 @@ fn is_one(row: &Row) -> bool
 
 /// The language of a row.
 fn lang_of(alloc: Global, row: &Row) -> Result<Lang, Failure>
-    ensures { IfOk result (λ lang. lang ≡ text_at 2 row.now) }
+    ensures shown { IfOk result (λ lang. lang ≡ text_at 2 row.now) }
+    ensures unread { IfErr result (IsUnread (is_language_row row.now)) }
 {
     let column: String = row.get(2)?;
     Ok(lang_from(alloc, column.as_str())?)
@@ -58,7 +62,8 @@ fn lang_of(alloc: Global, row: &Row) -> Result<Lang, Failure>
 
 /// The languages of rows.
 fn langs_in(alloc: Global, rows: &[Row]) -> Result<Vec<Lang>, Failure>
-    ensures { IfOk result (λ langs. AreAll (headers_shown rows.now) langs.items) }
+    ensures shown { IfOk result (λ langs. AreAll (headers_shown rows.now) langs.items) }
+    ensures unread { IfErr result (IsUnread (list_all is_language_row rows.now)) }
 {
     let mut langs = Vec::new(alloc);
     for row in rows {
@@ -69,7 +74,8 @@ fn langs_in(alloc: Global, rows: &[Row]) -> Result<Vec<Lang>, Failure>
 
 /// The office of all rows, and its languages.
 fn office_with_langs(alloc: Global, rows: &WholeOffice) -> Result<ReadOffice, Failure>
-    ensures { IfOk result (IsOfRows rows.now) }
+    ensures read { IfOk result (IsOfRows rows.now) }
+    ensures unread { IfErr result (λ failure. failure.lost ≡ Disk → ¬ AreOfficeRows rows.now) }
 {
     let langs = langs_in(alloc, rows.office.languages.as_slice())?;
     match office_in(alloc, rows) {

@@ -46,12 +46,12 @@ fn tested_tables<S: Alter>(
     where_kept(read, kept)
 }
 
-/// The office of a connection's tables, if they are an office's in their first form: each row is read, each record's content is a
-/// request's, and the rules of an office with its book hold. Nothing is changed.
+/// The office of a connection's tables, if they are an office's in their first form: each row stands for a value, the template's for a
+/// valid catalogue, each record's content is a request's, and the rules of an office with its book hold. Nothing is changed.
 ///
-/// `OtherTables` where the tables aren't an office's, `OtherForm` where they have another form, `UnreadRow` where a row stands for nothing
-/// or a record's content is no request's, `BrokenRules` where the rules don't hold, `Memory` where a growth was refused, `Disk` where the
-/// disk failed.
+/// `OtherTables` only where the tables aren't an office's, `OtherForm` only where they have another form, `UnreadRow` only where a row
+/// stands for no value, the template for no valid catalogue, or a record's content is no request's, `BrokenRules` only where the rules
+/// don't hold, `Memory` where a growth was refused, `Disk` where the disk failed.
 pub fn adopted_office<S: Alter>(
     connection: &mut Connection<S>,
     alloc: Global,

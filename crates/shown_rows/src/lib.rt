@@ -1,5 +1,6 @@
 //! What the rows that queries show stand for: a record, what an act on a unit needs to know, and the whole office. Each reader answers
-//! what the definitions read off its rows, or fails; what a failure comes to is said here too.
+//! what the definitions read off its rows, or fails: for want of memory, or exactly where the rows stand for no value. What a failure
+//! comes to is said here too.
 #![tactic(auto)]
 
 mod columns;

@@ -1,5 +1,7 @@
 //! The team, the policy, the template and the languages of whole tables, put into an office.
-ghost use Rattle.std.specs.Prelude.{◌≡◌, IfOk, OnOk};
+ghost use Rattle.std.specs.Prelude.{◌≡◌, true, IfOk, IfErr, OnOk};
+ghost use Rattle.std.specs.List.{list_all};
+ghost use Rattle.std.specs.Option.{option_map_or};
 ghost use Rattle.std.specs.FinMap as finite;
 ghost use Rattle.units.specs.Openings.{closed_policy};
 ghost use Rattle.office_maps.specs.Rows as maps_read;
@@ -9,8 +11,10 @@ ghost use Rattle.office_in_rows.specs.Values as values;
 ghost use Rattle.office_in_rows.specs.Meaning as meaning;
 ghost use Rattle.office_in_rows.specs.Shown.{shown_entry, shown_header};
 ghost use Rattle.office_at_hand.specs.OfficeShown.{team_shown, policy_shown, template_shown, headers_shown};
+ghost use Rattle.shown_rows.specs.RowTests.{is_member_row, is_policy_row, is_entry_row, is_language, is_language_row, IsTemplate, IsUnread};
+ghost use Rattle.tables.specs.declared.faults.Lost.TheVariants.{Disk};
 
-use crate::columns::{key_at, lang_at, role_at};
+use crate::columns::{key_at, lang_at, name_text_at, role_at, text_in};
 use crate::faults::Failure;
 use crate::units_read::entry_in;
 use crate::views::{header_in, policy_in};
@@ -28,29 +32,35 @@ use units::Role;
 // ---- the team and the policy
 
 /// Puts in the member of a row.
-fn put_member(team: &mut BTreeMap<String, Role>, row: &Row) -> Result<(), Failure>
-    ensures { OnOk result (maps_read.team_in team.new ≡ finite.insert (maps_read.team_in team.old) (text_at 1 row.now) (values.role_at 0 row.now)) }
+fn put_member(alloc: Global, team: &mut BTreeMap<String, Role>, row: &Row) -> Result<(), Failure>
+    ensures shown { OnOk result (maps_read.team_in team.new ≡ finite.insert (maps_read.team_in team.old) (text_at 1 row.now) (values.role_at 0 row.now)) }
+    ensures stands { OnOk result (is_member_row row.now ≡ true) }
+    ensures unread { IfErr result (IsUnread (is_member_row row.now)) }
 {
     let role = role_at(row, 0)?;
-    let name: String = row.get(1)?;
+    let name = name_text_at(alloc, row, 1)?;
     team.insert(name, role)?;
     Ok(())
 }
 
 /// The team of rows.
 fn team_in(alloc: Global, rows: &[Row]) -> Result<BTreeMap<String, Role>, Failure>
-    ensures { IfOk result (λ team. maps_read.team_in team ≡ team_shown rows.now) }
+    ensures shown { IfOk result (λ team. maps_read.team_in team ≡ team_shown rows.now) }
+    ensures stands { OnOk result (list_all is_member_row rows.now ≡ true) }
+    ensures unread { IfErr result (IsUnread (list_all is_member_row rows.now)) }
 {
     let mut team = BTreeMap::new(alloc);
     for row in rows {
-        put_member(&mut team, row)?;
+        put_member(alloc, &mut team, row)?;
     }
     Ok(team)
 }
 
 /// Puts the team of rows in.
 pub(crate) fn put_team(alloc: Global, maps: &mut OfficeMaps, rows: &[Row]) -> Result<(), Failure>
-    ensures { OnOk result (office_in maps.new ≡ record (office_in maps.old) { team = team_shown rows.now }) }
+    ensures shown { OnOk result (office_in maps.new ≡ record (office_in maps.old) { team = team_shown rows.now }) }
+    ensures stands { OnOk result (list_all is_member_row rows.now ≡ true) }
+    ensures unread { IfErr result (IsUnread (list_all is_member_row rows.now)) }
 {
     maps.team = team_in(alloc, rows)?;
     Ok(())
@@ -59,7 +69,9 @@ pub(crate) fn put_team(alloc: Global, maps: &mut OfficeMaps, rows: &[Row]) -> Re
 /// Puts the policy of a row in the place of the closed one.
 pub(crate) fn put_policy(maps: &mut OfficeMaps, row: &Option<Row>) -> Result<(), Failure>
     requires { (office_in maps.old).policy ≡ closed_policy }
-    ensures { OnOk result (office_in maps.new ≡ record (office_in maps.old) { policy = policy_shown row.now }) }
+    ensures shown { OnOk result (office_in maps.new ≡ record (office_in maps.old) { policy = policy_shown row.now }) }
+    ensures stands { OnOk result (option_map_or is_policy_row row.now true ≡ true) }
+    ensures unread { IfErr result (IsUnread (option_map_or is_policy_row row.now true)) }
 {
     match row {
         Some(row) => {
@@ -74,7 +86,9 @@ pub(crate) fn put_policy(maps: &mut OfficeMaps, row: &Option<Row>) -> Result<(),
 
 /// The template's entry of a row.
 fn template_entry(alloc: Global, row: &Row) -> Result<Entry, Failure>
-    ensures { IfOk result (λ entry. entry ≡ shown_entry (meaning.key_at 4 row.now) row.now) }
+    ensures shown { IfOk result (λ entry. entry ≡ shown_entry (meaning.key_at 4 row.now) row.now) }
+    ensures stands { OnOk result (is_entry_row row.now ≡ true) }
+    ensures unread { IfErr result (IsUnread (is_entry_row row.now)) }
 {
     let key = key_at(alloc, row, 4)?;
     entry_in(alloc, &key, row)
@@ -82,7 +96,9 @@ fn template_entry(alloc: Global, row: &Row) -> Result<Entry, Failure>
 
 /// The template's entries of rows.
 fn entries_in(alloc: Global, rows: &[Row]) -> Result<Vec<Entry>, Failure>
-    ensures { IfOk result (λ entries. entries.items ≡ template_shown rows.now) }
+    ensures shown { IfOk result (λ entries. entries.items ≡ template_shown rows.now) }
+    ensures stands { OnOk result (list_all is_entry_row rows.now ≡ true) }
+    ensures unread { IfErr result (IsUnread (list_all is_entry_row rows.now)) }
 {
     let mut entries = Vec::new(alloc);
     for row in rows {
@@ -93,7 +109,9 @@ fn entries_in(alloc: Global, rows: &[Row]) -> Result<Vec<Entry>, Failure>
 
 /// The template of rows.
 fn template_in(alloc: Global, rows: &[Row]) -> Result<Catalogue, Failure>
-    ensures { IfOk result (λ template. template ≡ template_shown rows.now) }
+    ensures shown { IfOk result (λ template. template ≡ template_shown rows.now) }
+    ensures stands { OnOk result (IsTemplate rows.now) }
+    ensures unread { IfErr result (λ failure. failure.lost ≡ Disk → ¬ IsTemplate rows.now) }
 {
     let entries = entries_in(alloc, rows)?;
     match Catalogue::try_new(alloc, entries)? {
@@ -109,7 +127,9 @@ pub(crate) fn put_template(
     rows: &[Row],
 ) -> Result<(), Failure>
     requires { (office_in maps.old).units ≡ finite.empty }
-    ensures { OnOk result (office_in maps.new ≡ record (office_in maps.old) { template = template_shown rows.now }) }
+    ensures shown { OnOk result (office_in maps.new ≡ record (office_in maps.old) { template = template_shown rows.now }) }
+    ensures stands { OnOk result (IsTemplate rows.now) }
+    ensures unread { IfErr result (λ failure. failure.lost ≡ Disk → ¬ IsTemplate rows.now) }
 {
     let template = template_in(alloc, rows)?;
     maps.change(alloc, Change::NewTemplate(template, Vec::new(alloc)))?;
@@ -120,9 +140,11 @@ pub(crate) fn put_template(
 
 /// The language of a row.
 fn language_in(alloc: Global, row: &Row) -> Result<Language, Failure>
-    ensures { IfOk result (λ language. language.header ≡ shown_header row.now) }
+    ensures shown { IfOk result (λ language. language.header ≡ shown_header row.now) }
+    ensures stands { OnOk result (is_language row.now ≡ true) }
+    ensures unread { IfErr result (IsUnread (is_language row.now)) }
 {
-    let column: String = row.get(1)?;
+    let column = text_in(row, 1)?;
     let header = header_in(alloc, row)?;
     match rule_from(alloc, &header, column.as_str()) {
         Ok(rule) => Ok(Language { header, rule }),
@@ -135,8 +157,10 @@ fn language_in(alloc: Global, row: &Row) -> Result<Language, Failure>
 
 /// Puts the language of a row in, without units.
 fn put_language(alloc: Global, maps: &mut OfficeMaps, row: &Row) -> Result<(), Failure>
-    ensures { OnOk result (office_in maps.new
+    ensures shown { OnOk result (office_in maps.new
         ≡ record (office_in maps.old) { headers = finite.insert (office_in maps.old).headers (text_at 2 row.now) (shown_header row.now) }) }
+    ensures stands { OnOk result (is_language_row row.now ≡ true) }
+    ensures unread { IfErr result (IsUnread (is_language_row row.now)) }
 {
     let lang = lang_at(alloc, row, 2)?;
     let language = language_in(alloc, row)?;
@@ -159,7 +183,9 @@ pub(crate) fn put_languages(
     rows: &[Row],
 ) -> Result<(), Failure>
     requires { (office_in maps.old).headers ≡ finite.empty }
-    ensures { OnOk result (office_in maps.new ≡ record (office_in maps.old) { headers = headers_shown rows.now }) }
+    ensures shown { OnOk result (office_in maps.new ≡ record (office_in maps.old) { headers = headers_shown rows.now }) }
+    ensures stands { OnOk result (list_all is_language_row rows.now ≡ true) }
+    ensures unread { IfErr result (IsUnread (list_all is_language_row rows.now)) }
 {
     for row in rows {
         put_language(alloc, maps, row)?;

@@ -13,7 +13,7 @@ pub returns-in-Some : goal.returns-in-Some
 returns-in-Some g c = record {
   found = look_up_mapped (state g.S.Store c.args.connection.now) (state g.S.Store c.look_up_record.new.connection) {E = Error} (Some c.in-Some.row) (Some c.in_ok-record_in-in-Some.field-0)
       (ShowsRecord c.as_str.result.now) (λ db r. r ≡ option_map (row_of c.args.number) (maps.get (book_in db.trees) c.args.number)) (search rules)
-      (λ clean is_open shown. ap Some c.in_ok-record_in-in-Some.ensures ∙ sym (ap (option_map (row_of c.args.number))
+      (λ clean is_open shown. ap Some c.in_ok-record_in-in-Some.ensures.shown ∙ sym (ap (option_map (row_of c.args.number))
       (reads_record (state g.S.Store c.args.connection.now) c.args.number c.as_str.result.now (Some c.in-Some.row) c.requires.keeps (search rules) (search rules) clean is_open shown)));
 }
 

@@ -14,5 +14,5 @@ returns g c = record {
       (ShowsViewRows c.as_str.result.now c.as_str-2.result.now c.as_str-3.result.now) (λ db r. r ≡ found_of (office_of_rows db.trees) c.args.lang.now c.args.key.now c.args.name.now)
       c.in_ok-rows.ensures.found
       (λ clean is_open. reads_view (state g.S.Store c.args.connection.now) c.args.lang.now c.args.key.now c.args.name.now c.as_str.result.now c.as_str-2.result.now c.as_str-3.result.now
-      c.in_ok-rows.rows c.in_ok-found.found c.requires.keeps c.key_fits.ensures c.as_str.ensures.value (search rules) c.as_str-3.ensures.value clean is_open c.in_ok-found.ensures);
+      c.in_ok-rows.rows c.in_ok-found.found c.requires.keeps c.key_fits.ensures c.as_str.ensures.value (search rules) c.as_str-3.ensures.value clean is_open c.in_ok-found.ensures.shown);
 }
