@@ -1,0 +1,26 @@
+use Rattle.std.proofs.Common.{sym, subst}
+use Rattle.sqlite.specs.Held.{state}
+use Rattle.tables.specs.Starts.{started}
+use Rattle.commands.proofs.Streaming.{took_none}
+use Rattle.file_commands.specs.Opening.{Holds}
+use Rattle.file_commands.specs.Init.{made, refused}
+use Rattle.file_commands.proofs.Tables.{holds_made}
+use Rattle.file_commands.proofs.init.init_store.Goals as goal
+
+pub returns-in-Ok-clause-initialised : goal.returns-in-Ok-clause-initialised
+returns-in-Ok-clause-initialised g c =
+    made
+    (record {
+      was_empty = c.in-Ok.ensures.allowed;
+      holds = subst (λ held. Holds (state g.S.Store held) (started c.args.start.now)) (sym c.into_connection.ensures.held) (holds_made g.S.Store c.in-Ok.tables.rows c.args.start.now c.in-Ok.ensures.made);
+    })
+    c.say_ready.ensures (took_none _ _)
+
+pub returns-in-Err-clause-initialised : goal.returns-in-Err-clause-initialised
+returns-in-Err-clause-initialised g c =
+    refused c.in-Err.fault
+    (record { why = c.in-Err.ensures.refused; untouched = c.in-Err.ensures.untouched; same = c.in-Err.ensures.handed_back })
+    (took_none _ _) c.tell_store_fault.ensures.told c.tell_store_fault.ensures.status
+
+pub returns-in-Err-clause-between : goal.returns-in-Err-clause-between
+returns-in-Err-clause-between g c = c.in-Err.ensures.handed_back.ended

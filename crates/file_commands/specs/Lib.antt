@@ -1,0 +1,4 @@
+pub mod Faults
+pub mod Opening
+pub mod Init
+pub mod Runs

@@ -1,0 +1,31 @@
+-- A database that holds an office with its book, and what comes of opening one. This project's own words.
+use Rattle.std.specs.Prelude.{◌≡◌, IsTrue}
+use Rattle.sqlite.specs.Held.{Held, state}
+use Rattle.sqlite.specs.State.{State, HasCleanDisk}
+use Rattle.sqlite.specs.Tree.{Trees}
+use Rattle.sqlite_trees.specs.declared.store.Store as store
+use Rattle.request_book.specs.Book.{OfficeWithBook}
+use Rattle.office_in_rows.specs.Meaning.{meaning_in}
+use Rattle.office_adoption.specs.Adoption.{IsAdopted, Refuses, StaysAsItWas}
+use Rattle.office_adoption.specs.declared.faults.AdoptionFault.{AdoptionFault}
+use Rattle.store_sql.specs.declared.faults.OpenFault.{OpenFault}
+use Rattle.store_sql.specs.Adopting.{opening_fault}
+
+-- While the disk has returned what was written, no failure has shut the connection, its rows mean this office with its book, and a stop
+-- leaves no other.
+pub record Holds (s : State) (meaning : OfficeWithBook) : Type 0 where
+  pub is_open : HasCleanDisk s → IsTrue s.is_open
+  pub means : HasCleanDisk s → meaning_in s.now.trees ≡ meaning
+  pub stops : HasCleanDisk s → (db : Trees) → s.may_leave db → meaning_in db ≡ meaning
+
+-- The rows were an office's with its book, which is opened as they stand.
+pub record IsOpened {S : Type 0} (g : store.Ghosts S) (old opened : Held S) : Type 0 where
+  pub rows : HasCleanDisk (state g opened) → IsAdopted (state g old).now
+  pub holds : Holds (state g opened) (meaning_in (state g old).now.trees)
+
+-- They weren't, or it couldn't be found out; the rows are as they were.
+pub record IsUnopened {S : Type 0} (g : store.Ghosts S) (old new : Held S) (fault : OpenFault) : Type 0 where
+  pub cause : AdoptionFault
+  pub is : fault ≡ opening_fault cause
+  pub why : HasCleanDisk (state g new) → Refuses (state g old).now cause
+  pub same : StaysAsItWas (state g old) (state g new)

@@ -1,0 +1,48 @@
+//! `office init`: an office in a new database.
+ghost use Rattle.std.specs.Prelude.{◌≡◌, ◌≤◌, false, MatchOption};
+ghost use Rattle.sqlite.specs.Held.{Held};
+ghost use Rattle.commands.specs.Writers.{writer_at};
+ghost use Rattle.file_commands.specs.Init.{Initialised, Said, ready_line};
+
+use crate::faults::{send_line, tell_store_fault};
+use commands::FAILED;
+use sqlite::{Alter, Connection};
+use std::alloc::Global;
+use store_sql::{SqliteTables, Start};
+use units::ByteSink;
+
+/// Exit status of a run that did what it was asked for.
+const DONE: u8 = 0;
+
+/// Says that the office is there, and answers the exit status.
+fn say_ready<W: ByteSink>(w: &mut W) -> u8
+    ensures { Said (writer_at W.taken W.failed w.old) (writer_at W.taken W.failed w.new) result }
+{
+    match send_line(w, b"ready\n") {
+        Ok(()) => DONE,
+        Err(_) => FAILED,
+    }
+}
+
+/// Makes the office of a start in a database that has nothing in it, and prints `ready`; or, where that fails, a line `store fault K` on
+/// the second output, or `store: exists` where an office is there already. Then no table is made: the rows are as before.
+///
+/// Answers the exit status, 0, or 1 after a fault or a failed write; and the connection.
+pub fn init_store<S: Alter + Drop, W: ByteSink, E: ByteSink>(
+    alloc: Global,
+    connection: Connection<S>,
+    start: &Start,
+    w: &mut W,
+    e: &mut E,
+) -> (u8, Connection<S>)
+    requires autocommit { connection.in_transaction ≡ false }
+    ensures initialised { Initialised S.Store start.now connection result.1
+        (writer_at W.taken W.failed w.old) (writer_at W.taken W.failed w.new)
+        (writer_at E.taken E.failed e.old) (writer_at E.taken E.failed e.new) result.0 }
+    ensures between { result.1.in_transaction ≡ false }
+{
+    match SqliteTables::create(connection, alloc, start) {
+        Ok(tables) => (say_ready(w), tables.into_connection()),
+        Err((fault, connection)) => (tell_store_fault(e, fault), connection),
+    }
+}

@@ -1,0 +1,108 @@
+//! `office deliver --store` and `office export --store`: work on the office in a database.
+ghost use Rattle.std.specs.Prelude.{◌≡◌, ◌≤◌, false, List, ℕ, IsTrue, IfSome, option_map};
+ghost use Rattle.sqlite.specs.Held.{state};
+ghost use Rattle.sqlite.specs.State.{HasCleanDisk};
+ghost use Rattle.office_in_rows.specs.Meaning.{meaning_in};
+ghost use Rattle.commands.specs.Writers.{writer_at};
+ghost use Rattle.commands.specs.DeliverLines.{Delivered};
+ghost use Rattle.commands.specs.ExportLines.{Printed};
+ghost use Rattle.commands.specs.Gathering.{Finished};
+ghost use Rattle.file_commands.specs.Runs.{Ran};
+
+use crate::faults::{hand_on, tell_store_fault};
+use crate::opening::{close_desk, open_desk};
+use commands::{FAILED, deliver_lines, export_text};
+use office::Desk;
+use sqlite::{Alter, Connection};
+use std::alloc::Global;
+use tables::Tables;
+use units::{ByteSink, ByteSource, Lang};
+
+/// Opens the office in a database, delivers each line of the source to it and writes the answers, as `deliver_lines` does, and closes it. Where
+/// the office can't be opened, a line `store fault K` is written on `faults`, and nothing is read.
+///
+/// Answers the exit status: 0, or 1 after a fault or where a stream failed; and the connection.
+pub fn deliver_store<S: Alter + Drop, R: ByteSource, W: ByteSink, E: ByteSink>(
+    alloc: Global,
+    connection: Connection<S>,
+    source: &mut R,
+    replies: &mut W,
+    faults: &mut E,
+    lang: Option<&Lang>,
+) -> (u8, Connection<S>)
+    requires autocommit { connection.in_transaction ≡ false }
+    // What the connection's rows mean afterwards is what the lines left, behind the office that was opened.
+    ensures delivered { Ran S.Store
+        (λ opened. (text : List ℕ) × IfSome (R.left source.old) (λ all. text ≡ all)
+        × Delivered (HasCleanDisk (state S.Store result.1)) (IsTrue (state S.Store result.1).is_open)
+        (meaning_in (state S.Store opened).now.trees) (meaning_in (state S.Store result.1).now.trees)
+        (option_map (λ named. named.now) lang.entry) text (R.failed source.old) (R.failed source.new)
+        (writer_at W.taken W.failed replies.old) (writer_at W.taken W.failed replies.new)
+        (writer_at E.taken E.failed faults.old) (writer_at E.taken E.failed faults.new) result.0)
+        ((source.new ≡ source.old) × (replies.new ≡ replies.old))
+        connection result.1 (writer_at E.taken E.failed faults.old) (writer_at E.taken E.failed faults.new) result.0 }
+    ensures status { result.0 ≤ 1 }
+    ensures between { result.1.in_transaction ≡ false }
+{
+    match open_desk(alloc, connection) {
+        Ok(mut desk) => {
+            let status = deliver_lines(alloc, &mut desk, source, replies, faults, lang);
+            (status, close_desk(desk))
+        }
+        Err((fault, connection)) => (tell_store_fault(faults, fault), connection),
+    }
+}
+
+/// Prints a language's text and its receipt, and hands on what the writer holds back.
+fn export_whole<T: Tables, W: ByteSink, E: ByteSink>(
+    desk: &mut Desk<T>,
+    lang: &Lang,
+    w: &mut W,
+    e: &mut E,
+) -> u8
+    ensures printed { Finished (λ old new exit. Printed (T.is_honest desk.new) (T.is_whole desk.new) (T.means desk.new).office lang.now
+        old new (writer_at E.taken E.failed e.old) (writer_at E.taken E.failed e.new) exit)
+        (writer_at W.taken W.failed w.old) (writer_at W.taken W.failed w.new) result }
+    ensures status { result ≤ 1 }
+    ensures same { T.is_honest desk.new → T.is_whole desk.new → T.means desk.new ≡ T.means desk.old }
+{
+    let status = export_text(desk, lang, w, e);
+    match hand_on(w) {
+        Ok(()) => status,
+        Err(_) => FAILED,
+    }
+}
+
+/// Opens the office in a database, prints a language's text and, on the second output, its receipt, as `export_text` does, hands on what the
+/// writer holds back, and closes the office. Where it can't be opened, a line `store fault K` is written on the second output.
+///
+/// Answers the exit status: 0, or 1 after a fault or where a stream failed; and the connection.
+pub fn export_store<S: Alter + Drop, W: ByteSink, E: ByteSink>(
+    alloc: Global,
+    connection: Connection<S>,
+    lang: &Lang,
+    w: &mut W,
+    e: &mut E,
+) -> (u8, Connection<S>)
+    requires autocommit { connection.in_transaction ≡ false }
+    // The rows mean afterwards what they meant when the office was opened, and the text is that office's.
+    ensures exported { Ran S.Store
+        (λ opened. Finished (λ old new exit. Printed (HasCleanDisk (state S.Store result.1)) (IsTrue (state S.Store result.1).is_open)
+        (meaning_in (state S.Store result.1).now.trees).office lang.now
+        old new (writer_at E.taken E.failed e.old) (writer_at E.taken E.failed e.new) exit)
+        (writer_at W.taken W.failed w.old) (writer_at W.taken W.failed w.new) result.0
+        × (HasCleanDisk (state S.Store result.1) → IsTrue (state S.Store result.1).is_open
+        → meaning_in (state S.Store result.1).now.trees ≡ meaning_in (state S.Store opened).now.trees))
+        (w.new ≡ w.old)
+        connection result.1 (writer_at E.taken E.failed e.old) (writer_at E.taken E.failed e.new) result.0 }
+    ensures status { result.0 ≤ 1 }
+    ensures between { result.1.in_transaction ≡ false }
+{
+    match open_desk(alloc, connection) {
+        Ok(mut desk) => {
+            let status = export_whole(&mut desk, lang, w, e);
+            (status, close_desk(desk))
+        }
+        Err((fault, connection)) => (tell_store_fault(e, fault), connection),
+    }
+}

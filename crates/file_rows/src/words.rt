@@ -1,0 +1,35 @@
+//! The words of a row.
+
+/// A row's deed, and what it is to come to.
+pub(crate) fn both_sides(row: &str) -> (&str, &str) {
+    row.split_once(" -> ").unwrap_or((row, ""))
+}
+
+pub(crate) fn word(words: &str, place: usize) -> &str {
+    words.split(' ').nth(place).unwrap_or("")
+}
+
+/// What stands behind the first word.
+pub(crate) fn behind(words: &str) -> &str {
+    match words.split_once(' ') {
+        Some((_, rest)) => rest,
+        None => "",
+    }
+}
+
+pub(crate) fn has(words: &str, wanted: &str) -> bool {
+    words.split(' ').any(|word| word == wanted)
+}
+
+/// The word behind another.
+pub(crate) fn word_behind<'a>(words: &'a str, wanted: &str) -> Option<&'a str> {
+    words.split(' ').skip_while(|word| *word != wanted).nth(1)
+}
+
+/// The number behind a word; as many as there may be where the word isn't there.
+pub(crate) fn most(words: &str, wanted: &str) -> usize {
+    match word_behind(words, wanted) {
+        Some(word) => word.parse::<usize>().unwrap_or(0),
+        None => usize::MAX,
+    }
+}
