@@ -25,6 +25,33 @@ WORDS = [
     (["-V"], 0),
     (["help"], 0),
     (["help", "deliver"], 0),
+    (["init", "--help"], 0),
+    (["export", "-h"], 0),
+    (["init"], 2),
+    (["init", "--store", "/nowhere/office.db"], 2),
+    (["init", "--store", "/nowhere/office.db", "--manager", "Root"], 2),
+    (["init", "--store", "/nowhere/office.db", "--manager", "root"], 1),
+    (["export", "--store", "/nowhere/office.db"], 2),
+    (["export", "--store", "/nowhere/office.db", "--lang", "d"], 2),
+    (["export", "--store", "/nowhere/office.db", "--lang", "de"], 1),
+    (["deliver", "--store", "/nowhere/office.db"], 1),
+    (["serve", "-h"], 0),
+    (["serve", "--store", "/nowhere/office.db", "--port", "8080"], 2),
+    (["serve", "--store", "/nowhere/office.db", "--connections", "1"], 2),
+    (["serve", "--port", "8080", "--connections", "1"], 2),
+    (["serve", "--store", "/nowhere/office.db", "--port", "0", "--connections", "1"], 2),
+    (["serve", "--store", "/nowhere/office.db", "--port", "65536", "--connections", "1"], 2),
+    (["serve", "--store", "/nowhere/office.db", "--port", "8080", "--connections", "0"], 2),
+    (["serve", "--store", "/nowhere/office.db", "--port", "8080", "--connections", "4294967296"], 2),
+    (["serve", "--store", "/nowhere/office.db", "--port", "65535", "--connections", "4294967295"], 1),
+    (["send", "--help"], 0),
+    (["send", "--port", "1", "--file", "/nowhere/requests"], 2),
+    (["send", "--port", "1", "--tries", "1"], 2),
+    (["send", "--file", "/nowhere/requests", "--tries", "1"], 2),
+    (["send", "--port", "http", "--file", "/nowhere/requests", "--tries", "1"], 2),
+    (["send", "--port", "1", "--file", "/nowhere/requests", "--tries", "0"], 2),
+    (["send", "--port", "1", "--file", "/nowhere/requests", "--tries", "4294967296"], 2),
+    (["send", "--port", "1", "--file", "/nowhere/requests", "--tries", "4294967295"], 1),
     (["deliver", "--help"], 0),
     (["plural", "-h"], 0),
     (["canon", "-V"], 0),
@@ -80,15 +107,17 @@ def option_names(options):
 
 
 def page_items():
-    """The items of the man page's lists up to the replies, each with the text behind it in a line."""
-    items, item = {}, None
+    """The items of the man page's lists up to the replies, by the subcommand that they are of, each with the text behind it in a line."""
+    items, item, command, depth = {}, None, "", 0
     for line in PAGE.read_text().split(".Sh REPLIES")[0].split("\n"):
         if line.startswith(".It "):
             name = re.sub(r"\b(Cm|Ar) ", "", line[4:])
             name = ", ".join("-" + it.removeprefix("Fl ") for it in name.split(" , ")) if name.startswith("Fl") else name
-            item = items.setdefault(name.replace(", --", ", --"), [])
-        elif line.startswith((".El", ".Bl", ".Pp")):
-            item = None if line == ".El" else item
+            command = name if depth == 1 else command
+            item = items.setdefault(("" if depth == 1 else command, name.replace(", --", ", --")), [])
+        elif line.startswith((".Bl", ".El")):
+            depth += 1 if line.startswith(".Bl") else -1
+            item = item if line.startswith(".Bl") else None
         elif item is not None and not line.startswith("."):
             item.append(line)
     return {name: " ".join(lines) for name, lines in items.items()}
@@ -100,11 +129,12 @@ def page_name(option):
 
 
 def page_differs(commands, own):
-    """What the man page lacks, or has too much."""
-    wanted = dict(commands)
-    for parts in own.values():
+    """What the man page lacks, or has too much; what each subcommand has stands there once."""
+    wanted = {("", it): text for it, text in commands.items()}
+    for command, parts in own.items():
         for part in ("Options", "Arguments"):
-            wanted.update({page_name(it): text for it, text in parts.get(part, {}).items()})
+            for it, text in parts.get(part, {}).items():
+                wanted["" if it.startswith("-h") or it.startswith("-V") else command, page_name(it)] = text
     found = page_items()
     yield from (f"the page lacks {it}" for it in wanted if it not in found)
     yield from (f"the page has {it}" for it in found if it not in wanted)
@@ -129,24 +159,28 @@ def bash_differs(commands, own):
             yield f"bash completes {words} to {sorted(completed(words))}"
 
 
+def quoted(text):
+    """A word of the completion for zsh, in the quotes that it needs."""
+    return f'"{text}"' if "'" in text else f"'{text}'"
+
+
 def zsh_differs(commands, own):
     text = ZSH.read_text().replace("\\:", ":")
     lines = [it.strip().rstrip("\\").strip() for it in text.split("\n")]
-    wanted = {f"'{name}:{about}'" for name, about in commands.items()}
+    wanted = {quoted(f"{name}:{about}") for name, about in commands.items()}
     for parts in own.values():
         for option, about in parts["Options"].items():
             about = re.sub(r" \[default: .*\]$", "", about)
             short, _, rest = option.partition(", ")
             name, _, value = (rest or short).partition(" ")
-            quote = '"' if "'" in about else "'"
+            value = page_name(value)
             if rest:
                 wanted.add(f"'({short} {name})'{{{short},{name}}}'[{about}]'")
             else:
-                wanted.add(f"{quote}{name}[{about}]" + (f":{page_name(value)}:" if value else "") + quote)
+                wanted.add(quoted(f"{name}[{about}]" + (f":{value}:" if value else "") + ("_files" if value == "FILE" else "")))
         for name, about in parts.get("Arguments", {}).items():
             place = "*" if name.endswith("...") else str(1 + list(parts["Arguments"]).index(name))
-            quote = '"' if "'" in about else "'"
-            wanted.add(f"{quote}{place}:{page_name(name)} ({about[0].lower()}{about[1:]}):{quote}")
+            wanted.add(quoted(f"{place}:{page_name(name)} ({about[0].lower()}{about[1:]}):"))
     found = {it for it in lines if re.match(r"""["'][(\w*-].*:.*["']$|'\(-""", it) or re.match(r"'--\w+\[", it)}
     yield from (f"zsh lacks {it}" for it in sorted(wanted - found))
     yield from (f"zsh has {it}" for it in sorted(found - wanted))

@@ -10,18 +10,54 @@ use units::{Lang, Name};
 /// What the words ask for.
 #[derive(Drop)]
 pub(crate) enum Asked<'a> {
-    Deliver(Deliver),
+    Init(Init<'a>),
+    Deliver(Deliver<'a>),
+    Export(Export<'a>),
+    Serve(Serve<'a>),
+    Send(SendFile<'a>),
     Plural(Plural<'a>),
     Canon,
 }
 
+/// The options of `init`: the new file, and the office that it begins with.
+#[derive(Drop)]
+pub(crate) struct Init<'a> {
+    pub(crate) store: &'a str,
+    pub(crate) start: Start,
+}
+
 /// The options of `deliver`.
 #[derive(Drop)]
-pub(crate) struct Deliver {
+pub(crate) struct Deliver<'a> {
+    /// The file that the office is in; in memory where there is none.
+    pub(crate) store: Option<&'a str>,
     /// The office that opens: empty with one manager, or the demo office.
     pub(crate) start: Start,
     /// The language to export at the end.
     pub(crate) export: Option<Lang>,
+}
+
+/// The options of `export`: the file, and the language.
+#[derive(Drop)]
+pub(crate) struct Export<'a> {
+    pub(crate) store: &'a str,
+    pub(crate) lang: Lang,
+}
+
+/// The options of `serve`: the file that the office is in, the port, and how many connections are served.
+#[derive(Drop)]
+pub(crate) struct Serve<'a> {
+    pub(crate) store: &'a str,
+    pub(crate) port: u16,
+    pub(crate) connections: u32,
+}
+
+/// The options of `send`: the port that the office listens on, the file of requests, and how often each is sent at most.
+#[derive(Drop)]
+pub(crate) struct SendFile<'a> {
+    pub(crate) port: u16,
+    pub(crate) file: &'a str,
+    pub(crate) tries: u32,
 }
 
 /// The words of `plural`: the value of a `Plural-Forms` field, and the numbers to tell the forms of.
@@ -31,13 +67,40 @@ pub(crate) struct Plural<'a> {
     pub(crate) numbers: Vec<u32>,
 }
 
-fn manager_arg<'a>(alloc: Global) -> Arg<'a> {
+fn store_arg<'a>(alloc: Global) -> Arg<'a> {
+    Arg::new(alloc, "store")
+        .long("store")
+        .value_name("FILE")
+        .action(ArgAction::Set)
+}
+
+fn named_manager_arg<'a>(alloc: Global) -> Arg<'a> {
     Arg::new(alloc, "manager")
         .long("manager")
         .value_name("NAME")
         .action(ArgAction::Set)
+}
+
+fn manager_arg<'a>(alloc: Global) -> Arg<'a> {
+    named_manager_arg(alloc)
         .default_value("root")
         .help("Who manages the office that opens empty")
+}
+
+fn init_command<'a>(alloc: Global) -> Result<Command<'a>, AllocError> {
+    Command::new(alloc, "init")
+        .about("Makes an office in a new file, and prints ready")
+        .version(VERSION)
+        .arg(
+            store_arg(alloc)
+                .required(true)
+                .help("The file, an SQLite database"),
+        )?
+        .arg(
+            named_manager_arg(alloc)
+                .required(true)
+                .help("Who manages the office"),
+        )
 }
 
 fn demo_arg<'a>(alloc: Global) -> Arg<'a> {
@@ -59,9 +122,89 @@ fn deliver_command<'a>(alloc: Global) -> Result<Command<'a>, AllocError> {
     Command::new(alloc, "deliver")
         .about("Reads a JSON request a line, and prints STATUS BODY for each")
         .version(VERSION)
+        .arg(store_arg(alloc).help(
+            "The file that the office is in; without it, it stands in memory",
+        ))?
         .arg(manager_arg(alloc))?
         .arg(demo_arg(alloc))?
         .arg(export_arg(alloc))
+}
+
+fn lang_arg<'a>(alloc: Global) -> Arg<'a> {
+    Arg::new(alloc, "lang")
+        .long("lang")
+        .value_name("LANG")
+        .action(ArgAction::Set)
+        .required(true)
+        .help("The language")
+}
+
+fn export_command<'a>(alloc: Global) -> Result<Command<'a>, AllocError> {
+    Command::new(alloc, "export")
+        .about("Prints a language's PO text; its length and SHA-256 go to the second output")
+        .version(VERSION)
+        .arg(
+            store_arg(alloc)
+                .required(true)
+                .help("The file that the office is in"),
+        )?
+        .arg(lang_arg(alloc))
+}
+
+fn port_arg<'a>(alloc: Global) -> Arg<'a> {
+    Arg::new(alloc, "port")
+        .long("port")
+        .value_name("P")
+        .action(ArgAction::Set)
+        .required(true)
+        .value_parser(value_parser!(u16).range(1..))
+}
+
+/// An argument whose value is a number from 1 on.
+fn count_arg<'a>(alloc: Global, name: &'a str, value: &'a str) -> Arg<'a> {
+    Arg::new(alloc, name)
+        .long(name)
+        .value_name(value)
+        .action(ArgAction::Set)
+        .required(true)
+        .value_parser(value_parser!(u32).range(1..))
+}
+
+fn serve_command<'a>(alloc: Global) -> Result<Command<'a>, AllocError> {
+    Command::new(alloc, "serve")
+        .about("Serves an office over HTTP on 127.0.0.1, one connection after another")
+        .version(VERSION)
+        .arg(
+            store_arg(alloc)
+                .required(true)
+                .help("The file that the office is in"),
+        )?
+        .arg(port_arg(alloc).help("The port to listen on, from 1 to 65535"))?
+        .arg(count_arg(alloc, "connections", "K").help(
+            "Ends behind so many connections, from 1 to 4294967295",
+        ))
+}
+
+fn file_arg<'a>(alloc: Global) -> Arg<'a> {
+    Arg::new(alloc, "file")
+        .long("file")
+        .value_name("FILE")
+        .action(ArgAction::Set)
+        .required(true)
+        .help("The file of requests, a line of JSON each")
+}
+
+fn send_command<'a>(alloc: Global) -> Result<Command<'a>, AllocError> {
+    Command::new(alloc, "send")
+        .about(
+            "Sends a file's requests to an office that serves, and prints STATUS BODY for each, or none",
+        )
+        .version(VERSION)
+        .arg(port_arg(alloc).help("The port of 127.0.0.1 that the office listens on"))?
+        .arg(file_arg(alloc))?
+        .arg(count_arg(alloc, "tries", "T").help(
+            "Sends each request so often at most, from 1 to 4294967295",
+        ))
 }
 
 fn value_arg<'a>(alloc: Global) -> Arg<'a> {
@@ -123,7 +266,11 @@ fn bare_command<'a>(alloc: Global) -> Result<Command<'a>, AllocError> {
 }
 
 fn office_command<'a>(alloc: Global) -> Result<Command<'a>, AllocError> {
-    let command = with_subcommand(bare_command(alloc)?, deliver_command(alloc))?;
+    let command = with_subcommand(bare_command(alloc)?, init_command(alloc))?;
+    let command = with_subcommand(command, deliver_command(alloc))?;
+    let command = with_subcommand(command, export_command(alloc))?;
+    let command = with_subcommand(command, serve_command(alloc))?;
+    let command = with_subcommand(command, send_command(alloc))?;
     with_subcommand(command, plural_command(alloc))?.subcommand(canon_command(alloc))
 }
 
@@ -144,7 +291,11 @@ fn or_memory(error: Result<Error, AllocError>) -> Error {
 
 fn asked_of<'a>(alloc: Global, matches: &ArgMatches<'a>) -> Result<Asked<'a>, Error> {
     match matches.subcommand() {
+        Some(("init", found)) => init_options(alloc, found),
         Some(("deliver", found)) => deliver_options(alloc, found),
+        Some(("export", found)) => export_options(alloc, found),
+        Some(("serve", found)) => Ok(Asked::Serve(serve_options(found))),
+        Some(("send", found)) => Ok(Asked::Send(send_options(found))),
         Some(("plural", found)) => plural_options(alloc, found),
         Some(("canon", _)) => Ok(Asked::Canon),
         _ => Err(or_memory(wanted_subcommand(alloc))),
@@ -186,24 +337,66 @@ fn plural_options<'a>(alloc: Global, found: &ArgMatches<'a>) -> Result<Asked<'a>
     }))
 }
 
+/// The options of `serve`; clap has read each number.
+fn serve_options<'a>(found: &ArgMatches<'a>) -> Serve<'a> {
+    Serve {
+        store: found.get_str("store").unwrap_or(""),
+        port: found.get_one("port").unwrap_or(0),
+        connections: found.get_one("connections").unwrap_or(0),
+    }
+}
+
+/// The options of `send`; clap has read each number.
+fn send_options<'a>(found: &ArgMatches<'a>) -> SendFile<'a> {
+    SendFile {
+        port: found.get_one("port").unwrap_or(0),
+        file: found.get_str("file").unwrap_or(""),
+        tries: found.get_one("tries").unwrap_or(0),
+    }
+}
+
 const NO_NAME: &str =
     "a NAME is 1 to 32 bytes of a-z, 0-9, `.`, `-` and `_`, the first of them a letter";
 
 const NO_LANG: &str =
     "a LANG is 2 to 16 ASCII letters, digits, `_`, `-` and `@`, the first of them a letter";
 
-/// What is wrong with a value of `deliver`.
-fn wrong_value(alloc: Global, text: &str) -> Result<Error, AllocError> {
-    let mut command = deliver_command(alloc)?.bin_name("office deliver")?;
+/// What is wrong with a value of a subcommand, whose usage begins so.
+fn wrong_value<'a>(
+    subcommand: Result<Command<'a>, AllocError>,
+    usage: &str,
+    text: &str,
+) -> Result<Error, AllocError> {
+    let mut command = subcommand?.bin_name(usage)?;
     let error = command.error(ErrorKind::ValueValidation, text);
     drop(command);
     error
 }
 
+fn init_options<'a>(alloc: Global, found: &ArgMatches<'a>) -> Result<Asked<'a>, Error> {
+    match Name::try_new(alloc, found.get_str("manager").unwrap_or(""))? {
+        Some(manager) => Ok(Asked::Init(Init {
+            store: found.get_str("store").unwrap_or(""),
+            start: Start::Opening(manager),
+        })),
+        None => Err(or_memory(wrong_value(init_command(alloc), "office init", NO_NAME))),
+    }
+}
+
+fn export_options<'a>(alloc: Global, found: &ArgMatches<'a>) -> Result<Asked<'a>, Error> {
+    match Lang::try_new(alloc, found.get_str("lang").unwrap_or(""))? {
+        Some(lang) => Ok(Asked::Export(Export {
+            store: found.get_str("store").unwrap_or(""),
+            lang,
+        })),
+        None => Err(or_memory(wrong_value(export_command(alloc), "office export", NO_LANG))),
+    }
+}
+
 fn deliver_options<'a>(alloc: Global, found: &ArgMatches<'a>) -> Result<Asked<'a>, Error> {
     match Name::try_new(alloc, found.get_str("manager").unwrap_or("root"))? {
         Some(manager) => managed_options(alloc, found, manager),
-        None => Err(or_memory(wrong_value(alloc, NO_NAME))),
+        None => Err(or_memory(wrong_value(deliver_command(alloc), "office deliver", NO_NAME))),
     }
 }
 
@@ -223,6 +416,7 @@ fn managed_options<'a>(
 ) -> Result<Asked<'a>, Error> {
     match lang_option(alloc, found.get_str("export")) {
         Ok(export) => Ok(Asked::Deliver(Deliver {
+            store: found.get_str("store"),
             start: start(found.get_flag("demo"), manager),
             export,
         })),
@@ -239,6 +433,6 @@ fn lang_option(alloc: Global, value: Option<&str>) -> Result<Option<Lang>, Error
     };
     match Lang::try_new(alloc, text)? {
         Some(lang) => Ok(Some(lang)),
-        None => Err(or_memory(wrong_value(alloc, NO_LANG))),
+        None => Err(or_memory(wrong_value(deliver_command(alloc), "office deliver", NO_LANG))),
     }
 }

@@ -1,0 +1,127 @@
+#!/usr/bin/env python3
+"""Measures an office in a file: what opening it takes, a template of which 100 messages are others, and acts.
+
+`office init` makes the file; requests bring in a template of 20,000 messages, three languages that translate each, and so many translations
+that 100,000 requests stand recorded. Then, each in a run of its own and the best of several: a run without a request, which opens the file,
+tests it whole and closes it; translations, each decided, recorded and committed; and a new template in which 100 messages have another
+comment for translators. What opening takes is left out of the latter two. Beside the acts stands what an append of a page with its fdatasync
+takes, of which each commit has one. Each reply has to be the right one.
+
+Usage: bench/files.py [FOLDER [RECORDS [ENTRIES]]]      (from the top of the repository, after ./office --version has built the
+program; the file is made in FOLDER, which should lie on a disk)
+"""
+import json
+import os
+import pathlib
+import subprocess
+import sys
+import tempfile
+import time
+
+FOLDER = sys.argv[1] if len(sys.argv) > 1 else None
+RECORDS = int(sys.argv[2]) if len(sys.argv) > 2 else 100_000
+ENTRIES = int(sys.argv[3]) if len(sys.argv) > 3 else 20_000
+PROGRAM = os.path.join("crates", "cli", "out", "cli")
+LANGUAGES = ("cs", "de", "fr")
+CHANGED, ACTS, ROUNDS = 100, 2_000, 3
+HEADER = (
+    'msgid ""\nmsgstr ""\n"Content-Type: text/plain; charset=UTF-8\\n"\n'
+    '"Plural-Forms: nplurals=2; plural=n != 1;\\n"\n'
+)
+
+
+def key(i):
+    return "Message %05d of this office" % i
+
+
+def template(turn):
+    """The template, in which the first messages say of which turn they are."""
+    comments = {i: "#. turn %d\n" % turn for i in range(CHANGED)}
+    return "\n".join('%smsgid "%s"\nmsgstr ""\n' % (comments.get(i, ""), key(i)) for i in range(ENTRIES))
+
+
+def language(lang):
+    return HEADER + "".join('\nmsgid "%s"\nmsgstr "Text %05d in %s"\n' % (key(i), i, lang) for i in range(ENTRIES))
+
+
+class Requests:
+    """Lines with the replies that they have to get, and what revision each unit has."""
+
+    def __init__(self):
+        self.number, self.revisions = 0, {}
+
+    def line(self, act, **fields):
+        self.number += 1
+        fields.update(act=act, caller="root", number="%08x-0000-4000-8000-%012x" % (self.number, self.number))
+        return json.dumps(fields, sort_keys=True, separators=(",", ":")) + "\n"
+
+    def office(self):
+        yield self.line("template", po=template(0)), '{"languages":{}}'
+        for lang in LANGUAGES:
+            yield self.line("language", lang=lang, po=language(lang)), '{"loaded":%d,"missing":0,"obsolete":0}' % ENTRIES
+
+    def acts(self, count):
+        for n in range(self.number, self.number + count):
+            unit = LANGUAGES[n % len(LANGUAGES)], n * 7919 % ENTRIES
+            seen = self.revisions.get(unit, 1)
+            self.revisions[unit] = seen + 1
+            text = "Text %05d in %s, for the %dth time" % (unit[1], unit[0], seen)
+            yield self.line("translate", forms=[text], id=key(unit[1]), lang=unit[0], seen=seen), '{"revision":%d,"state":"translated"}' % (seen + 1)
+
+    def new_template(self, turn):
+        counts = {"added": 0, "changed": 0, "kept": ENTRIES, "obsolete": 0, "revived": 0}
+        yield self.line("template", po=template(turn)), json.dumps({"languages": dict.fromkeys(LANGUAGES, counts)}, separators=(",", ":"))
+
+
+def ran(path, rows=()):
+    """The seconds of a run with these requests, and its peak memory in MB."""
+    rows = list(rows)
+    with tempfile.TemporaryFile("w+") as lines, tempfile.TemporaryFile("w+") as replies:
+        lines.writelines(line for line, _ in rows)
+        lines.flush()
+        lines.seek(0)
+        start = time.monotonic()
+        child = subprocess.Popen([PROGRAM, "deliver", "--store", path], stdin=lines, stdout=replies)
+        _, status, usage = os.wait4(child.pid, 0)
+        seconds = time.monotonic() - start
+        replies.seek(0)
+        got = replies.read().splitlines()
+    wrong = [(line, reply) for (line, body), reply in zip(rows, got) if reply != "200 " + body]
+    if status or len(got) != len(rows) or wrong:
+        raise SystemExit("status %d, %d replies to %d requests, the first wrong one: %.300s" % (status, len(got), len(rows), wrong[:1]))
+    return seconds, usage.ru_maxrss / 1024
+
+
+def appended(path, count):
+    """The seconds of so many appends of a page, each with its fdatasync."""
+    with open(path, "wb", buffering=0) as file:
+        start = time.monotonic()
+        for _ in range(count):
+            file.write(bytes(4096))
+            os.fdatasync(file.fileno())
+        return time.monotonic() - start
+
+
+def main():
+    with tempfile.TemporaryDirectory(dir=FOLDER) as place:
+        path, requests = os.path.join(place, "office.db"), Requests()
+        subprocess.run([PROGRAM, "init", "--store", path, "--manager", "root"], check=True, stdout=subprocess.DEVNULL)
+        building, _ = ran(path, requests.office())
+        recorded, _ = ran(path, requests.acts(RECORDS - requests.number))
+        size = pathlib.Path(path).stat().st_size / 1e6
+        opening, memory = min(ran(path) for _ in range(ROUNDS))
+        acts = min(ran(path, requests.acts(ACTS))[0] for _ in range(ROUNDS)) - opening
+        updates = [ran(path, requests.new_template(turn)) for turn in range(1, ROUNDS + 1)]
+        append = min(appended(os.path.join(place, "pages"), ACTS) for _ in range(ROUNDS))
+        updating = min(seconds for seconds, _ in updates) - opening
+        most = max(it for _, it in updates)
+    print("%d records, %d languages of %d units, a file of %.1f MB" % (RECORDS, len(LANGUAGES), ENTRIES, size))
+    print("the template and the languages          %9.2f s" % building)
+    print("opening, with its tests, and closing    %9.2f s, at most %.1f MB" % (opening, memory))
+    print("translations                            %9.0f a second (%.0f while the file was made)" % (ACTS / acts, RECORDS / (recorded or 1)))
+    print("  an append and its fdatasync           %9.0f a second" % (ACTS / append))
+    print("a template with %d other comments      %9.2f s, at most %.1f MB" % (CHANGED, updating, most))
+
+
+if __name__ == "__main__":
+    main()

@@ -1,0 +1,62 @@
+//! `office serve`: an office in a file on a port of this machine.
+ghost use Rattle.std.specs.Prelude.{◌≡◌, false};
+
+use crate::files::{FileConnection, open_file};
+use crate::words::Serve;
+use crate::{DONE, after_close, store_fault};
+use commands::FAILED;
+use file_commands::open_desk;
+use office::Desk;
+use sockets::serve_next;
+use std::net::{Ipv4Addr, TcpListener};
+use tables::Tables;
+
+/// Serves the office in a file.
+pub(crate) fn serve_in_file(rt: &HostRuntime, options: &Serve<'_>) -> u8 {
+    match open_file(rt, options.store) {
+        Ok(connection) => serve_opened(rt, options, connection),
+        Err(fault) => store_fault(rt, fault),
+    }
+}
+
+fn serve_opened(rt: &HostRuntime, options: &Serve<'_>, connection: FileConnection) -> u8
+    requires { connection.in_transaction ≡ false }
+{
+    match open_desk(rt.alloc(), connection) {
+        Ok(mut desk) => {
+            let status = serve_port(rt, &mut desk, options.port, options.connections);
+            after_close(rt, status, desk.into_tables().into_connection())
+        }
+        Err((fault, connection)) => after_close(rt, store_fault(rt, fault), connection),
+    }
+}
+
+/// Takes the port, and serves so many connections there.
+fn serve_port<T: Tables>(rt: &HostRuntime, desk: &mut Desk<T>, port: u16, connections: u32) -> u8 {
+    match TcpListener::bind(rt, (Ipv4Addr::LOCALHOST, port)) {
+        Ok(listener) => serve_connections(rt, desk, &listener, connections),
+        Err(_) => {
+            // Where it can't be told, the status tells it.
+            let _ = eprintln!(rt; "port fault");
+            FAILED
+        }
+    }
+}
+
+/// Serves so many connections, one after another. Each that is given up is told, and the next is served.
+fn serve_connections<T: Tables>(
+    rt: &HostRuntime,
+    desk: &mut Desk<T>,
+    listener: &TcpListener,
+    connections: u32,
+) -> u8 {
+    let mut status = DONE;
+    for _ in 0..connections {
+        if let Err(fault) = serve_next(rt.alloc(), desk, listener) {
+            status = FAILED;
+            // Where it can't be told, the next is served all the same.
+            let _ = eprintln!(rt; "serve fault {}", fault.number());
+        }
+    }
+    status
+}

@@ -1,0 +1,82 @@
+//! The next connection of a listener.
+ghost use Rattle.std.specs.Prelude.{◌≡◌, IfOk};
+ghost use Rattle.sockets.specs.Connections.{ServedSome};
+
+use commands::{Input, Output};
+use http_api::{ServeFault, Served, serve};
+use office::Desk;
+use std::alloc::Global;
+use std::io::{BufWriter, Read};
+use std::net::{OpenListener, Shutdown, TcpStream};
+use std::time::Duration;
+use tables::Tables;
+
+const ROOM: usize = 16_384;
+
+/// How many times is read, at most, of what a client still sends behind its last answer.
+const LAST_READS: usize = 512;
+
+/// How many seconds a read of it waits.
+const LAST_WAIT: u64 = 1;
+
+/// Takes the next connection of a listener, serves it as `http_api::serve` does, and closes it.
+///
+/// Nothing is known of the bytes of a socket: some messages came, and each was answered from the desk, in their order. `Read` also where
+/// no connection was taken, `Memory` also where there is no room for its answers; then nothing was served.
+pub fn serve_next<T: Tables, L: OpenListener<Stream = TcpStream>>(
+    alloc: Global,
+    desk: &mut Desk<T>,
+    listener: &L,
+) -> Result<Served, ServeFault>
+    ensures served { ServedSome (T.is_honest desk.new) (T.is_whole desk.new) (T.means desk.old) (T.means desk.new)
+        (λ count. IfOk result (λ served. served.answered ≡ count)) }
+    ensures honest { T.is_honest desk.new → T.is_honest desk.old }
+    ensures whole { T.is_honest desk.new → T.is_whole desk.new → T.is_whole desk.old }
+{
+    match listener.accept() {
+        Ok((stream, _peer)) => serve_stream(alloc, desk, &stream),
+        Err(_) => Err(ServeFault::Read),
+    }
+}
+
+/// Serves a connection to its end.
+fn serve_stream<T: Tables>(
+    alloc: Global,
+    desk: &mut Desk<T>,
+    stream: &TcpStream,
+) -> Result<Served, ServeFault>
+    ensures served { ServedSome (T.is_honest desk.new) (T.is_whole desk.new) (T.means desk.old) (T.means desk.new)
+        (λ count. IfOk result (λ served. served.answered ≡ count)) }
+    ensures honest { T.is_honest desk.new → T.is_honest desk.old }
+    ensures whole { T.is_honest desk.new → T.is_whole desk.new → T.is_whole desk.old }
+{
+    // Each answer is handed on when it is whole, so nothing is gained by waiting for more.
+    let _ = stream.set_nodelay(true);
+    match BufWriter::new(alloc, stream) {
+        Ok(buffer) => {
+            let mut answers = Output::new(buffer);
+            let served = serve(alloc, desk, &mut Input::new(stream), &mut answers);
+            drop(answers);
+            take_leave(stream);
+            served
+        }
+        Err(_) => Err(ServeFault::Memory),
+    }
+}
+
+/// Lets the client read its last answer: a connection that is closed while bytes are unread takes the answer away from it (RFC 9112,
+/// 9.6). What still comes is thrown away, up to the client's end, a second of silence, or a bound.
+fn take_leave(stream: &TcpStream) {
+    let wait = Duration::from_secs(LAST_WAIT);
+    if stream.shutdown(Shutdown::Write).is_err() || stream.set_read_timeout(Some(wait)).is_err() {
+        return;
+    }
+    let mut room = [0u8; ROOM];
+    let mut rest = stream;
+    for _reads in 0..LAST_READS {
+        match rest.read(&mut room) {
+            Ok(count) if count > 0 => {}
+            _ => return,
+        }
+    }
+}
