@@ -4,8 +4,8 @@
 `office init` makes the file; requests bring in a template of 20,000 messages, three languages that translate each, and so many translations
 that 100,000 requests stand recorded. Then, each in a run of its own and the best of several: a run without a request, which opens the file,
 tests it whole and closes it; translations, each decided, recorded and committed; and a new template in which 100 messages have another
-comment for translators. What opening takes is left out of the latter two. Beside the acts stands what an append of a page with its fdatasync
-takes, of which each commit has one. Each reply has to be the right one.
+comment for translators. The latter two are timed from the open office to the last reply. Beside the acts stands what an append of a page with
+its fdatasync takes, of which each commit has one. Each reply has to be the right one.
 
 Usage: bench/files.py [FOLDER [RECORDS [ENTRIES]]]      (from the top of the repository, after ./office --version has built the
 program; the file is made in FOLDER, which should lie on a disk)
@@ -16,6 +16,7 @@ import pathlib
 import subprocess
 import sys
 import tempfile
+import threading
 import time
 
 FOLDER = sys.argv[1] if len(sys.argv) > 1 else None
@@ -74,22 +75,26 @@ class Requests:
 
 
 def ran(path, rows=()):
-    """The seconds of a run with these requests, and its peak memory in MB."""
+    """A run with these requests: the seconds of all of it, those from the open office to the last reply, and its peak memory in MB."""
     rows = list(rows)
-    with tempfile.TemporaryFile("w+") as lines, tempfile.TemporaryFile("w+") as replies:
-        lines.writelines(line for line, _ in rows)
-        lines.flush()
-        lines.seek(0)
-        start = time.monotonic()
-        child = subprocess.Popen([PROGRAM, "deliver", "--store", path], stdin=lines, stdout=replies)
+    start = time.monotonic()
+    with subprocess.Popen([PROGRAM, "deliver", "--store", path], stdin=subprocess.PIPE, stdout=subprocess.PIPE, text=True) as child:
+        # A line that is no request is answered once the office is open.
+        child.stdin.write("\n")
+        child.stdin.flush()
+        child.stdout.readline()
+        opened = time.monotonic()
+        # Beside the reading, since neither side could go on where both wrote more than the other takes.
+        threading.Thread(target=lambda: (child.stdin.writelines(line for line, _ in rows), child.stdin.close())).start()
+        got = [child.stdout.readline().rstrip("\n") for _ in rows]
+        answered = time.monotonic()
         _, status, usage = os.wait4(child.pid, 0)
-        seconds = time.monotonic() - start
-        replies.seek(0)
-        got = replies.read().splitlines()
+        child.returncode = os.waitstatus_to_exitcode(status)
+    ended = time.monotonic()
     wrong = [(line, reply) for (line, body), reply in zip(rows, got) if reply != "200 " + body]
-    if status or len(got) != len(rows) or wrong:
-        raise SystemExit("status %d, %d replies to %d requests, the first wrong one: %.300s" % (status, len(got), len(rows), wrong[:1]))
-    return seconds, usage.ru_maxrss / 1024
+    if child.returncode or wrong:
+        raise SystemExit("status %d, the first wrong reply of %d: %.300s" % (child.returncode, len(rows), wrong[:1]))
+    return ended - start, answered - opened, usage.ru_maxrss / 1024
 
 
 def appended(path, count):
@@ -106,15 +111,15 @@ def main():
     with tempfile.TemporaryDirectory(dir=FOLDER) as place:
         path, requests = os.path.join(place, "office.db"), Requests()
         subprocess.run([PROGRAM, "init", "--store", path, "--manager", "root"], check=True, stdout=subprocess.DEVNULL)
-        building, _ = ran(path, requests.office())
-        recorded, _ = ran(path, requests.acts(RECORDS - requests.number))
+        _, building, _ = ran(path, requests.office())
+        _, recorded, _ = ran(path, requests.acts(RECORDS - requests.number))
         size = pathlib.Path(path).stat().st_size / 1e6
-        opening, memory = min(ran(path) for _ in range(ROUNDS))
-        acts = min(ran(path, requests.acts(ACTS))[0] for _ in range(ROUNDS)) - opening
+        opening, _, memory = min(ran(path) for _ in range(ROUNDS))
+        acts = min(ran(path, requests.acts(ACTS))[1] for _ in range(ROUNDS))
         updates = [ran(path, requests.new_template(turn)) for turn in range(1, ROUNDS + 1)]
         append = min(appended(os.path.join(place, "pages"), ACTS) for _ in range(ROUNDS))
-        updating = min(seconds for seconds, _ in updates) - opening
-        most = max(it for _, it in updates)
+        updating = min(seconds for _, seconds, _ in updates)
+        most = max(it for _, _, it in updates)
     print("%d records, %d languages of %d units, a file of %.1f MB" % (RECORDS, len(LANGUAGES), ENTRIES, size))
     print("the template and the languages          %9.2f s" % building)
     print("opening, with its tests, and closing    %9.2f s, at most %.1f MB" % (opening, memory))

@@ -1,14 +1,13 @@
-//! Files that offices are in.
-ghost use Rattle.std.specs.Prelude.{◌≡◌, false, IfOk};
+//! Offices in files.
 
-use sqlite::{Connection, Error, ErrorCode, File, FileStore};
+use crate::store_fault;
+use crate::work::{Work, done};
+use file_commands::Closed;
+use sqlite::{Connection, Error, ErrorCode};
 use std::fs;
 use std::io::{IsTerminal, Read};
 use std::rt::HostRuntime;
 use store_sql::OpenFault;
-
-/// A connection to a file.
-pub(crate) type FileConnection = Connection<FileStore<File>>;
 
 /// What a database's file begins with.
 const MARK: [u8; 16] = *b"SQLite format 3\0";
@@ -46,34 +45,29 @@ fn fault_of(error: &Error, marked: bool) -> OpenFault {
     }
 }
 
-/// Opens a file, or makes it.
-pub(crate) fn open_or_make(rt: &HostRuntime, path: &str) -> Result<FileConnection, OpenFault>
-    ensures between { IfOk result (λ connection. connection.in_transaction ≡ false) }
-{
+/// Opens a file, or makes it, does work on the office in it, and closes it: it is whole by itself then, without the log beside it.
+///
+/// Here alone stands the type of a connection to a file: each function that owns one is dear to prove.
+fn in_open_file(rt: &HostRuntime, path: &str, work: Work<'_>) -> u8 {
     // An opening may write to the file.
     let marked = has_mark(rt, path);
-    tell_opening(rt, path);
     match Connection::open(rt, path) {
-        Ok(connection) => Ok(connection),
-        Err(error) => Err(fault_of(&error, marked)),
+        Ok(connection) => {
+            let Closed { status, connection } = done(rt, connection, work);
+            match connection.close() {
+                Ok(()) => status,
+                Err(_) => store_fault(rt, OpenFault::Disk),
+            }
+        }
+        Err(error) => store_fault(rt, fault_of(&error, marked)),
     }
 }
 
-/// Opens a file that is there.
-pub(crate) fn open_file(rt: &HostRuntime, path: &str) -> Result<FileConnection, OpenFault>
-    ensures between { IfOk result (λ connection. connection.in_transaction ≡ false) }
-{
-    if fs::exists(rt, path).unwrap_or(false) {
-        open_or_make(rt, path)
-    } else {
-        Err(OpenFault::Disk)
+/// Does work on the office in a file, which has to be there but where the work makes an office. Answers the exit status.
+pub(crate) fn in_file(rt: &HostRuntime, path: &str, work: Work<'_>) -> u8 {
+    if work.opens() && !fs::exists(rt, path).unwrap_or(false) {
+        return store_fault(rt, OpenFault::Disk);
     }
-}
-
-/// Closes a file: it is whole by itself then, without the log beside it.
-pub(crate) fn close_file(connection: FileConnection) -> Result<(), OpenFault> {
-    match connection.close() {
-        Ok(()) => Ok(()),
-        Err(_) => Err(OpenFault::Disk),
-    }
+    tell_opening(rt, path);
+    in_open_file(rt, path, work)
 }

@@ -5,21 +5,22 @@ mod files;
 mod send;
 mod serve;
 mod words;
+mod work;
 
 use clap::Error;
 use commands::{FAILED, Input, Output, canon_text, deliver_lines, plural_lines};
-use file_commands::{deliver_store, export_store, init_store, tell_store_fault};
-use files::{FileConnection, close_file, open_file, open_or_make};
+use file_commands::tell_store_fault;
+use files::in_file;
 use office::Desk;
 use send::send_file;
-use serve::serve_in_file;
 use std::io::{self, BufWriter, Stdout};
 use std::process::ExitCode;
 use store::PlainTables;
 use store_sql::OpenFault;
 use tables::Start;
 use units::{ByteSink, Lang};
-use words::{Asked, Deliver, Export, Init, Plural, read_words, words_status};
+use words::{Asked, Deliver, Plural, read_words, words_status};
+use work::Work;
 
 fn main(rt: HostRuntime) -> ExitCode {
     match run(&rt) {
@@ -42,10 +43,10 @@ fn run(rt: &HostRuntime) -> io::Result<u8> {
 /// Does what the words ask for.
 fn asked_status(rt: &HostRuntime, asked: &Asked<'_>) -> io::Result<u8> {
     match asked {
-        Asked::Init(options) => Ok(init(rt, options)),
+        Asked::Init(options) => Ok(in_file(rt, options.store, Work::Make(&options.start))),
         Asked::Deliver(options) => deliver_standard(rt, options),
-        Asked::Export(options) => export_standard(rt, options),
-        Asked::Serve(options) => Ok(serve_in_file(rt, options)),
+        Asked::Export(options) => Ok(in_file(rt, options.store, Work::Export(&options.lang))),
+        Asked::Serve(options) => Ok(in_file(rt, options.store, Work::Serve(options))),
         Asked::Send(options) => send_file(rt, options),
         Asked::Plural(options) => plural_standard(rt, options),
         Asked::Canon => canon_standard(rt),
@@ -65,39 +66,14 @@ fn store_fault(rt: &HostRuntime, fault: OpenFault) -> u8 {
     tell_store_fault(&mut Output::new(rt.stderr()), fault)
 }
 
-/// Closes the file behind the work, whose status this is.
-fn after_close(rt: &HostRuntime, status: u8, connection: FileConnection) -> u8 {
-    match close_file(connection) {
-        Ok(()) => status,
-        Err(fault) => store_fault(rt, fault),
-    }
-}
-
-/// Makes an office in a file.
-fn init(rt: &HostRuntime, options: &Init<'_>) -> u8 {
-    match open_or_make(rt, options.store) {
-        Ok(connection) => {
-            let (status, connection) = init_store(
-                rt.alloc(),
-                connection,
-                &options.start,
-                &mut Output::new(rt.stdout()),
-                &mut Output::new(rt.stderr()),
-            );
-            after_close(rt, status, connection)
-        }
-        Err(fault) => store_fault(rt, fault),
-    }
-}
-
-/// Delivers what the standard input gives.
+/// Delivers what the standard input gives, to the office in a file, or to one in memory.
 fn deliver_standard(rt: &HostRuntime, options: &Deliver<'_>) -> io::Result<u8> {
-    let mut replies = Output::new(BufWriter::new(rt.alloc(), rt.stdout())?);
     let export = options.export.as_ref();
-    let status = match options.store {
-        Some(path) => deliver_in_file(rt, path, &mut replies, export),
-        None => deliver_in_memory(rt, &options.start, &mut replies, export),
-    };
+    if let Some(path) = options.store {
+        return Ok(in_file(rt, path, Work::Deliver(export)));
+    }
+    let mut replies = Output::new(BufWriter::new(rt.alloc(), rt.stdout())?);
+    let status = deliver_in_memory(rt, &options.start, &mut replies, export);
     drop(replies);
     Ok(status)
 }
@@ -126,56 +102,6 @@ fn deliver_in_memory(
         }
         // Tables in memory want nothing else.
         Err(_) => store_fault(rt, OpenFault::Memory),
-    }
-}
-
-fn deliver_in_file(
-    rt: &HostRuntime,
-    path: &str,
-    replies: &mut Output<BufWriter<Stdout>>,
-    export: Option<&Lang>,
-) -> u8 {
-    match open_file(rt, path) {
-        Ok(connection) => {
-            let (status, connection) = deliver_store(
-                rt.alloc(),
-                connection,
-                &mut Input::new(rt.stdin()),
-                replies,
-                &mut Output::new(rt.stderr()),
-                export,
-            );
-            after_close(rt, status, connection)
-        }
-        Err(fault) => store_fault(rt, fault),
-    }
-}
-
-/// Exports a language to the standard output.
-fn export_standard(rt: &HostRuntime, options: &Export<'_>) -> io::Result<u8> {
-    let mut text = Output::new(BufWriter::new(rt.alloc(), rt.stdout())?);
-    let status = export_in_file(rt, options, &mut text);
-    drop(text);
-    Ok(status)
-}
-
-fn export_in_file(
-    rt: &HostRuntime,
-    options: &Export<'_>,
-    text: &mut Output<BufWriter<Stdout>>,
-) -> u8 {
-    match open_file(rt, options.store) {
-        Ok(connection) => {
-            let (status, connection) = export_store(
-                rt.alloc(),
-                connection,
-                &options.lang,
-                text,
-                &mut Output::new(rt.stderr()),
-            );
-            after_close(rt, status, connection)
-        }
-        Err(fault) => store_fault(rt, fault),
     }
 }
 

@@ -1,33 +1,34 @@
 //! `office serve`: an office in a file on a port of this machine.
 ghost use Rattle.std.specs.Prelude.{◌≡◌, false};
 
-use crate::files::{FileConnection, open_file};
 use crate::words::Serve;
-use crate::{DONE, after_close, store_fault};
+use crate::{DONE, store_fault};
 use commands::FAILED;
-use file_commands::open_desk;
+use file_commands::{Closed, Unopened, open_desk};
 use office::Desk;
 use sockets::serve_next;
+use sqlite::{Alter, Connection};
 use std::net::{Ipv4Addr, TcpListener};
 use tables::Tables;
 
-/// Serves the office in a file.
-pub(crate) fn serve_in_file(rt: &HostRuntime, options: &Serve<'_>) -> u8 {
-    match open_file(rt, options.store) {
-        Ok(connection) => serve_opened(rt, options, connection),
-        Err(fault) => store_fault(rt, fault),
-    }
-}
-
-fn serve_opened(rt: &HostRuntime, options: &Serve<'_>, connection: FileConnection) -> u8
+/// Opens the office in a database, and serves it.
+pub(crate) fn serve_opened<S: Alter + Drop>(
+    rt: &HostRuntime,
+    connection: Connection<S>,
+    options: &Serve<'_>,
+) -> Closed<S>
     requires { connection.in_transaction ≡ false }
 {
     match open_desk(rt.alloc(), connection) {
         Ok(mut desk) => {
             let status = serve_port(rt, &mut desk, options.port, options.connections);
-            after_close(rt, status, desk.into_tables().into_connection())
+            let connection = desk.into_tables().into_connection();
+            Closed { status, connection }
         }
-        Err((fault, connection)) => after_close(rt, store_fault(rt, fault), connection),
+        Err(Unopened { fault, connection }) => Closed {
+            status: store_fault(rt, fault),
+            connection,
+        },
     }
 }
 

@@ -5,6 +5,7 @@ ghost use Rattle.commands.specs.Writers.{writer_at};
 ghost use Rattle.file_commands.specs.Init.{Initialised, Said, ready_line};
 
 use crate::faults::{send_line, tell_store_fault};
+use crate::opening::Closed;
 use commands::FAILED;
 use sqlite::{Alter, Connection};
 use std::alloc::Global;
@@ -34,15 +35,21 @@ pub fn init_store<S: Alter + Drop, W: ByteSink, E: ByteSink>(
     start: &Start,
     w: &mut W,
     e: &mut E,
-) -> (u8, Connection<S>)
+) -> Closed<S>
     requires autocommit { connection.in_transaction ≡ false }
-    ensures initialised { Initialised S.Store start.now connection result.1
+    ensures initialised { Initialised S.Store start.now connection result.connection
         (writer_at W.taken W.failed w.old) (writer_at W.taken W.failed w.new)
-        (writer_at E.taken E.failed e.old) (writer_at E.taken E.failed e.new) result.0 }
-    ensures between { result.1.in_transaction ≡ false }
+        (writer_at E.taken E.failed e.old) (writer_at E.taken E.failed e.new) result.status }
+    ensures between { result.connection.in_transaction ≡ false }
 {
     match SqliteTables::create(connection, alloc, start) {
-        Ok(tables) => (say_ready(w), tables.into_connection()),
-        Err((fault, connection)) => (tell_store_fault(e, fault), connection),
+        Ok(tables) => Closed {
+            status: say_ready(w),
+            connection: tables.into_connection(),
+        },
+        Err((fault, connection)) => Closed {
+            status: tell_store_fault(e, fault),
+            connection,
+        },
     }
 }

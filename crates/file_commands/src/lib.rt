@@ -9,5 +9,5 @@ mod runs;
 
 pub use faults::tell_store_fault;
 pub use init::init_store;
-pub use opening::open_desk;
+pub use opening::{Closed, Unopened, open_desk};
 pub use runs::{deliver_store, export_store};

@@ -7,6 +7,20 @@ use sqlite::{Alter, Connection};
 use std::alloc::Global;
 use store_sql::{OpenFault, SqliteTables};
 
+/// Work on the office in a database that is done: the exit status, and the connection, handed back.
+#[derive(Drop)]
+pub struct Closed<S: Alter> {
+    pub status: u8,
+    pub connection: Connection<S>,
+}
+
+/// An office in a database that can't be opened: why, and the connection, handed back.
+#[derive(Drop)]
+pub struct Unopened<S: Alter> {
+    pub fault: OpenFault,
+    pub connection: Connection<S>,
+}
+
 /// The desk of the office in a database, as its rows stand.
 ///
 /// On a fault the connection is handed back with its rows as before: `Foreign` where they are no office's in the first form of its tables,
@@ -14,14 +28,17 @@ use store_sql::{OpenFault, SqliteTables};
 pub fn open_desk<S: Alter + Drop>(
     alloc: Global,
     connection: Connection<S>,
-) -> Result<Desk<SqliteTables<S>>, (OpenFault, Connection<S>)>
+) -> Result<Desk<SqliteTables<S>>, Unopened<S>>
     requires autocommit { connection.in_transaction ≡ false }
     ensures opened { IfOk result (λ desk. IsOpened S.Store connection desk.rows.0) }
-    ensures refused { IfErr result (λ refusal. IsUnopened S.Store connection refusal.1 refusal.0) }
+    ensures refused { IfErr result (λ refusal. IsUnopened S.Store connection refusal.connection refusal.fault) }
 {
     match SqliteTables::adopt(connection, alloc) {
         Ok(tables) => Ok(Desk::new(alloc, tables)),
-        Err((fault, connection)) => Err((OpenFault::from(fault), connection)),
+        Err((fault, connection)) => Err(Unopened {
+            fault: OpenFault::from(fault),
+            connection,
+        }),
     }
 }
 

@@ -10,7 +10,7 @@ ghost use Rattle.commands.specs.Gathering.{Finished};
 ghost use Rattle.file_commands.specs.Runs.{Ran};
 
 use crate::faults::{hand_on, tell_store_fault};
-use crate::opening::{close_desk, open_desk};
+use crate::opening::{Closed, Unopened, close_desk, open_desk};
 use commands::{FAILED, deliver_lines, export_text};
 use office::Desk;
 use sqlite::{Alter, Connection};
@@ -29,27 +29,33 @@ pub fn deliver_store<S: Alter + Drop, R: ByteSource, W: ByteSink, E: ByteSink>(
     replies: &mut W,
     faults: &mut E,
     lang: Option<&Lang>,
-) -> (u8, Connection<S>)
+) -> Closed<S>
     requires autocommit { connection.in_transaction ≡ false }
     // What the connection's rows mean afterwards is what the lines left, behind the office that was opened.
     ensures delivered { Ran S.Store
         (λ opened. (text : List ℕ) × IfSome (R.left source.old) (λ all. text ≡ all)
-        × Delivered (HasCleanDisk (state S.Store result.1)) (IsTrue (state S.Store result.1).is_open)
-        (meaning_in (state S.Store opened).now.trees) (meaning_in (state S.Store result.1).now.trees)
+        × Delivered (HasCleanDisk (state S.Store result.connection)) (IsTrue (state S.Store result.connection).is_open)
+        (meaning_in (state S.Store opened).now.trees) (meaning_in (state S.Store result.connection).now.trees)
         (option_map (λ named. named.now) lang.entry) text (R.failed source.old) (R.failed source.new)
         (writer_at W.taken W.failed replies.old) (writer_at W.taken W.failed replies.new)
-        (writer_at E.taken E.failed faults.old) (writer_at E.taken E.failed faults.new) result.0)
+        (writer_at E.taken E.failed faults.old) (writer_at E.taken E.failed faults.new) result.status)
         ((source.new ≡ source.old) × (replies.new ≡ replies.old))
-        connection result.1 (writer_at E.taken E.failed faults.old) (writer_at E.taken E.failed faults.new) result.0 }
-    ensures status { result.0 ≤ 1 }
-    ensures between { result.1.in_transaction ≡ false }
+        connection result.connection (writer_at E.taken E.failed faults.old) (writer_at E.taken E.failed faults.new) result.status }
+    ensures status { result.status ≤ 1 }
+    ensures between { result.connection.in_transaction ≡ false }
 {
     match open_desk(alloc, connection) {
         Ok(mut desk) => {
             let status = deliver_lines(alloc, &mut desk, source, replies, faults, lang);
-            (status, close_desk(desk))
+            Closed {
+                status,
+                connection: close_desk(desk),
+            }
         }
-        Err((fault, connection)) => (tell_store_fault(faults, fault), connection),
+        Err(Unopened { fault, connection }) => Closed {
+            status: tell_store_fault(faults, fault),
+            connection,
+        },
     }
 }
 
@@ -83,26 +89,32 @@ pub fn export_store<S: Alter + Drop, W: ByteSink, E: ByteSink>(
     lang: &Lang,
     w: &mut W,
     e: &mut E,
-) -> (u8, Connection<S>)
+) -> Closed<S>
     requires autocommit { connection.in_transaction ≡ false }
     // The rows mean afterwards what they meant when the office was opened, and the text is that office's.
     ensures exported { Ran S.Store
-        (λ opened. Finished (λ old new exit. Printed (HasCleanDisk (state S.Store result.1)) (IsTrue (state S.Store result.1).is_open)
-        (meaning_in (state S.Store result.1).now.trees).office lang.now
+        (λ opened. Finished (λ old new exit. Printed (HasCleanDisk (state S.Store result.connection)) (IsTrue (state S.Store result.connection).is_open)
+        (meaning_in (state S.Store result.connection).now.trees).office lang.now
         old new (writer_at E.taken E.failed e.old) (writer_at E.taken E.failed e.new) exit)
-        (writer_at W.taken W.failed w.old) (writer_at W.taken W.failed w.new) result.0
-        × (HasCleanDisk (state S.Store result.1) → IsTrue (state S.Store result.1).is_open
-        → meaning_in (state S.Store result.1).now.trees ≡ meaning_in (state S.Store opened).now.trees))
+        (writer_at W.taken W.failed w.old) (writer_at W.taken W.failed w.new) result.status
+        × (HasCleanDisk (state S.Store result.connection) → IsTrue (state S.Store result.connection).is_open
+        → meaning_in (state S.Store result.connection).now.trees ≡ meaning_in (state S.Store opened).now.trees))
         (w.new ≡ w.old)
-        connection result.1 (writer_at E.taken E.failed e.old) (writer_at E.taken E.failed e.new) result.0 }
-    ensures status { result.0 ≤ 1 }
-    ensures between { result.1.in_transaction ≡ false }
+        connection result.connection (writer_at E.taken E.failed e.old) (writer_at E.taken E.failed e.new) result.status }
+    ensures status { result.status ≤ 1 }
+    ensures between { result.connection.in_transaction ≡ false }
 {
     match open_desk(alloc, connection) {
         Ok(mut desk) => {
             let status = export_whole(&mut desk, lang, w, e);
-            (status, close_desk(desk))
+            Closed {
+                status,
+                connection: close_desk(desk),
+            }
         }
-        Err((fault, connection)) => (tell_store_fault(e, fault), connection),
+        Err(Unopened { fault, connection }) => Closed {
+            status: tell_store_fault(e, fault),
+            connection,
+        },
     }
 }

@@ -1,12 +1,11 @@
-//! A file in memory that is opened and closed.
-ghost use Rattle.std.specs.Prelude.{◌≡◌, false, IfSome};
+//! A file in memory that is opened, worked on, and closed.
 
-use sqlite::{Connection, FileStore, Files, Options};
+use crate::deeds::{Deed, done};
+use crate::streams::Streams;
+use file_commands::Closed;
+use sqlite::{Connection, Files, Options};
 use sqlite_disk::{Disk, Memory};
 use std::alloc::Global;
-
-/// A connection to a file in memory.
-pub(crate) type MemoryConnection = Connection<FileStore<Memory>>;
 
 /// A file with these bytes.
 fn file_of(alloc: Global, bytes: &[u8]) -> Option<Files<Memory>> {
@@ -18,16 +17,29 @@ fn file_of(alloc: Global, bytes: &[u8]) -> Option<Files<Memory>> {
     })
 }
 
-/// Opens a file with these bytes.
-pub(crate) fn opened(alloc: Global, bytes: &[u8]) -> Option<MemoryConnection>
-    ensures { IfSome result (λ connection. connection.in_transaction ≡ false) }
-{
-    let files = file_of(alloc, bytes)?;
+/// What comes of a deed on files, and what they have once they are closed.
+///
+/// Here alone stands the type of a connection to a file: each function that owns one is dear to prove.
+fn in_files(
+    alloc: Global,
+    files: Files<Memory>,
+    deed: Deed<'_>,
+    streams: &mut Streams<'_>,
+) -> Option<(u8, Files<Memory>)> {
     if !files.log.may_be_used() || !files.db.may_be_used() {
         return None;
     }
     match Connection::open_files(alloc, files, Options::new(1)) {
-        Ok(connection) => Some(connection),
+        Ok(connection) => {
+            let Closed { status, connection } = done(alloc, connection, deed, streams);
+            match connection.close_files() {
+                Ok(files) => Some((status, files)),
+                Err((_, store)) => {
+                    drop(store);
+                    None
+                }
+            }
+        }
         Err((_, left)) => {
             drop(left);
             None
@@ -35,29 +47,34 @@ pub(crate) fn opened(alloc: Global, bytes: &[u8]) -> Option<MemoryConnection>
     }
 }
 
-/// Closes the file, and answers its bytes.
-pub(crate) fn closed(alloc: Global, connection: MemoryConnection) -> Option<Vec<u8>> {
-    match connection.close_files() {
-        Ok(files) => {
-            let mut bytes = Vec::new(alloc);
-            bytes.extend_from_slice(files.db.bytes()).ok()?;
-            Some(bytes)
-        }
-        Err((_, store)) => {
-            drop(store);
-            None
-        }
-    }
+/// What comes of a deed on a file with these bytes, and its bytes then.
+pub(crate) fn in_file(
+    alloc: Global,
+    bytes: &[u8],
+    deed: Deed<'_>,
+    streams: &mut Streams<'_>,
+) -> Option<(u8, Vec<u8>)> {
+    let files = file_of(alloc, bytes)?;
+    let (status, files) = in_files(alloc, files, deed, streams)?;
+    let mut left = Vec::new(alloc);
+    left.extend_from_slice(files.db.bytes()).ok()?;
+    Some((status, left))
 }
 
 /// What statements make of a file with these bytes.
 pub(crate) fn written(alloc: Global, bytes: &[u8], statements: &str) -> Option<Vec<u8>> {
-    let mut connection = opened(alloc, bytes)?;
-    match connection.execute_batch(statements) {
-        Ok(()) => closed(alloc, connection),
-        Err(_) => {
-            drop(connection);
-            None
-        }
+    let mut streams = Streams::new(alloc, "", b"");
+    match in_file(alloc, bytes, Deed::Sql(statements), &mut streams)? {
+        (0, left) => Some(left),
+        _ => None,
+    }
+}
+
+/// The rows of all tables of a file with these bytes.
+pub(crate) fn all_rows(alloc: Global, bytes: &[u8]) -> Option<String> {
+    let mut streams = Streams::new(alloc, "", b"");
+    match in_file(alloc, bytes, Deed::Rows, &mut streams)? {
+        (0, _) => streams.told(alloc, 0),
+        _ => None,
     }
 }

@@ -22,6 +22,7 @@
 //! A row that begins with `#` says nothing.
 #![tactic(auto)]
 
+mod deeds;
 mod files;
 mod rows;
 mod runs;

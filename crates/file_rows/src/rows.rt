@@ -1,7 +1,6 @@
 //! The rows of all tables, as a text.
-use crate::files::{MemoryConnection, opened};
-use sqlite::Row;
 use sqlite::types::ValueRef;
+use sqlite::{Alter, Connection, Row};
 use std::alloc::Global;
 
 const TABLES: [&str; 8] = [
@@ -34,10 +33,10 @@ fn push_row(text: &mut String, row: &Row) -> Option<()> {
 }
 
 /// Adds the rows of a table; nothing where there is no such table.
-fn push_table(
+fn push_table<S: Alter>(
     alloc: Global,
     text: &mut String,
-    connection: &mut MemoryConnection,
+    connection: &mut Connection<S>,
     table: &str,
 ) -> Option<()> {
     let query = format!(in alloc; "SELECT * FROM {table}").ok()?;
@@ -50,14 +49,15 @@ fn push_table(
     Some(())
 }
 
-/// The rows of all tables of a file with these bytes.
-pub(crate) fn all_rows(alloc: Global, file: &[u8]) -> Option<String> {
-    let mut text = String::new(alloc);
-    let mut connection = opened(alloc, file)?;
+/// Adds the rows of all tables.
+pub(crate) fn push_rows<S: Alter>(
+    alloc: Global,
+    text: &mut String,
+    connection: &mut Connection<S>,
+) -> Option<()> {
     for table in TABLES {
         write!(text, "{table}: ").ok()?;
-        push_table(alloc, &mut text, &mut connection, table)?;
+        push_table(alloc, text, connection, table)?;
     }
-    drop(connection);
-    Some(text)
+    Some(())
 }

@@ -1,8 +1,8 @@
 //! The commands of rows.
-use crate::files::{closed, opened};
+use crate::deeds::Deed;
+use crate::files::in_file;
 use crate::streams::Streams;
 use crate::words::{word, word_behind};
-use file_commands::{deliver_store, export_store, init_store};
 use std::alloc::Global;
 use tables::Start;
 use units::{Lang, Name};
@@ -32,15 +32,7 @@ fn lang(alloc: Global, word: Option<&str>) -> Option<Option<Lang>> {
 /// Makes an office in the file.
 fn init(alloc: Global, file: &[u8], streams: &mut Streams<'_>, who: &str) -> Option<(u8, Vec<u8>)> {
     let start = start(alloc, who)?;
-    let connection = opened(alloc, file)?;
-    let (status, connection) = init_store(
-        alloc,
-        connection,
-        &start,
-        &mut streams.output,
-        &mut streams.faults,
-    );
-    Some((status, closed(alloc, connection)?))
+    in_file(alloc, file, Deed::Make(&start), streams)
 }
 
 /// Delivers lines to the office in the file, and then exports a language, if one is named.
@@ -51,16 +43,7 @@ fn deliver(
     export: Option<&str>,
 ) -> Option<(u8, Vec<u8>)> {
     let lang = lang(alloc, export)?;
-    let connection = opened(alloc, file)?;
-    let (status, connection) = deliver_store(
-        alloc,
-        connection,
-        &mut streams.source,
-        &mut streams.output,
-        &mut streams.faults,
-        lang.as_ref(),
-    );
-    Some((status, closed(alloc, connection)?))
+    in_file(alloc, file, Deed::Deliver(lang.as_ref()), streams)
 }
 
 /// Exports a language of the office in the file.
@@ -71,15 +54,7 @@ fn export(
     code: &str,
 ) -> Option<(u8, Vec<u8>)> {
     let lang = Lang::try_new(alloc, code).ok()??;
-    let connection = opened(alloc, file)?;
-    let (status, connection) = export_store(
-        alloc,
-        connection,
-        &lang,
-        &mut streams.output,
-        &mut streams.faults,
-    );
-    Some((status, closed(alloc, connection)?))
+    in_file(alloc, file, Deed::Export(&lang), streams)
 }
 
 /// Runs a command on the file.

@@ -1,6 +1,5 @@
 //! Files that are no office's.
-use crate::files::written;
-use crate::rows::all_rows;
+use crate::files::{all_rows, written};
 use crate::runs::{Outcome, come};
 use std::alloc::Global;
 

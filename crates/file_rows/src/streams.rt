@@ -45,6 +45,13 @@ pub(crate) struct Kept {
     failures: u64,
 }
 
+impl Kept {
+    /// Keeps bytes besides those that are written.
+    pub(crate) fn keep(&mut self, bytes: &[u8]) -> Option<()> {
+        self.bytes.extend_from_slice(bytes).ok()
+    }
+}
+
 impl ByteSink for Kept {
     ghost taken = { λ _. None };
 

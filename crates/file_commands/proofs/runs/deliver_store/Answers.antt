@@ -6,4 +6,4 @@ pub returns-in-Ok-clause-delivered : goal.returns-in-Ok-clause-delivered
 returns-in-Ok-clause-delivered g c = rw c.close_desk.ensures.held (worked c.in-Ok.desk.rows.0 c.in-Ok.ensures.opened c.deliver_lines-status.ensures.delivered)
 
 pub returns-in-Err-clause-delivered : goal.returns-in-Err-clause-delivered
-returns-in-Err-clause-delivered g c = refused c.in-Err.fault c.in-Err.ensures.refused (refl, refl) c.tell_store_fault.ensures.told c.tell_store_fault.ensures.status
+returns-in-Err-clause-delivered g c = refused c.in-Err.field-0.fault c.in-Err.ensures.refused (refl, refl) c.tell_store_fault.ensures.told c.tell_store_fault.ensures.status

@@ -1,4 +1,5 @@
-//! Texts of rows.
+//! Texts with names, and texts that name them.
+use crate::texts::{Notation, add_text};
 use std::alloc::Global;
 
 /// The bytes of a text under its name.
@@ -10,14 +11,14 @@ struct Named {
 
 /// The texts with names.
 #[derive(Drop)]
-pub(crate) struct Texts {
+pub(crate) struct NamedTexts {
     alloc: Global,
     named: Vec<Named>,
 }
 
-impl Texts {
-    pub(crate) fn new(alloc: Global) -> Texts {
-        Texts {
+impl NamedTexts {
+    pub(crate) fn new(alloc: Global) -> NamedTexts {
+        NamedTexts {
             alloc,
             named: Vec::new(alloc),
         }
@@ -43,11 +44,11 @@ impl Texts {
         let (most, text) = front(text);
         let mut bytes = Vec::new(self.alloc);
         let mut pieces = text.split('<');
-        add_plain(&mut bytes, pieces.next()?)?;
+        add_text(&mut bytes, pieces.next()?, Notation::Lines)?;
         for piece in pieces {
             let (name, rest) = piece.split_once('>')?;
             bytes.extend_from_slice(self.named(name)?).ok()?;
-            add_plain(&mut bytes, rest)?;
+            add_text(&mut bytes, rest, Notation::Lines)?;
         }
         bytes.truncate(most);
         Some(bytes)
@@ -72,65 +73,5 @@ fn front(text: &str) -> (usize, &str) {
             Err(_) => (usize::MAX, text),
         },
         None => (usize::MAX, text),
-    }
-}
-
-/// Adds a text without names.
-fn add_plain(bytes: &mut Vec<u8>, text: &str) -> Option<()> {
-    let mut pieces = text.split('^');
-    add_lines(bytes, pieces.next()?)?;
-    for piece in pieces {
-        add_piece(bytes, piece)?;
-    }
-    Some(())
-}
-
-/// Adds a text in which `|` stands for CR LF.
-fn add_lines(bytes: &mut Vec<u8>, text: &str) -> Option<()> {
-    let mut lines = text.split('|');
-    bytes.extend_from_slice(lines.next()?.as_bytes()).ok()?;
-    for line in lines {
-        bytes.extend_from_slice(b"\r\n").ok()?;
-        bytes.extend_from_slice(line.as_bytes()).ok()?;
-    }
-    Some(())
-}
-
-/// Adds what stands behind a `^`, up to the next.
-fn add_piece(bytes: &mut Vec<u8>, piece: &str) -> Option<()> {
-    if let Some(digits) = piece.strip_prefix('x') {
-        bytes
-            .push(u8::from_str_radix(digits.get(..2)?, 16).ok()?)
-            .ok()?;
-        return add_lines(bytes, digits.get(2..)?);
-    }
-    let (count, letters) = count_of(piece)?;
-    let (text, rest) = repeated(letters)?;
-    for _ in 0..count {
-        add_lines(bytes, text)?;
-    }
-    add_lines(bytes, rest)
-}
-
-/// How many times the text of these letters comes.
-fn count_of(piece: &str) -> Option<(u32, &str)> {
-    let place = piece.find(|c: char| !c.is_ascii_digit())?;
-    if place == 0 {
-        return Some((1, piece));
-    }
-    Some((
-        piece.get(..place)?.parse::<u32>().ok()?,
-        piece.get(place..)?,
-    ))
-}
-
-/// The text that comes so many times, and what stands behind it.
-fn repeated(letters: &str) -> Option<(&str, &str)> {
-    if let Some(rest) = letters.strip_prefix('n') {
-        Some(("\n", rest))
-    } else if let Some(rest) = letters.strip_prefix('r') {
-        Some(("\r", rest))
-    } else {
-        letters.strip_prefix('(')?.split_once(')')
     }
 }

@@ -1,9 +1,11 @@
-//! What a row comes to.
+//! What connections over HTTP come to.
 use crate::stage::Stage;
-use crate::streams::{Given, Kept};
-use crate::words::{both_sides, has, words_and_text};
+use crate::streams::Streams;
+use crate::words::{has, words_and_text};
 use http_api::{ServeFault, Served, serve};
+use office::Desk;
 use std::alloc::Global;
+use store::PlainTables;
 
 fn outcome_told(alloc: Global, outcome: Result<Served, ServeFault>) -> Option<String> {
     match outcome {
@@ -18,6 +20,15 @@ fn outcome_told(alloc: Global, outcome: Result<Served, ServeFault>) -> Option<St
     }
 }
 
+/// Serves a connection from a desk.
+fn served(
+    alloc: Global,
+    desk: &mut Desk<PlainTables>,
+    streams: &mut Streams<'_>,
+) -> Result<Served, ServeFault> {
+    serve(alloc, desk, &mut streams.source, &mut streams.output)
+}
+
 /// What comes of one more connection at the last desk, with streams that give and take so many bytes at a time.
 fn connected(
     alloc: Global,
@@ -26,11 +37,10 @@ fn connected(
     stream: &[u8],
     piece: usize,
 ) -> Option<String> {
-    let mut source = Given::new(words, stream, piece);
-    let mut sink = Kept::new(alloc, words, piece);
-    let outcome = serve(alloc, stage.desks.last_mut()?, &mut source, &mut sink);
+    let mut streams = Streams::new(alloc, words, stream, piece);
+    let outcome = served(alloc, stage.desks.last_mut()?, &mut streams);
     let told = outcome_told(alloc, outcome)?;
-    let answers = stage.texts.shown(sink.bytes())?;
+    let answers = stage.texts.shown(streams.output.bytes())?;
     format!(in alloc; "{told}; {answers}").ok()
 }
 
@@ -48,10 +58,10 @@ fn connected_anew(alloc: Global, stage: &mut Stage, words: &str, stream: &[u8]) 
     Some(told)
 }
 
-/// What a connection comes to, told.
-fn told(alloc: Global, stage: &mut Stage, deed: &str) -> Option<String> {
+/// What a connection comes to.
+pub(crate) fn connection_told(alloc: Global, stage: &mut Stage, deed: &str) -> Option<String> {
     let (words, text) = words_and_text(deed);
-    let stream = stage.texts.bytes_of(text)?;
+    let stream = stage.texts.bytes_of(text.unwrap_or(""))?;
     if has(words, "new") {
         connected_anew(alloc, stage, words, stream.as_slice())
     } else if has(words, "on") {
@@ -61,30 +71,10 @@ fn told(alloc: Global, stage: &mut Stage, deed: &str) -> Option<String> {
     }
 }
 
-/// What a row wants, told alike.
-fn wanted_told(alloc: Global, stage: &Stage, wanted: &str) -> Option<String> {
+/// What a row wants of a connection, told alike.
+pub(crate) fn connection_wanted(alloc: Global, stage: &Stage, wanted: &str) -> Option<String> {
     let (outcome, text) = words_and_text(wanted);
-    let bytes = stage.texts.bytes_of(text)?;
+    let bytes = stage.texts.bytes_of(text.unwrap_or(""))?;
     let answers = stage.texts.shown(bytes.as_slice())?;
     format!(in alloc; "{outcome}; {answers}").ok()
-}
-
-/// What a row comes to that isn't what it says; nothing where it is. None where it can't be read.
-pub(crate) fn found(alloc: Global, stage: &mut Stage, row: &str) -> Option<String> {
-    let nothing = String::new(alloc);
-    if row.starts_with('#') {
-        return Some(nothing);
-    }
-    if let Some((name, text)) = row.split_once(" is ") {
-        stage.texts.name(name, text)?;
-        return Some(nothing);
-    }
-    let (deed, wanted) = both_sides(row);
-    let told = told(alloc, stage, deed)?;
-    let wanted = wanted_told(alloc, stage, wanted)?;
-    if told.as_str() == wanted.as_str() {
-        Some(nothing)
-    } else {
-        Some(told)
-    }
 }

@@ -1,29 +1,58 @@
 //! Texts of rows, in which a `^` begins what no line shows.
 use std::alloc::{AllocError, Global};
 
+/// How a text is written: as it stands, or with `|` for CR LF.
+#[derive(Clone, Copy, PartialEq)]
+pub(crate) enum Notation {
+    Plain,
+    Lines,
+}
+
 /// The bytes of a text. None where it can't be read.
 pub(crate) fn bytes_of(alloc: Global, text: &str) -> Option<Vec<u8>> {
     let mut bytes = Vec::new(alloc);
-    let mut pieces = text.split('^');
-    bytes.extend_from_slice(pieces.next()?.as_bytes()).ok()?;
-    for piece in pieces {
-        add_piece(&mut bytes, piece)?;
-    }
+    add_text(&mut bytes, text, Notation::Plain)?;
     Some(bytes)
 }
 
+/// Adds the bytes of a text.
+pub(crate) fn add_text(bytes: &mut Vec<u8>, text: &str, notation: Notation) -> Option<()> {
+    let mut pieces = text.split('^');
+    add_letters(bytes, pieces.next()?, notation)?;
+    for piece in pieces {
+        add_piece(bytes, piece, notation)?;
+    }
+    Some(())
+}
+
 /// Adds what stands behind a `^`, up to the next.
-fn add_piece(bytes: &mut Vec<u8>, piece: &str) -> Option<()> {
+fn add_piece(bytes: &mut Vec<u8>, piece: &str, notation: Notation) -> Option<()> {
     if let Some(digits) = piece.strip_prefix('x') {
         bytes
             .push(u8::from_str_radix(digits.get(..2)?, 16).ok()?)
             .ok()?;
-        return bytes.extend_from_slice(digits.get(2..)?.as_bytes()).ok();
+        return add_letters(bytes, digits.get(2..)?, notation);
     }
     let (count, letters) = count_of(piece)?;
     let (text, rest) = repeated(letters)?;
-    add_times(bytes, text, count)?;
-    bytes.extend_from_slice(rest.as_bytes()).ok()
+    for _ in 0..count {
+        add_letters(bytes, text, notation)?;
+    }
+    add_letters(bytes, rest, notation)
+}
+
+/// Adds letters in which no `^` stands.
+fn add_letters(bytes: &mut Vec<u8>, letters: &str, notation: Notation) -> Option<()> {
+    if notation == Notation::Plain {
+        return bytes.extend_from_slice(letters.as_bytes()).ok();
+    }
+    let mut lines = letters.split('|');
+    bytes.extend_from_slice(lines.next()?.as_bytes()).ok()?;
+    for line in lines {
+        bytes.extend_from_slice(b"\r\n").ok()?;
+        bytes.extend_from_slice(line.as_bytes()).ok()?;
+    }
+    Some(())
 }
 
 /// How many times the text of these letters comes.
@@ -49,13 +78,6 @@ fn repeated(letters: &str) -> Option<(&str, &str)> {
     } else {
         letters.strip_prefix('(')?.split_once(')')
     }
-}
-
-fn add_times(bytes: &mut Vec<u8>, text: &str, count: u32) -> Option<()> {
-    for _ in 0..count {
-        bytes.extend_from_slice(text.as_bytes()).ok()?;
-    }
-    Some(())
 }
 
 /// Adds a text of these bytes, as rows show it.

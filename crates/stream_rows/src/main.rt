@@ -1,5 +1,7 @@
-//! The program's commands over streams in memory, as rows of data: reads rows from standard input, and prints those that come to something
-//! else than they say, and then how many rows there were.
+//! The program's commands, and connections over HTTP, over streams in memory, as rows of data: reads rows from standard input, and prints
+//! those that come to something else than they say, and then how many rows there were. A row that begins with `#` says nothing.
+//!
+//! Commands:
 //!
 //!   run canon; PO -> X                          prints the canonical text of PO
 //!   run deliver OFFICE; LINES -> X              delivers the lines to the demo office (`demo`), or to one that opens empty, and
@@ -19,38 +21,49 @@
 //!
 //! In the text of a command stand `^n` for LF, `^r` for CR, `^t` for a tab, `^xFF` for a byte and `^(TEXT)` for a text; a number behind
 //! the `^` says how many times: `^5500001( )`. Each command is tried three times: with streams that give and take 1 byte, 100 bytes,
-//! and as many as there are at a time. A row that begins with `#` says nothing.
+//! and as many as there are at a time.
+//!
+//! Connections:
+//!
+//!   NAME is TEXT          gives the bytes of a text a name
+//!   new; TEXT -> X        what comes of a connection whose stream has these bytes, at a new desk with the demo office. It is tried three times,
+//!                         each with a desk of its own, and with streams that give and take 1 byte, 100 bytes and as many as there are at a time
+//!   on; TEXT -> X         what comes of one more connection at the desk of the row before
+//!
+//! X is how many messages were answered, or `fault N`; then, behind `; `, the bytes that were written. In front of the `; ` of a connection
+//! may stand:
+//!
+//!   reader N              the reader fails once it gave so many bytes
+//!   writer N              the writer takes so many bytes, and then fails
+//!   flush                 the writer hands on nothing that it holds back
+//!
+//! In the text of a connection `|` stands for CR LF besides, and `<NAME>` for the bytes of that name. `N of TEXT` are the first N bytes of a
+//! text.
 #![tactic(auto)]
 
 mod command;
 mod command_told;
+mod connections;
 mod desks;
+mod found;
+mod named;
+mod stage;
 mod streams;
 mod texts;
 mod words;
 
-use command_told::command_told;
-use std::alloc::Global;
+use found::found;
+use stage::Stage;
 use std::io;
-use words::{behind, both_sides};
-
-/// What a row's deed comes to. None where it can't be read.
-fn found(alloc: Global, given: &mut Vec<u8>, deed: &str) -> Option<String> {
-    if deed.starts_with('#') {
-        return Some(String::new(alloc));
-    }
-    command_told(alloc, given, behind(deed))
-}
 
 fn main(rt: HostRuntime) -> io::Result<()> {
     let alloc = rt.alloc();
-    let mut given = Vec::new(alloc);
+    let mut stage = Stage::new(alloc);
     let mut rows = 0u64;
     for line in rt.lines(alloc) {
         let line = line?;
-        let (deed, wanted) = both_sides(line.as_str());
-        match found(alloc, &mut given, deed) {
-            Some(text) if text.as_str() == wanted => {}
+        match found(alloc, &mut stage, line.as_str()) {
+            Some(text) if text.is_empty() => {}
             Some(text) => println!(rt; "{line}, not {text}")?,
             None => println!(rt; "{line}: unread")?,
         }

@@ -1,20 +1,24 @@
 //! What the rows above set.
-use crate::texts::Texts;
+use crate::desks::desk_opened;
+use crate::named::NamedTexts;
 use office::Desk;
 use std::alloc::Global;
-use store::{PlainTables, Start};
+use store::PlainTables;
 
-/// The texts with names, and the desks so far, of which the last is that of the row before.
+/// The text of those commands that have none of their own, the texts with names, and the desks so far, of which the last is that of
+/// the row before.
 #[derive(Drop)]
 pub(crate) struct Stage {
-    pub(crate) texts: Texts,
+    pub(crate) given: Vec<u8>,
+    pub(crate) texts: NamedTexts,
     pub(crate) desks: Vec<Desk<PlainTables>>,
 }
 
 impl Stage {
     pub(crate) fn new(alloc: Global) -> Stage {
         Stage {
-            texts: Texts::new(alloc),
+            given: Vec::new(alloc),
+            texts: NamedTexts::new(alloc),
             desks: Vec::new(alloc),
         }
     }
@@ -22,7 +26,6 @@ impl Stage {
     /// Opens a new desk with the demo office.
     pub(crate) fn open(&mut self, alloc: Global) -> Option<()> {
         self.desks.clear();
-        let tables = PlainTables::new(alloc, &Start::Demo).ok()?;
-        self.desks.push(Desk::new(alloc, tables)).ok()
+        self.desks.push(desk_opened(alloc, "demo")?).ok()
     }
 }

@@ -1,0 +1,101 @@
+//! What is done to the office in a database.
+ghost use Rattle.std.specs.Prelude.{◌≡◌, false};
+
+use crate::serve::serve_opened;
+use crate::words::Serve;
+use commands::{FAILED, Input, Output};
+use file_commands::{Closed, deliver_store, export_store, init_store};
+use sqlite::{Alter, Connection};
+use std::io::BufWriter;
+use std::rt::HostRuntime;
+use store::Start;
+use units::Lang;
+
+/// What is done to the office in a database.
+#[derive(Clone, Copy)]
+pub(crate) enum Work<'a> {
+    /// It is made, as this start has it.
+    Make(&'a Start),
+    /// The standard input is delivered to it, and then a language is exported, if one is named.
+    Deliver(Option<&'a Lang>),
+    /// A language is exported.
+    Export(&'a Lang),
+    /// It is served on a port.
+    Serve(&'a Serve<'a>),
+}
+
+impl Work<'_> {
+    /// Whether the office has to be there.
+    pub(crate) fn opens(self) -> bool {
+        !matches!(self, Work::Make(_))
+    }
+}
+
+/// Does the work.
+pub(crate) fn done<S: Alter + Drop>(
+    rt: &HostRuntime,
+    connection: Connection<S>,
+    work: Work<'_>,
+) -> Closed<S>
+    requires { connection.in_transaction ≡ false }
+{
+    match work {
+        Work::Make(start) => make(rt, connection, start),
+        Work::Deliver(export) => deliver(rt, connection, export),
+        Work::Export(lang) => export(rt, connection, lang),
+        Work::Serve(options) => serve_opened(rt, connection, options),
+    }
+}
+
+fn make<S: Alter + Drop>(rt: &HostRuntime, connection: Connection<S>, start: &Start) -> Closed<S>
+    requires { connection.in_transaction ≡ false }
+{
+    init_store(
+        rt.alloc(),
+        connection,
+        start,
+        &mut Output::new(rt.stdout()),
+        &mut Output::new(rt.stderr()),
+    )
+}
+
+fn deliver<S: Alter + Drop>(
+    rt: &HostRuntime,
+    connection: Connection<S>,
+    export: Option<&Lang>,
+) -> Closed<S>
+    requires { connection.in_transaction ≡ false }
+{
+    match BufWriter::new(rt.alloc(), rt.stdout()) {
+        Ok(buffer) => deliver_store(
+            rt.alloc(),
+            connection,
+            &mut Input::new(rt.stdin()),
+            &mut Output::new(buffer),
+            &mut Output::new(rt.stderr()),
+            export,
+        ),
+        Err(_) => Closed {
+            status: FAILED,
+            connection,
+        },
+    }
+}
+
+fn export<S: Alter + Drop>(rt: &HostRuntime, connection: Connection<S>, lang: &Lang) -> Closed<S>
+    requires { connection.in_transaction ≡ false }
+{
+    match BufWriter::new(rt.alloc(), rt.stdout()) {
+        Ok(buffer) => export_store(
+            rt.alloc(),
+            connection,
+            lang,
+            &mut Output::new(buffer),
+            &mut Output::new(rt.stderr()),
+        ),
+        Err(_) => Closed {
+            status: FAILED,
+            connection,
+        },
+    }
+}
