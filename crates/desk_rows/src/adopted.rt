@@ -1,5 +1,7 @@
 //! Tables on SQLite that a statement has changed, taken over as they stand.
-use sqlite::{Connection, MemStore};
+ghost use Rattle.std.specs.Prelude.{◌≡◌, false};
+
+use sqlite::{Alter, Connection};
 use std::alloc::Global;
 use store_sql::{AdoptionFault, SqliteTables, Start};
 
@@ -14,9 +16,10 @@ fn fault_told(fault: AdoptionFault) -> &'static str {
     }
 }
 
-/// A connection to the demo's tables.
-fn demo(alloc: Global) -> Option<Connection<MemStore>> {
-    let connection = Connection::open_in_memory(alloc).ok()?;
+/// A connection on which the demo's tables are made.
+fn demo<S: Alter + Drop>(alloc: Global, connection: Connection<S>) -> Option<Connection<S>>
+    requires { connection.in_transaction ≡ false }
+{
     match SqliteTables::create(connection, alloc, &Start::Demo) {
         Ok(tables) => Some(tables.into_connection()),
         Err((_, connection)) => {
@@ -27,7 +30,7 @@ fn demo(alloc: Global) -> Option<Connection<MemStore>> {
 }
 
 /// What comes of taking over a connection's tables.
-fn taken(alloc: Global, connection: Connection<MemStore>) -> &'static str {
+fn taken<S: Alter + Drop>(alloc: Global, connection: Connection<S>) -> &'static str {
     if !connection.is_autocommit() {
         drop(connection);
         return "a transaction";
@@ -44,14 +47,26 @@ fn taken(alloc: Global, connection: Connection<MemStore>) -> &'static str {
     }
 }
 
-/// What comes of taking over the demo's tables once a statement has changed them.
+/// What comes of taking over the demo's tables, which are made on this connection, once a statement has changed them.
+fn adopted_on<S: Alter + Drop>(
+    alloc: Global,
+    connection: Connection<S>,
+    statement: &str,
+) -> Option<&'static str>
+    requires { connection.in_transaction ≡ false }
+{
+    let mut connection = demo(alloc, connection)?;
+    if connection.execute(statement, &[]).is_ok() {
+        return Some(taken(alloc, connection));
+    }
+    drop(connection);
+    Some("a refused statement")
+}
+
+/// The same on SQLite in memory.
 pub(crate) fn adopted(alloc: Global, statement: &str) -> Option<String> {
-    let mut connection = demo(alloc)?;
-    let told = if connection.execute(statement, &[]).is_ok() {
-        taken(alloc, connection)
-    } else {
-        drop(connection);
-        "a refused statement"
-    };
-    String::from_str(alloc, told).ok()
+    match Connection::open_in_memory(alloc) {
+        Ok(connection) => String::from_str(alloc, adopted_on(alloc, connection, statement)?).ok(),
+        Err(_) => None,
+    }
 }

@@ -1,5 +1,5 @@
 //! How many rows the tables have.
-use sqlite::{Alter, Connection, MemStore};
+use sqlite::{Alter, Connection};
 use std::alloc::Global;
 
 const TABLES: [&str; 8] = [
@@ -34,7 +34,10 @@ fn counts<S: Alter>(alloc: Global, connection: &mut Connection<S>) -> Option<Str
 }
 
 /// How many rows the tables of a connection have, which is dropped.
-pub(crate) fn counts_of(alloc: Global, connection: Connection<MemStore>) -> Option<String> {
+pub(crate) fn counts_of<S: Alter + Drop>(
+    alloc: Global,
+    connection: Connection<S>,
+) -> Option<String> {
     let mut connection = connection;
     let told = counts(alloc, &mut connection);
     drop(connection);

@@ -1,11 +1,13 @@
 //! Two offices that get the same requests: one in maps, and one on SQLite in memory.
+ghost use Rattle.std.specs.Prelude.{◌≡◌, false};
+
 use crate::asked::{stats_told, unit_told};
 use crate::counts::counts_of;
 use crate::exports::exported;
 use crate::told::result_told;
 use office::Desk;
 use request_book::Request;
-use sqlite::{Connection, MemStore};
+use sqlite::{Alter, Connection, MemStore};
 use std::alloc::Global;
 use store::{PlainTables, Start};
 use store_sql::SqliteTables;
@@ -41,15 +43,28 @@ fn desk_in_maps(alloc: Global, start: &Start) -> Option<Desk<PlainTables>> {
     Some(Desk::new(alloc, tables))
 }
 
-/// A desk over tables on SQLite.
-fn desk_on_sqlite(alloc: Global, start: &Start) -> Option<Desk<SqliteTables<MemStore>>> {
-    let connection = Connection::open_in_memory(alloc).ok()?;
+/// A desk over tables that are made on a connection.
+fn desk_on<S: Alter + Drop>(
+    alloc: Global,
+    connection: Connection<S>,
+    start: &Start,
+) -> Option<Desk<SqliteTables<S>>>
+    requires { connection.in_transaction ≡ false }
+{
     match SqliteTables::create(connection, alloc, start) {
         Ok(tables) => Some(Desk::new(alloc, tables)),
         Err((_, connection)) => {
             drop(connection);
             None
         }
+    }
+}
+
+/// A desk over tables on SQLite in memory.
+fn desk_on_sqlite(alloc: Global, start: &Start) -> Option<Desk<SqliteTables<MemStore>>> {
+    match Connection::open_in_memory(alloc) {
+        Ok(connection) => desk_on(alloc, connection, start),
+        Err(_) => None,
     }
 }
 

@@ -31,7 +31,8 @@ pub(crate) fn status(
     }
 }
 
-fn lang(alloc: Global, word: Option<&str>) -> Option<Option<Lang>> {
+/// The language that a word names, if there is a word.
+pub(crate) fn lang(alloc: Global, word: Option<&str>) -> Option<Option<Lang>> {
     match word {
         Some(word) => Lang::try_new(alloc, word).ok()?.map(Some),
         None => Some(None),

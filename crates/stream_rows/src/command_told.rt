@@ -44,7 +44,8 @@ fn come(alloc: Global, words: &str, text: &[u8], piece: usize) -> Option<String>
     told(alloc, status, &streams, left).ok()
 }
 
-fn told(
+/// What a command came to: its status and what it wrote, and how many bytes it left, if it left any.
+pub(crate) fn told(
     alloc: Global,
     status: u8,
     streams: &Streams<'_>,

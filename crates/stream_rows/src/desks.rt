@@ -5,7 +5,7 @@ use store::{PlainTables, Start};
 use units::Name;
 
 /// The demo office, or one with this manager alone.
-fn start(alloc: Global, who: &str) -> Option<Start> {
+pub(crate) fn start(alloc: Global, who: &str) -> Option<Start> {
     if who == "demo" {
         return Some(Start::Demo);
     }

@@ -1,6 +1,7 @@
 //! What rows come to.
 use crate::command_told::command_told;
 use crate::connections::{connection_told, connection_wanted};
+use crate::file_told::file_told;
 use crate::stage::Stage;
 use crate::words::both_sides;
 use std::alloc::Global;
@@ -10,9 +11,12 @@ pub(crate) fn found(alloc: Global, stage: &mut Stage, row: &str) -> Option<Strin
     if row.starts_with('#') {
         return Some(String::new(alloc));
     }
-    match row.strip_prefix("run ") {
-        Some(command) => by_command(alloc, &mut stage.given, command),
-        None => by_connection(alloc, stage, row),
+    if let Some(command) = row.strip_prefix("run ") {
+        by_command(alloc, &mut stage.given, command)
+    } else if let Some(deed) = row.strip_prefix("file ") {
+        by_file(alloc, stage, deed)
+    } else {
+        by_connection(alloc, stage, row)
     }
 }
 
@@ -29,6 +33,13 @@ fn unless_wanted(alloc: Global, told: String, wanted: &str) -> String {
 fn by_command(alloc: Global, given: &mut Vec<u8>, row: &str) -> Option<String> {
     let (deed, wanted) = both_sides(row);
     let told = command_told(alloc, given, deed)?;
+    Some(unless_wanted(alloc, told, wanted))
+}
+
+/// What a row of the office in a file comes to.
+fn by_file(alloc: Global, stage: &mut Stage, row: &str) -> Option<String> {
+    let (deed, wanted) = both_sides(row);
+    let told = file_told(alloc, stage, deed)?;
     Some(unless_wanted(alloc, told, wanted))
 }
 

@@ -1,5 +1,6 @@
-//! The program's commands, and connections over HTTP, over streams in memory, as rows of data: reads rows from standard input, and prints
-//! those that come to something else than they say, and then how many rows there were. A row that begins with `#` says nothing.
+//! The program's commands, connections over HTTP, and offices in files, over streams in memory, as rows of data: reads rows from standard
+//! input, and prints those that come to something else than they say, and then how many rows there were. A row that begins with `#` says
+//! nothing.
 //!
 //! Commands:
 //!
@@ -37,18 +38,36 @@
 //!   writer N              the writer takes so many bytes, and then fails
 //!   flush                 the writer hands on nothing that it holds back
 //!
-//! In the text of a connection `|` stands for CR LF besides, and `<NAME>` for the bytes of that name. `N of TEXT` are the first N bytes of a
+//! An office in a file. The file is in memory: each row opens it and closes it again.
+//!
+//!   file new                          a new file, with nothing in it
+//!   file init MANAGER -> X            makes an office with this manager; `demo` makes the demo office
+//!   file deliver; LINES -> X          delivers the lines
+//!   file deliver export LANG; LINES -> X    and then exports the language
+//!   file export LANG -> X             exports a language
+//!   file sql; TEXT                    statements that some other tool runs on the file
+//!   file spoil; TEXT -> X             the same on a copy, to which the line `<hallo>` is then delivered, and which is exported: both come
+//!                                     to X, and leave each row as it is
+//!
+//! X is told as that of a command, and the same words may stand in front.
+//!
+//! In the text of a connection, or of a file, `|` stands for CR LF besides, and `<NAME>` for the bytes of that name. `N of TEXT` are the first N bytes of a
 //! text.
 #![tactic(auto)]
 
 mod command;
 mod command_told;
 mod connections;
+mod deeds;
 mod desks;
+mod file_told;
+mod files;
 mod found;
 mod named;
+mod spoilt;
 mod stage;
 mod streams;
+mod table_rows;
 mod texts;
 mod words;
 

@@ -59,6 +59,11 @@ impl Kept {
     pub(crate) fn bytes(&self) -> &[u8] {
         self.bytes.as_slice()
     }
+
+    /// Keeps bytes besides those that are written.
+    pub(crate) fn keep(&mut self, bytes: &[u8]) -> Option<()> {
+        self.bytes.extend_from_slice(bytes).ok()
+    }
 }
 
 impl ByteSink for Kept {

@@ -1,8 +1,8 @@
 //! What is done to the office in a database.
 ghost use Rattle.std.specs.Prelude.{◌≡◌, false};
 
-use crate::rows::push_rows;
 use crate::streams::{Kept, Streams};
+use crate::table_rows::push_rows;
 use file_commands::{Closed, deliver_store, export_store, init_store};
 use sqlite::{Alter, Connection};
 use std::alloc::Global;

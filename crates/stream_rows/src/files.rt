@@ -1,5 +1,6 @@
 //! A file in memory that is opened, worked on, and closed.
 
+use crate::command_told::told;
 use crate::deeds::{Deed, done};
 use crate::streams::Streams;
 use file_commands::Closed;
@@ -63,7 +64,7 @@ pub(crate) fn in_file(
 
 /// What statements make of a file with these bytes.
 pub(crate) fn written(alloc: Global, bytes: &[u8], statements: &str) -> Option<Vec<u8>> {
-    let mut streams = Streams::new(alloc, "", b"");
+    let mut streams = Streams::new(alloc, "", b"", usize::MAX);
     match in_file(alloc, bytes, Deed::Sql(statements), &mut streams)? {
         (0, left) => Some(left),
         _ => None,
@@ -72,9 +73,9 @@ pub(crate) fn written(alloc: Global, bytes: &[u8], statements: &str) -> Option<V
 
 /// The rows of all tables of a file with these bytes.
 pub(crate) fn all_rows(alloc: Global, bytes: &[u8]) -> Option<String> {
-    let mut streams = Streams::new(alloc, "", b"");
+    let mut streams = Streams::new(alloc, "", b"", usize::MAX);
     match in_file(alloc, bytes, Deed::Rows, &mut streams)? {
-        (0, _) => streams.told(alloc, 0),
+        (0, _) => told(alloc, 0, &streams, 0).ok(),
         _ => None,
     }
 }

@@ -1,6 +1,6 @@
 //! Files that are no office's.
+use crate::file_told::come;
 use crate::files::{all_rows, written};
-use crate::runs::{Outcome, come};
 use std::alloc::Global;
 
 /// What both told, where it is the same, and else each.
@@ -22,8 +22,8 @@ fn told_of_rows(alloc: Global, told: String, before: &str, after: &str) -> Optio
 /// What a delivery and then an export come to on a copy of the file that statements have spoilt.
 pub(crate) fn spoilt(alloc: Global, file: &[u8], statements: &str, lines: &[u8]) -> Option<String> {
     let copy = written(alloc, file, statements)?;
-    let delivered = come(alloc, copy.as_slice(), "", "deliver", lines)?;
-    let exported = come(alloc, delivered.file.as_slice(), "", "export de", b"")?;
+    let delivered = come(alloc, copy.as_slice(), "deliver", lines)?;
+    let exported = come(alloc, delivered.file.as_slice(), "export de", b"")?;
     let before = all_rows(alloc, copy.as_slice())?;
     let after = all_rows(alloc, exported.file.as_slice())?;
     let told = both_told(alloc, delivered.told, exported.told)?;
