@@ -2,14 +2,19 @@
 """Measures `office deliver` on runs of 25,000, 50,000 and 100,000 requests.
 
 Each request translates the demo office's one unit anew, under a number of its own, so each is decided, recorded and
-committed. Prints, for each run, its requests, seconds, requests a second and the program's peak memory.
+committed. Prints, for each run, its requests, seconds, requests a second and the program's peak memory, which GNU time tells: what
+wait4 gives of a child is never less than what this script has had.
 
-Usage: bench/deliver.py        (from the top of the repository, after ./office --version has built the program)
+Usage: bench/deliver.py [PROGRAM]       (from the top of the repository, after ./office --version has built the program; wants Debian's
+package time)
 """
 import os
 import subprocess
+import sys
 import tempfile
 import time
+
+PROGRAM = sys.argv[1] if len(sys.argv) > 1 else os.path.join("crates", "cli", "out", "cli")
 
 
 def request(i):
@@ -21,14 +26,13 @@ def request(i):
 
 
 def run(count):
-    program = os.path.join("crates", "cli", "out", "cli")
-    with tempfile.TemporaryFile("w+") as lines, tempfile.TemporaryFile() as replies:
+    with tempfile.TemporaryFile("w+") as lines, tempfile.TemporaryFile() as replies, tempfile.NamedTemporaryFile("r") as kilobytes:
         lines.writelines(request(i) for i in range(1, count + 1))
         lines.flush()
         lines.seek(0)
         start = time.monotonic()
-        child = subprocess.Popen([program, "deliver", "--demo"], stdin=lines, stdout=replies)
-        _, status, usage = os.wait4(child.pid, 0)
+        words = ["/usr/bin/time", "-f", "%M", "-o", kilobytes.name, PROGRAM, "deliver", "--demo"]
+        status = subprocess.run(words, stdin=lines, stdout=replies).returncode
         seconds = time.monotonic() - start
         replies.seek(0)
         good = sum(line.startswith(b"200 ") for line in replies)
@@ -36,7 +40,7 @@ def run(count):
             raise SystemExit("%d of %d requests were answered 200, status %d" % (good, count, status))
         print(
             "%7d requests %7.2f s %8.0f a second %7.1f MB at most"
-            % (count, seconds, count / seconds, usage.ru_maxrss / 1024)
+            % (count, seconds, count / seconds, int(kilobytes.read()) / 1024)
         )
 
 
