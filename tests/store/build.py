@@ -3,7 +3,7 @@
 
     tests/store/build.py [FOLDER]     (FOLDER is /tmp/office-store-program where none is given)
 
-Its files stand in this folder and not under crates/, since it would cost the gate a quarter of an hour; they are called *.rt.txt, as the
+Its files stand in this folder and not under crates/, since it would cost the gate ten minutes; they are called *.rt.txt, as the
 gate takes code from crates/ alone. It is built as the crate office_files in a copy of the repository, which stays in FOLDER for the next
 time. From nothing that takes as long as the crates below it.
 """
