@@ -5,4 +5,4 @@ mod answer;
 mod refusal;
 
 pub use answer::{AnswerHead, Content, write_head, write_json, write_refusal};
-pub use refusal::{Refusal, phrase};
+pub use refusal::Refusal;

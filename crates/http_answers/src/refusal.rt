@@ -5,7 +5,7 @@ ghost use Rattle.http_answers.specs.Refusals.{refusal_status, refusal_body};
 
 /// The reason phrase of a status; empty where the office answers no such status.
 #[tactic(auto, unfolding(crate::specs::Statuses::phrase))]
-pub fn phrase(status: u16) -> &'static str
+pub(crate) fn phrase(status: u16) -> &'static str
     ensures { result.now ≡ phrase status }
 {
     match status {

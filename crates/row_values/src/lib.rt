@@ -18,9 +18,8 @@ pub use names::{
     key_from, lang_from, name_from, number_column, number_from, plural_column, plural_from,
 };
 pub use numbers::{
-    accept_at_column, accept_at_from, flag_column, flag_from, place_column, place_from,
-    revision_column, revision_from, role_column, role_from, state_column, state_from,
-    status_column, status_from, vote_column, vote_from,
+    accept_at_from, flag_column, flag_from, revision_column, revision_from, role_column, role_from,
+    state_column, state_from, status_column, status_from, vote_column, vote_from,
 };
 pub use policy::{PolicyColumns, policy_columns, policy_from};
 pub use previous::{previous_column, previous_from};

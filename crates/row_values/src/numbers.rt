@@ -138,7 +138,7 @@ pub fn revision_from(column: i64) -> Result<Revision, RowFault>
 }
 
 /// The column of a threshold.
-pub fn accept_at_column(accept_at: AcceptAt) -> i64
+pub(crate) fn accept_at_column(accept_at: AcceptAt) -> i64
     ensures { result ≡ pos accept_at }
 {
     i64::from(accept_at.number())
@@ -179,24 +179,4 @@ pub fn status_from(column: i64) -> Result<u16, RowFault>
         return Err(RowFault::Malformed);
     }
     Ok(number as u16)
-}
-
-/// The column of a place in a list, 0 the first.
-pub fn place_column(place: u32) -> i64
-    ensures { result ≡ pos place }
-{
-    i64::from(place)
-}
-
-/// The place that a column stands for.
-pub fn place_from(column: i64) -> Result<u32, RowFault>
-    ensures ok { IfOk result (λ place. column ≡ pos place) }
-    ensures back { (place : ℕ) → place < 2 ^ 32 → column ≡ pos place → result ≡ Ok place }
-    ensures fault { IfErr result (λ e. e ≡ Malformed) }
-{
-    let number = natural_from(column)?;
-    if 4_294_967_295 < number {
-        return Err(RowFault::Malformed);
-    }
-    Ok(number as u32)
 }

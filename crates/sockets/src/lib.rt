@@ -3,8 +3,6 @@
 
 mod link;
 mod serving;
-#[cfg(test)]
-mod tests;
 
 pub use link::SocketLink;
 pub use serving::serve_next;

@@ -7,7 +7,7 @@ use office::Desk;
 use std::alloc::Global;
 use store::PlainTables;
 
-fn outcome_told(alloc: Global, outcome: Result<Served, ServeFault>) -> Option<String> {
+pub(crate) fn outcome_told(alloc: Global, outcome: Result<Served, ServeFault>) -> Option<String> {
     match outcome {
         Ok(served) => {
             let answered = served.answered;

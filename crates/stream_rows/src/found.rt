@@ -2,12 +2,19 @@
 use crate::command_told::command_told;
 use crate::connections::{connection_told, connection_wanted};
 use crate::file_told::file_told;
+use crate::over_sockets::socket_told;
 use crate::stage::Stage;
 use crate::words::both_sides;
 use std::alloc::Global;
+use std::rt::HostRuntime;
 
 /// What a row comes to that isn't what it says; nothing where it is. None where it can't be read.
-pub(crate) fn found(alloc: Global, stage: &mut Stage, row: &str) -> Option<String> {
+pub(crate) fn found(
+    rt: &HostRuntime,
+    alloc: Global,
+    stage: &mut Stage,
+    row: &str,
+) -> Option<String> {
     if row.starts_with('#') {
         return Some(String::new(alloc));
     }
@@ -15,6 +22,8 @@ pub(crate) fn found(alloc: Global, stage: &mut Stage, row: &str) -> Option<Strin
         by_command(alloc, &mut stage.given, command)
     } else if let Some(deed) = row.strip_prefix("file ") {
         by_file(alloc, stage, deed)
+    } else if let Some(deed) = row.strip_prefix("socket ") {
+        by_socket(rt, alloc, stage, deed)
     } else {
         by_connection(alloc, stage, row)
     }
@@ -40,6 +49,17 @@ fn by_command(alloc: Global, given: &mut Vec<u8>, row: &str) -> Option<String> {
 fn by_file(alloc: Global, stage: &mut Stage, row: &str) -> Option<String> {
     let (deed, wanted) = both_sides(row);
     let told = file_told(alloc, stage, deed)?;
+    Some(unless_wanted(alloc, told, wanted))
+}
+
+/// What a row over sockets comes to.
+fn by_socket(rt: &HostRuntime, alloc: Global, stage: &mut Stage, row: &str) -> Option<String> {
+    let (deed, wanted) = both_sides(row);
+    let told = socket_told(rt, alloc, stage, deed)?;
+    if deed.starts_with("new") {
+        let answers = connection_wanted(alloc, stage, wanted)?;
+        return Some(unless_wanted(alloc, told, answers.as_str()));
+    }
     Some(unless_wanted(alloc, told, wanted))
 }
 

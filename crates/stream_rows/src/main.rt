@@ -51,7 +51,14 @@
 //!
 //! X is told as that of a command, and the same words may stand in front.
 //!
-//! In the text of a connection, or of a file, `|` stands for CR LF besides, and `<NAME>` for the bytes of that name. `N of TEXT` are the first N bytes of a
+//! Real sockets, a client and the office in one thread:
+//!
+//!   socket new; TEXT -> X             a client connects and writes this text, its connection is served at a new desk, and then it reads to
+//!                                     the end; X is told as that of a connection
+//!   socket deaf -> X                  what comes of a listener that takes no connection
+//!   socket send; LINES -> X           what comes of sending these lines to a port where nobody listens, told as a command
+//!
+//! In the text of a connection, of a file or of a socket, `|` stands for CR LF besides, and `<NAME>` for the bytes of that name. `N of TEXT` are the first N bytes of a
 //! text.
 #![tactic(auto)]
 
@@ -64,6 +71,7 @@ mod file_told;
 mod files;
 mod found;
 mod named;
+mod over_sockets;
 mod spoilt;
 mod stage;
 mod streams;
@@ -81,7 +89,7 @@ fn main(rt: HostRuntime) -> io::Result<()> {
     let mut rows = 0u64;
     for line in rt.lines(alloc) {
         let line = line?;
-        match found(alloc, &mut stage, line.as_str()) {
+        match found(&rt, alloc, &mut stage, line.as_str()) {
             Some(text) if text.is_empty() => {}
             Some(text) => println!(rt; "{line}, not {text}")?,
             None => println!(rt; "{line}: unread")?,
