@@ -4,6 +4,7 @@
 mod files;
 mod send;
 mod serve;
+mod subcommands;
 mod words;
 mod work;
 

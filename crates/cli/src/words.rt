@@ -1,7 +1,8 @@
 //! The words of the command line.
 
+use crate::subcommands::{DELIVER, EXPORT, INIT, command_of, office_command};
 use clap::error::ErrorKind;
-use clap::{Arg, ArgAction, ArgMatches, Command, Error, value_parser};
+use clap::{ArgMatches, Command, Error};
 use commands::FAILED;
 use std::alloc::{AllocError, Global};
 use store::Start;
@@ -65,213 +66,6 @@ pub(crate) struct SendFile<'a> {
 pub(crate) struct Plural<'a> {
     pub(crate) value: &'a str,
     pub(crate) numbers: Vec<u32>,
-}
-
-fn store_arg<'a>(alloc: Global) -> Arg<'a> {
-    Arg::new(alloc, "store")
-        .long("store")
-        .value_name("FILE")
-        .action(ArgAction::Set)
-}
-
-fn named_manager_arg<'a>(alloc: Global) -> Arg<'a> {
-    Arg::new(alloc, "manager")
-        .long("manager")
-        .value_name("NAME")
-        .action(ArgAction::Set)
-}
-
-fn manager_arg<'a>(alloc: Global) -> Arg<'a> {
-    named_manager_arg(alloc)
-        .default_value("root")
-        .help("Who manages the office that opens empty")
-}
-
-fn init_command<'a>(alloc: Global) -> Result<Command<'a>, AllocError> {
-    Command::new(alloc, "init")
-        .about("Makes an office in a new file, and prints ready")
-        .version(VERSION)
-        .arg(
-            store_arg(alloc)
-                .required(true)
-                .help("The file, an SQLite database"),
-        )?
-        .arg(
-            named_manager_arg(alloc)
-                .required(true)
-                .help("Who manages the office"),
-        )
-}
-
-fn demo_arg<'a>(alloc: Global) -> Arg<'a> {
-    Arg::new(alloc, "demo")
-        .long("demo")
-        .action(ArgAction::SetTrue)
-        .help("Opens the demo office: a template with `Hello`, and the language de")
-}
-
-fn export_arg<'a>(alloc: Global) -> Arg<'a> {
-    Arg::new(alloc, "export")
-        .long("export")
-        .value_name("LANG")
-        .action(ArgAction::Set)
-        .help("Prints the language's PO text behind the replies")
-}
-
-fn deliver_command<'a>(alloc: Global) -> Result<Command<'a>, AllocError> {
-    Command::new(alloc, "deliver")
-        .about("Reads a JSON request a line, and prints STATUS BODY for each")
-        .version(VERSION)
-        .arg(store_arg(alloc).help(
-            "The file that the office is in; without it, it stands in memory",
-        ))?
-        .arg(manager_arg(alloc))?
-        .arg(demo_arg(alloc))?
-        .arg(export_arg(alloc))
-}
-
-fn lang_arg<'a>(alloc: Global) -> Arg<'a> {
-    Arg::new(alloc, "lang")
-        .long("lang")
-        .value_name("LANG")
-        .action(ArgAction::Set)
-        .required(true)
-        .help("The language")
-}
-
-fn export_command<'a>(alloc: Global) -> Result<Command<'a>, AllocError> {
-    Command::new(alloc, "export")
-        .about("Prints a language's PO text; its length and SHA-256 go to the second output")
-        .version(VERSION)
-        .arg(
-            store_arg(alloc)
-                .required(true)
-                .help("The file that the office is in"),
-        )?
-        .arg(lang_arg(alloc))
-}
-
-fn port_arg<'a>(alloc: Global) -> Arg<'a> {
-    Arg::new(alloc, "port")
-        .long("port")
-        .value_name("P")
-        .action(ArgAction::Set)
-        .required(true)
-        .value_parser(value_parser!(u16).range(1..))
-}
-
-/// An argument whose value is a number from 1 on.
-fn count_arg<'a>(alloc: Global, name: &'a str, value: &'a str) -> Arg<'a> {
-    Arg::new(alloc, name)
-        .long(name)
-        .value_name(value)
-        .action(ArgAction::Set)
-        .required(true)
-        .value_parser(value_parser!(u32).range(1..))
-}
-
-fn serve_command<'a>(alloc: Global) -> Result<Command<'a>, AllocError> {
-    Command::new(alloc, "serve")
-        .about("Serves an office over HTTP on 127.0.0.1, one connection after another")
-        .version(VERSION)
-        .arg(
-            store_arg(alloc)
-                .required(true)
-                .help("The file that the office is in"),
-        )?
-        .arg(port_arg(alloc).help("The port to listen on, from 1 to 65535"))?
-        .arg(count_arg(alloc, "connections", "K").help(
-            "Ends behind so many connections, from 1 to 4294967295",
-        ))
-}
-
-fn file_arg<'a>(alloc: Global) -> Arg<'a> {
-    Arg::new(alloc, "file")
-        .long("file")
-        .value_name("FILE")
-        .action(ArgAction::Set)
-        .required(true)
-        .help("The file of requests, a line of JSON each")
-}
-
-fn send_command<'a>(alloc: Global) -> Result<Command<'a>, AllocError> {
-    Command::new(alloc, "send")
-        .about(
-            "Sends a file's requests to an office that serves, and prints STATUS BODY for each, or none",
-        )
-        .version(VERSION)
-        .arg(port_arg(alloc).help("The port of 127.0.0.1 that the office listens on"))?
-        .arg(file_arg(alloc))?
-        .arg(count_arg(alloc, "tries", "T").help(
-            "Sends each request so often at most, from 1 to 4294967295",
-        ))
-}
-
-fn value_arg<'a>(alloc: Global) -> Arg<'a> {
-    Arg::new(alloc, "value")
-        .value_name("VALUE")
-        .required(true)
-        .help("The value of a header's Plural-Forms field")
-}
-
-fn numbers_arg<'a>(alloc: Global) -> Arg<'a> {
-    Arg::new(alloc, "n")
-        .value_name("N")
-        .required(true)
-        .num_args(1..)
-        .value_parser(value_parser!(u32))
-        .help("Numbers from 0 to 4294967295")
-}
-
-fn plural_command<'a>(alloc: Global) -> Result<Command<'a>, AllocError> {
-    Command::new(alloc, "plural")
-        .about("Prints N INDEX a line: the number of the form that the rule gives at N")
-        .version(VERSION)
-        .arg(value_arg(alloc))?
-        .arg(numbers_arg(alloc))
-}
-
-fn canon_command<'a>(alloc: Global) -> Command<'a> {
-    Command::new(alloc, "canon")
-        .about("Reads a PO text, and prints it in canonical form, or only po line L kind K")
-        .version(VERSION)
-}
-
-const VERSION: &str = "0.1.0";
-
-/// A command with a subcommand, if there was memory for that. (A command is dropped in one place here, since each such place is dear to
-/// prove.)
-fn with_subcommand<'a>(
-    command: Command<'a>,
-    subcommand: Result<Command<'a>, AllocError>,
-) -> Result<Command<'a>, AllocError> {
-    match subcommand {
-        Ok(subcommand) => command.subcommand(subcommand),
-        Err(fault) => {
-            drop(command);
-            Err(fault)
-        }
-    }
-}
-
-fn bare_command<'a>(alloc: Global) -> Result<Command<'a>, AllocError> {
-    Ok(
-        Command::new(alloc, "office")
-            .bin_name("office")?
-            .about("A translation office in which a request that comes again acts once")
-            .version(VERSION)
-            .subcommand_required(true)
-            .arg_required_else_help(true),
-    )
-}
-
-fn office_command<'a>(alloc: Global) -> Result<Command<'a>, AllocError> {
-    let command = with_subcommand(bare_command(alloc)?, init_command(alloc))?;
-    let command = with_subcommand(command, deliver_command(alloc))?;
-    let command = with_subcommand(command, export_command(alloc))?;
-    let command = with_subcommand(command, serve_command(alloc))?;
-    let command = with_subcommand(command, send_command(alloc))?;
-    with_subcommand(command, plural_command(alloc))?.subcommand(canon_command(alloc))
 }
 
 fn wanted_subcommand(alloc: Global) -> Result<Error, AllocError> {
@@ -379,7 +173,7 @@ fn init_options<'a>(alloc: Global, found: &ArgMatches<'a>) -> Result<Asked<'a>, 
             store: found.get_str("store").unwrap_or(""),
             start: Start::Opening(manager),
         })),
-        None => Err(or_memory(wrong_value(init_command(alloc), "office init", NO_NAME))),
+        None => Err(or_memory(wrong_value(command_of(alloc, INIT), "office init", NO_NAME))),
     }
 }
 
@@ -389,14 +183,14 @@ fn export_options<'a>(alloc: Global, found: &ArgMatches<'a>) -> Result<Asked<'a>
             store: found.get_str("store").unwrap_or(""),
             lang,
         })),
-        None => Err(or_memory(wrong_value(export_command(alloc), "office export", NO_LANG))),
+        None => Err(or_memory(wrong_value(command_of(alloc, EXPORT), "office export", NO_LANG))),
     }
 }
 
 fn deliver_options<'a>(alloc: Global, found: &ArgMatches<'a>) -> Result<Asked<'a>, Error> {
     match Name::try_new(alloc, found.get_str("manager").unwrap_or("root"))? {
         Some(manager) => managed_options(alloc, found, manager),
-        None => Err(or_memory(wrong_value(deliver_command(alloc), "office deliver", NO_NAME))),
+        None => Err(or_memory(wrong_value(command_of(alloc, DELIVER), "office deliver", NO_NAME))),
     }
 }
 
@@ -433,6 +227,6 @@ fn lang_option(alloc: Global, value: Option<&str>) -> Result<Option<Lang>, Error
     };
     match Lang::try_new(alloc, text)? {
         Some(lang) => Ok(Some(lang)),
-        None => Err(or_memory(wrong_value(deliver_command(alloc), "office deliver", NO_LANG))),
+        None => Err(or_memory(wrong_value(command_of(alloc, DELIVER), "office deliver", NO_LANG))),
     }
 }

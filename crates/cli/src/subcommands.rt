@@ -1,0 +1,273 @@
+//! The subcommands, their options and their arguments, as rows of data, and what clap reads by them.
+
+use clap::{Arg, ArgAction, Command, value_parser};
+use std::alloc::{AllocError, Global};
+
+/// What stands behind the name of an option, or in the place of an argument.
+#[derive(Clone, Copy)]
+enum Value {
+    /// An option without a value.
+    Flag,
+    /// An option's text, which may be left out.
+    Text,
+    /// An option's text, and what it is where it is left out.
+    TextOr(&'static str),
+    /// The text of an option that has to be there.
+    NeededText,
+    /// The number of a port, of an option that has to be there.
+    Port,
+    /// A number from 1 on, of an option that has to be there.
+    Count,
+    /// The text of an argument that has to be there.
+    Argument,
+    /// The numbers behind the arguments.
+    Numbers,
+}
+
+/// An option or an argument: its name, how the help calls its value, what it says of it, and what the value is.
+#[derive(Clone, Copy)]
+struct Word {
+    name: &'static str,
+    called: &'static str,
+    value: Value,
+    help: &'static str,
+}
+
+/// A subcommand: its name, what the help says of it, and its words.
+#[derive(Clone, Copy)]
+pub(crate) struct Subcommand {
+    name: &'static str,
+    about: &'static str,
+    words: &'static [Word],
+}
+
+pub(crate) const INIT: Subcommand = Subcommand {
+    name: "init",
+    about: "Makes an office in a new file, and prints ready",
+    words: &[
+        Word {
+            name: "store",
+            called: "FILE",
+            value: Value::NeededText,
+            help: "The file, an SQLite database",
+        },
+        Word {
+            name: "manager",
+            called: "NAME",
+            value: Value::NeededText,
+            help: "Who manages the office",
+        },
+    ],
+};
+
+pub(crate) const DELIVER: Subcommand = Subcommand {
+    name: "deliver",
+    about: "Reads a JSON request a line, and prints STATUS BODY for each",
+    words: &[
+        Word {
+            name: "store",
+            called: "FILE",
+            value: Value::Text,
+            help: "The file that the office is in; without it, it stands in memory",
+        },
+        Word {
+            name: "manager",
+            called: "NAME",
+            value: Value::TextOr("root"),
+            help: "Who manages the office that opens empty",
+        },
+        Word {
+            name: "demo",
+            called: "",
+            value: Value::Flag,
+            help: "Opens the demo office: a template with `Hello`, and the language de",
+        },
+        Word {
+            name: "export",
+            called: "LANG",
+            value: Value::Text,
+            help: "Prints the language's PO text behind the replies",
+        },
+    ],
+};
+
+pub(crate) const EXPORT: Subcommand = Subcommand {
+    name: "export",
+    about: "Prints a language's PO text; its length and SHA-256 go to the second output",
+    words: &[
+        Word {
+            name: "store",
+            called: "FILE",
+            value: Value::NeededText,
+            help: "The file that the office is in",
+        },
+        Word {
+            name: "lang",
+            called: "LANG",
+            value: Value::NeededText,
+            help: "The language",
+        },
+    ],
+};
+
+const SERVE: Subcommand = Subcommand {
+    name: "serve",
+    about: "Serves an office over HTTP on 127.0.0.1, one connection after another",
+    words: &[
+        Word {
+            name: "store",
+            called: "FILE",
+            value: Value::NeededText,
+            help: "The file that the office is in",
+        },
+        Word {
+            name: "port",
+            called: "P",
+            value: Value::Port,
+            help: "The port to listen on, from 1 to 65535",
+        },
+        Word {
+            name: "connections",
+            called: "K",
+            value: Value::Count,
+            help: "Ends behind so many connections, from 1 to 4294967295",
+        },
+    ],
+};
+
+const SEND: Subcommand = Subcommand {
+    name: "send",
+    about: "Sends a file's requests to an office that serves, and prints STATUS BODY for each, or none",
+    words: &[
+        Word {
+            name: "port",
+            called: "P",
+            value: Value::Port,
+            help: "The port of 127.0.0.1 that the office listens on",
+        },
+        Word {
+            name: "file",
+            called: "FILE",
+            value: Value::NeededText,
+            help: "The file of requests, a line of JSON each",
+        },
+        Word {
+            name: "tries",
+            called: "T",
+            value: Value::Count,
+            help: "Sends each request so often at most, from 1 to 4294967295",
+        },
+    ],
+};
+
+const PLURAL: Subcommand = Subcommand {
+    name: "plural",
+    about: "Prints N INDEX a line: the number of the form that the rule gives at N",
+    words: &[
+        Word {
+            name: "value",
+            called: "VALUE",
+            value: Value::Argument,
+            help: "The value of a header's Plural-Forms field",
+        },
+        Word {
+            name: "n",
+            called: "N",
+            value: Value::Numbers,
+            help: "Numbers from 0 to 4294967295",
+        },
+    ],
+};
+
+const CANON: Subcommand = Subcommand {
+    name: "canon",
+    about: "Reads a PO text, and prints it in canonical form, or only po line L kind K",
+    words: &[],
+};
+
+const SUBCOMMANDS: [Subcommand; 7] = [INIT, DELIVER, EXPORT, SERVE, SEND, PLURAL, CANON];
+
+const VERSION: &str = "0.1.0";
+
+/// A word that isn't a flag, with its value.
+fn with_value<'a>(arg: Arg<'a>, value: Value) -> Arg<'a> {
+    match value {
+        Value::Flag | Value::Text => arg,
+        Value::TextOr(text) => arg.default_value(text),
+        Value::NeededText | Value::Argument => arg.required(true),
+        Value::Port => arg
+            .required(true)
+            .value_parser(value_parser!(u16).range(1..)),
+        Value::Count => arg
+            .required(true)
+            .value_parser(value_parser!(u32).range(1..)),
+        Value::Numbers => arg
+            .required(true)
+            .num_args(1..)
+            .value_parser(value_parser!(u32)),
+    }
+}
+
+/// A word as clap has it.
+fn arg_of<'a>(alloc: Global, word: Word) -> Arg<'a> {
+    let arg = Arg::new(alloc, word.name).help(word.help);
+    match word.value {
+        Value::Flag => arg.long(word.name).action(ArgAction::SetTrue),
+        Value::Argument | Value::Numbers => with_value(arg.value_name(word.called), word.value),
+        _ => with_value(
+            arg.long(word.name)
+                .value_name(word.called)
+                .action(ArgAction::Set),
+            word.value,
+        ),
+    }
+}
+
+/// A subcommand as clap has it.
+pub(crate) fn command_of<'a>(
+    alloc: Global,
+    subcommand: Subcommand,
+) -> Result<Command<'a>, AllocError> {
+    let mut command = Command::new(alloc, subcommand.name)
+        .about(subcommand.about)
+        .version(VERSION);
+    for word in subcommand.words {
+        command = command.arg(arg_of(alloc, *word))?;
+    }
+    Ok(command)
+}
+
+/// A command with a subcommand, if there was memory for that. (A command is dropped in one place here, since each such place is dear to
+/// prove.)
+fn with_subcommand<'a>(
+    command: Command<'a>,
+    subcommand: Result<Command<'a>, AllocError>,
+) -> Result<Command<'a>, AllocError> {
+    match subcommand {
+        Ok(subcommand) => command.subcommand(subcommand),
+        Err(fault) => {
+            drop(command);
+            Err(fault)
+        }
+    }
+}
+
+fn bare_command<'a>(alloc: Global) -> Result<Command<'a>, AllocError> {
+    Ok(
+        Command::new(alloc, "office")
+            .bin_name("office")?
+            .about("A translation office in which a request that comes again acts once")
+            .version(VERSION)
+            .subcommand_required(true)
+            .arg_required_else_help(true),
+    )
+}
+
+/// The whole command line.
+pub(crate) fn office_command<'a>(alloc: Global) -> Result<Command<'a>, AllocError> {
+    let mut command = bare_command(alloc)?;
+    for subcommand in SUBCOMMANDS {
+        command = with_subcommand(command, command_of(alloc, subcommand))?;
+    }
+    Ok(command)
+}
