@@ -16,7 +16,7 @@ fn first_fault(text: &str) -> Option<PoFault> {
 
 fn fault_told(alloc: Global, fault: PoFault) -> Result<String, AllocError> {
     let line = fault.line;
-    let number = fault.kind.number();
+    let number = fault.number();
     format!(in alloc; "{line} {number}")
 }
 
@@ -43,7 +43,7 @@ fn line_told(text: &mut String, next: Result<Token<'_>, PoFault>) -> Result<(), 
         }
         Err(fault) => {
             let number = fault.line;
-            let kind = fault.kind.number();
+            let kind = fault.number();
             write!(text, "{number} fault {kind}\n")
         }
     }

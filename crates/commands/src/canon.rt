@@ -73,7 +73,7 @@ fn send_po_fault<E: ByteSink>(e: &mut E, fault: PoFault) -> Result<(), SinkFault
     send(e, b"po line ")?;
     send_number(e, fault.line)?;
     send(e, b" kind ")?;
-    send_number(e, fault.kind.number())?;
+    send_number(e, fault.number())?;
     send(e, b"\n")
 }
 
@@ -97,7 +97,7 @@ fn canon_bytes<W: ByteSink, E: ByteSink>(alloc: Global, bytes: &[u8], w: &mut W,
 }
 
 /// Reads a PO text, at most 4,194,305 bytes and no further, and prints its canonical text; or only a line `po line L kind K` on
-/// the second output, where the text spells no catalogue within the limits (the kinds are numbered as `FaultKind::number` says;
+/// the second output, where the text spells no catalogue within the limits (the kinds are numbered as `PoFault::number` says;
 /// line 0 stands for the whole text). Where memory runs out the kind is 10.
 ///
 /// The answer is the exit status: 0, or 1 for a named fault or a failed stream.

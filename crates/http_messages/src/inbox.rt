@@ -33,6 +33,21 @@ pub enum ReadFault {
     Memory,
 }
 
+impl ReadFault {
+    ghost use Rattle.std.specs.Prelude.{◌≡◌};
+    ghost use Rattle.http_messages.specs.Faults.{fault_number};
+
+    /// 1 Source, 2 Memory.
+    pub fn number(self) -> u8
+        ensures { result ≡ fault_number self }
+    {
+        match self {
+            ReadFault::Source => 1,
+            ReadFault::Memory => 2,
+        }
+    }
+}
+
 impl From<SourceFault> for ReadFault {
     ghost use Rattle.std.specs.Prelude.{◌≡◌};
     ghost use Rattle.http_messages.specs.declared.inbox.ReadFault.TheVariants.{Source};
@@ -67,10 +82,23 @@ pub enum Arrival {
 }
 
 /// There was no memory to read what a message asks.
-#[derive(Clone, Copy, Debug, Drop, PartialEq, Eq)]
+#[derive(Clone, Copy, Debug, Drop, PartialEq, Eq, Error)]
+#[error("out of memory")]
 pub struct Unread {
     /// Whether the connection ends behind it.
     pub ends: bool,
+}
+
+impl Unread {
+    ghost use Rattle.std.specs.Prelude.{◌≡◌};
+    ghost use Rattle.http_messages.specs.Faults.{unread_number};
+
+    /// The fault's number, which is 1: it has one kind.
+    pub fn number(self) -> u8
+        ensures { result ≡ unread_number self }
+    {
+        1
+    }
 }
 
 /// What was read of a stream, and not yet taken off.

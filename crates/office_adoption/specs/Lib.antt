@@ -1,2 +1,3 @@
 pub mod Adoption
+pub mod Faults
 pub mod Reading

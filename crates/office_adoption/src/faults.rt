@@ -6,20 +6,45 @@ use std::alloc::AllocError;
 use tables::Lost;
 
 /// Why tables aren't adopted. Their rows are as before.
-#[derive(Clone, Copy, Debug, Drop)]
+#[derive(Clone, Copy, Debug, Drop, PartialEq, Eq, thiserror::Error)]
 pub enum AdoptionFault {
     /// A growth was refused.
+    #[error("out of memory")]
     Memory,
     /// A statement failed: the disk did, or the connection is shut.
+    #[error("the disk failed")]
     Disk,
     /// The tables aren't those of an office.
+    #[error("the tables aren't an office's")]
     OtherTables,
     /// Another form of the tables than the first, or none that is told.
+    #[error("the tables aren't of the first form")]
     OtherForm,
     /// A row stands for no value, the template for no valid catalogue, or what is recorded is no request's content.
+    #[error("a row stands for no value")]
     UnreadRow,
     /// The rows break the rules of an office with its book.
+    #[error("the rows break the rules of an office")]
     BrokenRules,
+}
+
+impl AdoptionFault {
+    ghost use Rattle.std.specs.Prelude.{◌≡◌};
+    ghost use Rattle.office_adoption.specs.Faults.{adoption_fault_number};
+
+    /// The fault's number: 1 Memory, 2 Disk, 3 OtherTables, 4 OtherForm, 5 UnreadRow, 6 BrokenRules.
+    pub fn number(self) -> u8
+        ensures { result ≡ adoption_fault_number self }
+    {
+        match self {
+            AdoptionFault::Memory => 1,
+            AdoptionFault::Disk => 2,
+            AdoptionFault::OtherTables => 3,
+            AdoptionFault::OtherForm => 4,
+            AdoptionFault::UnreadRow => 5,
+            AdoptionFault::BrokenRules => 6,
+        }
+    }
 }
 
 impl From<AllocError> for AdoptionFault {

@@ -18,5 +18,3 @@ mod values;
 pub use calls::{one_grammar, one_reading};
 pub use fault::{EvalFault, PluralFault};
 pub use rule::PluralForms;
-pub use token::Token;
-pub use tree::{Operator, Tree};

@@ -90,3 +90,15 @@ pub struct PoFault {
     pub line: usize,
     pub kind: FaultKind,
 }
+
+impl PoFault {
+    ghost use Rattle.std.specs.Prelude.{◌≡◌};
+    ghost use Rattle.po_lex.specs.Kinds.{fault_number};
+
+    /// The number of its kind, from 1 to 10.
+    pub fn number(self) -> u8
+        ensures { result ≡ fault_number self.kind }
+    {
+        self.kind.number()
+    }
+}

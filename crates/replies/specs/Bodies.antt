@@ -1,6 +1,7 @@
 -- Replies: their statuses and their bodies, compact JSON with keys in byte order. This project's own rule; statuses are those of
 -- RFC 9110 ("HTTP Semantics"), the states in bodies those of Weblate's documentation ("Translation workflows").
--- A new refusal is one line more in `refusal_words`, a new kind of values one line more in the function of its fields.
+-- A new refusal is one line more in `refusal_words` and in `refusal_number` of `units`, a new kind of values one line more in the
+-- function of its fields.
 use Rattle.std.specs.Prelude.{ℕ, List, [], ◌∷◌, Option, Some, None, map, codes}
 use Rattle.std.specs.Option.{option_map_or}
 use Rattle.serde_json.specs.Data.{boolean, string}
@@ -10,6 +11,7 @@ use Rattle.po_read.specs.Faults.{Fault}
 use Rattle.po_read.specs.Texts.{Text}
 use Rattle.plural_expr.specs.declared.fault.PluralFault.{PluralFault}
 use Rattle.plural_expr.specs.Faults.{fault_number, fault_at}
+use Rattle.units.specs.Numbers.{refusal_number}
 use Rattle.units.specs.Office.{Office}
 use Rattle.units.specs.declared.unit.Role.{Role}
 use Rattle.units.specs.declared.unit.Refusal.{Refusal}
@@ -31,31 +33,31 @@ reply status fields = record { status = status; body = compact_text (object_of f
 
 -- ---- refusals
 
--- the number, the name and the status of a refusal
-abbrev pub refusal_words : Refusal → ℕ × Text × ℕ
-refusal_words NoLanguage = (1, codes "no-language", 404)
-refusal_words NoUnit = (2, codes "no-unit", 404)
-refusal_words BelowRole = (3, codes "role", 403)
-refusal_words IsReadOnly = (4, codes "read-only", 409)
-refusal_words IsStale = (5, codes "stale", 409)
-refusal_words IsApproved = (6, codes "approved", 409)
-refusal_words PluralCount = (7, codes "plural-count", 422)
-refusal_words NoSuggestion = (8, codes "no-suggestion", 404)
-refusal_words VotingOff = (9, codes "voting-off", 409)
-refusal_words ReviewsOff = (10, codes "reviews-off", 409)
-refusal_words IsFull = (11, codes "full", 409)
-refusal_words IsSame = (12, codes "same", 409)
-refusal_words IsUnfit = (13, codes "unfit", 422)
-refusal_words LanguageExists = (14, codes "language-exists", 409)
-refusal_words PoText = (15, codes "po", 422)
-refusal_words PluralFormsField = (16, codes "plural-forms", 422)
-refusal_words PastLimit = (17, codes "limit", 422)
-refusal_words LastManager = (18, codes "last-manager", 409)
+-- the name and the status of a refusal
+abbrev pub refusal_words : Refusal → Text × ℕ
+refusal_words NoLanguage = (codes "no-language", 404)
+refusal_words NoUnit = (codes "no-unit", 404)
+refusal_words BelowRole = (codes "role", 403)
+refusal_words IsReadOnly = (codes "read-only", 409)
+refusal_words IsStale = (codes "stale", 409)
+refusal_words IsApproved = (codes "approved", 409)
+refusal_words PluralCount = (codes "plural-count", 422)
+refusal_words NoSuggestion = (codes "no-suggestion", 404)
+refusal_words VotingOff = (codes "voting-off", 409)
+refusal_words ReviewsOff = (codes "reviews-off", 409)
+refusal_words IsFull = (codes "full", 409)
+refusal_words IsSame = (codes "same", 409)
+refusal_words IsUnfit = (codes "unfit", 422)
+refusal_words LanguageExists = (codes "language-exists", 409)
+refusal_words PoText = (codes "po", 422)
+refusal_words PluralFormsField = (codes "plural-forms", 422)
+refusal_words PastLimit = (codes "limit", 422)
+refusal_words LastManager = (codes "last-manager", 409)
 
 -- a refusal says its name and its number, and what its kind adds
 abbrev pub refused_with : Refusal → Fields → Reply
 refused_with refusal more = let words = refusal_words refusal in
-    reply words.2 ((codes "refusal", string words.1) ∷ (codes "rule", natural words.0) ∷ more)
+    reply words.1 ((codes "refusal", string words.0) ∷ (codes "rule", natural (refusal_number refusal)) ∷ more)
 
 abbrev pub refused : Refusal → Reply
 refused refusal = refused_with refusal []

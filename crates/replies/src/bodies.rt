@@ -5,6 +5,7 @@ ghost use Rattle.serde_json.specs.Data.{object, string, put as with};
 ghost use Rattle.serde_json.specs.View.{members_view};
 ghost use Rattle.serde_json.specs.Written.{compact_text, has_float};
 ghost use Rattle.plural_expr.specs.Faults.{fault_number, fault_at};
+ghost use Rattle.units.specs.Numbers.{refusal_number};
 ghost use Rattle.units.specs.declared.unit.Refusal.TheVariants.{PoText, PluralFormsField};
 ghost use Rattle.request_book.specs.Words.{object_of, natural, number_data, state_text, role_text};
 ghost use Rattle.replies.specs.Bodies.{number_used, reply as reply_of, refused, refused_with, done as done_of, value_fields, refusal_words, po_fault_fields, plural_fault_fields, count_fields, template_fields, team_fields, policy_fields};
@@ -70,12 +71,7 @@ pub fn refused_text(alloc: Global, fault: PoFault) -> Result<Reply, AllocError>
     let words = words_of(Refusal::PoText);
     let mut map = Map::new(alloc);
     put(&mut map, alloc, "line", Value::from(fault.line as u64))?;
-    put(
-        &mut map,
-        alloc,
-        "kind",
-        Value::from(fault.kind.number() as u64),
-    )?;
+    put(&mut map, alloc, "kind", Value::from(fault.number() as u64))?;
     put_refusal(&mut map, alloc, words)?;
     reply(alloc, words.status, map)
 }
@@ -357,29 +353,30 @@ impl RefusalWords {
 }
 
 fn words_of(refusal: Refusal) -> RefusalWords
-    ensures number { result.number ≡ (refusal_words refusal).0 }
-    ensures name { result.name.now ≡ (refusal_words refusal).1 }
-    ensures status { result.status ≡ (refusal_words refusal).2 }
+    ensures number { result.number ≡ refusal_number refusal }
+    ensures name { result.name.now ≡ (refusal_words refusal).0 }
+    ensures status { result.status ≡ (refusal_words refusal).1 }
 {
+    let number = u64::from(refusal.number());
     match refusal {
-        Refusal::NoLanguage => RefusalWords::new(1, "no-language", 404),
-        Refusal::NoUnit => RefusalWords::new(2, "no-unit", 404),
-        Refusal::BelowRole => RefusalWords::new(3, "role", 403),
-        Refusal::IsReadOnly => RefusalWords::new(4, "read-only", 409),
-        Refusal::IsStale => RefusalWords::new(5, "stale", 409),
-        Refusal::IsApproved => RefusalWords::new(6, "approved", 409),
-        Refusal::PluralCount => RefusalWords::new(7, "plural-count", 422),
-        Refusal::NoSuggestion => RefusalWords::new(8, "no-suggestion", 404),
-        Refusal::VotingOff => RefusalWords::new(9, "voting-off", 409),
-        Refusal::ReviewsOff => RefusalWords::new(10, "reviews-off", 409),
-        Refusal::IsFull => RefusalWords::new(11, "full", 409),
-        Refusal::IsSame => RefusalWords::new(12, "same", 409),
-        Refusal::IsUnfit => RefusalWords::new(13, "unfit", 422),
-        Refusal::LanguageExists => RefusalWords::new(14, "language-exists", 409),
-        Refusal::PoText => RefusalWords::new(15, "po", 422),
-        Refusal::PluralFormsField => RefusalWords::new(16, "plural-forms", 422),
-        Refusal::PastLimit => RefusalWords::new(17, "limit", 422),
-        Refusal::LastManager => RefusalWords::new(18, "last-manager", 409),
+        Refusal::NoLanguage => RefusalWords::new(number, "no-language", 404),
+        Refusal::NoUnit => RefusalWords::new(number, "no-unit", 404),
+        Refusal::BelowRole => RefusalWords::new(number, "role", 403),
+        Refusal::IsReadOnly => RefusalWords::new(number, "read-only", 409),
+        Refusal::IsStale => RefusalWords::new(number, "stale", 409),
+        Refusal::IsApproved => RefusalWords::new(number, "approved", 409),
+        Refusal::PluralCount => RefusalWords::new(number, "plural-count", 422),
+        Refusal::NoSuggestion => RefusalWords::new(number, "no-suggestion", 404),
+        Refusal::VotingOff => RefusalWords::new(number, "voting-off", 409),
+        Refusal::ReviewsOff => RefusalWords::new(number, "reviews-off", 409),
+        Refusal::IsFull => RefusalWords::new(number, "full", 409),
+        Refusal::IsSame => RefusalWords::new(number, "same", 409),
+        Refusal::IsUnfit => RefusalWords::new(number, "unfit", 422),
+        Refusal::LanguageExists => RefusalWords::new(number, "language-exists", 409),
+        Refusal::PoText => RefusalWords::new(number, "po", 422),
+        Refusal::PluralFormsField => RefusalWords::new(number, "plural-forms", 422),
+        Refusal::PastLimit => RefusalWords::new(number, "limit", 422),
+        Refusal::LastManager => RefusalWords::new(number, "last-manager", 409),
     }
 }
 

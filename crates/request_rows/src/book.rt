@@ -1,9 +1,10 @@
-//! What is kept of requests, and their faults.
+//! What is kept of requests, and faults.
 use crate::stage::Stage;
 use crate::words::word;
 use po_read::{Duplicate, Text};
 use request_book::{Class, Record, Reply, Request, RequestFault, canon, classify};
 use std::alloc::Global;
+use units::{SinkFault, SourceFault};
 use uuid::Uuid;
 
 fn numbered_content(alloc: Global, request: &Request) -> Option<(Uuid, Text)> {
@@ -70,16 +71,17 @@ pub(crate) fn class_told(alloc: Global, known: Option<&Record>, content: &str) -
     }
 }
 
-fn fault(name: &str) -> Option<RequestFault> {
-    match name {
-        "malformed" => Some(RequestFault::Malformed),
-        "memory" => Some(RequestFault::Memory),
-        _ => None,
-    }
+fn request_fault_told(alloc: Global, fault: RequestFault) -> Option<String> {
+    let number = fault.number();
+    format!(in alloc; "{number} {fault}").ok()
 }
 
 pub(crate) fn fault_told(alloc: Global, name: &str) -> Option<String> {
-    let fault = fault(name)?;
-    let number = fault.number();
-    format!(in alloc; "{number} {fault}").ok()
+    match name {
+        "malformed" => request_fault_told(alloc, RequestFault::Malformed),
+        "memory" => request_fault_told(alloc, RequestFault::Memory),
+        "sink" => format!(in alloc; "{} {}", SinkFault.number(), SinkFault).ok(),
+        "source" => format!(in alloc; "{} {}", SourceFault.number(), SourceFault).ok(),
+        _ => None,
+    }
 }

@@ -113,7 +113,7 @@ fn is_named(alloc: Global, refusal: Refusal, name: &str) -> Option<bool> {
 pub(crate) fn refusal_told(alloc: Global, name: &str) -> Option<String> {
     for refusal in REFUSALS {
         if is_named(alloc, refusal, name)? {
-            return (refusal as u8).to_string(alloc).ok();
+            return refusal.number().to_string(alloc).ok();
         }
     }
     None

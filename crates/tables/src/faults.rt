@@ -1,6 +1,7 @@
 //! Why a call of tables failed.
 
 use std::alloc::{AllocError, AllocFailed};
+use std::fmt::Debug;
 use thiserror::Error;
 use units::Memory;
 
@@ -61,11 +62,14 @@ impl From<Memory> for Lost {
 }
 
 /// Why not all entries of a language were taken. The sink took those before.
-#[derive(Drop)]
+#[derive(Debug, Drop, Error)]
+#[error_bound(R: Debug)]
 pub enum EachFault<R: Drop> {
     /// The tables failed: number 1.
+    #[error("the tables failed: {0}")]
     NoTables(Lost),
     /// The sink refused an entry, and says why: number 2.
+    #[error("the sink refused an entry")]
     NoSink(R),
 }
 

@@ -1,4 +1,5 @@
 pub mod Limits
+pub mod Numbers
 pub mod Streams
 pub mod Ballots
 pub mod Coding

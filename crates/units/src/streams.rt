@@ -3,9 +3,25 @@
 ghost use Rattle.std.specs.Prelude.{◌≡◌, ◌<◌, ◌≤◌, ℕ, List, Option, length, take, OnOk, OnErr, IfOk};
 ghost use Rattle.units.specs.Streams.{one_more, append_known, prepend_known, IsAtEnd};
 
+use thiserror::Error;
+
 /// A write that the sink refused.
-#[derive(Clone, Copy, Debug, PartialEq, Eq, Drop)]
+#[derive(Clone, Copy, Debug, PartialEq, Eq, Drop, Error)]
+#[error("the sink refused a write")]
 pub struct SinkFault;
+
+impl SinkFault {
+    ghost use Rattle.units.specs.Numbers.{sink_fault_number};
+
+    /// The fault's number, which is 1: it has one kind.
+    pub fn number(self) -> u8
+        ensures { result ≡ sink_fault_number self }
+    {
+        match self {
+            SinkFault => 1,
+        }
+    }
+}
 
 /// A writer. A write that succeeds takes at least one byte.
 pub trait ByteSink {
@@ -40,8 +56,22 @@ pub trait ByteSink {
 }
 
 /// A read that the source refused.
-#[derive(Clone, Copy, Debug, PartialEq, Eq, Drop)]
+#[derive(Clone, Copy, Debug, PartialEq, Eq, Drop, Error)]
+#[error("the source refused a read")]
 pub struct SourceFault;
+
+impl SourceFault {
+    ghost use Rattle.units.specs.Numbers.{source_fault_number};
+
+    /// The fault's number, which is 1: it has one kind.
+    pub fn number(self) -> u8
+        ensures { result ≡ source_fault_number self }
+    {
+        match self {
+            SourceFault => 1,
+        }
+    }
+}
 
 /// A reader. A read that succeeds gives at least one byte, or says that the end is reached.
 pub trait ByteSource {

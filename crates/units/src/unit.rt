@@ -98,27 +98,58 @@ pub enum ShownState {
     ReadOnly,
 }
 
-/// Why a request is refused, with the rule's number.
+/// Why a request is refused.
 #[derive(Debug, Drop, Clone, Copy, PartialEq, Eq)]
 pub enum Refusal {
-    NoLanguage = 1,
-    NoUnit = 2,
-    BelowRole = 3,
-    IsReadOnly = 4,
-    IsStale = 5,
-    IsApproved = 6,
-    PluralCount = 7,
-    NoSuggestion = 8,
-    VotingOff = 9,
-    ReviewsOff = 10,
-    IsFull = 11,
-    IsSame = 12,
-    IsUnfit = 13,
-    LanguageExists = 14,
-    PoText = 15,
-    PluralFormsField = 16,
-    PastLimit = 17,
-    LastManager = 18,
+    NoLanguage,
+    NoUnit,
+    BelowRole,
+    IsReadOnly,
+    IsStale,
+    IsApproved,
+    PluralCount,
+    NoSuggestion,
+    VotingOff,
+    ReviewsOff,
+    IsFull,
+    IsSame,
+    IsUnfit,
+    LanguageExists,
+    PoText,
+    PluralFormsField,
+    PastLimit,
+    LastManager,
+}
+
+impl Refusal {
+    ghost use Rattle.std.specs.Prelude.{◌≡◌};
+    ghost use Rattle.units.specs.Numbers.{refusal_number};
+
+    /// The number of the rule that refuses, from 1 for `NoLanguage` to 18 for `LastManager`.
+    pub fn number(self) -> u8
+        ensures { result ≡ refusal_number self }
+    {
+        match self {
+            Refusal::NoLanguage => 1,
+            Refusal::NoUnit => 2,
+            Refusal::BelowRole => 3,
+            Refusal::IsReadOnly => 4,
+            Refusal::IsStale => 5,
+            Refusal::IsApproved => 6,
+            Refusal::PluralCount => 7,
+            Refusal::NoSuggestion => 8,
+            Refusal::VotingOff => 9,
+            Refusal::ReviewsOff => 10,
+            Refusal::IsFull => 11,
+            Refusal::IsSame => 12,
+            Refusal::IsUnfit => 13,
+            Refusal::LanguageExists => 14,
+            Refusal::PoText => 15,
+            Refusal::PluralFormsField => 16,
+            Refusal::PastLimit => 17,
+            Refusal::LastManager => 18,
+        }
+    }
 }
 
 /// What an act does to its unit.
