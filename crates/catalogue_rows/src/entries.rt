@@ -4,7 +4,7 @@ ghost use Rattle.po_read.specs.Strings.{is_string};
 
 use crate::stage::Stage;
 use crate::texts::{around, plain};
-use po_read::{Catalogue, Entry, Forms, Items, PoString, Previous, Text, read};
+use po_read::{Catalogue, Duplicate, Entry, Forms, Items, PoString, Previous, Text, read};
 use std::alloc::Global;
 use std::mem::replace;
 
@@ -107,10 +107,12 @@ pub(crate) fn put_entry(alloc: Global, stage: &mut Stage, items: &str) -> Option
 }
 
 fn entries_of(alloc: Global, bytes: &[u8]) -> Option<Vec<Entry>> {
-    match read(alloc, bytes) {
-        Ok(catalogue) => Some(catalogue.into_entries().into_vec()),
-        Err(_) => None,
+    let catalogue = read(alloc, bytes).ok()?;
+    let mut entries = Vec::new(alloc);
+    for entry in catalogue.entries() {
+        entries.push(entry.duplicate().ok()?).ok()?;
     }
+    Some(entries)
 }
 
 /// Sets the entries to those of a text.

@@ -11,7 +11,7 @@ use Rattle.po_read.specs.declared.entry.Entry.{Entry}
 use Rattle.po_read.specs.Spells.{Spells, IsWithin, limits}
 use Rattle.po_read.specs.Faults.{no_lines, Fault, IsFault, too_long, not_utf8, fault_from, fault_of}
 use Rattle.po_read.specs.Plain.{entries_of}
-use Rattle.po_read.specs.Views.{IsMemory}
+use Rattle.po_read.specs.Views.{IsMemory, PassesBefore, IsMemoryLine}
 use Rattle.po_read.proofs.Least.{least, computed}
 use Rattle.po_read.proofs.Accepts.{no_fault}
 use Rattle.po_read.proofs.Passing.{spelled_passes}
@@ -61,6 +61,9 @@ Outcome bytes fault = (fault_from limits 1 no_lines (lines_of bytes) ≡ Some (f
 
 pub told_of : (bytes text : List ℕ) (fault : PoFault) → (text ≡ bytes) × IsUtf8 bytes → length bytes ≤ 4194304 → (fault_from limits 1 no_lines (lines_of text) ≡ Some (fault.line, fault.kind)) ⊎ IsMemory fault → IsFault limits bytes (fault.line, fault.kind) ⊎ IsMemory fault
 told_of bytes text fault same small told = is_told bytes fault small same.1 (subst (λ (t : List ℕ). Outcome t fault) same.0 told)
+
+pub memory_line : (bytes text : List ℕ) (line : ℕ) → (text ≡ bytes) × IsUtf8 bytes → length bytes ≤ 4194304 → PassesBefore limits (lines_of text) line → IsMemoryLine limits bytes line
+memory_line bytes text line same small h = record { within = small; utf8 = is_utf8-from_IsUtf8 bytes same.1; reached = subst (λ (t : List ℕ). PassesBefore limits (lines_of t) line) same.0 h }
 
 pub read_of : (bytes text : List ℕ) (entries : List Entry) → (text ≡ bytes) × IsUtf8 bytes → length bytes ≤ 4194304 → (fault_from limits 1 no_lines (lines_of text) ≡ None) × (entries ≡ entries_of text) → Spells bytes entries × IsWithin limits bytes entries
 read_of bytes text entries same small h = is_read bytes entries small same.1 (subst (λ (t : List ℕ). (fault_from limits 1 no_lines (lines_of t) ≡ None) × (entries ≡ entries_of t)) same.0 h)

@@ -1,5 +1,5 @@
 -- Reading line by line: what is left of a text gives what the whole text gives.
-use Rattle.std.proofs.Common.{◌≡◌, ℕ, ◌+◌, ◌≤◌, List, [], ◌∷◌, Bool, true, false, cond, map, length, refl, sym, ◌∙◌, ap, subst, Some, None, Result, Ok, Err, ◌⊎◌, inl, inr, arith, suc, ◌==◌}
+use Rattle.std.proofs.Common.{◌≡◌, ℕ, ◌+◌, ◌≤◌, List, [], ◌∷◌, ◌++◌, Bool, true, false, cond, map, length, refl, sym, ◌∙◌, ap, subst, Some, None, Result, Ok, Err, ◌⊎◌, inl, inr, arith, suc, ◌==◌}
 use Rattle.std.specs.Prelude.{IsUtf8}
 use Rattle.std.specs.List.{fold, AllByRecursion}
 use Rattle.po_lex.specs.declared.fault.FaultKind.{FaultKind}
@@ -8,11 +8,11 @@ use Rattle.po_lex.specs.Lines.{Line, line_of, lines_of, with_byte}
 use Rattle.po_lex.specs.Views.{Rest, IsNext, Tells, line_view}
 use Rattle.po_lex.specs.declared.line.Token.{Token}
 use Rattle.po_lex.specs.declared.fault.PoFault.{PoFault}
-use Rattle.po_read.specs.Views.{IsMemory}
+use Rattle.po_read.specs.Views.{IsMemory, PassesBefore}
 use Rattle.po_read.specs.declared.entry.Entry.{Entry}
 use Rattle.po_read.specs.declared.reading.Reader.{Reader}
 use Rattle.po_read.specs.Spells.{limits}
-use Rattle.po_read.specs.Faults.{Lines, no_lines, add_line, lines_behind, line_fault, fault_at_end, or_later, fault_from}
+use Rattle.po_read.specs.Faults.{Lines, no_lines, add_line, lines_behind, line_fault, Passes, fault_at_end, or_later, fault_from}
 use Rattle.po_read.specs.Plain.{entry_of, groups_of, entries_of}
 use Rattle.po_read.specs.Drafts.{IsSoundLine}
 use Rattle.po_read.specs.SoFar.{Reads}
@@ -41,9 +41,11 @@ pub record Going (text : List ℕ) (reader : Reader) (rest : List ℕ) (line : �
   pub behind : lines_behind (lines_of text) ≡ fold add_line lines (map line_of (lines_of rest))
   pub few : line + length (lines_of rest) ≤ length text + 1
   pub utf8 : AllByRecursion (λ t. IsUtf8 t) (lines_of rest)
+  -- whatever front of what is left passes, a reader gets to the line behind it
+  pub reached : (front behind : List (List ℕ)) → lines_of rest ≡ front ++ behind → Passes limits lines front → PassesBefore limits (lines_of text) (length front + line)
 
 pub begin : (text : List ℕ) (reader : Reader) → IsUtf8 text → Reads reader no_lines → Going text reader text 1
-begin text reader u h = record { lines = no_lines; reads = h; faults = refl; behind = refl; few = (let n = lines_len text in omega arith); utf8 = lines_utf8 text u }
+begin text reader u h = record { lines = no_lines; reads = h; faults = refl; behind = refl; few = (let n = lines_len text in omega arith); utf8 = lines_utf8 text u; reached = λ front behind cut passes. record { front = front; rest = behind; cut = cut; passes = passes; is = refl } }
 
 -- the next line, and what is left
 abbrev Cut : List ℕ → List ℕ → List ℕ → Type 0
@@ -71,7 +73,17 @@ go_on text reader new rest line more n l g cut e h = record {
   behind = g.behind ∙ ap (λ (ls : List (List ℕ)). fold add_line g.lines (map line_of ls)) cut;
   few = (let c : length (lines_of rest) ≡ length (line ∷ lines_of more) = ap length cut in let f = g.few in omega arith);
   utf8 = (first_utf8 text reader rest line more n g cut).1;
+  reached = λ front behind c passes.
+      let none : line_fault limits g.lines (line_of line) ≡ None = ap (line_fault limits g.lines) e ∙ h.0 in
+      let same : length (line ∷ front) + n ≡ length front + (n + 1) = omega arith in
+      subst (λ (k : ℕ). PassesBefore limits (lines_of text) k) same (g.reached (line ∷ front) behind (cut ∙ ap (λ (ls : List (List ℕ)). line ∷ ls) c) (none, passes));
 }
+
+-- the next line
+pub reached_here : (text : List ℕ) (reader : Reader) (rest : List ℕ) (n : ℕ) → Going text reader rest n → PassesBefore limits (lines_of text) n
+reached_here text reader rest n g =
+    let same : length (let none : List (List ℕ) = [] in none) + n ≡ n = omega arith in
+    subst (λ (k : ℕ). PassesBefore limits (lines_of text) k) same (g.reached [] (lines_of rest) refl tt)
 
 pub room : (text : List ℕ) (reader : Reader) (rest line more : List ℕ) (n : ℕ) → Going text reader rest n → Cut rest line more → n ≤ length text
 room text reader rest line more n g cut = let c : length (lines_of rest) ≡ length (line ∷ lines_of more) = ap length cut in let f = g.few in omega arith
@@ -104,6 +116,11 @@ pub token_fault : (text : List ℕ) (reader : Reader) (old new : Rest) (told : R
 token_fault text reader old new told fault n g number next e =
     let t : Tells next.line old.number (Err fault) = subst (λ (r : Result Token PoFault). Tells next.line old.number r) e next.tells in
     inl (fault_here text reader old.text next.line new.text n fault.kind g next.cut (ap (line_fault limits g.lines) t.1) ∙ ap (λ (k : ℕ). Some (k, fault.kind)) (number ∙ sym t.0))
+
+pub token_reached : (text : List ℕ) (reader : Reader) (old new : Rest) (told : Result Token PoFault) (fault : PoFault) (n : ℕ) → Going text reader old.text n → n ≡ old.number → IsNext old new told → told ≡ Err fault → PassesBefore limits (lines_of text) fault.line
+token_reached text reader old new told fault n g number next e =
+    let t : Tells next.line old.number (Err fault) = subst (λ (r : Result Token PoFault). Tells next.line old.number r) e next.tells in
+    subst (λ (k : ℕ). PassesBefore limits (lines_of text) k) (number ∙ sym t.0) (reached_here text reader old.text n g)
 
 pub line_told : (text : List ℕ) (reader : Reader) (old new : Rest) (told : Result Token PoFault) (token : Token) (n : ℕ) (kind : FaultKind) → Going text reader old.text n → IsNext old new told → told ≡ Ok token
     → ((lines : Lines) → Reads reader lines → (line_fault limits lines (Ok (line_view token.line)) ≡ Some kind) ⊎ (kind ≡ kinds.Memory)) → (fault_from limits 1 no_lines (lines_of text) ≡ Some (n, kind)) ⊎ (kind ≡ kinds.Memory)

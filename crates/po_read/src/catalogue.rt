@@ -71,13 +71,4 @@ impl Catalogue {
     {
         self.entries.as_slice()
     }
-
-    /// The entries, taken out.
-    pub fn into_entries(self) -> Items<Entry>
-        ensures value { result ≡ self }
-        ensures valid { IsValid self }
-    {
-        let Catalogue { entries } = self;
-        entries
-    }
 }

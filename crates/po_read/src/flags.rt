@@ -76,7 +76,7 @@ impl<'a> Flags<'a> {
     pub(crate) fn to_items(&self, alloc: Global) -> Result<Items<Text>, AllocError>
         ensures { IfOk result (λ flags. flags ≡ with_fuzzy_first self.now) }
     {
-        let mut flags = Items::new(alloc);
+        let mut flags = Items::with_capacity(alloc, self.kept.len())?;
         if self.has("fuzzy") {
             add_text(alloc, &mut flags, "fuzzy")?;
         }

@@ -45,6 +45,15 @@ impl<T> Items<T> {
         }
     }
 
+    /// No elements, with room for so many.
+    pub(crate) fn with_capacity(alloc: Global, capacity: usize) -> Result<Items<T>, AllocError>
+        ensures { IfOk result (λ items. items ≡ []) }
+    {
+        Ok(Items {
+            inner: Vec::with_capacity(alloc, capacity)?,
+        })
+    }
+
     pub(crate) fn allocator(&self) -> Global {
         *self.inner.allocator()
     }
@@ -56,11 +65,15 @@ impl<T> Items<T> {
         self.inner.as_slice()
     }
 
-    /// Adds an element at the end. A refused growth leaves the list as it was.
+    /// Adds an element at the end. A refused growth leaves the list as it was. The first takes room for itself alone, as most lists
+    /// of an entry have no more.
     pub fn push(&mut self, x: T) -> Result<(), AllocFailed<T>>
         ensures ok { OnOk result (self.new ≡ self.old ++ x ∷ []) }
         ensures err { OnErr result (self.new ≡ self.old) }
     {
+        if self.inner.is_empty() && self.inner.reserve_exact(1).is_err() {
+            return Err(AllocFailed { value: x });
+        }
         self.inner.push(x)
     }
 

@@ -14,7 +14,7 @@ ghost use Rattle.po_read.specs.Header.{has_charset};
 ghost use Rattle.po_read.specs.Keys.{entry_key_cmp};
 ghost use Rattle.po_read.specs.Spells.{is_header_key};
 ghost use Rattle.po_read.specs.Drafts.{IsSoundLine};
-ghost use Rattle.po_read.specs.Views.{told, ReadsOrMemory, IsMemory};
+ghost use Rattle.po_read.specs.Views.{told, ReadsOrMemory, IsMemory, PassesBefore, IsMemoryLine};
 
 use crate::catalogue::Catalogue;
 use crate::entry::Entry;
@@ -257,6 +257,7 @@ impl<'a> Reader<'a> {
         requires fits { length text.now < 2 ^ 63 }
         ensures ok { IfOk result (λ entries. (fault_from limits 1 no_lines (lines_of text.now) ≡ None) × (entries.items ≡ entries_of text.now)) }
         ensures err { IfErr result (λ fault. (fault_from limits 1 no_lines (lines_of text.now) ≡ Some (fault.line, fault.kind)) ⊎ IsMemory fault) }
+        ensures memory { IfErr result (λ fault. IsMemory fault → PassesBefore limits (lines_of text.now) fault.line) }
     {
         let mut lines = lex(text);
         let mut line = 1;
@@ -297,6 +298,7 @@ fn read_text(alloc: Global, text: &str) -> Result<Vec<Entry>, PoFault>
     requires { length text.now < 2 ^ 63 }
     ensures ok { IfOk result (λ entries. (fault_from limits 1 no_lines (lines_of text.now) ≡ None) × (entries.items ≡ entries_of text.now)) }
     ensures err { IfErr result (λ fault. (fault_from limits 1 no_lines (lines_of text.now) ≡ Some (fault.line, fault.kind)) ⊎ IsMemory fault) }
+    ensures memory { IfErr result (λ fault. IsMemory fault → PassesBefore limits (lines_of text.now) fault.line) }
 {
     let mut reader = Reader::new(alloc);
     let told = reader.read_lines(text);
@@ -314,6 +316,8 @@ pub fn read(alloc: Global, bytes: &[u8]) -> Result<Catalogue, PoFault>
     ensures spelled { (c : List Entry) → Spells bytes.now c → IsWithin limits bytes.now c → ReadsOrMemory result c }
     // Else the first fault is told, unless memory ran out.
     ensures fault { IfErr result (λ fault. IsFault limits bytes.now (fault.line, fault.kind) ⊎ IsMemory fault) }
+    // Where memory ran out, no line before the one that is told has a fault.
+    ensures memory { IfErr result (λ fault. IsMemory fault → IsMemoryLine limits bytes.now fault.line) }
 {
     if bytes.len() > TEXT_LIMIT {
         return Err(PoFault {

@@ -69,6 +69,7 @@ impl PoString {
         ensures { OnOk result (self.new ≡ self.old ++ unescaped raw.now) }
     {
         let mut inner = replace(&mut self.inner, String::new(alloc));
+        inner.reserve(raw.len())?;
         push_unescaped(&mut inner, raw)?;
         self.inner = inner;
         Ok(())

@@ -2,7 +2,7 @@
 ghost use Rattle.std.specs.Prelude.{◌≡◌, IfSome, true};
 ghost use Rattle.po_read.specs.Strings.{is_string};
 
-use po_read::{Entry, Forms, Items, PoString, read};
+use po_read::{Duplicate, Entry, Forms, Items, PoString, read};
 use std::alloc::Global;
 use units::{Key, Name, Revision, Suggestion, Unit, UnitState, Votes};
 use uuid::Uuid;
@@ -25,7 +25,7 @@ pub(crate) fn forms(alloc: Global, texts: &str) -> Option<Forms> {
 /// The entry of a text, the last if it has several.
 pub(crate) fn entry(alloc: Global, text: &str) -> Option<Entry> {
     let catalogue = read(alloc, text.as_bytes()).ok()?;
-    catalogue.into_entries().into_vec().pop()
+    catalogue.entries().last()?.duplicate().ok()
 }
 
 /// A suggestion of `ann`, as number 20.

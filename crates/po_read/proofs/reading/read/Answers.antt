@@ -2,7 +2,7 @@ use Rattle.std.proofs.Common.{◌≤◌, length, List, sym, ◌∙◌, subst, in
 use Rattle.std.proofs.lemmas.Result.{err_from_is_err_and}
 use Rattle.po_read.specs.declared.entry.Entry.{Entry}
 use Rattle.po_read.specs.Spells.{Spells, IsWithin, limits}
-use Rattle.po_read.proofs.Answered.{is_no_text, told_of, read_of, memory_then, same_catalogue}
+use Rattle.po_read.proofs.Answered.{is_no_text, told_of, read_of, memory_line, memory_then, same_catalogue}
 use Rattle.po_read.proofs.reading.read.Goals as goal
 
 pub returns-in_err-read_text-in-Ok-clause-spelled : goal.returns-in_err-read_text-in-Ok-clause-spelled
@@ -16,6 +16,12 @@ returns-in_err-read_text-in-Ok-clause-fault c =
     let small : length c.args.bytes.now ≤ 4194304 = omega arith in
     let p = err_from_is_err_and c.from_residual.result c.from_residual.ensures.1 in
     rw (p.1, p.2) (told_of c.args.bytes.now c.in-Ok.text.now c.in_err-read_text-in-Ok.field-0.0 c.in-Ok.ensures.cases small c.in_err-read_text-in-Ok.ensures.err)
+
+pub returns-in_err-read_text-in-Ok-clause-memory : goal.returns-in_err-read_text-in-Ok-clause-memory
+returns-in_err-read_text-in-Ok-clause-memory c =
+    let small : length c.args.bytes.now ≤ 4194304 = omega arith in
+    let p = err_from_is_err_and c.from_residual.result c.from_residual.ensures.1 in
+    rw (p.1, p.2) (λ m. memory_line c.args.bytes.now c.in-Ok.text.now c.in_err-read_text-in-Ok.field-0.0.line c.in-Ok.ensures.cases small (c.in_err-read_text-in-Ok.ensures.memory m))
 
 pub new-requires : goal.new-requires
 new-requires c =

@@ -1,7 +1,7 @@
 use Rattle.std.proofs.Common.{◌+◌, sym, ◌∙◌, ap, subst}
 use Rattle.std.proofs.lemmas.Result.{err_from_is_err_and}
 use Rattle.po_lex.specs.Views.{Rest}
-use Rattle.po_read.proofs.TextLines.{Going, begin, token_sound, token_fault, line_told, token_next, end_of_text, read_whole}
+use Rattle.po_read.proofs.TextLines.{Going, begin, token_sound, token_fault, token_reached, reached_here, line_told, token_next, end_of_text, read_whole}
 use Rattle.po_read.proofs.reading.Reader.read_lines.Goals as goal
 
 pub loop-told-init : goal.loop-told-init
@@ -15,11 +15,19 @@ returns-in_err-token-clause-err c =
     let p = err_from_is_err_and c.from_residual.result c.from_residual.ensures.1 in
     rw (p.1, p.2) (token_fault c.args.text.now c.loop-told.self c.loop-told.lines c.next.new.self c.in-Some.told c.in_err-token.field-0.0 c.loop-told.line c.loop-told.invariant.going c.loop-told.invariant.number c.in-Some.ensures.some c.in_err-token.was)
 
+pub returns-in_err-token-clause-memory : goal.returns-in_err-token-clause-memory
+returns-in_err-token-clause-memory c =
+    let p = err_from_is_err_and c.from_residual.result c.from_residual.ensures.1 in
+    rw (p.1, p.2) (λ m. token_reached c.args.text.now c.loop-told.self c.loop-told.lines c.next.new.self c.in-Some.told c.in_err-token.field-0.0 c.loop-told.line c.loop-told.invariant.going c.loop-told.invariant.number c.in-Some.ensures.some c.in_err-token.was)
+
 pub read_line-requires : goal.read_line-requires
 read_line-requires c = record { sound = token_sound c.args.text.now c.loop-told.self c.loop-told.lines c.next.new.self c.in-Some.told c.in_ok-token.token c.loop-told.line c.loop-told.invariant.going c.in-Some.ensures.some c.in_ok-token.was }
 
 pub returns-in-Err-clause-err : goal.returns-in-Err-clause-err
 returns-in-Err-clause-err c = line_told c.args.text.now c.loop-told.self c.loop-told.lines c.next.new.self c.in-Some.told c.in_ok-token.token c.loop-told.line c.in-Err.kind c.loop-told.invariant.going c.in-Some.ensures.some c.in_ok-token.was c.in-Err.ensures.err
+
+pub returns-in-Err-clause-memory : goal.returns-in-Err-clause-memory
+returns-in-Err-clause-memory c = λ m. reached_here c.args.text.now c.loop-told.self c.loop-told.lines.text c.loop-told.line c.loop-told.invariant.going
 
 pub loop-told-preserved : goal.loop-told-preserved
 loop-told-preserved c = record {
@@ -34,3 +42,6 @@ returns-in-Ok-clause-ok c =
 
 pub returns-in-Err-finish-clause-err : goal.returns-in-Err-finish-clause-err
 returns-in-Err-finish-clause-err c = end_of_text c.args.text.now c.loop-told.self c.loop-told.lines.text c.loop-told.line c.in-Err-finish.kind c.loop-told.invariant.going c.in_default.ensures.none.0 c.in-Err-finish.ensures.err
+
+pub returns-in-Err-finish-clause-memory : goal.returns-in-Err-finish-clause-memory
+returns-in-Err-finish-clause-memory c = λ m. reached_here c.args.text.now c.loop-told.self c.loop-told.lines.text c.loop-told.line c.loop-told.invariant.going
