@@ -17,22 +17,22 @@ fn requests(alloc: Global, sent: &[Sent]) -> Option<Vec<Request>> {
 }
 
 /// What a run over all requests at once answers.
-fn run_replies(alloc: Global, offices: &mut Offices, sent: &[Sent]) -> Option<String> {
+fn run_replies<O: Offices>(alloc: Global, offices: &mut O, sent: &[Sent]) -> Option<String> {
     let requests = requests(alloc, sent)?;
     let told = offices.run(alloc, &requests);
     drop(requests);
     told
 }
 
-fn run_text(alloc: Global, offices: &mut Offices, sent: &[Sent]) -> Option<String> {
+fn run_text<O: Offices>(alloc: Global, offices: &mut O, sent: &[Sent]) -> Option<String> {
     let replies = run_replies(alloc, offices, sent)?;
     let exports = exports(alloc, offices, sent)?;
     format!(in alloc; "{replies}{exports}").ok()
 }
 
 /// The same of offices that were opened so.
-fn new_run_text(alloc: Global, course: &Course) -> Option<String> {
-    let mut offices = Offices::open(alloc, course.opening.as_str())?;
+fn new_run_text<O: Offices>(alloc: Global, course: &Course<O>) -> Option<String> {
+    let mut offices = O::open(alloc, course.opening.as_str())?;
     let text = run_text(alloc, &mut offices, &course.sent);
     drop(offices);
     text
@@ -49,7 +49,7 @@ fn replies(alloc: Global, sent: &[Sent]) -> Option<String> {
 }
 
 /// How many requests have the same replies and leave the same exports in a run; or what is other.
-pub(crate) fn alike(alloc: Global, course: &mut Course) -> Option<String> {
+pub(crate) fn alike<O: Offices>(alloc: Global, course: &mut Course<O>) -> Option<String> {
     let replies = replies(alloc, &course.sent)?;
     let exports = course.exports(alloc)?;
     let wanted = format!(in alloc; "{replies}{exports}").ok()?;

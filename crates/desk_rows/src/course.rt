@@ -13,13 +13,13 @@ pub(crate) struct Sent {
 
 /// How the offices were opened, the offices, and what was sent to them.
 #[derive(Drop)]
-pub(crate) struct Course {
+pub(crate) struct Course<O: Offices> {
     pub(crate) opening: String,
-    pub(crate) offices: Offices,
+    pub(crate) offices: O,
     pub(crate) sent: Vec<Sent>,
 }
 
-fn course_of(alloc: Global, opening: String, offices: Offices) -> Course {
+fn course_of<O: Offices>(alloc: Global, opening: String, offices: O) -> Course<O> {
     Course {
         opening,
         offices,
@@ -27,16 +27,16 @@ fn course_of(alloc: Global, opening: String, offices: Offices) -> Course {
     }
 }
 
-pub(crate) fn opened(alloc: Global, who: &str) -> Option<Course> {
+pub(crate) fn opened<O: Offices>(alloc: Global, who: &str) -> Option<Course<O>> {
     let opening = String::from_str(alloc, who).ok()?;
-    match Offices::open(alloc, who) {
+    match O::open(alloc, who) {
         Some(offices) => Some(course_of(alloc, opening, offices)),
         None => None,
     }
 }
 
 /// Sends the lines once more: how many there are, or the first whose reply is another than before.
-fn repeated(alloc: Global, offices: &mut Offices, sent: &[Sent]) -> Option<String> {
+fn repeated<O: Offices>(alloc: Global, offices: &mut O, sent: &[Sent]) -> Option<String> {
     let mut count = 0u64;
     for one in sent.iter().filter(|one| !one.lost) {
         let line = one.line.as_str();
@@ -49,7 +49,7 @@ fn repeated(alloc: Global, offices: &mut Offices, sent: &[Sent]) -> Option<Strin
     format!(in alloc; "{count} as before").ok()
 }
 
-impl Course {
+impl<O: Offices> Course<O> {
     pub(crate) fn deliver(&mut self, alloc: Global, line: String) -> Option<String> {
         let reply = self.offices.answered(alloc, line.as_str())?;
         let told = reply.clone().ok()?;

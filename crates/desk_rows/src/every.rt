@@ -1,6 +1,7 @@
 //! Every list of some requests.
 use crate::alike::alike;
 use crate::course::{Course, opened};
+use crate::offices::Offices;
 use crate::stage::Stage;
 use std::alloc::Global;
 
@@ -18,10 +19,10 @@ fn lists(groups: &str) -> usize {
 }
 
 /// Delivers the list that a turn chooses.
-fn deliver_list(
+fn deliver_list<O: Offices>(
     alloc: Global,
-    stage: &Stage,
-    course: &mut Course,
+    stage: &Stage<O>,
+    course: &mut Course<O>,
     groups: &str,
     turn: usize,
 ) -> Option<()> {
@@ -35,8 +36,13 @@ fn deliver_list(
     Some(())
 }
 
-fn list_told(alloc: Global, stage: &Stage, groups: &str, turn: usize) -> Option<String> {
-    let mut course = opened(alloc, "demo")?;
+fn list_told<O: Offices>(
+    alloc: Global,
+    stage: &Stage<O>,
+    groups: &str,
+    turn: usize,
+) -> Option<String> {
+    let mut course: Course<O> = opened(alloc, "demo")?;
     let told = match deliver_list(alloc, stage, &mut course, groups, turn) {
         Some(()) => alike(alloc, &mut course),
         None => None,
@@ -46,7 +52,11 @@ fn list_told(alloc: Global, stage: &Stage, groups: &str, turn: usize) -> Option<
 }
 
 /// How many lists are alike, or what one of them comes to.
-pub(crate) fn every_list(alloc: Global, stage: &Stage, groups: &str) -> Option<String> {
+pub(crate) fn every_list<O: Offices>(
+    alloc: Global,
+    stage: &Stage<O>,
+    groups: &str,
+) -> Option<String> {
     let lists = lists(groups);
     let length = groups.split(' ').count();
     let wanted = format!(in alloc; "{length} alike").ok()?;

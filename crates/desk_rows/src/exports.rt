@@ -64,7 +64,7 @@ pub(crate) fn exported<T: Tables>(
 }
 
 /// The exports of each language.
-pub(crate) fn exports(alloc: Global, offices: &mut Offices, sent: &[Sent]) -> Option<String> {
+pub(crate) fn exports<O: Offices>(alloc: Global, offices: &mut O, sent: &[Sent]) -> Option<String> {
     let mut text = String::new(alloc);
     for code in codes(alloc, sent)? {
         let more = offices.exported(alloc, code, usize::MAX)?;

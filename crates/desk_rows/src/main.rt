@@ -38,13 +38,14 @@ mod stage;
 mod told;
 mod words;
 
+use offices::Both;
 use stage::{Stage, found};
 use std::io;
 use words::both_sides;
 
 fn main(rt: HostRuntime) -> io::Result<()> {
     let alloc = rt.alloc();
-    let mut stage = Stage::new(alloc);
+    let mut stage: Stage<Both> = Stage::new(alloc);
     let mut rows = 0u64;
     for line in rt.lines(alloc) {
         let line = line?;

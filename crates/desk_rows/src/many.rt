@@ -1,10 +1,16 @@
 //! Requests that differ in a number.
 use crate::course::Course;
+use crate::offices::Offices;
 use crate::words::word;
 use std::alloc::Global;
 
 /// The reply to the request with this number, where @ stands for the number in its body.
-fn numbered(alloc: Global, course: &mut Course, line: &str, number: u32) -> Option<String> {
+fn numbered<O: Offices>(
+    alloc: Global,
+    course: &mut Course<O>,
+    line: &str,
+    number: u32,
+) -> Option<String> {
     let digits = format!(in alloc; "{number}").ok()?;
     let line = line.replace(alloc, "@", digits.as_str()).ok()?;
     let told = course.deliver(alloc, line)?;
@@ -13,9 +19,9 @@ fn numbered(alloc: Global, course: &mut Course, line: &str, number: u32) -> Opti
     format!(in alloc; "{status} {body}").ok()
 }
 
-fn all_numbered(
+fn all_numbered<O: Offices>(
     alloc: Global,
-    course: &mut Course,
+    course: &mut Course<O>,
     line: &str,
     from: u32,
     to: u32,
@@ -38,7 +44,11 @@ fn line_of(deed: &str) -> Option<&str> {
 }
 
 /// The reply that all the requests get.
-pub(crate) fn many(alloc: Global, course: &mut Course, deed: &str) -> Option<String> {
+pub(crate) fn many<O: Offices>(
+    alloc: Global,
+    course: &mut Course<O>,
+    deed: &str,
+) -> Option<String> {
     let from = word(deed, 1).parse::<u32>().ok()?;
     let to = word(deed, 2).parse::<u32>().ok()?;
     all_numbered(alloc, course, line_of(deed)?, from, to)

@@ -14,9 +14,34 @@ use store_sql::SqliteTables;
 use tables::Tables;
 use units::Name;
 
+/// Offices that get the same requests. (What stands over any offices never sees their types: each function that owns tables on SQLite is
+/// dear to prove.)
+pub(crate) trait Offices: Drop {
+    /// Opens offices that begin alike: with the demo, or with this manager alone.
+    fn open(alloc: Global, who: &str) -> Option<Self>;
+
+    /// The reply to a line.
+    fn answered(&mut self, alloc: Global, line: &str) -> Option<String>;
+
+    /// What a run over all requests at once answers.
+    fn run(&mut self, alloc: Global, requests: &[Request]) -> Option<String>;
+
+    /// What the export of a language into so much room is told as.
+    fn exported(&mut self, alloc: Global, code: &str, most: usize) -> Option<String>;
+
+    /// A unit as callers see it, by its language and key.
+    fn unit(&mut self, alloc: Global, place: &str) -> Option<String>;
+
+    /// A language's counts.
+    fn stats(&mut self, alloc: Global, code: &str) -> Option<String>;
+
+    /// Closes them, and tells how many rows the tables on SQLite have.
+    fn close(self, alloc: Global) -> Option<String>;
+}
+
 /// An office in maps, and the same on SQLite.
 #[derive(Drop)]
-pub(crate) struct Offices {
+pub(crate) struct Both {
     in_maps: Desk<PlainTables>,
     on_sqlite: Desk<SqliteTables<MemStore>>,
 }
@@ -68,10 +93,10 @@ fn desk_on_sqlite(alloc: Global, start: &Start) -> Option<Desk<SqliteTables<MemS
     }
 }
 
-fn offices_of(alloc: Global, start: &Start) -> Option<Offices> {
+fn offices_of(alloc: Global, start: &Start) -> Option<Both> {
     let in_maps = desk_in_maps(alloc, start)?;
     match desk_on_sqlite(alloc, start) {
-        Some(on_sqlite) => Some(Offices { in_maps, on_sqlite }),
+        Some(on_sqlite) => Some(Both { in_maps, on_sqlite }),
         None => {
             drop(in_maps);
             None
@@ -97,60 +122,55 @@ fn run_told<T: Tables>(alloc: Global, desk: &mut Desk<T>, requests: &[Request]) 
     Some(text)
 }
 
-impl Offices {
-    /// Opens two offices that begin alike.
-    pub(crate) fn open(alloc: Global, who: &str) -> Option<Offices> {
+impl Both {
+    fn replied(&mut self, alloc: Global, request: &Request) -> Option<String> {
+        let in_maps = reply_told(alloc, &mut self.in_maps, request)?;
+        let on_sqlite = reply_told(alloc, &mut self.on_sqlite, request)?;
+        both_told(alloc, in_maps, on_sqlite)
+    }
+}
+
+impl Offices for Both {
+    fn open(alloc: Global, who: &str) -> Option<Both> {
         let start = start(alloc, who)?;
         let offices = offices_of(alloc, &start);
         drop(start);
         offices
     }
 
-    fn replied(&mut self, alloc: Global, request: &Request) -> Option<String> {
-        let in_maps = reply_told(alloc, &mut self.in_maps, request)?;
-        let on_sqlite = reply_told(alloc, &mut self.on_sqlite, request)?;
-        both_told(alloc, in_maps, on_sqlite)
-    }
-
-    /// The reply to a line.
-    pub(crate) fn answered(&mut self, alloc: Global, line: &str) -> Option<String> {
+    fn answered(&mut self, alloc: Global, line: &str) -> Option<String> {
         let request = Request::from_json(alloc, line).ok()?;
         let told = self.replied(alloc, &request);
         drop(request);
         told
     }
 
-    /// What a run over all requests at once answers.
-    pub(crate) fn run(&mut self, alloc: Global, requests: &[Request]) -> Option<String> {
+    fn run(&mut self, alloc: Global, requests: &[Request]) -> Option<String> {
         let in_maps = run_told(alloc, &mut self.in_maps, requests)?;
         let on_sqlite = run_told(alloc, &mut self.on_sqlite, requests)?;
         both_told(alloc, in_maps, on_sqlite)
     }
 
-    /// What the export of a language into so much room is told as.
-    pub(crate) fn exported(&mut self, alloc: Global, code: &str, most: usize) -> Option<String> {
+    fn exported(&mut self, alloc: Global, code: &str, most: usize) -> Option<String> {
         let in_maps = exported(alloc, &mut self.in_maps, code, most)?;
         let on_sqlite = exported(alloc, &mut self.on_sqlite, code, most)?;
         both_told(alloc, in_maps, on_sqlite)
     }
 
-    /// A unit as callers see it, by its language and key.
-    pub(crate) fn unit(&mut self, alloc: Global, place: &str) -> Option<String> {
+    fn unit(&mut self, alloc: Global, place: &str) -> Option<String> {
         let in_maps = unit_told(alloc, &mut self.in_maps, place)?;
         let on_sqlite = unit_told(alloc, &mut self.on_sqlite, place)?;
         both_told(alloc, in_maps, on_sqlite)
     }
 
-    /// A language's counts.
-    pub(crate) fn stats(&mut self, alloc: Global, code: &str) -> Option<String> {
+    fn stats(&mut self, alloc: Global, code: &str) -> Option<String> {
         let in_maps = stats_told(alloc, &mut self.in_maps, code)?;
         let on_sqlite = stats_told(alloc, &mut self.on_sqlite, code)?;
         both_told(alloc, in_maps, on_sqlite)
     }
 
-    /// Closes both, and tells how many rows the tables on SQLite have.
-    pub(crate) fn close(self, alloc: Global) -> Option<String> {
-        let Offices { in_maps, on_sqlite } = self;
+    fn close(self, alloc: Global) -> Option<String> {
+        let Both { in_maps, on_sqlite } = self;
         drop(in_maps);
         counts_of(alloc, on_sqlite.into_tables().into_connection())
     }

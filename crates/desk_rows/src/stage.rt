@@ -5,6 +5,7 @@ use crate::course::{Course, opened};
 use crate::every::every_list;
 use crate::many::many;
 use crate::numbers::number_of;
+use crate::offices::Offices;
 use crate::words::{behind, word};
 use std::alloc::Global;
 
@@ -17,13 +18,13 @@ struct Named {
 
 /// The requests with names, and the courses that are open (the last is that of the next row).
 #[derive(Drop)]
-pub(crate) struct Stage {
+pub(crate) struct Stage<O: Offices> {
     named: Vec<Named>,
-    courses: Vec<Course>,
+    courses: Vec<Course<O>>,
 }
 
-impl Stage {
-    pub(crate) fn new(alloc: Global) -> Stage {
+impl<O: Offices> Stage<O> {
+    pub(crate) fn new(alloc: Global) -> Stage<O> {
         Stage {
             named: Vec::new(alloc),
             courses: Vec::new(alloc),
@@ -62,7 +63,7 @@ impl Stage {
 }
 
 /// What a deed comes to: of a request the reply. None where it can't be read.
-pub(crate) fn found(alloc: Global, stage: &mut Stage, deed: &str) -> Option<String> {
+pub(crate) fn found<O: Offices>(alloc: Global, stage: &mut Stage<O>, deed: &str) -> Option<String> {
     match word(deed, 0) {
         "#" => Some(String::new(alloc)),
         "open" => stage.open(alloc, word(deed, 1)),
@@ -76,7 +77,7 @@ pub(crate) fn found(alloc: Global, stage: &mut Stage, deed: &str) -> Option<Stri
 }
 
 /// What a deed on the last course comes to.
-fn on_course(alloc: Global, stage: &mut Stage, deed: &str) -> Option<String> {
+fn on_course<O: Offices>(alloc: Global, stage: &mut Stage<O>, deed: &str) -> Option<String> {
     let kind = word(deed, 0);
     let line = if kind == "lost" {
         stage.line(alloc, behind(deed))?
