@@ -106,13 +106,17 @@ pub(crate) fn put_entry(alloc: Global, stage: &mut Stage, items: &str) -> Option
     Some(String::new(alloc))
 }
 
+fn copies(alloc: Global, entries: &[Entry]) -> Option<Vec<Entry>> {
+    let mut copies = Vec::new(alloc);
+    for entry in entries {
+        copies.push(entry.duplicate().ok()?).ok()?;
+    }
+    Some(copies)
+}
+
 fn entries_of(alloc: Global, bytes: &[u8]) -> Option<Vec<Entry>> {
     let catalogue = read(alloc, bytes).ok()?;
-    let mut entries = Vec::new(alloc);
-    for entry in catalogue.entries() {
-        entries.push(entry.duplicate().ok()?).ok()?;
-    }
-    Some(entries)
+    copies(alloc, catalogue.entries())
 }
 
 /// Sets the entries to those of a text.
