@@ -36,22 +36,36 @@ mod texts;
 mod words;
 
 use stage::{Stage, found};
+use std::alloc::Global;
 use std::io;
+use std::rt::HostRuntime;
 use words::both_sides;
+
+/// Tells a row that comes to something else than it says.
+fn tell(rt: &HostRuntime, alloc: Global, stage: &mut Stage, line: &str) -> io::Result<()> {
+    let (deed, wanted) = both_sides(line);
+    match found(alloc, stage, deed) {
+        Some(text) if text.as_str() == wanted => Ok(()),
+        Some(text) => println!(rt; "{line}, not {text}"),
+        None => println!(rt; "{line}: unread"),
+    }
+}
+
+/// Tells those rows, and how many there were.
+fn tell_all(rt: &HostRuntime, alloc: Global, stage: &mut Stage) -> io::Result<()> {
+    let mut rows = 0u64;
+    for line in rt.lines(alloc) {
+        let line = line?;
+        tell(rt, alloc, stage, line.as_str())?;
+        rows = rows.saturating_add(1);
+    }
+    println!(rt; "{rows} rows")
+}
 
 fn main(rt: HostRuntime) -> io::Result<()> {
     let alloc = rt.alloc();
     let mut stage = Stage::new(alloc);
-    let mut rows = 0u64;
-    for line in rt.lines(alloc) {
-        let line = line?;
-        let (deed, wanted) = both_sides(line.as_str());
-        match found(alloc, &mut stage, deed) {
-            Some(text) if text.as_str() == wanted => {}
-            Some(text) => println!(rt; "{line}, not {text}")?,
-            None => println!(rt; "{line}: unread")?,
-        }
-        rows = rows.saturating_add(1);
-    }
-    println!(rt; "{rows} rows")
+    let told = tell_all(&rt, alloc, &mut stage);
+    drop(stage);
+    told
 }

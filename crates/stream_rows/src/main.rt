@@ -81,20 +81,34 @@ mod words;
 
 use found::found;
 use stage::Stage;
+use std::alloc::Global;
 use std::io;
+use std::rt::HostRuntime;
+
+/// Tells a row that comes to something else than it says.
+fn tell(rt: &HostRuntime, alloc: Global, stage: &mut Stage, line: &str) -> io::Result<()> {
+    match found(rt, alloc, stage, line) {
+        Some(text) if text.is_empty() => Ok(()),
+        Some(text) => println!(rt; "{line}, not {text}"),
+        None => println!(rt; "{line}: unread"),
+    }
+}
+
+/// Tells those rows, and how many there were.
+fn tell_all(rt: &HostRuntime, alloc: Global, stage: &mut Stage) -> io::Result<()> {
+    let mut rows = 0u64;
+    for line in rt.lines(alloc) {
+        let line = line?;
+        tell(rt, alloc, stage, line.as_str())?;
+        rows = rows.saturating_add(1);
+    }
+    println!(rt; "{rows} rows")
+}
 
 fn main(rt: HostRuntime) -> io::Result<()> {
     let alloc = rt.alloc();
     let mut stage = Stage::new(alloc);
-    let mut rows = 0u64;
-    for line in rt.lines(alloc) {
-        let line = line?;
-        match found(&rt, alloc, &mut stage, line.as_str()) {
-            Some(text) if text.is_empty() => {}
-            Some(text) => println!(rt; "{line}, not {text}")?,
-            None => println!(rt; "{line}: unread")?,
-        }
-        rows = rows.saturating_add(1);
-    }
-    println!(rt; "{rows} rows")
+    let told = tell_all(&rt, alloc, &mut stage);
+    drop(stage);
+    told
 }

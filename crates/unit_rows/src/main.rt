@@ -49,6 +49,7 @@ mod words;
 use stage::Stage;
 use std::alloc::Global;
 use std::io;
+use std::rt::HostRuntime;
 use words::{both_sides, word, words_and_texts};
 
 /// What a deed comes to. None where it can't be read, or memory is wanting.
@@ -63,22 +64,34 @@ fn found(alloc: Global, stage: &mut Stage, deed: &str) -> Option<String> {
     }
 }
 
-fn main(rt: HostRuntime) -> io::Result<()> {
-    let alloc = rt.alloc();
-    let mut stage = Stage::new(alloc);
+/// Tells a row that comes to something else than it says.
+fn tell(rt: &HostRuntime, alloc: Global, stage: &mut Stage, line: &str) -> io::Result<()> {
+    let (deed, wanted) = both_sides(line);
+    match found(alloc, stage, deed) {
+        Some(text) if text.as_str() == wanted => Ok(()),
+        Some(text) => println!(rt; "{line}, not {text}"),
+        None => println!(rt; "{line}: unread"),
+    }
+}
+
+/// Tells those rows, and how many there were.
+fn tell_all(rt: &HostRuntime, alloc: Global, stage: &mut Stage) -> io::Result<()> {
     let mut rows = 0u64;
     for line in rt.lines(alloc) {
         let line = line?;
         if line.as_str().starts_with('#') {
             continue;
         }
+        tell(rt, alloc, stage, line.as_str())?;
         rows = rows.saturating_add(1);
-        let (deed, wanted) = both_sides(line.as_str());
-        match found(alloc, &mut stage, deed) {
-            Some(text) if text.as_str() == wanted => {}
-            Some(text) => println!(rt; "{line}, not {text}")?,
-            None => println!(rt; "{line}: unread")?,
-        }
     }
     println!(rt; "{rows} rows")
+}
+
+fn main(rt: HostRuntime) -> io::Result<()> {
+    let alloc = rt.alloc();
+    let mut stage = Stage::new(alloc);
+    let told = tell_all(&rt, alloc, &mut stage);
+    drop(stage);
+    told
 }
