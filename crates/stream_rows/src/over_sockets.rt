@@ -53,18 +53,23 @@ fn silent_port(rt: &HostRuntime) -> Option<u16> {
     Some(listener.local_addr().ok()?.port())
 }
 
-/// What comes of lines that are sent to a port where nobody listens.
-fn sent(rt: &HostRuntime, alloc: Global, lines: &[u8]) -> Option<String> {
-    let port = silent_port(rt)?;
-    let mut streams = Streams::new(alloc, "", lines, usize::MAX);
-    let status = send_lines(
+/// The exit status of sending the lines of a row to a port.
+fn sent_status(rt: &HostRuntime, alloc: Global, streams: &mut Streams<'_>, port: u16) -> u8 {
+    send_lines(
         alloc,
         &mut streams.source,
         &mut SocketLink { net: rt, port },
         TRIES,
         &mut streams.output,
         &mut streams.faults,
-    );
+    )
+}
+
+/// What comes of lines that are sent to a port where nobody listens.
+fn sent(rt: &HostRuntime, alloc: Global, lines: &[u8]) -> Option<String> {
+    let port = silent_port(rt)?;
+    let mut streams = Streams::new(alloc, "", lines, usize::MAX);
+    let status = sent_status(rt, alloc, &mut streams, port);
     told(alloc, status, &streams, 0).ok()
 }
 
