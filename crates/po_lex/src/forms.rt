@@ -83,6 +83,23 @@ fn split_word(text: &str) -> (&str, &str)
     text.split_at(word_len(text.as_bytes()))
 }
 
+/// The keyword `msgstr[D]` of the forms from 4 on.
+fn later_form_keyword(word: &str) -> Option<Keyword>
+    ensures { result ≡ find_keyword word.now (drop 4 form_keywords) }
+{
+    if "msgstr[4]" == word {
+        Some(Keyword::MsgstrAt(4))
+    } else if "msgstr[5]" == word {
+        Some(Keyword::MsgstrAt(5))
+    } else if "msgstr[6]" == word {
+        Some(Keyword::MsgstrAt(6))
+    } else if "msgstr[7]" == word {
+        Some(Keyword::MsgstrAt(7))
+    } else {
+        None
+    }
+}
+
 /// The keyword `msgstr[D]`.
 fn form_keyword(word: &str) -> Option<Keyword>
     ensures { result ≡ find_keyword word.now form_keywords }
@@ -95,16 +112,8 @@ fn form_keyword(word: &str) -> Option<Keyword>
         Some(Keyword::MsgstrAt(2))
     } else if "msgstr[3]" == word {
         Some(Keyword::MsgstrAt(3))
-    } else if "msgstr[4]" == word {
-        Some(Keyword::MsgstrAt(4))
-    } else if "msgstr[5]" == word {
-        Some(Keyword::MsgstrAt(5))
-    } else if "msgstr[6]" == word {
-        Some(Keyword::MsgstrAt(6))
-    } else if "msgstr[7]" == word {
-        Some(Keyword::MsgstrAt(7))
     } else {
-        None
+        later_form_keyword(word)
     }
 }
 
