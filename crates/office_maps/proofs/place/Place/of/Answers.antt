@@ -1,0 +1,7 @@
+use Rattle.office_maps.proofs.place.Place.of.Goals as goal
+
+pub returns-clause-lang : goal.returns-clause-lang
+returns-clause-lang c = c.in_ok-duplicate.ensures
+
+pub returns-clause-key : goal.returns-clause-key
+returns-clause-key c = c.in_ok-duplicate-2.ensures
