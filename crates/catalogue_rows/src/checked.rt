@@ -56,7 +56,10 @@ fn found(alloc: Global, entry: &Entry, rule: &PluralForms) -> Option<String> {
 
 /// The forms whose placeholders, and those whose line ends, are found.
 pub(crate) fn findings_told(alloc: Global, stage: &Stage) -> Option<String> {
-    found(alloc, stage.entries.last()?, stage.rules.last()?)
+    match (stage.entries.last(), stage.rules.last()) {
+        (Some(entry), Some(rule)) => found(alloc, entry, rule),
+        _ => None,
+    }
 }
 
 fn policy(words: &str) -> Option<Policy> {
@@ -80,10 +83,9 @@ fn state(alloc: Global, policy: &Policy, entry: &Entry, rule: &PluralForms) -> O
 
 /// The state that the forms give.
 pub(crate) fn state_told(alloc: Global, stage: &Stage, words: &str) -> Option<String> {
-    state(
-        alloc,
-        &policy(words)?,
-        stage.entries.last()?,
-        stage.rules.last()?,
-    )
+    let policy = policy(words)?;
+    match (stage.entries.last(), stage.rules.last()) {
+        (Some(entry), Some(rule)) => state(alloc, &policy, entry, rule),
+        _ => None,
+    }
 }

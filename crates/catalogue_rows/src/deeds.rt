@@ -13,45 +13,54 @@ pub(crate) fn found(alloc: Global, stage: &mut Stage, deed: &str) -> Option<Stri
     let (name, text) = around(deed, " ");
     match name {
         "#" => Some(String::new(alloc)),
-        "text" | "entries" | "lex" | "lines" | "say" | "fault" | "read" | "canon" => {
-            let bytes = po_bytes(alloc, stage, text)?;
-            of_bytes(alloc, stage, name, bytes)
-        }
-        "rule" | "say-rule" | "index" | "serves" | "copy" => of_rule(alloc, stage, name, text),
+        "text" => put_kept(alloc, stage, text),
         "write-fault" => write_fault_told(alloc, text),
         "directives" => directives_told(alloc, text),
-        _ => of_entries(alloc, stage, name, text),
+        _ => of_rule(alloc, stage, name, text),
     }
 }
 
-/// What comes of a PO text.
-fn of_bytes(alloc: Global, stage: &mut Stage, name: &str, bytes: Vec<u8>) -> Option<String> {
-    match name {
-        "lex" => lexer_fault(alloc, bytes.as_slice()),
-        "lines" => lines_told(alloc, bytes.as_slice()),
-        "say" => fault_in_words(alloc, bytes.as_slice()),
-        "fault" => reader_fault(alloc, bytes.as_slice()),
-        "read" => read_told(alloc, bytes.as_slice()),
-        "canon" => canonical(alloc, bytes.as_slice()),
-        "entries" => put_entries(alloc, stage, bytes.as_slice()),
-        _ => {
-            stage.kept = bytes;
-            Some(String::new(alloc))
-        }
-    }
+/// Keeps a text.
+fn put_kept(alloc: Global, stage: &mut Stage, text: &str) -> Option<String> {
+    stage.kept = po_bytes(alloc, stage, text)?;
+    Some(String::new(alloc))
 }
 
+/// What comes of a rule, or of the entries or a PO text.
 fn of_rule(alloc: Global, stage: &mut Stage, name: &str, text: &str) -> Option<String> {
     match name {
         "rule" => rules::rule(alloc, stage, text),
         "say-rule" => rules::fault_in_words(alloc, text),
         "index" => rules::index(alloc, stage, text),
         "serves" => rules::serves(alloc, stage, text),
-        _ => rules::copy(alloc, stage),
+        "copy" => rules::copy(alloc, stage),
+        _ => of_entries(alloc, stage, name, text),
     }
 }
 
-/// What comes of the entries.
+/// What comes of a PO text.
+fn of_text(alloc: Global, stage: &mut Stage, name: &str, text: &str) -> Option<String> {
+    let bytes = po_bytes(alloc, stage, text)?;
+    let told = of_bytes(alloc, stage, name, bytes.as_slice());
+    drop(bytes);
+    told
+}
+
+/// What comes of the bytes of a PO text.
+fn of_bytes(alloc: Global, stage: &mut Stage, name: &str, bytes: &[u8]) -> Option<String> {
+    match name {
+        "lex" => lexer_fault(alloc, bytes),
+        "lines" => lines_told(alloc, bytes),
+        "say" => fault_in_words(alloc, bytes),
+        "fault" => reader_fault(alloc, bytes),
+        "read" => read_told(alloc, bytes),
+        "canon" => canonical(alloc, bytes),
+        "entries" => put_entries(alloc, stage, bytes),
+        _ => None,
+    }
+}
+
+/// What comes of the entries, or of a PO text.
 fn of_entries(alloc: Global, stage: &mut Stage, name: &str, text: &str) -> Option<String> {
     match name {
         "entry" => put_entry(alloc, stage, text),
@@ -61,6 +70,6 @@ fn of_entries(alloc: Global, stage: &mut Stage, name: &str, text: &str) -> Optio
         "full" => full(alloc, stage, text),
         "findings" => findings_told(alloc, stage),
         "state" => state_told(alloc, stage, text),
-        _ => None,
+        _ => of_text(alloc, stage, name, text),
     }
 }

@@ -11,7 +11,9 @@ use std::mem::replace;
 fn string(alloc: Global, text: &str) -> Option<PoString>
     ensures { IfSome result (λ s. is_string s ≡ true) }
 {
-    PoString::try_new(alloc, plain(alloc, text)?.as_str()).ok()?
+    PoString::try_new(alloc, plain(alloc, text)?.as_str())
+        .ok()
+        .flatten()
 }
 
 /// The value of the first item of this name.
@@ -67,32 +69,48 @@ fn put_string(place: &mut Option<PoString>, string: PoString) -> Option<()> {
     Some(())
 }
 
-/// Adds an item that is no msgid and no form.
-fn put_item(alloc: Global, entry: &mut Entry, name: &str, value: &str) -> Option<()> {
+/// Adds the string of an item that is no text.
+fn put_named(entry: &mut Entry, name: &str, string: PoString) -> Option<()> {
+    match name {
+        "msgctxt" => put_string(&mut entry.ctx, string),
+        "msgid_plural" => put_string(&mut entry.plural, string),
+        "was msgctxt" => put_string(&mut entry.previous.ctx, string),
+        "was msgid" => put_string(&mut entry.previous.id, string),
+        "was msgid_plural" => put_string(&mut entry.previous.plural, string),
+        _ => {
+            drop(string);
+            None
+        }
+    }
+}
+
+/// Adds an item of a text or a string.
+fn put_value(alloc: Global, entry: &mut Entry, name: &str, value: &str) -> Option<()> {
     match name {
         "#" => put_text(alloc, &mut entry.translator, value),
         "#." => put_text(alloc, &mut entry.extracted, value),
         "#:" => put_text(alloc, &mut entry.references, value),
         "#," => put_text(alloc, &mut entry.flags, value),
-        "msgctxt" => put_string(&mut entry.ctx, string(alloc, value)?),
-        "msgid_plural" => put_string(&mut entry.plural, string(alloc, value)?),
-        "was msgctxt" => put_string(&mut entry.previous.ctx, string(alloc, value)?),
-        "was msgid" => put_string(&mut entry.previous.id, string(alloc, value)?),
-        "was msgid_plural" => put_string(&mut entry.previous.plural, string(alloc, value)?),
+        _ => put_named(entry, name, string(alloc, value)?),
+    }
+}
+
+/// Adds an item, unless it is the msgid or a form.
+fn put_item(alloc: Global, entry: &mut Entry, item: &str) -> Option<()> {
+    let (name, value) = around(item, "=");
+    match name {
+        "msgid" | "msgstr" => Some(()),
         "obsolete" => {
             entry.obsolete = true;
             Some(())
         }
-        _ => None,
+        _ => put_value(alloc, entry, name, value),
     }
 }
 
 fn put_items(alloc: Global, entry: &mut Entry, items: &str) -> Option<()> {
     for item in items.split("; ") {
-        let (name, value) = around(item, "=");
-        if name != "msgid" && name != "msgstr" {
-            put_item(alloc, entry, name, value)?;
-        }
+        put_item(alloc, entry, item)?;
     }
     Some(())
 }
@@ -130,7 +148,11 @@ pub(crate) fn put_entries(alloc: Global, stage: &mut Stage, bytes: &[u8]) -> Opt
 pub(crate) fn made(alloc: Global, stage: &mut Stage) -> Option<String> {
     let entries = replace(&mut stage.entries, Vec::new(alloc));
     match Catalogue::try_new(alloc, entries) {
-        Ok(Some(catalogue)) => format!(in alloc; "{}", catalogue.entries().len()).ok(),
+        Ok(Some(catalogue)) => {
+            let count = catalogue.entries().len();
+            drop(catalogue);
+            format!(in alloc; "{count}").ok()
+        }
         Ok(None) => String::from_str(alloc, "refused").ok(),
         Err(_) => None,
     }

@@ -27,10 +27,8 @@ fn turns(alloc: Global, bytes: &mut Vec<u8>, kept: &[u8], inside: &str) -> Optio
         bytes.extend_from_slice(inside.as_bytes()).ok()?;
         return bytes.push(b'}').ok();
     }
-    let (what, times) = match inside.rsplit_once('*') {
-        Some((what, times)) => (what, times.parse::<u32>().ok()?),
-        None => (inside, 1),
-    };
+    let (what, times) = inside.rsplit_once('*').unwrap_or((inside, "1"));
+    let times = times.parse::<u32>().ok()?;
     if let Ok(byte) = what.parse::<u8>() {
         let len = bytes.len().checked_add(times as usize)?;
         return bytes.resize(len, byte).ok();

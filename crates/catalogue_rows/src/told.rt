@@ -2,28 +2,29 @@
 use po_read::{Entry, PoString, Text};
 use std::alloc::{AllocError, Global};
 
+fn item_told(text: &mut String, name: &str, value: &str) -> Result<(), AllocError> {
+    write!(text, "{name}={value}\n")
+}
+
 fn texts_told(text: &mut String, name: &str, texts: &[Text]) -> Result<(), AllocError> {
     for one in texts {
-        let one = one.as_str();
-        write!(text, "{name}={one}\n")?;
+        item_told(text, name, one.as_str())?;
     }
     Ok(())
 }
 
 fn strings_told(text: &mut String, name: &str, strings: &[PoString]) -> Result<(), AllocError> {
     for one in strings {
-        let one = one.as_str();
-        write!(text, "{name}={one}\n")?;
+        item_told(text, name, one.as_str())?;
     }
     Ok(())
 }
 
 fn string_told(text: &mut String, name: &str, string: Option<&PoString>) -> Result<(), AllocError> {
-    if let Some(string) = string {
-        let string = string.as_str();
-        write!(text, "{name}={string}\n")?;
+    match string {
+        Some(string) => item_told(text, name, string.as_str()),
+        None => Ok(()),
     }
-    Ok(())
 }
 
 fn comments_told(text: &mut String, entry: &Entry) -> Result<(), AllocError> {
@@ -34,12 +35,16 @@ fn comments_told(text: &mut String, entry: &Entry) -> Result<(), AllocError> {
 }
 
 fn message_told(text: &mut String, entry: &Entry) -> Result<(), AllocError> {
-    string_told(text, "was msgctxt", entry.previous.ctx.as_ref())?;
-    string_told(text, "was msgid", entry.previous.id.as_ref())?;
-    string_told(text, "was msgid_plural", entry.previous.plural.as_ref())?;
-    string_told(text, "msgctxt", entry.ctx.as_ref())?;
-    string_told(text, "msgid", Some(&entry.id))?;
-    string_told(text, "msgid_plural", entry.plural.as_ref())?;
+    for (name, string) in [
+        ("was msgctxt", entry.previous.ctx.as_ref()),
+        ("was msgid", entry.previous.id.as_ref()),
+        ("was msgid_plural", entry.previous.plural.as_ref()),
+        ("msgctxt", entry.ctx.as_ref()),
+        ("msgid", Some(&entry.id)),
+        ("msgid_plural", entry.plural.as_ref()),
+    ] {
+        string_told(text, name, string)?;
+    }
     strings_told(text, "msgstr", entry.forms.as_slice())
 }
 

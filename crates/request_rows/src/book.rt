@@ -40,10 +40,6 @@ fn keep_copy(stage: &mut Stage) -> Option<()> {
     }
 }
 
-fn kept_told(alloc: Global, record: &Record) -> Option<String> {
-    String::from_str(alloc, record.content.as_str()).ok()
-}
-
 pub(crate) fn keep_told(
     alloc: Global,
     stage: &mut Stage,
@@ -54,7 +50,10 @@ pub(crate) fn keep_told(
     let status = word(words, 1).parse::<u16>().ok()?;
     stage.keep(record(alloc, status, json, body)?)?;
     keep_copy(stage)?;
-    kept_told(alloc, stage.record()?)
+    match stage.record() {
+        Some(kept) => String::from_str(alloc, kept.content.as_str()).ok(),
+        None => None,
+    }
 }
 
 fn repeat_told(alloc: Global, reply: &Reply) -> Option<String> {

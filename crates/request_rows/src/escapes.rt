@@ -28,9 +28,8 @@ fn put_marked(text: &mut String, alloc: Global, piece: &str) -> Option<()> {
 
 /// The text that a row writes with marks.
 pub(crate) fn written_out(alloc: Global, row: &str) -> Option<String> {
-    let (front, pieces) = match row.split_once('<') {
-        Some((front, pieces)) => (front, pieces),
-        None => return String::from_str(alloc, row).ok(),
+    let Some((front, pieces)) = row.split_once('<') else {
+        return String::from_str(alloc, row).ok();
     };
     let mut text = String::from_str(alloc, front).ok()?;
     for piece in pieces.split('<') {

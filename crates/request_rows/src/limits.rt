@@ -2,6 +2,7 @@
 use crate::words::{role, word, yes_or_no};
 use po_read::{Duplicate, Items, Text};
 use std::alloc::Global;
+use std::fmt::Display;
 use units::{AcceptAt, CommentLines, Lang, Name, Refusal, Revision};
 
 const REFUSALS: [Refusal; 18] = [
@@ -29,28 +30,22 @@ fn text(alloc: Global, text: &str) -> Option<String> {
     String::from_str(alloc, text).ok()
 }
 
-fn name_copied(alloc: Global, name: &Name) -> Option<String> {
-    let copy = name.duplicate().ok()?;
-    let how = if copy == *name { "taken" } else { "changed" };
-    format!(in alloc; "{how} {copy}").ok()
-}
-
-fn lang_copied(alloc: Global, lang: &Lang) -> Option<String> {
-    let copy = lang.duplicate().ok()?;
-    let how = if copy == *lang { "taken" } else { "changed" };
+fn copied<T: Duplicate + PartialEq + Display>(alloc: Global, value: &T) -> Option<String> {
+    let copy = value.duplicate().ok()?;
+    let how = if copy == *value { "taken" } else { "changed" };
     format!(in alloc; "{how} {copy}").ok()
 }
 
 pub(crate) fn name_told(alloc: Global, name: &str) -> Option<String> {
     match Name::try_new(alloc, name).ok()? {
-        Some(name) => name_copied(alloc, &name),
+        Some(name) => copied(alloc, &name),
         None => text(alloc, "refused"),
     }
 }
 
 pub(crate) fn lang_told(alloc: Global, lang: &str) -> Option<String> {
     match Lang::try_new(alloc, lang).ok()? {
-        Some(lang) => lang_copied(alloc, &lang),
+        Some(lang) => copied(alloc, &lang),
         None => text(alloc, "refused"),
     }
 }

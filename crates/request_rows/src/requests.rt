@@ -56,7 +56,9 @@ pub(crate) fn but_told(alloc: Global, text: &str, change: &str) -> Option<String
 
 /// What the text's first bytes come to.
 pub(crate) fn cut_told(alloc: Global, text: &str, words: &str) -> Option<String> {
-    let bytes = text.as_bytes();
-    let front = str::from_utf8(bytes.get(..count(words, 1)?)?).ok()?;
-    read_told(alloc, front)
+    let front = text.as_bytes().get(..count(words, 1)?)?;
+    match str::from_utf8(front) {
+        Ok(front) => read_told(alloc, front),
+        Err(_) => None,
+    }
 }

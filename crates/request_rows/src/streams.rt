@@ -56,16 +56,19 @@ fn end_told(told: &mut String, sink: &mut VecSink) -> Option<()> {
         "stuck"
     };
     let failures = sink.failures();
-    let taken = str::from_utf8(sink.bytes.as_slice()).ok()?;
-    write!(told, "{flushed}, {failures} failed: {taken}").ok()
+    match str::from_utf8(sink.bytes.as_slice()) {
+        Ok(taken) => write!(told, "{flushed}, {failures} failed: {taken}").ok(),
+        Err(_) => None,
+    }
 }
 
 pub(crate) fn sink_told(alloc: Global, words: &str, texts: &str) -> Option<String> {
+    let room = count(words, 1)?;
     let mut told = String::new(alloc);
     let mut sink = VecSink {
         bytes: Vec::new(alloc),
         piece: 1,
-        room: count(words, 1)?,
+        room,
         failed: 0,
     };
     writes_told(&mut told, &mut sink, texts)?;
@@ -76,19 +79,25 @@ pub(crate) fn sink_told(alloc: Global, words: &str, texts: &str) -> Option<Strin
 fn read_one_told(told: &mut String, source: &mut SliceSource) -> Option<()> {
     let mut room = [0u8; 4];
     let came = source.read(&mut room).ok()?;
-    let text = str::from_utf8(room.get(..came)?).ok()?;
-    write!(told, "{came} {text}, ").ok()
+    match str::from_utf8(room.get(..came)?) {
+        Ok(text) => write!(told, "{came} {text}, ").ok(),
+        Err(_) => None,
+    }
+}
+
+/// What so many reads give, and how many of them failed.
+fn reads_told(told: &mut String, bytes: &[u8], count: usize) -> Option<()> {
+    let mut source = SliceSource { left: bytes };
+    for _ in 0..count {
+        read_one_told(told, &mut source)?;
+    }
+    let failures = source.failures();
+    write!(told, "{failures} failed").ok()
 }
 
 pub(crate) fn source_told(alloc: Global, words: &str, text: &str) -> Option<String> {
+    let count = count(words, 1)?;
     let mut told = String::new(alloc);
-    let mut source = SliceSource {
-        left: text.as_bytes(),
-    };
-    for _ in 0..count(words, 1)? {
-        read_one_told(&mut told, &mut source)?;
-    }
-    let failures = source.failures();
-    write!(told, "{failures} failed").ok()?;
+    reads_told(&mut told, text.as_bytes(), count)?;
     Some(told)
 }

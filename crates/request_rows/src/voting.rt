@@ -5,7 +5,7 @@ use std::alloc::Global;
 use units::{Name, Votes};
 
 fn name(alloc: Global, text: &str) -> Option<Name> {
-    Name::try_new(alloc, text).ok()?
+    Name::try_new(alloc, text).ok().flatten()
 }
 
 /// How many votes there are, their sum, and that of `bea`.
@@ -16,10 +16,17 @@ fn shown(alloc: Global, votes: &Votes) -> Option<String> {
     format!(in alloc; "{count} votes, sum {sum}, bea {bea}").ok()
 }
 
+fn copy_shown(alloc: Global, votes: &Votes) -> Option<String> {
+    match votes.duplicate() {
+        Ok(copy) => shown(alloc, &copy),
+        Err(_) => None,
+    }
+}
+
 /// What the votes and their copy show.
 pub(crate) fn votes_told(alloc: Global, votes: &Votes) -> Option<String> {
     let told = shown(alloc, votes)?;
-    let copied = shown(alloc, &votes.duplicate().ok()?)?;
+    let copied = copy_shown(alloc, votes)?;
     if told.as_str() == copied.as_str() {
         Some(told)
     } else {

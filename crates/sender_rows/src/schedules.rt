@@ -25,16 +25,20 @@ struct World<'a> {
 }
 
 impl<'a> World<'a> {
-    fn new(alloc: Global, requests: &'a [Request]) -> Option<World<'a>> {
-        let sender = Sender::new(alloc, requests).ok()?;
-        let desk = demo_desk(alloc)?;
-        Some(World {
+    /// The world before the first event.
+    fn new(
+        alloc: Global,
+        requests: &'a [Request],
+        sender: Sender,
+        desk: Desk<PlainTables>,
+    ) -> World<'a> {
+        World {
             requests,
             sender,
             desk,
             sent: Vec::new(alloc),
             given: Vec::new(alloc),
-        })
+        }
     }
 
     /// The sender sends the request at a place, if it is ready.
@@ -88,6 +92,17 @@ impl<'a> World<'a> {
 }
 
 impl<'a> World<'a> {
+    /// Lets events happen until all replies are held, and tells what is held then.
+    fn told_at_end(&mut self, alloc: Global, draws: &mut Draws) -> Option<String> {
+        for _ in 0..EVENTS {
+            if self.sender.finished() {
+                return self.told(alloc);
+            }
+            self.happen(draws)?;
+        }
+        String::from_str(alloc, "not all replies are held").ok()
+    }
+
     /// The replies that are held, and the export.
     fn told(&mut self, alloc: Global) -> Option<String> {
         let mut text = String::new(alloc);
@@ -122,14 +137,19 @@ fn delivered(alloc: Global, desk: &mut Desk<PlainTables>, requests: &[Request]) 
 
 /// What a schedule comes to, when all replies are held.
 fn schedule_told(alloc: Global, requests: &[Request], draws: &mut Draws) -> Option<String> {
-    let mut world = World::new(alloc, requests)?;
-    for _ in 0..EVENTS {
-        if world.sender.finished() {
-            return world.told(alloc);
+    let sender = Sender::new(alloc, requests).ok()?;
+    match demo_desk(alloc) {
+        Some(desk) => {
+            let mut world = World::new(alloc, requests, sender, desk);
+            let told = world.told_at_end(alloc, draws);
+            drop(world);
+            told
         }
-        world.happen(draws)?;
+        None => {
+            drop(sender);
+            None
+        }
     }
-    String::from_str(alloc, "not all replies are held").ok()
 }
 
 /// How many schedules come to what the list comes to once and in order; or what one of them comes to.

@@ -73,8 +73,12 @@ fn sent_told(
     tries: u32,
 ) -> Option<String> {
     let mut sender = Sender::new(alloc, requests).ok()?;
-    send_all(alloc, &mut sender, requests, link, tries).ok()?;
-    held_told(alloc, &sender, requests.len())
+    let told = match send_all(alloc, &mut sender, requests, link, tries) {
+        Ok(()) => held_told(alloc, &sender, requests.len()),
+        Err(_) => None,
+    };
+    drop(sender);
+    told
 }
 
 fn held_told(alloc: Global, sender: &Sender, count: usize) -> Option<String> {
@@ -114,8 +118,12 @@ fn hear_all(alloc: Global, sender: &mut Sender, requests: &[Request], places: &s
 
 fn ready(alloc: Global, requests: &[Request], places: &str) -> Option<String> {
     let mut sender = Sender::new(alloc, requests).ok()?;
-    hear_all(alloc, &mut sender, requests, places)?;
-    ready_told(alloc, &sender, requests.len())
+    let told = match hear_all(alloc, &mut sender, requests, places) {
+        Some(()) => ready_told(alloc, &sender, requests.len()),
+        None => None,
+    };
+    drop(sender);
+    told
 }
 
 fn fault(alloc: Global, requests: &[Request]) -> Option<String> {
@@ -151,13 +159,19 @@ pub(crate) fn found(alloc: Global, stage: &mut Stage, deed: &str) -> Option<Stri
 /// What a deed on a list comes to.
 fn of_list(alloc: Global, stage: &Stage, deed: &str) -> Option<String> {
     let requests = stage.requests(alloc, word(deed, 1))?;
+    let found = of_requests(alloc, requests.as_slice(), deed);
+    drop(requests);
+    found
+}
+
+fn of_requests(alloc: Global, requests: &[Request], deed: &str) -> Option<String> {
     match word(deed, 0) {
-        "fault" => fault(alloc, &requests),
-        "ready" => ready(alloc, &requests, word(deed, 2)),
-        "message" => message_told(alloc, &requests),
+        "fault" => fault(alloc, requests),
+        "ready" => ready(alloc, requests, word(deed, 2)),
+        "message" => message_told(alloc, requests),
         "schedules" => {
             let count = word(deed, 2).parse::<u32>().ok()?;
-            schedules(alloc, &requests, count, word(deed, 3).parse::<u64>().ok()?)
+            schedules(alloc, requests, count, word(deed, 3).parse::<u64>().ok()?)
         }
         _ => None,
     }

@@ -21,11 +21,20 @@ pub(crate) fn found(
     texts: Option<&str>,
 ) -> Option<String> {
     match word(words, 0) {
-        "by" => stage.actor = Some(read_actor(words)?),
-        "unit" => stage.put(unit_view(alloc, words, texts?)?)?,
-        "left" => return left_told(alloc, stage.view()?).ok(),
-        _ => return requested(alloc, stage, words, texts),
+        "by" => put_actor(alloc, stage, words),
+        "unit" => put_unit(alloc, stage, words, texts?),
+        "left" => left_told(alloc, stage.view()?).ok(),
+        _ => requested(alloc, stage, words, texts),
     }
+}
+
+fn put_actor(alloc: Global, stage: &mut Stage, words: &str) -> Option<String> {
+    stage.actor = Some(read_actor(words)?);
+    Some(String::new(alloc))
+}
+
+fn put_unit(alloc: Global, stage: &mut Stage, words: &str, texts: &str) -> Option<String> {
+    stage.put(unit_view(alloc, words, texts)?)?;
     Some(String::new(alloc))
 }
 

@@ -46,21 +46,40 @@ mod stage;
 mod updates;
 mod words;
 
+use shown::{empty_told, flag_told, shown_told};
 use stage::Stage;
 use std::alloc::Global;
 use std::io;
 use std::rt::HostRuntime;
+use updates::{loaded_told, planned_told, put_template, stripped_told, units_put};
 use words::{both_sides, word, words_and_texts};
+
+/// What a deed on templates and texts comes to, or one on a unit.
+fn update_found(
+    alloc: Global,
+    stage: &mut Stage,
+    words: &str,
+    texts: Option<&str>,
+) -> Option<String> {
+    let lines = texts.unwrap_or("");
+    match word(words, 0) {
+        "template" => put_template(alloc, stage, lines),
+        "units" => units_put(alloc, stage, words, lines),
+        "then" => planned_told(alloc, stage, lines),
+        "load" => loaded_told(alloc, stage, words, lines),
+        "strip" => stripped_told(alloc, lines),
+        _ => decisions::found(alloc, stage, words, texts),
+    }
+}
 
 /// What a deed comes to. None where it can't be read, or memory is wanting.
 fn found(alloc: Global, stage: &mut Stage, deed: &str) -> Option<String> {
     let (words, texts) = words_and_texts(deed);
     match word(words, 0) {
-        "template" | "units" | "then" | "load" | "strip" => {
-            updates::found(alloc, stage, words, texts.unwrap_or(""))
-        }
-        "shown" | "flag" | "empty" => shown::found(alloc, stage, words, texts?),
-        _ => decisions::found(alloc, stage, words, texts),
+        "shown" => shown_told(alloc, stage, words, texts?),
+        "flag" => flag_told(alloc, words, texts?),
+        "empty" => empty_told(alloc, texts?),
+        _ => update_found(alloc, stage, words, texts),
     }
 }
 

@@ -10,7 +10,7 @@ use uuid::Uuid;
 fn string(alloc: Global, text: &str) -> Option<PoString>
     ensures { IfSome result (λ s. is_string s ≡ true) }
 {
-    PoString::try_new(alloc, text).ok()?
+    PoString::try_new(alloc, text).ok().flatten()
 }
 
 /// Forms, which stand between the strokes of a text.
@@ -25,18 +25,27 @@ pub(crate) fn forms(alloc: Global, texts: &str) -> Option<Forms> {
 /// The entry of a text, the last if it has several.
 pub(crate) fn entry(alloc: Global, text: &str) -> Option<Entry> {
     let catalogue = read(alloc, text.as_bytes()).ok()?;
-    catalogue.entries().last()?.duplicate().ok()
+    match catalogue.entries().last() {
+        Some(entry) => entry.duplicate().ok(),
+        None => None,
+    }
 }
 
-/// A suggestion of `ann`, as number 20.
-pub(crate) fn suggestion(alloc: Global, forms: Forms, votes: Votes) -> Option<Suggestion> {
-    let suggester = Name::try_new(alloc, "ann").ok()??;
-    Some(Suggestion {
+/// Adds a suggestion of `ann`, as number 20.
+pub(crate) fn put_suggestion(
+    alloc: Global,
+    suggestions: &mut Items<Suggestion>,
+    forms: Forms,
+    votes: Votes,
+) -> Option<()> {
+    let suggester = Name::try_new(alloc, "ann").ok().flatten()?;
+    let suggestion = Suggestion {
         number: Uuid::from_u128(20),
         suggester,
         forms,
         votes,
-    })
+    };
+    suggestions.push(suggestion).ok()
 }
 
 /// The entry's unit. Nothing fails here: each way out past a unit half made is dear to prove.

@@ -9,16 +9,6 @@ use units::{Revision, UnitState, UnitView, all_empty, has_flag, some_empty};
 /// The unit's own entry, whose msgid was another.
 const RENAMED: &str = "#| msgid \"Hi\"\nmsgid \"Hello\"\nmsgstr \"\"\n";
 
-/// What a deed comes to. None where it can't be read, or memory is wanting.
-pub(crate) fn found(alloc: Global, stage: &mut Stage, words: &str, texts: &str) -> Option<String> {
-    match word(words, 0) {
-        "shown" => shown_told(alloc, stage, words, texts),
-        "flag" => flag_told(alloc, words, texts),
-        "empty" => empty_told(alloc, texts),
-        _ => None,
-    }
-}
-
 /// The template's entry, with this flag.
 fn flagged(alloc: Global, flag: &str) -> Option<Entry> {
     let text = format!(in alloc; "#, {flag}\nmsgid \"Hello\"\nmsgstr \"\"\n").ok()?;
@@ -65,21 +55,29 @@ fn put_copy(stage: &mut Stage) -> Option<()> {
     }
 }
 
-fn shown_told(alloc: Global, stage: &mut Stage, words: &str, flag: &str) -> Option<String> {
+/// What the copy of such a unit shows.
+pub(crate) fn shown_told(
+    alloc: Global,
+    stage: &mut Stage,
+    words: &str,
+    flag: &str,
+) -> Option<String> {
     let state = state(word(words, 1))?;
     stage.put(view_in(alloc, flag, state)?)?;
     put_copy(stage)?;
     view_told(alloc, stage.view()?)
 }
 
-fn flag_told(alloc: Global, words: &str, flag: &str) -> Option<String> {
+/// Whether an entry with the flag has the other one.
+pub(crate) fn flag_told(alloc: Global, words: &str, flag: &str) -> Option<String> {
     let entry = flagged(alloc, flag)?;
     let found = yes_or_no(has_flag(word(words, 1), &entry));
     drop(entry);
     String::from_str(alloc, found).ok()
 }
 
-fn empty_told(alloc: Global, texts: &str) -> Option<String> {
+/// Whether all forms are empty, or some.
+pub(crate) fn empty_told(alloc: Global, texts: &str) -> Option<String> {
     let forms = forms(alloc, texts)?;
     let all = yes_or_no(all_empty(forms.as_slice()));
     let some = yes_or_no(some_empty(forms.as_slice()));

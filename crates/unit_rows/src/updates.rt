@@ -3,7 +3,7 @@ mod language;
 mod told;
 
 use crate::stage::Stage;
-use crate::words::{TWO, has, word};
+use crate::words::{TWO, has};
 use language::{catalogue, put_units};
 use plural_expr::PluralForms;
 use po_read::{Catalogue, Items};
@@ -12,21 +12,19 @@ use template_update::{Plan, load, plan, template_of};
 use told::{entries_told, plan_told};
 use units::{AcceptAt, Policy};
 
-/// What a deed comes to: of a plan its numbers and its first unit, of a template what it has, and else nothing.
-pub(crate) fn found(alloc: Global, stage: &mut Stage, words: &str, texts: &str) -> Option<String> {
-    match word(words, 0) {
-        "template" => stage.put_template(catalogue(alloc, texts)?),
-        "units" => return units_put(alloc, stage, words, texts),
-        "then" => return planned_told(alloc, stage, texts),
-        "load" => return loaded_told(alloc, stage, words, texts),
-        "strip" => return stripped_told(alloc, texts),
-        _ => return None,
-    }
+/// Sets the template.
+pub(crate) fn put_template(alloc: Global, stage: &mut Stage, texts: &str) -> Option<String> {
+    stage.put_template(catalogue(alloc, texts)?);
     Some(String::new(alloc))
 }
 
 /// Sets the units. (They are added in their place, since each way out past them is dear to prove.)
-fn units_put(alloc: Global, stage: &mut Stage, words: &str, texts: &str) -> Option<String> {
+pub(crate) fn units_put(
+    alloc: Global,
+    stage: &mut Stage,
+    words: &str,
+    texts: &str,
+) -> Option<String> {
     let text = catalogue(alloc, texts)?;
     stage.put_units(Items::new(alloc));
     let put = put_units(alloc, &mut stage.units, words, text.entries());
@@ -35,21 +33,29 @@ fn units_put(alloc: Global, stage: &mut Stage, words: &str, texts: &str) -> Opti
     Some(String::new(alloc))
 }
 
-fn planned_told(alloc: Global, stage: &mut Stage, texts: &str) -> Option<String> {
+/// The numbers and the first unit of what the next template makes of the units.
+pub(crate) fn planned_told(alloc: Global, stage: &mut Stage, texts: &str) -> Option<String> {
     let next = catalogue(alloc, texts)?;
     let plan = planned(alloc, stage, &next);
     stage.put_template(next);
     taken(alloc, stage, plan?)
 }
 
-fn loaded_told(alloc: Global, stage: &mut Stage, words: &str, texts: &str) -> Option<String> {
+/// The same of the units of a language's text.
+pub(crate) fn loaded_told(
+    alloc: Global,
+    stage: &mut Stage,
+    words: &str,
+    texts: &str,
+) -> Option<String> {
     let text = catalogue(alloc, texts)?;
     let plan = loaded(alloc, stage, words, &text);
     drop(text);
     taken(alloc, stage, plan?)
 }
 
-fn stripped_told(alloc: Global, texts: &str) -> Option<String> {
+/// What the template of a text has.
+pub(crate) fn stripped_told(alloc: Global, texts: &str) -> Option<String> {
     let text = catalogue(alloc, texts)?;
     let template = template_of(alloc, &text);
     drop(text);

@@ -24,11 +24,16 @@ pub(crate) fn word(words: &str, place: usize) -> &str {
 }
 
 pub(crate) fn has(words: &str, mark: &str) -> bool {
-    words.split(' ').any(|word| word == mark)
+    for word in words.split(' ') {
+        if word == mark {
+            return true;
+        }
+    }
+    false
 }
 
 pub(crate) fn revision(word: &str) -> Option<Revision> {
-    Revision::try_new(word.parse::<u64>().ok()?)
+    word.parse::<u64>().ok().and_then(Revision::try_new)
 }
 
 pub(crate) fn state(word: &str) -> Option<UnitState> {

@@ -26,7 +26,10 @@ pub(super) fn read_actor(words: &str) -> Option<(Role, Policy)> {
         reviews: has(words, "reviews"),
         guests_suggest: has(words, "guests"),
         voting: has(words, "voting"),
-        accept_at: AcceptAt::try_new(word(words, 2).parse::<u8>().ok()?)?,
+        accept_at: word(words, 2)
+            .parse::<u8>()
+            .ok()
+            .and_then(AcceptAt::try_new)?,
         placeholders: has(words, "placeholders"),
         line_ends: false,
     };
@@ -42,7 +45,10 @@ pub(super) struct Request {
 }
 
 fn number(word: &str) -> Option<Uuid> {
-    Some(Uuid::from_u128(u128::from(word.parse::<u64>().ok()?)))
+    word.parse::<u64>()
+        .ok()
+        .map(u128::from)
+        .map(Uuid::from_u128)
 }
 
 /// The comment of these lines, which stand between the strokes of a text.
@@ -71,9 +77,9 @@ fn suggestion_action(words: &str) -> Option<UnitAction> {
 
 fn action(alloc: Global, words: &str, texts: Option<&str>) -> Option<UnitAction> {
     match word(words, 2) {
-        "suggest" => Some(UnitAction::Suggest(forms(alloc, texts?)?)),
-        "translate" => Some(UnitAction::Translate(forms(alloc, texts?)?)),
-        "comment" => Some(UnitAction::Comment(comment(alloc, texts)?)),
+        "suggest" => forms(alloc, texts?).map(UnitAction::Suggest),
+        "translate" => forms(alloc, texts?).map(UnitAction::Translate),
+        "comment" => comment(alloc, texts).map(UnitAction::Comment),
         "approve" => Some(UnitAction::Approve),
         "send-back" => Some(UnitAction::SendBack),
         _ => suggestion_action(words),
@@ -92,7 +98,7 @@ fn request_number(words: &str) -> Option<Uuid> {
 pub(super) fn read_request(alloc: Global, words: &str, texts: Option<&str>) -> Option<Request> {
     let number = request_number(words)?;
     let seen = revision(word(words, 1))?;
-    let caller = Name::try_new(alloc, word(words, 0)).ok()??;
+    let caller = Name::try_new(alloc, word(words, 0)).ok().flatten()?;
     let action = action(alloc, words, texts)?;
     Some(Request {
         caller,

@@ -1,9 +1,9 @@
 //! The unit of a row.
-use crate::parts::{entry, forms, suggestion, unit};
+use crate::parts::{entry, forms, put_suggestion, unit};
 use crate::words::{has, revision, state, word};
 use po_read::{Entry, Items};
 use std::alloc::Global;
-use units::{Name, Suggestion, UnitView, VoteValue, Votes};
+use units::{Name, Suggestion, Unit, UnitView, VoteValue, Votes};
 
 /// The template's entries.
 const HELLO: &str = "#, c-format\nmsgid \"Hello\"\nmsgstr \"\"\n";
@@ -34,11 +34,16 @@ fn unit_text(words: &str) -> &'static str {
     }
 }
 
+/// The voter of this number, as `v10000`.
+fn voter(alloc: Global, number: u16) -> Option<Name> {
+    let name = format!(in alloc; "v{number}").ok()?;
+    Name::try_new(alloc, name.as_str()).ok().flatten()
+}
+
 /// Adds 10,000 votes against a suggestion, of the voters `v10000` to `v19999`.
 fn put_crowd(alloc: Global, votes: &mut Votes) -> Option<()> {
     for i in 0..10_000u16 {
-        let voter = format!(in alloc; "v{}", 19_999 - i).ok()?;
-        let voter = Name::try_new(alloc, voter.as_str()).ok()??;
+        let voter = voter(alloc, 19_999 - i)?;
         votes.insert(voter, VoteValue::Against).ok()?;
     }
     Some(())
@@ -47,7 +52,7 @@ fn put_crowd(alloc: Global, votes: &mut Votes) -> Option<()> {
 /// Adds the suggestion `Servus`.
 fn put_servus(alloc: Global, suggestions: &mut Items<Suggestion>, votes: Votes) -> Option<()> {
     let forms = forms(alloc, "Servus")?;
-    suggestions.push(suggestion(alloc, forms, votes)?).ok()
+    put_suggestion(alloc, suggestions, forms, votes)
 }
 
 fn put_suggestions(alloc: Global, suggestions: &mut Items<Suggestion>, words: &str) -> Option<()> {
@@ -77,15 +82,31 @@ fn own_entry(alloc: Global, words: &str, texts: &str) -> Option<Entry> {
     Some(entry)
 }
 
-/// The unit of such words, with these forms.
-pub(super) fn unit_view(alloc: Global, words: &str, texts: &str) -> Option<UnitView> {
+/// That unit, without the template's entry.
+fn own_unit(alloc: Global, words: &str, texts: &str) -> Option<Unit> {
     let state = state(word(words, 1))?;
     let revision = revision(word(words, 2))?;
     let suggestions = suggestions(alloc, words)?;
-    let own = own_entry(alloc, words, texts)?;
-    let source = entry(alloc, source_text(words))?;
-    Some(UnitView {
-        unit: unit(alloc, own, state, revision, suggestions),
-        source: Some(source),
-    })
+    match own_entry(alloc, words, texts) {
+        Some(own) => Some(unit(alloc, own, state, revision, suggestions)),
+        None => {
+            drop(suggestions);
+            None
+        }
+    }
+}
+
+/// The unit of such words, with these forms.
+pub(super) fn unit_view(alloc: Global, words: &str, texts: &str) -> Option<UnitView> {
+    let unit = own_unit(alloc, words, texts)?;
+    match entry(alloc, source_text(words)) {
+        Some(source) => Some(UnitView {
+            unit,
+            source: Some(source),
+        }),
+        None => {
+            drop(unit);
+            None
+        }
+    }
 }

@@ -1,5 +1,5 @@
 //! Catalogues and units of a row.
-use crate::parts::{suggestion, unit};
+use crate::parts::{put_suggestion, unit};
 use crate::words::{has, revision, state, word};
 use po_read::{Catalogue, Duplicate, Entry, Items, read};
 use std::alloc::{AllocError, Global};
@@ -24,8 +24,7 @@ fn suggestions(alloc: Global, words: &str, entry: &Entry) -> Option<Items<Sugges
     let mut suggestions = Items::new(alloc);
     if has(words, "suggested") {
         let forms = entry.forms.duplicate().ok()?;
-        let suggestion = suggestion(alloc, forms, Votes::new(alloc))?;
-        suggestions.push(suggestion).ok()?;
+        put_suggestion(alloc, &mut suggestions, forms, Votes::new(alloc))?;
     }
     Some(suggestions)
 }

@@ -39,10 +39,8 @@ fn counts_told(alloc: Global, counts: Counts) -> Result<String, AllocError> {
 fn unit_told(text: &mut String, unit: &Unit) -> Result<(), AllocError> {
     let n = unit.revision.number();
     let state = unit.state;
-    write!(text, ": {state:?} {n}")?;
-    if unit.obsolete {
-        text.push_str(" obsolete")?;
-    }
+    let obsolete = if unit.obsolete { " obsolete" } else { "" };
+    write!(text, ": {state:?} {n}{obsolete}")?;
     let suggestions = unit.suggestions.as_slice().len();
     if suggestions > 0 {
         write!(text, " suggestions {suggestions}")?;
