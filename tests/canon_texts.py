@@ -5,7 +5,7 @@ to come out of them again as it is.
     tests/canon_texts.py PROGRAM [OTHER] [COUNT [SEED]]      (bench/plain, which cargo builds; 10,000 texts; seed 1)
 
 A program is the office's, which is called with `canon`, or one that does the same without words, such as bench/plain. First come the texts of
-crates/catalogue_rows/stdin whose faults or canonical texts are written there. The random ones are catalogues written in many ways, most of them then
+crates/model_rows/stdin, part `catalogues`, whose faults or canonical texts are written there. The random ones are catalogues written in many ways, most of them then
 changed in some place: bytes, lines, keywords, marks, entries, ends. Text N of a seed is always the same. Prints the first texts that are answered
 otherwise, how often each fault came, and last `N texts, M of them read, K differences`. Ends with status 1 if something differs.
 """
@@ -21,7 +21,8 @@ import sys
 import tempfile
 
 TOP = pathlib.Path(__file__).resolve().parent.parent
-ROWS = TOP / "crates" / "catalogue_rows" / "stdin"
+ROWS = TOP / "crates" / "model_rows" / "stdin"
+PART = "== catalogues\n"
 KINDS = {1: "not UTF-8", 2: "line", 3: "quote", 4: "escape", 5: "order", 6: "forms", 7: "duplicate", 8: "charset", 9: "limit"}
 TEXT_LIMIT = 4_194_304
 STRING_LIMIT = 65_536
@@ -75,7 +76,7 @@ def turned(what, times, kept):
 
 
 def row_text(text, kept):
-    """The bytes that the text of a row stands for: the head of crates/catalogue_rows/src/main.rt says how."""
+    """The bytes that the text of a row stands for: the head of crates/model_rows/src/catalogue_rows.rt says how."""
     text = text.replace("; ", "\n")
     if text.endswith(";"):
         text = text[:-1] + "\n"
@@ -95,7 +96,8 @@ def row_text(text, kept):
 def rows():
     """Each text with what comes of it: the fault's line and kind, or the canonical text, or None for any."""
     kept = b""
-    for row in ROWS.read_text().split("\n"):
+    _, _, part = ROWS.read_text().partition(PART)
+    for row in part.partition("\n== ")[0].split("\n"):
         deed, _, wanted = row.partition(" -> ")
         name, _, text = deed.partition(" ")
         if name == "text":

@@ -1,0 +1,56 @@
+//! Offices as rows of data: over tables of both kinds, over streams, files and sockets, and behind a network. Reads rows from standard input, and
+//! prints those that come to something else than they say, and then how many rows there were.
+//!
+//!   == desks       what desks over tables of both kinds answer: the module `desk_rows` has the words of the rows below
+//!   == streams     the program's commands, connections, offices in files and sockets: `stream_rows`
+//!   == senders     senders and their networks: `sender_rows`
+//!
+//! A row that begins with `#` says nothing.
+#![tactic(auto)]
+
+mod desk_rows;
+mod desks;
+mod sender_rows;
+mod stage;
+mod stream_rows;
+mod words;
+
+use desk_rows::{Both, Offices};
+use stage::{Stage, found};
+use std::alloc::Global;
+use std::io;
+use std::rt::HostRuntime;
+use words::Outcome;
+
+/// Tells a row that comes to something else than it says.
+fn tell<O: Offices>(
+    rt: &HostRuntime,
+    alloc: Global,
+    stage: &mut Stage<O>,
+    row: &str,
+) -> io::Result<()> {
+    match found(rt, alloc, stage, row) {
+        Some(Outcome::AsSaid) => Ok(()),
+        Some(Outcome::Other(text)) => println!(rt; "{row}, not {text}"),
+        None => println!(rt; "{row}: unread"),
+    }
+}
+
+/// Tells those rows, and how many there were.
+fn tell_all<O: Offices>(rt: &HostRuntime, alloc: Global, stage: &mut Stage<O>) -> io::Result<()> {
+    let mut rows = 0u64;
+    for row in rt.lines(alloc) {
+        let row = row?;
+        tell(rt, alloc, stage, row.as_str())?;
+        rows = rows.saturating_add(1);
+    }
+    println!(rt; "{rows} rows")
+}
+
+fn main(rt: HostRuntime) -> io::Result<()> {
+    let alloc = rt.alloc();
+    let mut stage: Stage<Both> = Stage::new(alloc);
+    let told = tell_all(&rt, alloc, &mut stage);
+    drop(stage);
+    told
+}

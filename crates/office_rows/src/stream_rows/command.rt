@@ -1,0 +1,94 @@
+//! The command of a row.
+use crate::desks::desk_opened;
+use crate::stream_rows::streams::Streams;
+use crate::stream_rows::words::{has, word_behind};
+use commands::{canon_text, deliver_lines, export_text, plural_lines};
+use std::alloc::Global;
+use units::Lang;
+
+/// The exit status of the words' command over these streams. None where the words can't be read.
+pub(crate) fn status(
+    alloc: Global,
+    streams: &mut Streams<'_>,
+    words: &str,
+    text: &[u8],
+) -> Option<u8> {
+    if let Some(office) = word_behind(words, "deliver") {
+        deliver(alloc, streams, office, word_behind(words, "export"))
+    } else if let Some(office) = word_behind(words, "export") {
+        export(alloc, streams, office, text)
+    } else if has(words, "plural") {
+        plural(alloc, streams, words, text)
+    } else if has(words, "canon") {
+        Some(canon_text(
+            alloc,
+            &mut streams.source,
+            &mut streams.output,
+            &mut streams.faults,
+        ))
+    } else {
+        None
+    }
+}
+
+/// The language that a word names, if there is a word.
+pub(crate) fn lang(alloc: Global, word: Option<&str>) -> Option<Option<Lang>> {
+    match word {
+        Some(word) => Lang::try_new(alloc, word).ok()?.map(Some),
+        None => Some(None),
+    }
+}
+
+fn deliver(
+    alloc: Global,
+    streams: &mut Streams<'_>,
+    office: &str,
+    export: Option<&str>,
+) -> Option<u8> {
+    let lang = lang(alloc, export)?;
+    let mut desk = desk_opened(alloc, office)?;
+    let status = deliver_lines(
+        alloc,
+        &mut desk,
+        &mut streams.source,
+        &mut streams.output,
+        &mut streams.faults,
+        lang.as_ref(),
+    );
+    drop(desk);
+    Some(status)
+}
+
+fn export(alloc: Global, streams: &mut Streams<'_>, office: &str, code: &[u8]) -> Option<u8> {
+    let lang = Lang::try_new(alloc, str::from_utf8(code).ok()?).ok()??;
+    let mut desk = desk_opened(alloc, office)?;
+    let status = export_text(&mut desk, &lang, &mut streams.output, &mut streams.faults);
+    drop(desk);
+    drop(lang);
+    Some(status)
+}
+
+/// The numbers behind `plural`.
+fn numbers(alloc: Global, words: &str) -> Option<Vec<u32>> {
+    let mut numbers = Vec::new(alloc);
+    for word in words
+        .split(' ')
+        .skip_while(|word| *word != "plural")
+        .skip(1)
+    {
+        numbers.push(word.parse::<u32>().ok()?).ok()?;
+    }
+    Some(numbers)
+}
+
+fn plural(alloc: Global, streams: &mut Streams<'_>, words: &str, text: &[u8]) -> Option<u8> {
+    let rule = str::from_utf8(text).ok()?;
+    let numbers = numbers(alloc, words)?;
+    Some(plural_lines(
+        alloc,
+        rule,
+        numbers.as_slice(),
+        &mut streams.output,
+        &mut streams.faults,
+    ))
+}

@@ -1,0 +1,125 @@
+//! What is done to the office in a database.
+ghost use Rattle.std.specs.Prelude.{◌≡◌, false};
+
+use crate::stream_rows::streams::{Kept, Streams};
+use crate::stream_rows::table_rows::push_rows;
+use file_commands::{Closed, deliver_store, export_store, init_store};
+use sqlite::{Alter, Connection};
+use std::alloc::Global;
+use tables::Start;
+use units::Lang;
+
+/// What is done to the office in a database, over the streams of a row; it comes to an exit status.
+#[derive(Clone, Copy)]
+pub(crate) enum Deed<'a> {
+    /// It is made, as this start has it.
+    Make(&'a Start),
+    /// Lines are delivered to it, and then a language is exported, if one is named.
+    Deliver(Option<&'a Lang>),
+    /// A language is exported.
+    Export(&'a Lang),
+    /// Statements run, as some other tool runs them: 0 where they are taken.
+    Sql(&'a str),
+    /// The rows of all tables are kept in the output: 0 where all are.
+    Rows,
+}
+
+/// Does a deed.
+pub(crate) fn done<S: Alter + Drop>(
+    alloc: Global,
+    connection: Connection<S>,
+    deed: Deed<'_>,
+    streams: &mut Streams<'_>,
+) -> Closed<S>
+    requires { connection.in_transaction ≡ false }
+{
+    match deed {
+        Deed::Make(start) => make(alloc, connection, streams, start),
+        Deed::Deliver(lang) => deliver(alloc, connection, streams, lang),
+        Deed::Export(lang) => export(alloc, connection, streams, lang),
+        Deed::Sql(statements) => executed(connection, statements),
+        Deed::Rows => read(alloc, connection, streams),
+    }
+}
+
+fn make<S: Alter + Drop>(
+    alloc: Global,
+    connection: Connection<S>,
+    streams: &mut Streams<'_>,
+    start: &Start,
+) -> Closed<S>
+    requires { connection.in_transaction ≡ false }
+{
+    init_store(
+        alloc,
+        connection,
+        start,
+        &mut streams.output,
+        &mut streams.faults,
+    )
+}
+
+fn deliver<S: Alter + Drop>(
+    alloc: Global,
+    connection: Connection<S>,
+    streams: &mut Streams<'_>,
+    lang: Option<&Lang>,
+) -> Closed<S>
+    requires { connection.in_transaction ≡ false }
+{
+    deliver_store(
+        alloc,
+        connection,
+        &mut streams.source,
+        &mut streams.output,
+        &mut streams.faults,
+        lang,
+    )
+}
+
+fn export<S: Alter + Drop>(
+    alloc: Global,
+    connection: Connection<S>,
+    streams: &mut Streams<'_>,
+    lang: &Lang,
+) -> Closed<S>
+    requires { connection.in_transaction ≡ false }
+{
+    export_store(
+        alloc,
+        connection,
+        lang,
+        &mut streams.output,
+        &mut streams.faults,
+    )
+}
+
+/// The status of what was done, or not.
+fn status_of(is_done: bool) -> u8 {
+    if is_done { 0 } else { 1 }
+}
+
+fn executed<S: Alter>(mut connection: Connection<S>, statements: &str) -> Closed<S> {
+    let status = status_of(connection.execute_batch(statements).is_ok());
+    Closed { status, connection }
+}
+
+/// Keeps the rows of all tables in an output.
+fn keep_rows<S: Alter>(
+    alloc: Global,
+    connection: &mut Connection<S>,
+    output: &mut Kept,
+) -> Option<()> {
+    let mut text = String::new(alloc);
+    push_rows(alloc, &mut text, connection)?;
+    output.keep(text.as_bytes())
+}
+
+fn read<S: Alter>(
+    alloc: Global,
+    mut connection: Connection<S>,
+    streams: &mut Streams<'_>,
+) -> Closed<S> {
+    let status = status_of(keep_rows(alloc, &mut connection, &mut streams.output).is_some());
+    Closed { status, connection }
+}
