@@ -1,3 +1,4 @@
+use Rattle.std.proofs.Common.{rules}
 use Rattle.po_write.proofs.Pieces.{taken_by_write, fits_write}
 use Rattle.po_write.proofs.Sent.{more}
 use Rattle.po_write.proofs.sending.send.Goals as goal
@@ -8,3 +9,6 @@ loop-sent-preserved g c = record {
   so_far = more c.loop-sent.invariant.so_far (taken_by_write c.args.bytes.now c.loop-sent.sent c.in_ok-sent.field-0 c.loop-sent.invariant.within)
       (record { taken = c.in_ok-sent.ensures.ok; count = c.in_ok-sent.ensures.ok_failed });
 }
+
+pub loop-sent-init : goal.loop-sent-init
+loop-sent-init g c = search rules
