@@ -2,7 +2,7 @@
 use Rattle.std.proofs.Common.{◌≡◌, ◌⊎◌, inl, inr, ℕ, zero, suc, ◌+◌, ◌<◌, List, [], ◌∷◌, ◌++◌, drop, length, Option, Result, Ok, Err, MatchResult, refl, sym, ap, ◌∙◌, add-one, arith}
 use Rattle.request_book.specs.declared.act.Request.{Request}
 use Rattle.sender.specs.Sending.{Sending, held, unanswered}
-use Rattle.client.specs.Talks.{Said, Talked, requests_of}
+use Rattle.client.specs.Talks.{Said, Turn, Talked, requests_of}
 use Rattle.client.specs.SendLines.{told_line, told_lines}
 use Rattle.client.proofs.TalkLemmas.{talked_keeps}
 
@@ -30,6 +30,6 @@ request_each [] = refl
 request_each (exchange ∷ sending) = ap suc (request_each sending)
 
 -- a sender that talked still has each request
-pub as_many : (said_old said_new : Option (List Said)) (requests : List Request) (sending : Sending) → Talked said_old said_new (unanswered requests) sending → length requests ≡ length sending
-as_many said_old said_new requests sending talked =
-    ap (λ (list : List Request). length list) (sym (talked_keeps said_old said_new (unanswered requests) sending talked ∙ requests_unanswered requests)) ∙ request_each sending
+pub as_many : (Turns : List Turn → Type 0) (said_old said_new : Option (List Said)) (requests : List Request) (sending : Sending) → Talked Turns said_old said_new (unanswered requests) sending → length requests ≡ length sending
+as_many Turns said_old said_new requests sending talked =
+    ap (λ (list : List Request). length list) (sym (talked_keeps Turns said_old said_new (unanswered requests) sending talked ∙ requests_unanswered requests)) ∙ request_each sending

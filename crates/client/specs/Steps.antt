@@ -1,5 +1,5 @@
 -- The steps of a talk, and of a list that is read. This project's own words, for the code's own steps.
-use Rattle.std.specs.Prelude.{⊤, ◌≡◌, ℕ, ◌+◌, List, [], ◌∷◌, ◌++◌, length, Option, Some, IfSome}
+use Rattle.std.specs.Prelude.{⊤, ◌≡◌, ◌≢◌, ◌≤◌, ℕ, ◌+◌, List, [], ◌∷◌, ◌++◌, length, get_or, Option, Some, IfSome}
 use Rattle.po_read.specs.Texts.{Text}
 use Rattle.request_book.specs.declared.act.Request.{Request}
 use Rattle.request_book.specs.Replies.{Reply}
@@ -8,7 +8,7 @@ use Rattle.sender.specs.declared.fault.SenderFault.TheVariants.{Twice as NumberT
 use Rattle.sender.specs.Sending.{Sending, HasDistinctNumbers}
 use Rattle.client.specs.Messages.{message}
 use Rattle.client.specs.Answers.{IsReplyIn}
-use Rattle.client.specs.Talks.{Said, said_behind, Hears}
+use Rattle.client.specs.Talks.{Said, said_behind, Hears, Turn, times}
 use Rattle.client.specs.declared.fault.SendFault.{SendFault}
 use Rattle.client.specs.declared.fault.SendFault.TheVariants.{Unread, Malformed, Twice, Memory}
 use Rattle.client.specs.Lists.{IsRequestLine, IsFirstMalformed}
@@ -24,6 +24,19 @@ pub data Sent (request : Request) (said_old said_new : Option (List Said)) (old 
   once : (answer : Option (List ℕ)) → said_new ≡ said_behind said_old (record { message = message request; answer = answer } ∷ [])
       → Hears request.number answer old new → Sent request said_old said_new old new
   never : said_new ≡ said_old → new ≡ old → Sent request said_old said_new old new
+
+-- the tries that the request at a place has left
+abbrev pub tries_at : List ℕ → ℕ → ℕ
+tries_at left place = get_or left place 0
+
+-- a try of the request at this place was taken, and none of another
+pub record Takes (place : ℕ) (old new : List ℕ) : Type 0 where
+  pub one : tries_at new place + 1 ≡ tries_at old place
+  pub others : (other : ℕ) → other ≢ place → tries_at new other ≡ tries_at old other
+
+-- no request was sent more often than tries of it were taken
+abbrev pub IsPaid : List ℕ → List ℕ → List Turn → Type 0
+IsPaid old new talk = (place : ℕ) → times place talk + tries_at new place ≤ tries_at old place
 
 -- ---- a list that is read
 

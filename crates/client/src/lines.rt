@@ -4,7 +4,7 @@ ghost use Rattle.std.specs.Prelude.{◌≡◌, ◌⊎◌, IfOk, OnOk, IfErr, OnE
 ghost use Rattle.units.specs.Streams.{RoseOrStands};
 ghost use Rattle.po_write.specs.Sending.{TookAll, TookPart};
 ghost use Rattle.sender.specs.Sending.{unanswered, HasDistinctNumbers};
-ghost use Rattle.client.specs.Talks.{Talked};
+ghost use Rattle.client.specs.Talks.{Talked, IsWithin};
 ghost use Rattle.client.specs.SendLines.{IsListOf, IsFaultOf, WasSent, WasSentFrom, SentLines};
 ghost use Rattle.client.specs.Steps.{IsListFault};
 
@@ -38,7 +38,7 @@ pub fn send_lines<R: ByteSource, L: Link, W: ByteSink, E: ByteSink>(
 ) -> u8
     ensures sent { SentLines (R.left source.old) (RoseOrStands (R.failed source.old) (R.failed source.new))
         ((link.new ≡ link.old) × (replies.new ≡ replies.old)) (faults.new ≡ faults.old)
-        (Talked (L.said link.old) (L.said link.new))
+        (Talked (IsWithin tries) (L.said link.old) (L.said link.new))
         (TookAll (W.taken replies.old) (W.taken replies.new) (W.failed replies.old) (W.failed replies.new))
         (TookPart (W.taken replies.old) (W.taken replies.new) (W.failed replies.old) (W.failed replies.new))
         (λ text. TookAll (E.taken faults.old) (E.taken faults.new) (E.failed faults.old) (E.failed faults.new) text
@@ -61,7 +61,7 @@ fn send_source<R: ByteSource, L: Link, W: ByteSink>(
     tries: u32,
     replies: &mut W,
 ) -> Result<u8, SendFault>
-    ensures ok { IfOk result (WasSentFrom (R.left source.old) (Talked (L.said link.old) (L.said link.new))
+    ensures ok { IfOk result (WasSentFrom (R.left source.old) (Talked (IsWithin tries) (L.said link.old) (L.said link.new))
         (TookAll (W.taken replies.old) (W.taken replies.new) (W.failed replies.old) (W.failed replies.new))
         (TookPart (W.taken replies.old) (W.taken replies.new) (W.failed replies.old) (W.failed replies.new))) }
     ensures err { IfErr result (IsFaultOf (R.left source.old) (RoseOrStands (R.failed source.old) (R.failed source.new))) }
@@ -88,7 +88,7 @@ fn send_list<L: Link, W: ByteSink>(
     tries: u32,
     replies: &mut W,
 ) -> Result<u8, SendFault>
-    ensures ok { IfOk result (WasSent (Talked (L.said link.old) (L.said link.new))
+    ensures ok { IfOk result (WasSent (Talked (IsWithin tries) (L.said link.old) (L.said link.new))
         (TookAll (W.taken replies.old) (W.taken replies.new) (W.failed replies.old) (W.failed replies.new))
         (TookPart (W.taken replies.old) (W.taken replies.new) (W.failed replies.old) (W.failed replies.new)) requests.now) }
     ensures err { IfErr result (IsListFault requests.now) }
@@ -106,7 +106,7 @@ fn sent<L: Link>(
     tries: u32,
 ) -> Result<Sender, SendFault>
     ensures distinct { OnOk result (HasDistinctNumbers requests.now) }
-    ensures talked { IfOk result (Talked (L.said link.old) (L.said link.new) (unanswered requests.now)) }
+    ensures talked { IfOk result (Talked (IsWithin tries) (L.said link.old) (L.said link.new) (unanswered requests.now)) }
     ensures err { IfErr result (IsListFault requests.now) }
     ensures unsent { OnErr result (link.new ≡ link.old) }
 {

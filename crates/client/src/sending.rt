@@ -1,11 +1,11 @@
 //! All requests of a sender over a link.
 
-ghost use Rattle.std.specs.Prelude.{◌≡◌, List, Some, true, OnErr, IfSome, slice_get};
+ghost use Rattle.std.specs.Prelude.{◌≡◌, List, Some, true, false, OnErr, IfSome, slice_get};
 ghost use Rattle.client.specs.Answers.{IsReplyIn};
 ghost use Rattle.request_book.specs.declared.act.Request.{Request as RequestValue};
 ghost use Rattle.sender.specs.Sending.{is_ready};
-ghost use Rattle.client.specs.Talks.{Talked, requests_of};
-ghost use Rattle.client.specs.Steps.{Exchanged, Sent};
+ghost use Rattle.client.specs.Talks.{Talked, IsWithin, requests_of};
+ghost use Rattle.client.specs.Steps.{Exchanged, Sent, Takes, IsPaid};
 
 use crate::answer::reply_in;
 use crate::link::Link;
@@ -28,7 +28,8 @@ pub fn send_all<L: Link>(
     tries: u32,
 ) -> Result<(), Memory>
     // What was said are messages of ready requests, and the replies that are held besides are those that came back.
-    ensures talked { requests_of sender.old ≡ requests.now → Talked (L.said link.old) (L.said link.new) sender.old sender.new }
+    // No request was sent more often than that.
+    ensures talked { requests_of sender.old ≡ requests.now → Talked (IsWithin tries) (L.said link.old) (L.said link.new) sender.old sender.new }
     ensures memory { OnErr result ((link.new ≡ link.old) × (sender.new ≡ sender.old)) }
 {
     let mut left = vec![in alloc; tries; requests.len()]?;
@@ -44,7 +45,7 @@ fn send_rounds<L: Link>(
     link: &mut L,
     left: &mut [u32],
 )
-    ensures { requests_of sender.old ≡ requests.now → Talked (L.said link.old) (L.said link.new) sender.old sender.new }
+    ensures { requests_of sender.old ≡ requests.now → Talked (IsPaid left.old left.new) (L.said link.old) (L.said link.new) sender.old sender.new }
 {
     for _round in 0..u64::MAX {
         if !send_round(alloc, sender, requests, link, left) {
@@ -61,7 +62,7 @@ fn send_round<L: Link>(
     link: &mut L,
     left: &mut [u32],
 ) -> bool
-    ensures { requests_of sender.old ≡ requests.now → Talked (L.said link.old) (L.said link.new) sender.old sender.new }
+    ensures { requests_of sender.old ≡ requests.now → Talked (IsPaid left.old left.new) (L.said link.old) (L.said link.new) sender.old sender.new }
 {
     let mut is_sent = false;
     for (place, request) in requests.iter().enumerate() {
@@ -80,7 +81,7 @@ fn takes_turn<L: Link>(
     place: usize,
 ) -> bool
     ensures { (requests : List RequestValue) → requests_of sender.old ≡ requests → slice_get requests place ≡ Some request.now
-        → Talked (L.said link.old) (L.said link.new) sender.old sender.new }
+        → Talked (IsPaid left.old left.new) (L.said link.old) (L.said link.new) sender.old sender.new }
 {
     if !takes_try(sender, left, place) {
         return false;
@@ -91,18 +92,23 @@ fn takes_turn<L: Link>(
 
 /// Whether the request at this place is ready and has a try left, which is taken.
 fn takes_try(sender: &Sender, left: &mut [u32], place: usize) -> bool
-    ensures { result ≡ true → is_ready sender.now place ≡ true }
+    ensures ready { result ≡ true → is_ready sender.now place ≡ true }
+    ensures taken { result ≡ true → Takes place left.old left.new }
+    ensures none { result ≡ false → left.new ≡ left.old }
 {
-    if !sender.ready(place) {
+    sender.ready(place) && takes_one(left, place)
+}
+
+/// Takes a try of the request at this place, if one is left. Tells whether one was.
+fn takes_one(left: &mut [u32], place: usize) -> bool
+    ensures taken { result ≡ true → Takes place left.old left.new }
+    ensures none { result ≡ false → left.new ≡ left.old }
+{
+    if left.len() <= place || left[place] == 0 {
         return false;
     }
-    match left.get_mut(place) {
-        Some(tries) if 0 < *tries => {
-            *tries -= 1;
-            true
-        }
-        _ => false,
-    }
+    left[place] -= 1;
+    true
 }
 
 /// Sends a request once, and has the sender hear the reply, if one comes.

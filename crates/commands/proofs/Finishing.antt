@@ -14,7 +14,7 @@ use Rattle.commands.proofs.Streaming.{took_none}
 pub has_delivered : (Honest0 Whole0 Honest1 Whole1 Honest2 Whole2 : Type 0) (m0 m1 m2 : OfficeWithBook) (xs : List Exchange) → (Honest2 → Honest1) → (Honest2 → Whole2 → Whole1) → (Honest2 → Whole2 → m2 ≡ m1) →
     GoesOn Honest0 Whole0 Honest1 Whole1 m0 m1 xs → HasDelivered Honest2 Whole2 m0 m2 xs
 has_delivered Honest0 Whole0 Honest1 Whole1 Honest2 Whole2 m0 m1 m2 xs honest open_still same goes =
-    let ran : HasDelivered Honest1 Whole1 m0 m1 xs = goes m0 [] (record { left = λ h w. refl; answers = λ h. refl }) in
+    let ran : HasDelivered Honest1 Whole1 m0 m1 xs = goes.behind m0 [] (record { left = λ h w. refl; answers = λ h. refl }) in
     record { left = λ h w. same h w ∙ HasRun.left ran (honest h) (open_still h w); answers = λ h. HasRun.answers ran (honest h) }
 
 answered_all : {Did DidAll : List Exchange → Type 0} {Exports Flushed : Writer → Writer → Type 0} {w0 w1 : Writer} (w2 : Writer) {w3 : Writer} {text : List ℕ} →

@@ -35,20 +35,31 @@ pub delivers : (Honest Whole StillHonest StillWhole : Type 0) (old new : OfficeW
     (StillHonest → Honest) → (StillHonest → StillWhole → Whole) → (StillHonest → OnOk r StillWhole) →
     (StillHonest → OnOk r (new ≡ left_by old (x ∷ []))) → (StillHonest → IfOk r (λ reply. reply ∷ [] ≡ answers_of old (x ∷ []))) → (StillHonest → StillWhole → OnErr r (new ≡ old)) →
     GoesOn Honest Whole StillHonest StillWhole old new (asked x r ∷ [])
-delivers Honest Whole StillHonest StillWhole old new x r honest whole answered tables answer lost = λ start done ran.
-    let more : HasRun StillHonest StillWhole start new (requests_of done ++ x ∷ []) (results_of done ++ r ∷ []) =
-    one_more_while Honest Whole StillHonest StillWhole start old new (requests_of done) (results_of done) x r (one_each done) ran honest whole answered tables answer lost in
-    rw (requests-append done (asked x r ∷ []), results-append done (asked x r ∷ [])) more
+delivers Honest Whole StillHonest StillWhole old new x r honest whole answered tables answer lost = record {
+  honest = honest;
+  whole = whole;
+  behind = λ start done ran.
+      let more : HasRun StillHonest StillWhole start new (requests_of done ++ x ∷ []) (results_of done ++ r ∷ []) =
+      one_more_while Honest Whole StillHonest StillWhole start old new (requests_of done) (results_of done) x r (one_each done) ran honest whole answered tables answer lost in
+      rw (requests-append done (asked x r ∷ []), results-append done (asked x r ∷ [])) more;
+}
 
 -- lines that reach no desk
 pub stays : (Honest Whole : Type 0) (m : OfficeWithBook) (xs : List Exchange) → requests_of xs ≡ [] → results_of xs ≡ [] → GoesOn Honest Whole Honest Whole m m xs
-stays Honest Whole m xs no_request no_result = λ start done ran.
-    rw (requests-append done xs, results-append done xs, no_request, no_result, append-nil (requests_of done), append-nil (results_of done)) ran
+stays Honest Whole m xs no_request no_result = record {
+  honest = λ h. h;
+  whole = λ h w. w;
+  behind = λ start done ran. rw (requests-append done xs, results-append done xs, no_request, no_result, append-nil (requests_of done), append-nil (results_of done)) ran;
+}
 
 pub goes_further : (Honest0 Whole0 Honest1 Whole1 Honest2 Whole2 : Type 0) (m0 m1 m2 : OfficeWithBook) (xs ys : List Exchange) → GoesOn Honest0 Whole0 Honest1 Whole1 m0 m1 xs → GoesOn Honest1 Whole1 Honest2 Whole2 m1 m2 ys → GoesOn Honest0 Whole0 Honest2 Whole2 m0 m2 (xs ++ ys)
-goes_further Honest0 Whole0 Honest1 Whole1 Honest2 Whole2 m0 m1 m2 xs ys first then = λ start done ran.
-    let P : List Exchange → Type 0 = λ zs. HasRun Honest2 Whole2 start m2 (requests_of zs) (results_of zs) in
-    subst P (append_assoc done xs ys) (then start (done ++ xs) (first start done ran))
+goes_further Honest0 Whole0 Honest1 Whole1 Honest2 Whole2 m0 m1 m2 xs ys first then = record {
+  honest = λ h. first.honest (then.honest h);
+  whole = λ h w. first.whole (then.honest h) (then.whole h w);
+  behind = λ start done ran.
+      let P : List Exchange → Type 0 = λ zs. HasRun Honest2 Whole2 start m2 (requests_of zs) (results_of zs) in
+      subst P (append_assoc done xs ys) (then.behind start (done ++ xs) (first.behind start done ran));
+}
 
 -- ---- what is answered
 

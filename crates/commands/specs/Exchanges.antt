@@ -75,10 +75,13 @@ results_of (unread ∷ xs) = results_of xs
 abbrev pub HasDelivered : (Honest Whole : Type 0) → OfficeWithBook → OfficeWithBook → List Exchange → Type 0
 HasDelivered Honest Whole before after xs = HasRun Honest Whole before after (requests_of xs) (results_of xs)
 
--- whatever was delivered before, these came behind it
-abbrev pub GoesOn : (Honest Whole StillHonest StillWhole : Type 0) → OfficeWithBook → OfficeWithBook → List Exchange → Type 0
-GoesOn Honest Whole StillHonest StillWhole old new more =
-    (start : OfficeWithBook) (done : List Exchange) → HasDelivered Honest Whole start old done → HasDelivered StillHonest StillWhole start new (done ++ more)
+-- Whatever was delivered before, these came behind it.
+pub record GoesOn (Honest Whole StillHonest StillWhole : Type 0) (old new : OfficeWithBook) (more : List Exchange) : Type 0 where
+  -- a disk that gave something else never becomes one that didn't
+  pub honest : StillHonest → Honest
+  -- tables that are shut stay so
+  pub whole : StillHonest → StillWhole → Whole
+  pub behind : (start : OfficeWithBook) (done : List Exchange) → HasDelivered Honest Whole start old done → HasDelivered StillHonest StillWhole start new (done ++ more)
 
 -- the same of tables, by the words that their type has for itself
 abbrev pub Delivers : {S : Type 0} → (S → Type 0) → (S → Type 0) → (S → OfficeWithBook) → S → S → List Exchange → Type 0

@@ -200,6 +200,9 @@ pub fn deliver_lines<T: Tables, R: ByteSource, W: ByteSink, E: ByteSink>(
         (writer_at W.taken W.failed replies.old) (writer_at W.taken W.failed replies.new)
         (writer_at E.taken E.failed faults.old) (writer_at E.taken E.failed faults.new) result }
     ensures status { result ≤ 1 }
+    // What several calls promise can be put together: neither comes back once it is lost.
+    ensures honest { T.is_honest desk.new → T.is_honest desk.old }
+    ensures whole { T.is_honest desk.new → T.is_whole desk.new → T.is_whole desk.old }
 {
     match answer_all(alloc, desk, source, replies) {
         Ok(()) => finish(desk, replies, faults, lang),

@@ -102,6 +102,8 @@ pub fn export_text<T: Tables, W: ByteSink, E: ByteSink>(
         (writer_at W.taken W.failed w.old) (writer_at W.taken W.failed w.new) (writer_at E.taken E.failed e.old) (writer_at E.taken E.failed e.new) result }
     ensures status { result ≤ 1 }
     // The tables are as they were.
+    ensures honest { T.is_honest desk.new → T.is_honest desk.old }
+    ensures whole { T.is_honest desk.new → T.is_whole desk.new → T.is_whole desk.old }
     ensures same { T.is_honest desk.new → T.is_whole desk.new → T.means desk.new ≡ T.means desk.old }
 {
     match desk.export(lang, w) {

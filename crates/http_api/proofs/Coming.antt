@@ -25,24 +25,26 @@ use Rattle.http_api.specs.Answering.{Came, Tells, query_refusal}
 
 module _ (Honest Whole StillHonest StillWhole : Type 0) (old new : OfficeWithBook) where
   goes_nowhere : (StillHonest → Honest) → (StillHonest → StillWhole → Whole) → (StillHonest → StillWhole → new ≡ old) → GoesOn Honest Whole StillHonest StillWhole old new []
-  goes_nowhere honest whole same = λ start done ran.
-      let P : List Exchange → Type 0 = λ xs. HasDelivered StillHonest StillWhole start new xs in
-      subst P (sym (append-nil done)) (record { left = λ h w. same h w ∙ ran.left (honest h) (whole h w); answers = λ h. ran.answers (honest h) })
+  goes_nowhere honest whole same = record {
+    honest = honest;
+    whole = whole;
+    behind = λ start done ran.
+        let P : List Exchange → Type 0 = λ xs. HasDelivered StillHonest StillWhole start new xs in
+        subst P (sym (append-nil done)) (record { left = λ h w. same h w ∙ ran.left (honest h) (whole h w); answers = λ h. ran.answers (honest h) });
+  }
 
   -- what reached no desk
   pub told : (asked : Asked) (o : Outcome) → exchange_in o ≡ [] → (StillHonest → Honest) → (StillHonest → StillWhole → Whole) → (StillHonest → StillWhole → new ≡ old)
       → ((office : Office) → (Honest → Whole → old.office ≡ office) → IsOutcome StillHonest StillWhole office asked o) → Came Honest Whole StillHonest StillWhole old new asked o
   told asked o none honest whole same is = record {
-    honest = honest;
-    whole = whole;
     did = let P : List Exchange → Type 0 = λ xs. GoesOn Honest Whole StillHonest StillWhole old new xs in subst P (sym none) (goes_nowhere honest whole same);
     is = is;
   }
 
   -- a message that brings a request, or doesn't
-  pub posts : (number : List ℕ) (callers : List (List ℕ)) (body : List ℕ) (x : Exchange) → IsPost number callers body x → (StillHonest → Honest) → (StillHonest → StillWhole → Whole)
+  pub posts : (number : List ℕ) (callers : List (List ℕ)) (body : List ℕ) (x : Exchange) → IsPost number callers body x
       → GoesOn Honest Whole StillHonest StillWhole old new (x ∷ []) → Came Honest Whole StillHonest StillWhole old new (ask.request number callers body) (posted x)
-  posts number callers body x is honest whole did = record { honest = honest; whole = whole; did = did; is = λ office same. (x, refl, is) }
+  posts number callers body x is did = record { did = did; is = λ office same. (x, refl, is) }
 
   -- what holds of the office that the tables meant holds of the office at the message's place
   at_place : (P : Office → Type 0) → (StillHonest → Honest) → (StillHonest → StillWhole → Whole) → (StillHonest → StillWhole) → (StillHonest → P old.office)

@@ -62,9 +62,9 @@ module _ {S V : Type 0} (is_honest is_whole : S → Type 0) (means : S → Offic
         record {
           along = goes_along so_far.along (room_for less is) one step.1 step.2
               (λ qs os done. serves (is_honest s1) (is_whole s1) (is_honest s2) (is_whole s2) (means s0) (means s1) (means s2) qs os one.asking.asked one.outcome done one.came)
-              (λ text first. wrote_more {w0 = at v0} {w1 = at v1} {w2 = at v2} text (outcome_answer one.outcome (one.asking.ends || full)) one.came.honest first one.wrote);
-          honest = λ h. so_far.honest (one.came.honest h);
-          whole = λ h w. so_far.whole (one.came.honest h) (one.came.whole h w);
+              (λ text first. wrote_more {w0 = at v0} {w1 = at v1} {w2 = at v2} text (outcome_answer one.outcome (one.asking.ends || full)) one.came.did.honest first one.wrote);
+          honest = λ h. so_far.honest (one.came.did.honest h);
+          whole = λ h w. so_far.whole (one.came.did.honest h) (one.came.did.whole h w);
         }
 
     all_served : (count : ℕ) → AllTaken (ServedTo s0 s2) (WroteTo s2 v0 v2) l0 count → (bytes : List ℕ) × IfSome l0 (λ all. bytes ≡ all) × AllServed (is_honest s2) (is_whole s2) (means s0) (means s2) bytes (at v0) (at v2) count
@@ -79,7 +79,7 @@ module _ {S V : Type 0} (is_honest is_whole : S → Type 0) (means : S → Offic
         all_served (answered + 1)
         (lasts so_far.along (room_for less is) one step.1
         (λ qs os done. serves (is_honest s1) (is_whole s1) (is_honest s2) (is_whole s2) (means s0) (means s1) (means s2) qs os one.asking.asked one.outcome done one.came)
-        (λ text first. wrote_more {w0 = at v0} {w1 = at v1} {w2 = at v2} text (outcome_answer one.outcome (one.asking.ends || full)) one.came.honest first one.wrote))
+        (λ text first. wrote_more {w0 = at v0} {w1 = at v1} {w2 = at v2} text (outcome_answer one.outcome (one.asking.ends || full)) one.came.did.honest first one.wrote))
 
     same_served : Same → (qs : List Asked) (os : List Outcome) → ServedTo s0 s1 qs os → ServedTo s0 s2 qs os
     same_served same qs os done = subst (λ s. ServedTo s0 s qs os) (sym same.0) done
@@ -106,7 +106,7 @@ module _ {S V : Type 0} (is_honest is_whole : S → Type 0) (means : S → Offic
     stops_here f less is (broke_off one) =
         breaks_off {Stopped = GivenUpAt f} so_far.along (room_for less is) one
         (λ qs os done. serves (is_honest s1) (is_whole s1) (is_honest s2) (is_whole s2) (means s0) (means s1) (means s2) qs os one.asking.asked one.outcome done one.came)
-        (λ os text first. gives_up {w0 = at v0} {w1 = at v1} {w2 = at v2} one.outcome (one.asking.ends || full) f os text one.came.honest first one.wrote)
+        (λ os text first. gives_up {w0 = at v0} {w1 = at v1} {w2 = at v2} one.outcome (one.asking.ends || full) f os text one.came.did.honest first one.wrote)
 
     abbrev SomeServedAt : List ℕ → ServeFault → Type 0
     SomeServedAt bytes f = SomeServed (is_honest s2) (is_whole s2) (is_stopped s2 ≡ true) (means s0) (means s2) bytes f0 f2 (at v0) (at v2) f

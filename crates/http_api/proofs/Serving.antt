@@ -61,8 +61,8 @@ pub serves : (Honest Whole StillHonest StillWhole : Type 0) (start old new : Off
 serves Honest Whole StillHonest StillWhole start old new done outcomes a o served came =
     let P : List Exchange → Type 0 = λ xs. HasDelivered StillHonest StillWhole start new xs in
     record {
-      delivered = subst P (sym (exchanges-more outcomes o)) (came.did start (exchanges_of outcomes) served.delivered);
-      each = each_more Honest Whole StillHonest StillWhole came.honest came.whole start [] done outcomes a o served.each
+      delivered = subst P (sym (exchanges-more outcomes o)) (came.did.behind start (exchanges_of outcomes) served.delivered);
+      each = each_more Honest Whole StillHonest StillWhole came.did.honest came.did.whole start [] done outcomes a o served.each
           (came.is (office_behind start (exchanges_of outcomes)) (λ h w. ap (λ meaning. meaning.office) (served.delivered.left h w)));
     }
 

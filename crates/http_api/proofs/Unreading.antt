@@ -26,7 +26,7 @@ unread_told Honest Whole meaning (ask.refused refusal) may = record {
 }
 unread_told Honest Whole meaning (ask.request number callers body) may = record {
   outcome = posted unread;
-  came = posts Honest Whole Honest Whole meaning meaning number callers body unread tt (λ h. h) (λ h w. w) (stays Honest Whole meaning _ refl refl);
+  came = posts Honest Whole Honest Whole meaning meaning number callers body unread tt (stays Honest Whole meaning _ refl refl);
   text = λ last. refl;
 }
 unread_told Honest Whole meaning (ask.export lang) may = record {

@@ -24,8 +24,6 @@ use Rattle.http_api.specs.Served.{exchange_in}
 -- A message has its outcome: what reached the desk went on from what was there, and a question was answered from the office that the
 -- tables meant.
 pub record Came (Honest Whole StillHonest StillWhole : Type 0) (old new : OfficeWithBook) (asked : Asked) (outcome : Outcome) : Type 0 where
-  pub honest : StillHonest → Honest
-  pub whole : StillHonest → StillWhole → Whole
   pub did : GoesOn Honest Whole StillHonest StillWhole old new (exchange_in outcome)
   pub is : (office : Office) → (Honest → Whole → old.office ≡ office) → IsOutcome StillHonest StillWhole office asked outcome
 

@@ -75,11 +75,9 @@ fn answer_request<T: Tables, W: ByteSink>(
     last: bool,
     w: &mut W,
 ) -> Result<(), ServeFault>
-    ensures told { (told : Result Reply Lost)
+    ensures { (told : Result Reply Lost)
         × Delivers T.is_honest T.is_whole T.means desk.old desk.new (asked request.now told ∷ [])
         × Tells (writer_at W.taken W.failed w.old) (writer_at W.taken W.failed w.new) (result_answer told last) result }
-    ensures honest { T.is_honest desk.new → T.is_honest desk.old }
-    ensures whole { T.is_honest desk.new → T.is_whole desk.new → T.is_whole desk.old }
 {
     match desk.deliver(request) {
         Ok(reply) => send_json(w, reply.status(), reply.body(), last),

@@ -1,5 +1,6 @@
 //! The next connection of a listener.
-ghost use Rattle.std.specs.Prelude.{◌≡◌, IfOk};
+ghost use Rattle.std.specs.Prelude.{◌≡◌, true, IfOk, IfErr};
+ghost use Rattle.http_api.specs.declared.faults.ServeFault.TheVariants.{Disk};
 ghost use Rattle.sockets.specs.Connections.{ServedSome};
 
 use commands::{Input, Output};
@@ -22,7 +23,8 @@ const LAST_WAIT: u64 = 1;
 /// Takes the next connection of a listener, serves it as `http_api::serve` does, and closes it.
 ///
 /// Nothing is known of the bytes of a socket: some messages came, and each was answered from the desk, in their order. `Read` also where
-/// no connection was taken, `Memory` also where there is no room for its answers; then nothing was served.
+/// no connection was taken, `Memory` also where there is no room for its answers; then nothing was served. `Disk` only where the tables
+/// are stopped.
 pub fn serve_next<T: Tables, L: OpenListener<Stream = TcpStream>>(
     alloc: Global,
     desk: &mut Desk<T>,
@@ -30,6 +32,7 @@ pub fn serve_next<T: Tables, L: OpenListener<Stream = TcpStream>>(
 ) -> Result<Served, ServeFault>
     ensures served { ServedSome (T.is_honest desk.new) (T.is_whole desk.new) (T.means desk.old) (T.means desk.new)
         (λ count. IfOk result (λ served. served.answered ≡ count)) }
+    ensures disk { T.is_honest desk.new → IfErr result (λ fault. fault ≡ Disk → T.is_stopped desk.new ≡ true) }
     ensures honest { T.is_honest desk.new → T.is_honest desk.old }
     ensures whole { T.is_honest desk.new → T.is_whole desk.new → T.is_whole desk.old }
 {
@@ -47,6 +50,7 @@ fn serve_stream<T: Tables>(
 ) -> Result<Served, ServeFault>
     ensures served { ServedSome (T.is_honest desk.new) (T.is_whole desk.new) (T.means desk.old) (T.means desk.new)
         (λ count. IfOk result (λ served. served.answered ≡ count)) }
+    ensures disk { T.is_honest desk.new → IfErr result (λ fault. fault ≡ Disk → T.is_stopped desk.new ≡ true) }
     ensures honest { T.is_honest desk.new → T.is_honest desk.old }
     ensures whole { T.is_honest desk.new → T.is_whole desk.new → T.is_whole desk.old }
 {

@@ -1,6 +1,7 @@
 use Rattle.std.proofs.Common.{◌≡◌}
 use Rattle.client.specs.Talks.{Talked, requests_of}
+use Rattle.client.specs.Steps.{IsPaid}
 use Rattle.client.proofs.sending.send_round.Given as goal
 
 abbrev pub invariant-loop-place : goal.invariant-loop-place
-invariant-loop-place g l = requests_of l.fn.sender ≡ l.fn.requests → Talked (g.L.Link.said l.fn.link) (g.L.Link.said l.link) l.fn.sender l.sender
+invariant-loop-place g l = requests_of l.fn.sender ≡ l.fn.requests → Talked (IsPaid l.fn.left l.left) (g.L.Link.said l.fn.link) (g.L.Link.said l.link) l.fn.sender l.sender
