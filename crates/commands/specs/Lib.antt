@@ -6,3 +6,4 @@ pub mod Exchanges
 pub mod ExportLines
 pub mod DeliverLines
 pub mod Gathering
+pub mod StdStreams

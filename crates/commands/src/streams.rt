@@ -1,5 +1,8 @@
-//! Standard input and output as streams of the office's bytes. Nothing is known of what they hold.
-ghost use Rattle.std.specs.Prelude.{◌≡◌, None};
+//! Standard input and output as streams of the office's bytes. Nothing is known of what a terminal, a pipe or a file holds; what a
+//! reader or a writer of std says of its own bytes holds of each call here.
+ghost use Rattle.std.specs.Prelude.{◌≡◌, ◌≤◌, ◌<◌, None, length, IfOk, OnOk, OnErr};
+ghost use Rattle.std.specs.Io.KnownBytes.{ReadConsumes, WriteAppends, Keeps};
+ghost use Rattle.commands.specs.StdStreams.{reader_of, reads_failed, writer_of, writes_failed};
 ghost use Rattle.units.specs.Streams.{one_more};
 
 use std::io::{Read, Write};
@@ -20,7 +23,11 @@ pub struct Input<R: Read + Drop> {
 }
 
 impl<R: Read + Drop> Input<R> {
-    pub fn new(reader: R) -> Self {
+    /// A source of the reader's bytes.
+    pub fn new(reader: R) -> Self
+        ensures of_reader { reader_of result ≡ reader }
+        ensures none_failed { reads_failed result ≡ 0 }
+    {
         Input {
             reader,
             failures: 0,
@@ -31,9 +38,16 @@ impl<R: Read + Drop> Input<R> {
 impl<R: Read + Drop> ByteSource for Input<R> {
     ghost left = { λ _. None };
 
-    ghost failed = { λ s. s.failures };
+    ghost failed = { reads_failed };
 
-    fn read(&mut self, room: &mut [u8]) -> Result<usize, SourceFault> {
+    /// Reads once: the bytes that the reader gave, or a failure more.
+    fn read(&mut self, room: &mut [u8]) -> Result<usize, SourceFault>
+        ensures room { length room.new ≡ length room.old }
+        ensures most { IfOk result (λ n. n ≤ length room.old) }
+        ensures ok_failed { IfOk result (λ n. reads_failed self.new ≡ reads_failed self.old) }
+        ensures err_failed { OnErr result (reads_failed self.new ≡ one_more (reads_failed self.old)) }
+        ensures passed { ReadConsumes (R.remaining (reader_of self.old)) (R.remaining (reader_of self.new)) result room.new }
+    {
         match self.reader.read(room) {
             Ok(count) => Ok(count),
             Err(_) => {
@@ -56,7 +70,11 @@ pub struct Output<W: Write + Drop> {
 }
 
 impl<W: Write + Drop> Output<W> {
-    pub fn new(writer: W) -> Self {
+    /// A sink whose bytes the writer takes.
+    pub fn new(writer: W) -> Self
+        ensures of_writer { writer_of result ≡ writer }
+        ensures none_failed { writes_failed result ≡ 0 }
+    {
         Output {
             writer,
             failures: 0,
@@ -67,9 +85,16 @@ impl<W: Write + Drop> Output<W> {
 impl<W: Write + Drop> ByteSink for Output<W> {
     ghost taken = { λ _. None };
 
-    ghost failed = { λ s. s.failures };
+    ghost failed = { writes_failed };
 
-    fn write(&mut self, bytes: &[u8]) -> Result<usize, SinkFault> {
+    /// Writes once: as many bytes as the writer took, or a failure more. A writer that takes none has failed.
+    fn write(&mut self, bytes: &[u8]) -> Result<usize, SinkFault>
+        ensures some { IfOk result (λ n. 0 < n) }
+        ensures most { IfOk result (λ n. n ≤ length bytes.now) }
+        ensures ok_failed { IfOk result (λ n. writes_failed self.new ≡ writes_failed self.old) }
+        ensures err_failed { OnErr result (writes_failed self.new ≡ one_more (writes_failed self.old)) }
+        ensures passed { WriteAppends (W.contents (writer_of self.old)) (W.contents (writer_of self.new)) result bytes.now }
+    {
         match self.writer.write(bytes) {
             Ok(count) if 0 < count => Ok(count),
             _ => {
@@ -79,7 +104,12 @@ impl<W: Write + Drop> ByteSink for Output<W> {
         }
     }
 
-    fn flush(&mut self) -> Result<(), SinkFault> {
+    /// Has the writer hand on what it holds back.
+    fn flush(&mut self) -> Result<(), SinkFault>
+        ensures ok_failed { OnOk result (writes_failed self.new ≡ writes_failed self.old) }
+        ensures err_failed { OnErr result (writes_failed self.new ≡ one_more (writes_failed self.old)) }
+        ensures kept { Keeps (W.contents (writer_of self.old)) (W.contents (writer_of self.new)) }
+    {
         match self.writer.flush() {
             Ok(()) => Ok(()),
             Err(_) => {
