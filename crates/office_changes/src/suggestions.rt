@@ -20,7 +20,7 @@ pub fn add_suggestion<'a, S: Alter>(
     place: i64,
     suggester: &'a str,
     forms: &'a str,
-) -> Result<usize, Error>
+) -> Result<(), Error>
     requires steady { IsSteady (state S.Store tx.old.conn.now) }
     ensures same_reference { tx.new.conn.ghost_name ≡ tx.old.conn.ghost_name }
     ensures added { IsInside (state S.Store tx.old.conn.now) (state S.Store tx.new.conn.now) result
@@ -30,4 +30,5 @@ pub fn add_suggestion<'a, S: Alter>(
         "INSERT INTO suggestion (number, lang, key, place, suggester, forms) VALUES (?1, ?2, ?3, ?4, ?5, ?6)",
         params![number, lang, key, place, suggester, forms],
     )
+    .and(Ok(()))
 }

@@ -9,7 +9,7 @@ use sqlite::{Alter, Error, Transaction};
 
 /// Makes each approved unit, of each language and also an obsolete one, a translated one at its next revision. No revision may be the
 /// last that 64 bits hold.
-pub fn unapprove_units<S: Alter>(tx: &mut Transaction<'_, S>) -> Result<usize, Error>
+pub fn unapprove_units<S: Alter>(tx: &mut Transaction<'_, S>) -> Result<(), Error>
     requires steady { IsSteady (state S.Store tx.old.conn.now) }
     ensures same_reference { tx.new.conn.ghost_name ≡ tx.old.conn.ghost_name }
     ensures unapproved { IsInside (state S.Store tx.old.conn.now) (state S.Store tx.new.conn.now) result UnapprovesUnits }
@@ -18,13 +18,14 @@ pub fn unapprove_units<S: Alter>(tx: &mut Transaction<'_, S>) -> Result<usize, E
         "UPDATE unit SET state = 2, revision = revision + 1 WHERE state = 3",
         &[],
     )
+    .and(Ok(()))
 }
 
 /// Takes each unit away, and with it its suggestions and the votes on them.
-pub fn empty_units<S: Alter>(tx: &mut Transaction<'_, S>) -> Result<usize, Error>
+pub fn empty_units<S: Alter>(tx: &mut Transaction<'_, S>) -> Result<(), Error>
     requires steady { IsSteady (state S.Store tx.old.conn.now) }
     ensures same_reference { tx.new.conn.ghost_name ≡ tx.old.conn.ghost_name }
     ensures emptied { IsInside (state S.Store tx.old.conn.now) (state S.Store tx.new.conn.now) result EmptiesUnits }
 {
-    tx.execute("DELETE FROM unit", &[])
+    tx.execute("DELETE FROM unit", &[]).and(Ok(()))
 }

@@ -50,21 +50,21 @@ fn put_record_and_policy<S: Alter>(
 }
 
 /// Writes the policy, and what it makes of units.
-fn write_policy<S: Alter>(tx: &mut Transaction<'_, S>, policy: &Policy) -> Result<usize, Error>
+fn write_policy<S: Alter>(tx: &mut Transaction<'_, S>, policy: &Policy) -> Result<(), Error>
     requires steady { IsSteady (state S.Store tx.old.conn.now) }
     ensures same_reference { tx.new.conn.ghost_name ≡ tx.old.conn.ghost_name }
     ensures put { IsInside (state S.Store tx.old.conn.now) (state S.Store tx.new.conn.now) result (WritesPolicy policy.now) }
 {
-    let written = put_policy_of(tx, policy)?;
+    put_policy_of(tx, policy)?;
     if policy.reviews {
-        Ok(written)
+        Ok(())
     } else {
         unapprove_units(tx)
     }
 }
 
 /// Writes the policy's row, in the first form of the tables.
-fn put_policy_of<S: Alter>(tx: &mut Transaction<'_, S>, policy: &Policy) -> Result<usize, Error>
+fn put_policy_of<S: Alter>(tx: &mut Transaction<'_, S>, policy: &Policy) -> Result<(), Error>
     requires steady { IsSteady (state S.Store tx.old.conn.now) }
     ensures same_reference { tx.new.conn.ghost_name ≡ tx.old.conn.ghost_name }
     ensures put { IsInside (state S.Store tx.old.conn.now) (state S.Store tx.new.conn.now) result (PutsPolicy policy.now) }

@@ -51,7 +51,7 @@ fn put_record_and_role<S: Alter>(
 }
 
 /// Writes a member's row, or takes that of a guest away.
-fn write_role<S: Alter>(tx: &mut Transaction<'_, S>, name: &str, role: Role) -> Result<usize, Error>
+fn write_role<S: Alter>(tx: &mut Transaction<'_, S>, name: &str, role: Role) -> Result<(), Error>
     requires steady { IsSteady (state S.Store tx.old.conn.now) }
     ensures same_reference { tx.new.conn.ghost_name ≡ tx.old.conn.ghost_name }
     ensures put { IsInside (state S.Store tx.old.conn.now) (state S.Store tx.new.conn.now) result (WritesRole name.now (role_number role)) }

@@ -1,6 +1,7 @@
 -- A statement inside a transaction, and one statement after another.
 use Rattle.std.proofs.Common.{◌≡◌, inl, inr, ℕ, List, Result, Ok, Err, OnOk, IsTrue, sym, subst, arith}
 use Rattle.std.proofs.lemmas.Bool.Decides.{eqb_tells}
+use Rattle.std.specs.Result.{result_and}
 use Rattle.sqlite.specs.Order.{Row}
 use Rattle.sqlite.specs.Effect.{Database}
 use Rattle.sqlite.specs.declared.error.Error.{Error}
@@ -53,3 +54,12 @@ module _ (sql : List ℕ) (params : Row) (old new : State) (Makes : Database →
 
       at : HasCleanDisk new → OnOk r (Makes old.now new.now) × OnOk r (IsReady new) × OnOk r (StaysInside old new)
       at clean = went r (steady.ready (early clean)) (runs clean (steady.inside (early clean))) makes
+
+-- How many rows a statement wrote isn't told on.
+module _ {U : Type 0} {old new : State} {Makes : Database → Database → Type 0} (unit : U) where
+  untold : (r : Result ℕ Error) → IsInside old new r Makes → IsInside old new (result_and r (Ok unit)) Makes
+  untold (Ok count) is = record { made = is.made; ready = is.ready; stays = is.stays; kept = is.kept; survives = is.survives }
+  untold (Err e) is = record { made = is.made; ready = is.ready; stays = is.stays; kept = is.kept; survives = is.survives }
+
+  pub said : (r : Result ℕ Error) (told : Result U Error) → told ≡ result_and r (Ok unit) → IsInside old new r Makes → IsInside old new told Makes
+  said r told e is = subst (λ t. IsInside old new t Makes) (sym e) (untold r is)

@@ -14,7 +14,7 @@ pub fn put_language<S: Alter>(
     lang: &str,
     header: &str,
     plural: &str,
-) -> Result<usize, Error>
+) -> Result<(), Error>
     requires steady { IsSteady (state S.Store tx.old.conn.now) }
     ensures same_reference { tx.new.conn.ghost_name ≡ tx.old.conn.ghost_name }
     ensures put { IsInside (state S.Store tx.old.conn.now) (state S.Store tx.new.conn.now) result
@@ -24,4 +24,5 @@ pub fn put_language<S: Alter>(
         "INSERT INTO language (lang, header, plural) VALUES (?1, ?2, ?3)",
         params![lang, header, plural],
     )
+    .and(Ok(()))
 }

@@ -19,7 +19,7 @@ pub fn put_policy<S: Alter>(
     accept_at: i64,
     placeholders: i64,
     line_ends: i64,
-) -> Result<usize, Error>
+) -> Result<(), Error>
     requires steady { IsSteady (state S.Store tx.old.conn.now) }
     ensures same_reference { tx.new.conn.ghost_name ≡ tx.old.conn.ghost_name }
     ensures put { IsInside (state S.Store tx.old.conn.now) (state S.Store tx.new.conn.now) result
@@ -37,4 +37,5 @@ pub fn put_policy<S: Alter>(
             line_ends
         ],
     )
+    .and(Ok(()))
 }

@@ -16,7 +16,7 @@ pub fn put_record<S: Alter>(
     content: &str,
     status: i64,
     body: &str,
-) -> Result<usize, Error>
+) -> Result<(), Error>
     requires steady { IsSteady (state S.Store tx.old.conn.now) }
     ensures same_reference { tx.new.conn.ghost_name ≡ tx.old.conn.ghost_name }
     ensures put { IsInside (state S.Store tx.old.conn.now) (state S.Store tx.new.conn.now) result
@@ -26,4 +26,5 @@ pub fn put_record<S: Alter>(
         "INSERT INTO record (number, content, status, body) VALUES (?1, ?2, ?3, ?4)",
         params![number, content, status, body],
     )
+    .and(Ok(()))
 }

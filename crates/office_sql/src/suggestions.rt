@@ -19,7 +19,7 @@ pub fn put_suggestion<'a, S: Alter>(
     place: i64,
     suggester: &'a str,
     forms: &'a str,
-) -> Result<usize, Error>
+) -> Result<(), Error>
     requires steady { IsSteady (state S.Store tx.old.conn.now) }
     ensures same_reference { tx.new.conn.ghost_name ≡ tx.old.conn.ghost_name }
     ensures put { IsInside (state S.Store tx.old.conn.now) (state S.Store tx.new.conn.now) result
@@ -29,6 +29,7 @@ pub fn put_suggestion<'a, S: Alter>(
         "INSERT INTO suggestion (number, lang, key, place, suggester, forms) VALUES (?1, ?2, ?3, ?4, ?5, ?6)",
         params![number, lang, key, place, suggester, forms],
     )
+    .and(Ok(()))
 }
 
 /// Takes a unit's suggestions away, and with them the votes on them.
@@ -36,7 +37,7 @@ pub fn clear_suggestions<S: Alter>(
     tx: &mut Transaction<'_, S>,
     lang: &str,
     key: &str,
-) -> Result<usize, Error>
+) -> Result<(), Error>
     requires steady { IsSteady (state S.Store tx.old.conn.now) }
     ensures same_reference { tx.new.conn.ghost_name ≡ tx.old.conn.ghost_name }
     ensures cleared { IsInside (state S.Store tx.old.conn.now) (state S.Store tx.new.conn.now) result (ClearsUnit lang.now key.now) }
@@ -45,4 +46,5 @@ pub fn clear_suggestions<S: Alter>(
         "DELETE FROM suggestion WHERE lang = ?1 AND key = ?2",
         params![lang, key],
     )
+    .and(Ok(()))
 }

@@ -9,11 +9,7 @@ ghost use Rattle.office_sql.specs.Schema.{team_tree};
 use sqlite::{Alter, Error, Transaction, params};
 
 /// Writes a member of the team: a name, which must be new, and a role from 1 to 3.
-pub fn put_member<S: Alter>(
-    tx: &mut Transaction<'_, S>,
-    name: &str,
-    role: i64,
-) -> Result<usize, Error>
+pub fn put_member<S: Alter>(tx: &mut Transaction<'_, S>, name: &str, role: i64) -> Result<(), Error>
     requires steady { IsSteady (state S.Store tx.old.conn.now) }
     ensures same_reference { tx.new.conn.ghost_name ≡ tx.old.conn.ghost_name }
     ensures put { IsInside (state S.Store tx.old.conn.now) (state S.Store tx.new.conn.now) result
@@ -23,4 +19,5 @@ pub fn put_member<S: Alter>(
         "INSERT INTO team (name, role) VALUES (?1, ?2)",
         params![name, role],
     )
+    .and(Ok(()))
 }

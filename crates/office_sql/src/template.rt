@@ -20,7 +20,7 @@ pub fn put_entry<'a, S: Alter>(
     extracted: &'a str,
     refs: &'a str,
     flags: &'a str,
-) -> Result<usize, Error>
+) -> Result<(), Error>
     requires steady { IsSteady (state S.Store tx.old.conn.now) }
     ensures same_reference { tx.new.conn.ghost_name ≡ tx.old.conn.ghost_name }
     ensures put { IsInside (state S.Store tx.old.conn.now) (state S.Store tx.new.conn.now) result
@@ -30,4 +30,5 @@ pub fn put_entry<'a, S: Alter>(
         "INSERT INTO template (place, key, plural, extracted, refs, flags) VALUES (?1, ?2, ?3, ?4, ?5, ?6)",
         params![place, key, plural, extracted, refs, flags],
     )
+    .and(Ok(()))
 }

@@ -21,7 +21,7 @@ pub fn put_unit<'a, S: Alter>(
     revision: i64,
     comment: &'a str,
     previous: &'a str,
-) -> Result<usize, Error>
+) -> Result<(), Error>
     requires steady { IsSteady (state_of S.Store tx.old.conn.now) }
     ensures same_reference { tx.new.conn.ghost_name ≡ tx.old.conn.ghost_name }
     ensures put { IsInside (state_of S.Store tx.old.conn.now) (state_of S.Store tx.new.conn.now) result
@@ -33,4 +33,5 @@ pub fn put_unit<'a, S: Alter>(
             lang, key, plural, forms, state, obsolete, revision, comment, previous
         ],
     )
+    .and(Ok(()))
 }

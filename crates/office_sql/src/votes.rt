@@ -15,7 +15,7 @@ pub fn put_vote<S: Alter>(
     number: &str,
     voter: &str,
     value: i64,
-) -> Result<usize, Error>
+) -> Result<(), Error>
     requires steady { IsSteady (state S.Store tx.old.conn.now) }
     ensures same_reference { tx.new.conn.ghost_name ≡ tx.old.conn.ghost_name }
     ensures put { IsInside (state S.Store tx.old.conn.now) (state S.Store tx.new.conn.now) result
@@ -25,4 +25,5 @@ pub fn put_vote<S: Alter>(
         "INSERT INTO vote (number, voter, value) VALUES (?1, ?2, ?3)",
         params![number, voter, value],
     )
+    .and(Ok(()))
 }

@@ -22,7 +22,7 @@ const MANAGER: i64 = 3;
 const TRANSLATOR: i64 = 1;
 
 /// Writes a policy that allows nothing but translations, and that the tables have their first form.
-fn put_closed_policy<S: Alter>(tx: &mut Transaction<'_, S>) -> Result<usize, Error>
+fn put_closed_policy<S: Alter>(tx: &mut Transaction<'_, S>) -> Result<(), Error>
     requires steady { IsSteady (state S.Store tx.old.conn.now) }
     ensures same_reference { tx.new.conn.ghost_name ≡ tx.old.conn.ghost_name }
     ensures put { IsInside (state S.Store tx.old.conn.now) (state S.Store tx.new.conn.now) result PutsClosedPolicy }
@@ -33,7 +33,7 @@ fn put_closed_policy<S: Alter>(tx: &mut Transaction<'_, S>) -> Result<usize, Err
 // ---- an opening
 
 /// Writes one manager, and the policy.
-fn put_opening<S: Alter>(tx: &mut Transaction<'_, S>, manager: &str) -> Result<usize, Error>
+fn put_opening<S: Alter>(tx: &mut Transaction<'_, S>, manager: &str) -> Result<(), Error>
     requires steady { IsSteady (state S.Store tx.old.conn.now) }
     ensures same_reference { tx.new.conn.ghost_name ≡ tx.old.conn.ghost_name }
     ensures put { IsInside (state S.Store tx.old.conn.now) (state S.Store tx.new.conn.now) result
@@ -44,7 +44,7 @@ fn put_opening<S: Alter>(tx: &mut Transaction<'_, S>, manager: &str) -> Result<u
 }
 
 /// Makes the tables, and writes the rows of an opening.
-fn fill_opening<S: Alter>(tx: &mut Transaction<'_, S>, manager: &str) -> Result<usize, Error>
+fn fill_opening<S: Alter>(tx: &mut Transaction<'_, S>, manager: &str) -> Result<(), Error>
     requires fresh { IsFresh (state S.Store tx.old.conn.now) }
     ensures same_reference { tx.new.conn.ghost_name ≡ tx.old.conn.ghost_name }
     ensures made { IsInside (state S.Store tx.old.conn.now) (state S.Store tx.new.conn.now) result (MakesOpening manager.now) }
@@ -54,7 +54,7 @@ fn fill_opening<S: Alter>(tx: &mut Transaction<'_, S>, manager: &str) -> Result<
 }
 
 /// Makes the tables with the office of one manager, of which nothing is recorded, in a database that has no table.
-pub fn make_opening<S: Alter>(tx: &mut Transaction<'_, S>, manager: &Name) -> Result<usize, Error>
+pub fn make_opening<S: Alter>(tx: &mut Transaction<'_, S>, manager: &Name) -> Result<(), Error>
     requires fresh { IsFresh (state S.Store tx.old.conn.now) }
     ensures same_reference { tx.new.conn.ghost_name ≡ tx.old.conn.ghost_name }
     ensures made { IsInside (state S.Store tx.old.conn.now) (state S.Store tx.new.conn.now) result (MeansOnly (opening manager.now)) }
@@ -80,7 +80,7 @@ pub fn create_opening<S: Alter>(
 // ---- the demo
 
 /// Writes the manager `root` and the translator `ann`.
-fn put_demo_team<S: Alter>(tx: &mut Transaction<'_, S>) -> Result<usize, Error>
+fn put_demo_team<S: Alter>(tx: &mut Transaction<'_, S>) -> Result<(), Error>
     requires steady { IsSteady (state S.Store tx.old.conn.now) }
     ensures same_reference { tx.new.conn.ghost_name ≡ tx.old.conn.ghost_name }
     ensures put { IsInside (state S.Store tx.old.conn.now) (state S.Store tx.new.conn.now) result PutsDemoTeam }
@@ -90,7 +90,7 @@ fn put_demo_team<S: Alter>(tx: &mut Transaction<'_, S>) -> Result<usize, Error>
 }
 
 /// Writes the template's one entry, `Hello`.
-fn put_demo_entry<S: Alter>(tx: &mut Transaction<'_, S>) -> Result<usize, Error>
+fn put_demo_entry<S: Alter>(tx: &mut Transaction<'_, S>) -> Result<(), Error>
     requires steady { IsSteady (state S.Store tx.old.conn.now) }
     ensures same_reference { tx.new.conn.ghost_name ≡ tx.old.conn.ghost_name }
     ensures put { IsInside (state S.Store tx.old.conn.now) (state S.Store tx.new.conn.now) result PutsDemoEntry }
@@ -99,7 +99,7 @@ fn put_demo_entry<S: Alter>(tx: &mut Transaction<'_, S>) -> Result<usize, Error>
 }
 
 /// Writes the language `de`.
-fn put_demo_language<S: Alter>(tx: &mut Transaction<'_, S>) -> Result<usize, Error>
+fn put_demo_language<S: Alter>(tx: &mut Transaction<'_, S>) -> Result<(), Error>
     requires steady { IsSteady (state S.Store tx.old.conn.now) }
     ensures same_reference { tx.new.conn.ghost_name ≡ tx.old.conn.ghost_name }
     ensures put { IsInside (state S.Store tx.old.conn.now) (state S.Store tx.new.conn.now) result PutsDemoLanguage }
@@ -113,7 +113,7 @@ fn put_demo_language<S: Alter>(tx: &mut Transaction<'_, S>) -> Result<usize, Err
 }
 
 /// Writes the unit of `Hello`, which has no translation.
-fn put_demo_unit<S: Alter>(tx: &mut Transaction<'_, S>) -> Result<usize, Error>
+fn put_demo_unit<S: Alter>(tx: &mut Transaction<'_, S>) -> Result<(), Error>
     requires steady { IsSteady (state S.Store tx.old.conn.now) }
     ensures same_reference { tx.new.conn.ghost_name ≡ tx.old.conn.ghost_name }
     ensures put { IsInside (state S.Store tx.old.conn.now) (state S.Store tx.new.conn.now) result PutsDemoUnit }
@@ -133,7 +133,7 @@ fn put_demo_unit<S: Alter>(tx: &mut Transaction<'_, S>) -> Result<usize, Error>
 }
 
 /// Writes the language and its unit.
-fn put_german<S: Alter>(tx: &mut Transaction<'_, S>) -> Result<usize, Error>
+fn put_german<S: Alter>(tx: &mut Transaction<'_, S>) -> Result<(), Error>
     requires steady { IsSteady (state S.Store tx.old.conn.now) }
     ensures same_reference { tx.new.conn.ghost_name ≡ tx.old.conn.ghost_name }
     ensures put { IsInside (state S.Store tx.old.conn.now) (state S.Store tx.new.conn.now) result (Then PutsDemoLanguage PutsDemoUnit) }
@@ -143,7 +143,7 @@ fn put_german<S: Alter>(tx: &mut Transaction<'_, S>) -> Result<usize, Error>
 }
 
 /// Writes the message `Hello`: its entry, its language and its unit.
-fn put_demo_message<S: Alter>(tx: &mut Transaction<'_, S>) -> Result<usize, Error>
+fn put_demo_message<S: Alter>(tx: &mut Transaction<'_, S>) -> Result<(), Error>
     requires steady { IsSteady (state S.Store tx.old.conn.now) }
     ensures same_reference { tx.new.conn.ghost_name ≡ tx.old.conn.ghost_name }
     ensures put { IsInside (state S.Store tx.old.conn.now) (state S.Store tx.new.conn.now) result PutsDemoMessage }
@@ -153,7 +153,7 @@ fn put_demo_message<S: Alter>(tx: &mut Transaction<'_, S>) -> Result<usize, Erro
 }
 
 /// Writes the policy and the message.
-fn put_demo_rest<S: Alter>(tx: &mut Transaction<'_, S>) -> Result<usize, Error>
+fn put_demo_rest<S: Alter>(tx: &mut Transaction<'_, S>) -> Result<(), Error>
     requires steady { IsSteady (state S.Store tx.old.conn.now) }
     ensures same_reference { tx.new.conn.ghost_name ≡ tx.old.conn.ghost_name }
     ensures put { IsInside (state S.Store tx.old.conn.now) (state S.Store tx.new.conn.now) result (Then PutsClosedPolicy PutsDemoMessage) }
@@ -163,7 +163,7 @@ fn put_demo_rest<S: Alter>(tx: &mut Transaction<'_, S>) -> Result<usize, Error>
 }
 
 /// Writes all rows of the demo.
-fn put_demo<S: Alter>(tx: &mut Transaction<'_, S>) -> Result<usize, Error>
+fn put_demo<S: Alter>(tx: &mut Transaction<'_, S>) -> Result<(), Error>
     requires steady { IsSteady (state S.Store tx.old.conn.now) }
     ensures same_reference { tx.new.conn.ghost_name ≡ tx.old.conn.ghost_name }
     ensures put { IsInside (state S.Store tx.old.conn.now) (state S.Store tx.new.conn.now) result (Then PutsDemoTeam (Then PutsClosedPolicy PutsDemoMessage)) }
@@ -173,7 +173,7 @@ fn put_demo<S: Alter>(tx: &mut Transaction<'_, S>) -> Result<usize, Error>
 }
 
 /// Makes the tables, and writes the rows of the demo.
-fn fill_demo<S: Alter>(tx: &mut Transaction<'_, S>) -> Result<usize, Error>
+fn fill_demo<S: Alter>(tx: &mut Transaction<'_, S>) -> Result<(), Error>
     requires fresh { IsFresh (state S.Store tx.old.conn.now) }
     ensures same_reference { tx.new.conn.ghost_name ≡ tx.old.conn.ghost_name }
     ensures made { IsInside (state S.Store tx.old.conn.now) (state S.Store tx.new.conn.now) result MakesDemo }
@@ -183,7 +183,7 @@ fn fill_demo<S: Alter>(tx: &mut Transaction<'_, S>) -> Result<usize, Error>
 }
 
 /// Makes the tables with the office of the demo, of which nothing is recorded, in a database that has no table.
-pub fn make_demo<S: Alter>(tx: &mut Transaction<'_, S>) -> Result<usize, Error>
+pub fn make_demo<S: Alter>(tx: &mut Transaction<'_, S>) -> Result<(), Error>
     requires fresh { IsFresh (state S.Store tx.old.conn.now) }
     ensures same_reference { tx.new.conn.ghost_name ≡ tx.old.conn.ghost_name }
     ensures made { IsInside (state S.Store tx.old.conn.now) (state S.Store tx.new.conn.now) result (MeansOnly demo) }

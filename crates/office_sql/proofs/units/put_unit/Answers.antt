@@ -2,12 +2,14 @@ use Rattle.std.proofs.Common.{w64}
 use Rattle.std.proofs.lemmas.Int.{to_z-of_z}
 use Rattle.std.specs.Option.{option_copied}
 use Rattle.sqlite.specs.Held.{state}
+use Rattle.office_sql.proofs.Steps.{said}
 use Rattle.office_sql.proofs.Insertions.{bound_text_or_null}
 use Rattle.office_sql.proofs.UnitPuts.{puts_unit}
 use Rattle.office_sql.proofs.units.put_unit.Goals as goal
 
 pub returns-clause-put : goal.returns-clause-put
 returns-clause-put g c =
+    said _ _ _ c.and.ensures (
     puts_unit c.args.lang.now c.args.key.now (option_copied c.args.plural) c.args.forms.now c.args.state c.args.obsolete c.args.revision c.args.comment.now c.args.previous.now
     (state g.S.Store c.args.tx.now.conn.now) (state g.S.Store c.execute.new.self.conn.now) c.execute.result c.requires.steady
     (rw (
@@ -26,3 +28,4 @@ returns-clause-put g c =
       to_z-of_z w64 c.args.revision c.ranges.revision,
     ) at c.execute.ensures.runs)
     c.execute.ensures.survives
+    )
