@@ -13,6 +13,7 @@ program; the file is made in FOLDER, which should lie on a disk)
 import json
 import os
 import pathlib
+import re
 import subprocess
 import sys
 import tempfile
@@ -74,6 +75,12 @@ class Requests:
         yield self.line("template", po=template(turn)), json.dumps({"languages": dict.fromkeys(LANGUAGES, counts)}, separators=(",", ":"))
 
 
+def peak(child):
+    """The most memory, in MB, that a program has had which still waits for its input. (What wait tells of a child counts this script's own.)"""
+    with open("/proc/%d/status" % child.pid) as status:
+        return int(re.search(r"VmHWM:\s*(\d+) kB", status.read())[1]) / 1024
+
+
 def ran(path, rows=()):
     """A run with these requests: the seconds of all of it, those from the open office to the last reply, and its peak memory in MB."""
     rows = list(rows)
@@ -85,16 +92,19 @@ def ran(path, rows=()):
         child.stdout.readline()
         opened = time.monotonic()
         # Beside the reading, since neither side could go on where both wrote more than the other takes.
-        threading.Thread(target=lambda: (child.stdin.writelines(line for line, _ in rows), child.stdin.close())).start()
+        writer = threading.Thread(target=lambda: (child.stdin.writelines(line for line, _ in rows), child.stdin.flush()))
+        writer.start()
         got = [child.stdout.readline().rstrip("\n") for _ in rows]
         answered = time.monotonic()
-        _, status, usage = os.wait4(child.pid, 0)
-        child.returncode = os.waitstatus_to_exitcode(status)
+        writer.join()
+        most = peak(child)
+        child.stdin.close()
+        child.wait()
     ended = time.monotonic()
     wrong = [(line, reply) for (line, body), reply in zip(rows, got) if reply != "200 " + body]
     if child.returncode or wrong:
         raise SystemExit("status %d, the first wrong reply of %d: %.300s" % (child.returncode, len(rows), wrong[:1]))
-    return ended - start, answered - opened, usage.ru_maxrss / 1024
+    return ended - start, answered - opened, most
 
 
 def appended(path, count):
