@@ -10,13 +10,13 @@ use Rattle.views.specs.CountsTexts.{counts_text_at}
 use Rattle.tables.specs.declared.faults.Lost.TheVariants as lost
 use Rattle.office.specs.declared.faults.QueryFault.{QueryFault}
 use Rattle.office.specs.declared.faults.QueryFault.TheVariants as query
-use Rattle.http_answers.specs.declared.refusal.Refusal.{Refusal}
-use Rattle.http_answers.specs.declared.answer.Content.TheVariants.{Json}
-use Rattle.http_answers.specs.Answers.{answer_text, refusal_text}
+use Rattle.http_messages.specs.declared.refusal.Refusal.{Refusal}
+use Rattle.http_api.specs.declared.answer_bytes.Content.TheVariants.{Json}
+use Rattle.http_api.specs.Answers.{answer_text, refusal_text}
 use Rattle.commands.specs.Writers.{Writer}
-use Rattle.http_questions.specs.Queries.{UnitName}
-use Rattle.http_questions.specs.Asked.{Asked}
-use Rattle.http_questions.specs.Asked as ask
+use Rattle.http_messages.specs.Queries.{UnitName}
+use Rattle.http_messages.specs.Asked.{Asked}
+use Rattle.http_messages.specs.Asked as ask
 use Rattle.commands.specs.Exchanges.{Exchange, GoesOn, HasDelivered}
 use Rattle.http_api.specs.Outcomes.{Outcome, posted, shown, failed, IsPost, IsOutcome, unit_shown, unit_without_language, unit_absent, unit_lost, counts_shown, counts_without_language, counts_lost}
 use Rattle.http_api.specs.Served.{exchange_in}

@@ -13,10 +13,10 @@ use Rattle.office.specs.declared.faults.ExportFault.{ExportFault}
 use Rattle.office.specs.declared.faults.ExportFault.TheVariants as export
 use Rattle.office.specs.Exports.{WasExported, WasCut, IsTooLong, Failed}
 use Rattle.tables.specs.declared.faults.Lost.TheVariants as lost
-use Rattle.http_answers.specs.declared.answer.AnswerHead.{AnswerHead}
-use Rattle.http_answers.specs.declared.answer.Content.TheVariants.{PoText}
-use Rattle.http_answers.specs.Answers.{head_text}
-use Rattle.http_questions.specs.Asked as ask
+use Rattle.http_api.specs.declared.answer_bytes.AnswerHead.{AnswerHead}
+use Rattle.http_api.specs.declared.answer_bytes.Content.TheVariants.{PoText}
+use Rattle.http_api.specs.Answers.{head_text}
+use Rattle.http_messages.specs.Asked as ask
 use Rattle.commands.specs.Writers.{Writer, TakesAll, TakesPart}
 use Rattle.http_api.specs.declared.faults.ServeFault.{ServeFault}
 use Rattle.http_api.specs.declared.faults.ServeFault.TheVariants as fault

@@ -1,8 +1,8 @@
 -- What a stream asks: its first message, and the others.
 use Rattle.std.proofs.Common.{◌≡◌, ◌<◌, ℕ, zero, suc, List, [], ◌∷◌, length, Bool, true, false, Some, None, refl, ap, ◌∙◌, arith}
 use Rattle.std.specs.Prelude.{◌||◌, is_none}
-use Rattle.http_questions.specs.Asked.{Asked, Asking}
-use Rattle.http_questions.specs.Streams.{Item, Step, step, first_step, read_on, items_within, items_of, answer_limit}
+use Rattle.http_messages.specs.Asked.{Asked, Asking}
+use Rattle.http_messages.specs.Streams.{Item, Step, step, first_step, read_on, items_within, items_of, answer_limit}
 
 abbrev pub item_of : Asking → Bool → Item
 item_of asking last = record { asked = asking.asked; last = last }

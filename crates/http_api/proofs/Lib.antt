@@ -10,3 +10,4 @@ pub mod NumberLemmas
 pub mod Serving
 pub mod Stepping
 pub mod Unreading
+mod AnswerVectors

@@ -4,8 +4,8 @@ use Rattle.std.specs.Prelude.{IfSome, IsErrAnd, ◌||◌}
 use Rattle.request_book.specs.Book.{OfficeWithBook}
 use Rattle.commands.specs.Writers.{Writer, TakesAll}
 use Rattle.commands.proofs.Streaming.{took_none}
-use Rattle.http_questions.specs.Asked.{Asked}
-use Rattle.http_questions.specs.Streams.{answer_limit}
+use Rattle.http_messages.specs.Asked.{Asked}
+use Rattle.http_messages.specs.Streams.{answer_limit}
 use Rattle.http_api.specs.declared.connection.Next.{Next}
 use Rattle.http_api.specs.declared.connection.Next.TheVariants.{End, Last, More}
 use Rattle.http_api.specs.declared.faults.ServeFault.{ServeFault}

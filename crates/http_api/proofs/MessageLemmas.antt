@@ -4,11 +4,11 @@ use Rattle.std.specs.Prelude.{if◌then◌else◌}
 use Rattle.std.proofs.lemmas.List.{take-append-drop}
 use Rattle.std.proofs.Math.Seq.{drop-drop}
 use Rattle.std.proofs.lemmas.Bool.Decides.{nat_tests}
-use Rattle.http_heads.specs.Cut.{end_length, head_cut}
-use Rattle.http_heads.specs.Heads.{Head, head_of}
-use Rattle.http_answers.specs.declared.refusal.Refusal.TheVariants.{Malformed}
-use Rattle.http_questions.specs.Asked.{Asked, Asking, Test, first_failed, head_tests, body_size, ending, asking_of}
-use Rattle.http_questions.specs.Streams.{head_limit, first_head, Step, step, with_tests, with_head, with_front, first_step, Item, items_within}
+use Rattle.http_messages.specs.Cut.{end_length, head_cut}
+use Rattle.http_messages.specs.Heads.{Head, head_of}
+use Rattle.http_messages.specs.declared.refusal.Refusal.TheVariants.{Malformed}
+use Rattle.http_messages.specs.Asked.{Asked, Asking, Test, first_failed, head_tests, body_size, ending, asking_of}
+use Rattle.http_messages.specs.Streams.{head_limit, first_head, Step, step, with_tests, with_head, with_front, first_step, Item, items_within}
 use Rattle.http_messages.specs.Arrivals.{WantsBody, asking_with, asking_in}
 use Rattle.http_messages.proofs.FrontLemmas.{whole_message}
 use Rattle.http_api.specs.Messages.{AreMessages, nothing, one_more}

@@ -6,7 +6,7 @@ use Rattle.std.proofs.lemmas.Bool.Decides.{nat_tests}
 use Rattle.std.proofs.lemmas.Str.{IsUtf8-from_ascii}
 use Rattle.std.proofs.lemmas.Str.Ascii.{IsAscii-from_all}
 use Rattle.std.proofs.lemmas.List.Elements.{All-cons, All-nil}
-use Rattle.http_heads.proofs.LineLemmas.{and_true}
+use Rattle.http_messages.proofs.LineLemmas.{and_true}
 use Rattle.units.specs.Limits.{is_name_byte, is_name}
 
 name_byte : (b : ℕ) → is_name_byte b ≡ true → b < 128

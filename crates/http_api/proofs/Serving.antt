@@ -3,9 +3,9 @@ use Rattle.std.proofs.Common.{◌≡◌, List, [], ◌∷◌, ◌++◌, refl, sy
 use Rattle.po_read.specs.Texts.{Text}
 use Rattle.units.specs.Office.{Office}
 use Rattle.request_book.specs.Book.{OfficeWithBook}
-use Rattle.http_questions.specs.Queries.{UnitName}
-use Rattle.http_questions.specs.Asked.{Asked}
-use Rattle.http_questions.specs.Asked as ask
+use Rattle.http_messages.specs.Queries.{UnitName}
+use Rattle.http_messages.specs.Asked.{Asked}
+use Rattle.http_messages.specs.Asked as ask
 use Rattle.commands.specs.Exchanges.{Exchange, HasDelivered}
 use Rattle.http_api.specs.Outcomes.{Outcome, UnitShown, CountsShown, TextExported, IsOutcome, unit_shown, unit_without_language, unit_absent, unit_lost, counts_shown, counts_without_language, counts_lost, text_exported, text_without_language, text_too_long, text_lost}
 use Rattle.http_api.specs.Served.{exchange_in, office_behind, AreOutcomes, exchanges_of, HasServed}

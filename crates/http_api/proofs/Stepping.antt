@@ -3,10 +3,10 @@ use Rattle.std.proofs.Common.{◌≡◌, ◌+◌, List, [], ℕ, Bool, true, fal
 use Rattle.std.specs.Prelude.{◌||◌, IfOk, OnOk, IsErrAnd, drop}
 use Rattle.request_book.specs.Book.{OfficeWithBook}
 use Rattle.commands.specs.Writers.{Writer, TakesAll}
-use Rattle.http_answers.specs.declared.refusal.Refusal.{Refusal}
-use Rattle.http_answers.specs.Answers.{refusal_text}
-use Rattle.http_questions.specs.Asked.{Asked, Asking, ending}
-use Rattle.http_questions.specs.Asked as ask
+use Rattle.http_messages.specs.declared.refusal.Refusal.{Refusal}
+use Rattle.http_api.specs.Answers.{refusal_text}
+use Rattle.http_messages.specs.Asked.{Asked, Asking, ending}
+use Rattle.http_messages.specs.Asked as ask
 use Rattle.http_messages.specs.Arrivals.{ReadBehind, WasCutOff, RefusedNow, asking_in, Arrives}
 use Rattle.http_messages.specs.Arrivals as arrivals
 use Rattle.http_messages.specs.declared.inbox.ReadFault.{ReadFault}

@@ -2,11 +2,11 @@
 use Rattle.std.proofs.Common.{◌≡◌, Bool, inr, refl}
 use Rattle.request_book.specs.Book.{OfficeWithBook}
 use Rattle.tables.specs.declared.faults.Lost.TheVariants as lost
-use Rattle.http_answers.specs.declared.refusal.Refusal.TheVariants.{Memory}
-use Rattle.http_answers.specs.Answers.{refusal_text}
-use Rattle.http_questions.specs.Asked.{Asked}
-use Rattle.http_questions.specs.Asked as ask
-use Rattle.http_questions.specs.Askings.{MayTakeMemory}
+use Rattle.http_messages.specs.declared.refusal.Refusal.TheVariants.{Memory}
+use Rattle.http_api.specs.Answers.{refusal_text}
+use Rattle.http_messages.specs.Asked.{Asked}
+use Rattle.http_messages.specs.Asked as ask
+use Rattle.http_messages.specs.Askings.{MayTakeMemory}
 use Rattle.commands.specs.Exchanges.{unread}
 use Rattle.commands.proofs.Going.{stays}
 use Rattle.http_api.specs.Outcomes.{Outcome, posted, failed, outcome_answer, unit_lost, counts_lost, text_lost}

@@ -6,8 +6,8 @@ use Rattle.units.specs.Limits.{export_limit}
 use Rattle.units.specs.Office.{Office}
 use Rattle.units.specs.Streams.{TookBeginning, RoseOrStands}
 use Rattle.request_book.specs.Book.{OfficeWithBook}
-use Rattle.http_answers.specs.declared.refusal.Refusal.{Refusal}
-use Rattle.http_answers.specs.declared.refusal.Refusal.TheVariants.{NoLanguage, NoUnit, Memory, Disk, LongExport}
+use Rattle.http_messages.specs.declared.refusal.Refusal.{Refusal}
+use Rattle.http_messages.specs.declared.refusal.Refusal.TheVariants.{NoLanguage, NoUnit, Memory, Disk, LongExport}
 use Rattle.office.specs.declared.faults.QueryFault.{QueryFault}
 use Rattle.office.specs.declared.faults.QueryFault.TheVariants as query
 use Rattle.office.specs.declared.faults.ExportFault.{ExportFault}
@@ -15,7 +15,7 @@ use Rattle.office.specs.declared.faults.ExportFault.TheVariants as export
 use Rattle.office.specs.declared.export.ExportReceipt.{ExportReceipt}
 use Rattle.commands.specs.Exchanges.{GoesOn}
 use Rattle.commands.specs.Writers.{Writer, TakesAll, TakesPart}
-use Rattle.http_questions.specs.Asked.{Asked}
+use Rattle.http_messages.specs.Asked.{Asked}
 use Rattle.http_api.specs.declared.faults.ServeFault.{ServeFault}
 use Rattle.http_api.specs.declared.faults.ServeFault.TheVariants as fault
 use Rattle.http_api.specs.Outcomes.{Outcome, IsExported, outcome_answer, IsOutcome}

@@ -3,8 +3,8 @@
 use Rattle.std.specs.Prelude.{◌≡◌, ℕ, List, [], ◌∷◌, ◌++◌, length, map}
 use Rattle.units.specs.Streams.{TookBeginning, RoseOrStands}
 use Rattle.request_book.specs.Book.{OfficeWithBook}
-use Rattle.http_questions.specs.Asked.{Asked}
-use Rattle.http_questions.specs.Streams.{Item, items_of}
+use Rattle.http_messages.specs.Asked.{Asked}
+use Rattle.http_messages.specs.Streams.{Item, items_of}
 use Rattle.commands.specs.Writers.{Writer, TakesAll, TakesPart}
 use Rattle.http_api.specs.declared.faults.ServeFault.{ServeFault}
 use Rattle.http_api.specs.declared.faults.ServeFault.TheVariants.{Read, Write, Memory, Disk}

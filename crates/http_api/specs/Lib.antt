@@ -1,8 +1,11 @@
 pub mod Answering
+pub mod Answers
 pub mod Connection
 pub mod Faults
 pub mod Messages
 pub mod Outcomes
 pub mod Posts
+pub mod Refusals
 pub mod Served
+pub mod Statuses
 pub mod Steps

@@ -12,13 +12,13 @@ use Rattle.views.specs.UnitTexts.{unit_text_at}
 use Rattle.views.specs.CountsTexts.{counts_text_at}
 use Rattle.tables.specs.declared.faults.Lost.{Lost}
 use Rattle.tables.specs.declared.faults.Lost.TheVariants as lost
-use Rattle.http_answers.specs.declared.answer.Content.TheVariants.{Json, PoText}
-use Rattle.http_answers.specs.declared.refusal.Refusal.{Refusal}
-use Rattle.http_answers.specs.declared.refusal.Refusal.TheVariants.{Malformed, NoLanguage, NoUnit, Memory, Disk, LongExport}
-use Rattle.http_answers.specs.Answers.{answer_text, refusal_text}
-use Rattle.http_questions.specs.Queries.{UnitName}
-use Rattle.http_questions.specs.Asked.{Asked}
-use Rattle.http_questions.specs.Asked as ask
+use Rattle.http_api.specs.declared.answer_bytes.Content.TheVariants.{Json, PoText}
+use Rattle.http_messages.specs.declared.refusal.Refusal.{Refusal}
+use Rattle.http_messages.specs.declared.refusal.Refusal.TheVariants.{Malformed, NoLanguage, NoUnit, Memory, Disk, LongExport}
+use Rattle.http_api.specs.Answers.{answer_text, refusal_text}
+use Rattle.http_messages.specs.Queries.{UnitName}
+use Rattle.http_messages.specs.Asked.{Asked}
+use Rattle.http_messages.specs.Asked as ask
 use Rattle.commands.specs.Exchanges.{Exchange, asked, malformed, unread}
 use Rattle.request_book.specs.declared.act.Request.{Request}
 use Rattle.http_api.specs.Posts.{IsPosted}

@@ -4,7 +4,7 @@ use Rattle.std.specs.Prelude.{List, [], ◌∷◌, ◌++◌, flat_map, ⊤}
 use Rattle.units.specs.Office.{Office}
 use Rattle.request_book.specs.Book.{OfficeWithBook}
 use Rattle.deliveries.specs.Deliveries.{left_by, kept, lost_marks}
-use Rattle.http_questions.specs.Asked.{Asked}
+use Rattle.http_messages.specs.Asked.{Asked}
 use Rattle.commands.specs.Exchanges.{Exchange, requests_of, results_of, HasDelivered}
 use Rattle.http_api.specs.Outcomes.{Outcome, posted, shown, exported, failed, IsOutcome}
 

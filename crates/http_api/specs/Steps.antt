@@ -1,8 +1,8 @@
 -- What one step of a connection does: a message is read, and answered. This project's own words, for the code's own steps.
 use Rattle.std.specs.Prelude.{◌≡◌, ◌<◌, ◌||◌, ℕ, List, [], ◌++◌, length, Bool, true, false, Option, if◌then◌else◌}
 use Rattle.units.specs.Streams.{IsAtEnd}
-use Rattle.http_questions.specs.Asked.{Asked, Asking}
-use Rattle.http_questions.specs.Streams.{step, first_step}
+use Rattle.http_messages.specs.Asked.{Asked, Asking}
+use Rattle.http_messages.specs.Streams.{step, first_step}
 use Rattle.http_messages.specs.Arrivals.{ReadBehind, WasCutOff}
 use Rattle.http_messages.specs.declared.inbox.ReadFault.{ReadFault}
 use Rattle.http_api.specs.declared.faults.ServeFault.{ServeFault}

@@ -1,6 +1,6 @@
 //! One connection.
 ghost use Rattle.std.specs.Prelude.{◌≡◌, ◌≤◌, ◌+◌, ◌||◌, [], length, drop, true, List, ℕ, IfOk, IfSome, OnOk, MatchResult, if◌then◌else◌};
-ghost use Rattle.http_answers.specs.Answers.{refusal_text};
+ghost use Rattle.http_api.specs.Answers.{refusal_text};
 ghost use Rattle.http_messages.specs.Arrivals.{asking_in};
 ghost use Rattle.commands.specs.Writers.{writer_at, TakesAll};
 ghost use Rattle.http_api.specs.declared.connection.Next.TheVariants.{Last};
@@ -11,8 +11,7 @@ ghost use Rattle.http_api.specs.Connection.{AllServed, SomeServed};
 
 use crate::answers::{answer, send_refusal};
 use crate::faults::ServeFault;
-use http_answers::Refusal;
-use http_messages::{Arrival, Inbox};
+use http_messages::{Arrival, Inbox, Refusal};
 use office::Desk;
 use std::alloc::Global;
 use tables::Tables;

@@ -1,14 +1,15 @@
 //! A language's text as an answer: it is made twice, once to measure it, and once to write it.
 ghost use Rattle.std.specs.Prelude.{◌≡◌, List, ℕ, None, IfOk, OnOk, IfErr, true};
 ghost use Rattle.deliveries.specs.ExportText.{export_text};
-ghost use Rattle.http_questions.specs.Asked.{export};
+ghost use Rattle.http_messages.specs.Asked.{export};
 ghost use Rattle.commands.specs.Writers.{writer_at};
 ghost use Rattle.http_api.specs.Outcomes.{Outcome, exported};
 ghost use Rattle.http_api.specs.Answering.{ComesTo, Writes, IsReceipt, IsMeasured, IsUnmeasured, export_refusal, export_fault};
 
+use crate::answer_bytes::{AnswerHead, Content, write_head};
 use crate::answers::send_refusal;
 use crate::faults::ServeFault;
-use http_answers::{AnswerHead, Content, Refusal, write_head};
+use http_messages::Refusal;
 use office::{Desk, ExportFault, ExportReceipt};
 use tables::Tables;
 use units::{ByteSink, Lang, SinkFault};

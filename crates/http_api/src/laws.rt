@@ -1,7 +1,7 @@
 //! What holds of what a stream asks, whatever answers it.
 
 ghost use Rattle.std.specs.Prelude.{◌≡◌, ◌<◌, ◌+◌, ◌++◌, ℕ, List, length};
-ghost use Rattle.http_questions.specs.Streams.{Item, items_within};
+ghost use Rattle.http_messages.specs.Streams.{Item, items_within};
 ghost use Rattle.http_api.specs.Messages.{AreMessages};
 
 /// Whole messages that don't end the connection ask what they ask, whatever follows them, and behind them is asked what the bytes behind

@@ -8,12 +8,11 @@ ghost use Rattle.request_book.specs.Words.{number_text};
 ghost use Rattle.request_book.specs.declared.act.Act.{Act as ActValue};
 ghost use Rattle.request_book.specs.declared.act.Request.{Request as RequestValue};
 ghost use Rattle.request_book.specs.declared.fault.RequestFault.TheVariants.{Malformed};
-ghost use Rattle.http_heads.specs.Values.{AreValues};
-ghost use Rattle.http_questions.specs.Queries.{only_one};
+ghost use Rattle.http_messages.specs.Values.{AreValues};
+ghost use Rattle.http_messages.specs.Queries.{only_one};
 ghost use Rattle.http_api.specs.Posts.{IsPosted};
 
-use http_heads::Values;
-use http_questions::RequestParts;
+use http_messages::{RequestParts, Values};
 use request_book::{Act, Request, RequestFault};
 use std::alloc::{AllocError, Global};
 use units::Name;

@@ -5,11 +5,11 @@ use Rattle.std.proofs.lemmas.List.{take-append-le, drop-append-le, take-append-d
 use Rattle.std.proofs.Math.Seq.{drop-drop}
 use Rattle.std.proofs.lemmas.Bool.Decides.{nat_tests}
 use Rattle.units.specs.Streams.{IsAtEnd}
-use Rattle.http_heads.specs.Cut.{end_length, head_cut}
-use Rattle.http_heads.specs.Heads.{head_of}
-use Rattle.http_answers.specs.declared.refusal.Refusal.{Refusal}
-use Rattle.http_answers.specs.declared.refusal.Refusal.TheVariants.{Malformed, LongHead}
-use Rattle.http_questions.specs.Streams.{head_limit, first_head, with_head, step, first_step}
+use Rattle.http_messages.specs.Cut.{end_length, head_cut}
+use Rattle.http_messages.specs.Heads.{head_of}
+use Rattle.http_messages.specs.declared.refusal.Refusal.{Refusal}
+use Rattle.http_messages.specs.declared.refusal.Refusal.TheVariants.{Malformed, LongHead}
+use Rattle.http_messages.specs.Streams.{head_limit, first_head, with_head, step, first_step}
 use Rattle.http_messages.specs.Arrivals.{asking_with, asking_in, IsRefused, whatever_follows, at_the_end, WantsBody, RefusesHead, Arrives}
 use Rattle.http_messages.specs.declared.inbox.Arrival.{Arrival}
 use Rattle.http_messages.specs.declared.inbox.Arrival.TheVariants as arrival

@@ -1,11 +1,11 @@
 -- What arrives of a stream, message by message. RFC 9112, section 2.1; the limits are this project's own.
 use Rattle.std.specs.Prelude.{◌≡◌, ◌<◌, ◌≤◌, ◌+◌, ℕ, List, [], ◌++◌, length, take, drop, Option, Some, None}
 use Rattle.units.specs.Streams.{prepend_known, IsAtEnd, RoseOrStands}
-use Rattle.http_heads.specs.Heads.{Head, head_of}
-use Rattle.http_answers.specs.declared.refusal.Refusal.{Refusal}
-use Rattle.http_answers.specs.declared.refusal.Refusal.TheVariants.{Malformed}
-use Rattle.http_questions.specs.Asked.{Asking, ending, asking_of}
-use Rattle.http_questions.specs.Streams.{with_head, step, first_step}
+use Rattle.http_messages.specs.Heads.{Head, head_of}
+use Rattle.http_messages.specs.declared.refusal.Refusal.{Refusal}
+use Rattle.http_messages.specs.declared.refusal.Refusal.TheVariants.{Malformed}
+use Rattle.http_messages.specs.Asked.{Asking, ending, asking_of}
+use Rattle.http_messages.specs.Streams.{with_head, step, first_step}
 use Rattle.http_messages.specs.declared.inbox.ReadFault.{ReadFault}
 use Rattle.http_messages.specs.declared.inbox.ReadFault.TheVariants.{Source, Memory}
 use Rattle.http_messages.specs.declared.inbox.Arrival.{Arrival}

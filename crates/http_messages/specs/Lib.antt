@@ -1,2 +1,15 @@
 pub mod Arrivals
+pub mod Asked
+pub mod Askings
+pub mod Cut
 pub mod Faults
+pub mod Framing
+pub mod Grammar
+pub mod Heads
+pub mod Pairs
+pub mod Queries
+pub mod Read
+pub mod Routes
+pub mod Streams
+pub mod Targets
+pub mod Values

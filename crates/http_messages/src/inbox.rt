@@ -1,17 +1,19 @@
 //! What was read of a stream, and the messages in it.
 ghost use Rattle.std.specs.Prelude.{◌≡◌, ◌+◌, ◌<◌, ◌≤◌, nat_le, nat_lt, [], length, take, drop, true, false, None, IfSome, IfOk, OnOk, IfErr, OnErr, option_map, if◌then◌else◌};
 ghost use Rattle.units.specs.Streams.{IsAtEnd};
-ghost use Rattle.http_heads.specs.Heads.{head_of};
-ghost use Rattle.http_answers.specs.declared.refusal.Refusal.TheVariants.{LongHead, Malformed};
-ghost use Rattle.http_questions.specs.Asked.{body_limit};
-ghost use Rattle.http_questions.specs.Askings.{IsAsking, MayTakeMemory};
-ghost use Rattle.http_questions.specs.Streams.{head_limit, first_head};
+ghost use Rattle.http_messages.specs.Heads.{head_of};
+ghost use Rattle.http_messages.specs.declared.refusal.Refusal.TheVariants.{LongHead, Malformed};
+ghost use Rattle.http_messages.specs.Asked.{body_limit};
+ghost use Rattle.http_messages.specs.Askings.{IsAsking, MayTakeMemory};
+ghost use Rattle.http_messages.specs.Streams.{head_limit, first_head};
 ghost use Rattle.http_messages.specs.Arrivals.{ReadBehind, WasCutOff, asking_in, WantsBody, RefusesHead, Arrives};
 ghost use Rattle.http_messages.specs.declared.inbox.Arrival.TheVariants.{Refused, End};
 
-use http_answers::Refusal;
-use http_heads::{Head, head_length};
-use http_questions::{Asked, Asking, asking_of, body_size};
+use crate::body::body_size;
+use crate::cut::head_length;
+use crate::head::Head;
+use crate::message::{Asked, Asking, asking_of};
+use crate::refusal::Refusal;
 use std::alloc::{AllocError, Global};
 use std::marker::Model;
 use thiserror::Error;

@@ -2,7 +2,7 @@
 -- turn. This project's own words.
 use Rattle.std.specs.Prelude.{ℕ, List, length}
 use Rattle.request_book.specs.Book.{OfficeWithBook}
-use Rattle.http_questions.specs.Asked.{Asked}
+use Rattle.http_messages.specs.Asked.{Asked}
 use Rattle.http_api.specs.Outcomes.{Outcome}
 use Rattle.http_api.specs.Served.{HasServed}
 

@@ -1,9 +1,9 @@
 use Rattle.std.proofs.Common.{inl, refl, subst}
 use Rattle.commands.specs.Writers.{writer_at}
-use Rattle.http_questions.specs.declared.message.Asked.{Asked as AskedValue}
-use Rattle.http_questions.specs.Asked as ask
-use Rattle.http_questions.specs.Askings.{IsAsked}
-use Rattle.http_questions.specs.Pairs.{name_of}
+use Rattle.http_messages.specs.declared.message.Asked.{Asked as AskedValue}
+use Rattle.http_messages.specs.Asked as ask
+use Rattle.http_messages.specs.Askings.{IsAsked}
+use Rattle.http_messages.specs.Pairs.{name_of}
 use Rattle.http_api.specs.Outcomes.{posted, failed}
 use Rattle.http_api.proofs.Coming.{told}
 use Rattle.http_api.proofs.Exporting.{tells_writes}

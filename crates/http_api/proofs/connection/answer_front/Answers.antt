@@ -1,7 +1,7 @@
 use Rattle.std.proofs.Common.{◌≡◌, true, sym, ap, ◌∙◌, subst}
 use Rattle.std.specs.Prelude.{◌||◌}
-use Rattle.http_answers.specs.declared.refusal.Refusal.TheVariants.{Memory}
-use Rattle.http_answers.specs.Answers.{refusal_text}
+use Rattle.http_messages.specs.declared.refusal.Refusal.TheVariants.{Memory}
+use Rattle.http_api.specs.Answers.{refusal_text}
 use Rattle.http_messages.specs.Arrivals.{asking_in}
 use Rattle.commands.specs.Writers.{writer_at, TakesAll}
 use Rattle.http_api.specs.Outcomes.{outcome_answer}

@@ -1,5 +1,5 @@
 use Rattle.std.proofs.Common.{◌≡◌, true}
-use Rattle.http_answers.specs.Answers.{refusal_text}
+use Rattle.http_api.specs.Answers.{refusal_text}
 use Rattle.commands.specs.Writers.{writer_at, TakesAll, TakesPart}
 use Rattle.http_api.specs.declared.faults.ServeFault.TheVariants as fault
 use Rattle.http_api.proofs.Handing.{passed_on, all_handed, part_handed}

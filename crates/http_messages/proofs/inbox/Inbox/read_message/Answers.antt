@@ -1,5 +1,5 @@
 use Rattle.std.proofs.Common.{◌≡◌, List, ℕ, Option, Some, None, option_map, take, sym, ap, ◌∙◌}
-use Rattle.http_questions.specs.Streams.{first_head}
+use Rattle.http_messages.specs.Streams.{first_head}
 use Rattle.http_messages.proofs.FrontLemmas.{no_head, refused_head, cut_short, whole_message}
 use Rattle.http_messages.proofs.ReadingLemmas.{more_behind, fault_behind}
 use Rattle.http_messages.proofs.inbox.Inbox.read_message.Goals as goal

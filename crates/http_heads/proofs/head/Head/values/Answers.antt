@@ -1,5 +1,0 @@
-use Rattle.std.proofs.Common.{rules}
-use Rattle.http_heads.proofs.head.Head.values.Goals as goal
-
-pub returns : goal.returns
-returns c = search rules

@@ -1,0 +1,171 @@
+//! What a message asks: the tests that it has to pass, in their order, and its question.
+ghost use Rattle.std.specs.Prelude.{◌≡◌, ◌&&◌, Some, option_map, IfOk, OnErr};
+ghost use Rattle.http_messages.specs.Framing.{body_length, closes};
+ghost use Rattle.http_messages.specs.Asked.{target_route, wants_length, is_absent, asked_of, lang_in, unit_in_query, export, unit, stats, question, asking_of};
+ghost use Rattle.http_messages.specs.Askings.{IsAsked, IsAsking, MayTakeMemory, route_at};
+
+use crate::head::{BodyLength, Head};
+use crate::lines::Values;
+use crate::query::{UnitName, unit_of};
+use crate::refusal::Refusal;
+use crate::route::{Route, RouteKind, route_of};
+use crate::target::{Target, split_target};
+use std::alloc::{AllocError, Global};
+use units::Lang;
+
+/// A request as a message brings it, undecoded.
+#[derive(Clone, Copy, Drop)]
+pub struct RequestParts<'b> {
+    /// The part of the path that numbers it.
+    pub number: &'b [u8],
+    /// The values of `X-Office-Caller`.
+    pub callers: Values<'b>,
+    pub body: &'b [u8],
+}
+
+/// What a message asks.
+#[derive(Drop)]
+pub enum Asked<'b> {
+    /// Nothing: it fails a test.
+    Refused(Refusal),
+    /// To deliver a request.
+    Request(RequestParts<'b>),
+    /// The text of a language.
+    Export(Lang),
+    /// A unit's view.
+    Unit(UnitName),
+    /// The counts of a language.
+    Stats(Lang),
+}
+
+/// What a message asks, and whether the connection ends behind it.
+#[derive(Drop)]
+pub struct Asking<'b> {
+    pub asked: Asked<'b>,
+    pub ends: bool,
+}
+
+/// The route of a head's target, if it has no query or may have one.
+fn target_route<'b>(head: &Head<'b>) -> Option<Route<'b>>
+    ensures { option_map route_at result ≡ target_route head.now }
+{
+    let target = split_target(head.target());
+    let route = route_of(target.path)?;
+    if target.query.is_some() && !route.kind.may_have_query() {
+        return None;
+    }
+    Some(route)
+}
+
+/// Whether a request's head says nothing of its body's length.
+fn lacks_length(route: Route<'_>, head: &Head<'_>) -> bool
+    ensures { result ≡ (wants_length (Some (route_at route.entry)) && is_absent (body_length head.now)) }
+{
+    match (route.kind, head.body_length()) {
+        (RouteKind::Requests, BodyLength::Absent) => true,
+        (_, _) => false,
+    }
+}
+
+/// The language that a part names.
+#[tactic(auto, using(crate::proofs::LangLemmas::no_lang))]
+fn lang_in(alloc: Global, part: &[u8]) -> Result<Option<Lang>, AllocError>
+    ensures { IfOk result (λ lang. lang ≡ lang_in part.now) }
+{
+    match str::from_utf8(part) {
+        Ok(text) => Lang::try_new(alloc, text),
+        Err(_) => Ok(None),
+    }
+}
+
+fn export_of<'b>(lang: Option<Lang>) -> Asked<'b>
+    ensures { IsAsked result (asked_of export lang) }
+{
+    match lang {
+        Some(lang) => Asked::Export(lang),
+        None => Asked::Refused(Refusal::Malformed),
+    }
+}
+
+fn stats_of<'b>(lang: Option<Lang>) -> Asked<'b>
+    ensures { IsAsked result (asked_of stats lang) }
+{
+    match lang {
+        Some(lang) => Asked::Stats(lang),
+        None => Asked::Refused(Refusal::Malformed),
+    }
+}
+
+/// The unit that a target's query names.
+fn unit_asked<'b>(alloc: Global, target: &Target<'_>) -> Result<Asked<'b>, AllocError>
+    ensures { IfOk result
+        (λ asked. IsAsked asked (asked_of unit (unit_in_query (option_map (λ query. query.now) target.now.query)))) }
+{
+    let Some(query) = target.query else {
+        return Ok(Asked::Refused(Refusal::Malformed));
+    };
+    match unit_of(alloc, query)? {
+        Some(name) => Ok(Asked::Unit(name)),
+        None => Ok(Asked::Refused(Refusal::Malformed)),
+    }
+}
+
+/// The question of a message whose route and method are right.
+fn question<'b>(
+    alloc: Global,
+    route: Route<'b>,
+    head: &Head<'b>,
+    body: &'b [u8],
+) -> Result<Asked<'b>, AllocError>
+    ensures asked { IfOk result (λ asked. IsAsked asked (question (Some (route_at route.entry)) head.now body.now)) }
+    ensures memory { OnErr result (MayTakeMemory (question (Some (route_at route.entry)) head.now body.now)) }
+{
+    match route.kind {
+        RouteKind::Requests => Ok(Asked::Request(RequestParts {
+            number: route.part,
+            callers: head.values(b"X-Office-Caller"),
+            body,
+        })),
+        RouteKind::Export => Ok(export_of(lang_in(alloc, route.part)?)),
+        RouteKind::Unit => unit_asked(alloc, &split_target(head.target())),
+        RouteKind::Stats => Ok(stats_of(lang_in(alloc, route.part)?)),
+    }
+}
+
+/// What a message asks that has this head and this body, of the size that the head gives.
+///
+/// An error where a growth was refused: then the message fails no test but the last, by which a part of it may be malformed, and the
+/// connection ends as the head says.
+pub(crate) fn asking_of<'b>(
+    alloc: Global,
+    head: &Head<'b>,
+    body: &'b [u8],
+) -> Result<Asking<'b>, AllocError>
+    ensures asking { IfOk result (λ asking. IsAsking asking (asking_of head.now body.now)) }
+    ensures memory { OnErr result (MayTakeMemory (asking_of head.now body.now).asked) }
+    ensures ends { OnErr result ((asking_of head.now body.now).ends ≡ closes head.now) }
+{
+    let Some(route) = target_route(head) else {
+        return Ok(Asking {
+            asked: Asked::Refused(Refusal::NoRoute),
+            ends: head.closes(),
+        });
+    };
+    if head.method() != route.kind.method() {
+        return Ok(Asking {
+            asked: Asked::Refused(Refusal::Method),
+            ends: head.closes(),
+        });
+    }
+    if lacks_length(route, head) {
+        return Ok(Asking {
+            asked: Asked::Refused(Refusal::NoLength),
+            ends: true,
+        });
+    }
+    let asked = question(alloc, route, head, body)?;
+    Ok(Asking {
+        asked,
+        ends: head.closes(),
+    })
+}

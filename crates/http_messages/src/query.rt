@@ -1,0 +1,139 @@
+//! The unit that a query names.
+ghost use Rattle.std.specs.Prelude.{◌≡◌, ◌≤◌, ◌<◌, length, map, option_map, codes, IfOk, Some, None};
+ghost use Rattle.std.specs.List.{list_all};
+ghost use Rattle.std.specs.Cow.{cow_str_bytes};
+ghost use Rattle.po_read.specs.Strings.{is_string};
+ghost use Rattle.units.specs.Limits.{is_lang};
+ghost use Rattle.http_messages.specs.Queries.{pairs_of, is_known, values_named, only_one, at_most_one, unit_with, unit_in, unit_of};
+ghost use Rattle.http_messages.specs.Pairs.{pairs_at, AreNamed, name_of};
+
+use form_urlencoded::parse;
+use po_read::PoString;
+use std::alloc::{AllocError, Global};
+use std::borrow::CowStr;
+use units::{Key, Lang};
+
+/// A unit by its language and its key.
+#[derive(Debug, Drop)]
+pub struct UnitName {
+    pub lang: Lang,
+    pub key: Key,
+}
+
+type Pair<'b> = (CowStr<'b>, CowStr<'b>);
+
+/// The values of one name.
+#[derive(Clone, Copy)]
+enum Named<'b> {
+    None,
+    One(&'b str),
+    More,
+}
+
+/// The names and values of a query, decoded.
+fn pairs_of(alloc: Global, query: &[u8]) -> Result<Vec<Pair<'_>>, AllocError>
+    ensures { IfOk result (λ pairs. pairs_at pairs.items ≡ pairs_of query.now) }
+{
+    let mut pairs = Vec::new(alloc);
+    for pair in parse(alloc, query) {
+        pairs.push(pair?)?;
+    }
+    Ok(pairs)
+}
+
+fn is_known(name: &str) -> bool
+    ensures { result ≡ is_known name.now }
+{
+    name == "lang" || name == "id" || name == "ctx"
+}
+
+/// Whether the names are all known.
+fn all_known(pairs: &[Pair<'_>]) -> bool
+    ensures { result ≡ list_all (λ pair. is_known pair.0) (pairs_at pairs.now) }
+{
+    for (name, _value) in pairs {
+        if !is_known(name.as_str()) {
+            return false;
+        }
+    }
+    true
+}
+
+/// The values of a name.
+fn values_named<'b>(pairs: &'b [Pair<'_>], name: &str) -> Named<'b>
+    ensures { AreNamed result (values_named name.now (pairs_at pairs.now)) }
+{
+    let mut found = Named::None;
+    for (other, value) in pairs {
+        if other.as_str() == name {
+            match found {
+                Named::None => found = Named::One(value.as_str()),
+                _ => found = Named::More,
+            }
+        }
+    }
+    found
+}
+
+fn only_lang(alloc: Global, pairs: &[Pair<'_>]) -> Result<Option<Lang>, AllocError>
+    ensures { IfOk result (λ lang. lang ≡ only_one is_lang (values_named (codes "lang") (pairs_at pairs.now))) }
+{
+    match values_named(pairs, "lang") {
+        Named::One(text) => Lang::try_new(alloc, text),
+        _ => Ok(None),
+    }
+}
+
+fn only_id(alloc: Global, pairs: &[Pair<'_>]) -> Result<Option<PoString>, AllocError>
+    ensures { IfOk result (λ id. id ≡ only_one is_string (values_named (codes "id") (pairs_at pairs.now))) }
+{
+    match values_named(pairs, "id") {
+        Named::One(text) => PoString::try_new(alloc, text),
+        _ => Ok(None),
+    }
+}
+
+fn context(alloc: Global, pairs: &[Pair<'_>]) -> Result<Option<Option<PoString>>, AllocError>
+    ensures { IfOk result (λ ctx. ctx ≡ at_most_one is_string (values_named (codes "ctx") (pairs_at pairs.now))) }
+{
+    match values_named(pairs, "ctx") {
+        Named::None => Ok(Some(None)),
+        Named::One(text) => match PoString::try_new(alloc, text)? {
+            Some(ctx) => Ok(Some(Some(ctx))),
+            None => Ok(None),
+        },
+        Named::More => Ok(None),
+    }
+}
+
+fn unit_with(
+    lang: Option<Lang>,
+    id: Option<PoString>,
+    ctx: Option<Option<PoString>>,
+) -> Option<UnitName>
+    ensures { option_map name_of result ≡ unit_with lang id ctx }
+{
+    match (lang, id, ctx) {
+        (Some(lang), Some(id), Some(ctx)) => Some(UnitName {
+            lang,
+            key: Key { ctx, id },
+        }),
+        (_, _, _) => None,
+    }
+}
+
+/// The unit that a query names: `lang` and `id` once each, `ctx` at most once, no other name, in any order and decoded as forms
+/// are. `None` where it names none; an error where a growth was refused.
+pub(crate) fn unit_of(alloc: Global, query: &[u8]) -> Result<Option<UnitName>, AllocError>
+    ensures { IfOk result (λ name. option_map name_of name ≡ unit_of query.now) }
+{
+    let pairs = pairs_of(alloc, query)?;
+    let pairs = pairs.as_slice();
+    if !all_known(pairs) {
+        return Ok(None);
+    }
+    let lang = only_lang(alloc, pairs)?;
+    let id = only_id(alloc, pairs)?;
+    let ctx = context(alloc, pairs)?;
+    Ok(unit_with(lang, id, ctx))
+}

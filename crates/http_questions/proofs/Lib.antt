@@ -1,4 +1,0 @@
-pub mod LangLemmas
-pub mod QueryLemmas
-pub mod TargetLemmas
-mod Vectors

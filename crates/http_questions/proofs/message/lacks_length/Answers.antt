@@ -1,5 +1,0 @@
-use Rattle.std.proofs.Common.{rules}
-use Rattle.http_questions.proofs.message.lacks_length.Goals as goal
-
-pub returns-in-Requests-Absent : goal.returns-in-Requests-Absent
-returns-in-Requests-Absent c = search rules
