@@ -17,9 +17,8 @@ ghost use Rattle.tables.specs.Kept.{IsKept};
 ghost use Rattle.tables.specs.declared.faults.Lost.TheVariants.{Disk};
 
 use deliveries::{Change, Outcome};
-use office_acts::{OfficeOutcome, office_outcome, unit_outcome};
+use office_acts::{OfficeOutcome, office_outcome, unit_outcome, used};
 use po_read::{Duplicate, Text};
-use replies::used;
 use request_book::{Act, Class, Record, Reply, Request, classify};
 use std::alloc::{AllocError, Global};
 use tables::{Lost, Tables};

@@ -9,13 +9,13 @@ ghost use Rattle.deliveries.specs.OfficeActs as spec;
 ghost use Rattle.office_acts.specs.Settled.{IsSettled};
 ghost use Rattle.office_maps.specs.OfficeIn.{office_in};
 
+use crate::bodies::language_added;
 use crate::outcome::OfficeOutcome;
 use crate::po_text::{header_of, read_text, rule_of};
 use deliveries::{Change, Language};
 use office_maps::OfficeMaps;
 use plural_expr::PluralForms;
 use po_read::{Catalogue, Duplicate, Entry, Text};
-use replies::language_added;
 use request_book::Reply;
 use std::alloc::{AllocError, Global};
 use template_update::{Counts, Plan, load};
@@ -145,6 +145,13 @@ fn add_language(
     }
 }
 
+/// Whether a language is there.
+fn has_language(office: &OfficeMaps, lang: &Lang) -> bool
+    ensures { result ≡ maps.contains_key (office_in office.now).headers lang.now }
+{
+    office.languages.get(lang).is_some()
+}
+
 /// What a language comes to.
 pub(crate) fn language_outcome(
     alloc: Global,
@@ -155,7 +162,7 @@ pub(crate) fn language_outcome(
     ensures { IfOk result
         (λ outcome. IsSettled (office_in office.now) outcome (spec.language_step (office_in office.now) lang.now po.now)) }
 {
-    if office.has_language(lang) {
+    if has_language(office, lang) {
         return OfficeOutcome::refused(alloc, Refusal::LanguageExists);
     }
     match read_text(alloc, po)? {

@@ -1,10 +1,10 @@
 //! What an office act comes to.
 ghost use Rattle.std.specs.Prelude.{◌≡◌, IfOk};
 
+use crate::bodies::{refused, refused_rule, refused_text};
 use deliveries::Change;
 use plural_expr::PluralFault;
 use po_lex::PoFault;
-use replies::{refused, refused_rule, refused_text};
 use request_book::Reply;
 use std::alloc::Global;
 use units::{Memory, Refusal};

@@ -9,12 +9,12 @@ ghost use Rattle.deliveries.specs.OfficeActs as spec;
 ghost use Rattle.office_acts.specs.Settled.{IsSettled};
 ghost use Rattle.office_maps.specs.OfficeIn.{office_in};
 
+use crate::bodies::template_set;
 use crate::outcome::OfficeOutcome;
 use crate::po_text::read_text;
 use deliveries::Change;
 use office_maps::OfficeMaps;
 use po_read::{Catalogue, Text};
-use replies::template_set;
 use std::alloc::Global;
 use template_update::template_of;
 use units::{Memory, Refusal};

@@ -4,8 +4,8 @@ ghost use Rattle.review.specs.UnitStep.{unit_step};
 ghost use Rattle.replies.specs.Bodies.{done as done_of};
 ghost use Rattle.deliveries.specs.UnitOutcomes.{refusing, outcome_of_decision, outcome_of};
 
+use crate::bodies::{done, refused};
 use deliveries::{Found, Outcome};
-use replies::{done, refused};
 use request_book::Request;
 use review::{Decision, Values, decide};
 use std::alloc::Global;

@@ -1,17 +1,23 @@
 -- Counts of units, one unit after another, and how large they are.
-use Rattle.std.proofs.Common.{◌≡◌, ℕ, ◌+◌, ◌*◌, ◌≤◌, Bool, true, false, not, cond, List, [], ◌∷◌, filter, length, refl, sym, ap, ◌∙◌, add_assoc, add-zero, zero-add, arith, count_by}
+use Rattle.std.proofs.Common.{◌≡◌, ℕ, ◌+◌, ◌*◌, ◌≤◌, Bool, true, false, not, cond, List, [], ◌∷◌, filter, length, Option, Some, None, option_map, refl, sym, ap, ◌∙◌, add_assoc, add-zero, zero-add, arith, count_by, string_bytes}
 use Rattle.std.specs.Prelude.{sum_by}
 use Rattle.std.proofs.lemmas.List.Sums.{count_by-le-length, sum_by-cons}
 use Rattle.po_read.specs.declared.entry.Entry.{Entry}
 use Rattle.std.specs.List.{AllByRecursion}
+use Rattle.std.specs.BTreeMap.{get_by}
+use Rattle.po_read.specs.Texts.{Text, text_cmp}
 use Rattle.units.specs.Limits.{suggestion_limit, unit_limit}
 use Rattle.units.specs.Units.{shown_state}
-use Rattle.units.specs.Office.{entry_of}
+use Rattle.units.specs.Office.{entry_of, units_of}
 use Rattle.units.specs.declared.unit.Unit.{Unit}
 use Rattle.units.specs.declared.unit.ShownState.{ShownState}
 use Rattle.units.specs.declared.unit.ShownState.TheVariants.{Untranslated, NeedsEditing, Translated, Approved, ReadOnly}
+use Rattle.deliveries.specs.declared.values.Language.{Language}
+use Rattle.office_maps.specs.declared.office_maps.OfficeMaps.{OfficeMaps}
+use Rattle.office_maps.specs.OfficeIn.{office_in}
+use Rattle.office_maps.proofs.OfficeViews.{header_at}
 use Rattle.tables.specs.declared.counts.Counts.{Counts}
-use Rattle.tables.specs.Counts.{current, shown_in, is_state, counts_in}
+use Rattle.tables.specs.Counts.{current, shown_in, is_state, counts_in, counts_of}
 use Rattle.office_entries.specs.Counting.{none_counted, plus, one_more, AreWithin}
 
 -- ---- one unit and more
@@ -154,3 +160,16 @@ part_within a b whole is h = record {
   translated = omega (arith, h.translated, ap (λ (c : Counts). c.translated) is);
   untranslated = omega (arith, h.untranslated, ap (λ (c : Counts). c.untranslated) is);
 }
+
+-- ---- the counts of a language, by what a look-up of it gives
+
+map_either : {A B C : Type 0} (f : A → B) (x : C) (o : Option A) → option_map (λ (a : A). x) o ≡ option_map (λ (b : B). x) (option_map f o)
+map_either f x None = refl
+map_either f x (Some a) = refl
+
+pub counts_by : (t : OfficeMaps) (lang : Text) (found : Option Language) → found ≡ get_by (λ k. text_cmp lang (string_bytes k)) t.languages.rows
+    → option_map (λ (language : Language). counts_in t.template.catalogue (units_of (office_in t) lang)) found ≡ counts_of (office_in t) lang
+counts_by t lang found e =
+    map_either (λ (language : Language). language.header) (counts_in t.template.catalogue (units_of (office_in t) lang)) found
+    ∙ ap (option_map (λ (header : Entry). counts_in t.template.catalogue (units_of (office_in t) lang)))
+    (ap (option_map (λ (language : Language). language.header)) e ∙ sym (header_at t lang))

@@ -103,8 +103,8 @@ fn count_units(alloc: Global, office: &OfficeMaps, lang: &Lang) -> Result<Counts
 pub fn counts(alloc: Global, office: &OfficeMaps, lang: &Lang) -> Result<Option<Counts>, AllocError>
     ensures { IsOffice (office_in office.now) → IfOk result (λ counts. counts ≡ counts_of (office_in office.now) lang.now) }
 {
-    if !office.has_language(lang) {
-        return Ok(None);
+    match office.languages.get(lang) {
+        None => Ok(None),
+        Some(_) => Ok(Some(count_units(alloc, office, lang)?)),
     }
-    Ok(Some(count_units(alloc, office, lang)?))
 }

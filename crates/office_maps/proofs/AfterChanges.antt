@@ -1,9 +1,8 @@
 -- What an office in maps stands for after a change.
-use Rattle.std.proofs.Common.{◌≡◌, ℕ, Bool, true, false, cond, List, [], ◌∷◌, map, refl, sym, ap, ◌∙◌, ◌||◌, ◌+◌}
-use Rattle.std.specs.Prelude.{fold, nat_lt, if◌then◌else◌, count_by}
+use Rattle.std.proofs.Common.{◌≡◌, Bool, true, false, cond, List, [], ◌∷◌, map, refl, sym, ap, ◌∙◌, ◌||◌}
+use Rattle.std.specs.Prelude.{nat_lt, if◌then◌else◌}
 use Rattle.std.specs.List.{list_any}
 use Rattle.std.specs.FinMap as maps
-use Rattle.std.specs.Map.{values_of}
 use Rattle.std.specs.BTreeMap.{BTreeMap, IsOrdered}
 use Rattle.po_read.specs.Texts.{Text, text_cmp}
 use Rattle.units.specs.Limits.{revision_limit}
@@ -86,24 +85,3 @@ none_approved m n policy ordered off written within =
     let rows : viewed place_of (λ unit. unit) n.entries ≡ turned es =
     ap (viewed place_of (λ (unit : Unit). unit)) written ∙ (viewed-map unapproved_within m.entries ∙ (ap turned_within (sym (unit_entries m ordered)) ∙ all_within es few)) in
     ap (λ xs. maps.from_entries {R = place_cmp} xs) rows ∙ sym (ap (λ (b : Bool). maps.from_entries {R = place_cmp} (cond b es (turned es))) off)
-
--- ---- units that would pass the last revision, and units that lose their approval
-
-any_by : (reviews : Bool) (es : List (Place × Unit)) → list_any (λ unit. nat_lt revision_limit (cond reviews unit (unapproved unit)).revision) (values_of es)
-    ≡ list_any (λ e. nat_lt revision_limit e.1.revision) (cond reviews (viewed place_of (λ unit. unit) es) (map (λ e. (e.0, unapproved e.1)) (viewed place_of (λ unit. unit) es)))
-any_by true [] = refl
-any_by true (e ∷ es) = ap (λ b. nat_lt revision_limit e.1.revision || b) (any_by true es)
-any_by false [] = refl
-any_by false (e ∷ es) = ap (λ b. nat_lt revision_limit (unapproved e.1).revision || b) (any_by false es)
-
-pub any_under : (m : BTreeMap Place Unit) (policy : Policy) → IsOrdered (λ x y. place_cmp (place_of x) (place_of y)) m
-    → list_any (λ unit. nat_lt revision_limit (if policy.reviews then unit else unapproved unit).revision) (values_of m.entries)
-    ≡ list_any (λ e. nat_lt revision_limit e.1.revision) (under policy (maps.entries (units_in m)))
-any_under m policy ordered = any_by policy.reviews m.entries ∙ sym (ap (λ es. list_any (λ e. nat_lt revision_limit e.1.revision) (under policy es)) (unit_entries m ordered))
-
-count_values : (p : Unit → Bool) (n : ℕ) (es : List (Place × Unit)) → fold (λ k unit. k + cond (p unit) 1 0) n (values_of es) ≡ fold (λ k e. k + cond (p e.1) 1 0) n (viewed place_of (λ unit. unit) es)
-count_values p n [] = refl
-count_values p n (e ∷ es) = count_values p (n + cond (p e.1) 1 0) es
-
-pub count_losing_by : (m : BTreeMap Place Unit) (p : Unit → Bool) → IsOrdered (λ x y. place_cmp (place_of x) (place_of y)) m → count_by p (values_of m.entries) ≡ count_by (λ e. p e.1) (maps.entries (units_in m))
-count_losing_by m p ordered = count_values p 0 m.entries ∙ sym (ap (count_by (λ e. p e.1)) (unit_entries m ordered))

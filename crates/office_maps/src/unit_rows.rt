@@ -1,12 +1,11 @@
 //! Units at their places.
 
-ghost use Rattle.std.specs.Prelude.{◌≡◌, false, not, ◌&&◌, IfOk, OnOk, OnErr, map, filter, flat_map, nat_lt, if◌then◌else◌, fold};
+ghost use Rattle.std.specs.Prelude.{◌≡◌, false, IfOk, OnOk, OnErr, map, filter, flat_map, nat_lt, if◌then◌else◌, fold};
 ghost use Rattle.std.specs.List.{list_any};
 ghost use Rattle.std.specs.FinMap as maps;
 ghost use Rattle.units.specs.Limits.{revision_limit};
 ghost use Rattle.po_read.specs.Texts.{text_eq};
 ghost use Rattle.units.specs.Changes.{unapproved, under};
-ghost use Rattle.units.specs.Units.{is_approved};
 ghost use Rattle.deliveries.specs.OfficeActs.{placed};
 ghost use Rattle.office_maps.specs.Rows.{units_in};
 ghost use Rattle.office_maps.specs.DisplacedUnits.{Units, IsDisplaced, AreDisplaced, at_places, with_all};
@@ -16,7 +15,7 @@ use po_read::Duplicate;
 use std::alloc::{AllocError, Global};
 use std::collections::BTreeMap;
 use template_update::Plan;
-use units::{Key, Lang, Policy, Revision, Unit, UnitState, no_previous};
+use units::{Key, Lang, Policy, Unit, UnitState, no_previous};
 
 /// What stood at a place before a unit was put there.
 #[derive(Drop)]
@@ -242,21 +241,6 @@ pub(crate) fn put_policy(units: &mut BTreeMap<Place, Unit>, policy: &Policy)
             true
         });
     }
-}
-
-/// Whether a unit would pass the last revision under a policy.
-pub(crate) fn would_pass(policy: &Policy, unit: &Unit) -> bool
-    ensures { result ≡ nat_lt revision_limit (if policy.now.reviews then unit.now else unapproved unit.now).revision }
-{
-    let number = unit.revision.number();
-    loses_approval(policy, unit) && Revision::try_new(number + 1).is_none()
-}
-
-/// Whether a unit loses its approval under a policy.
-pub(crate) fn loses_approval(policy: &Policy, unit: &Unit) -> bool
-    ensures { result ≡ (is_approved unit.now.state && not policy.now.reviews) }
-{
-    unit.state == UnitState::Approved && !policy.reviews
 }
 
 /// Copies of a language's units, in the order of their keys.

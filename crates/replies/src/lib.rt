@@ -1,9 +1,2 @@
-//! The replies to acts: their statuses and their bodies, compact JSON.
+//! The replies to acts: their statuses and their bodies, compact JSON. It has no code.
 #![tactic(auto)]
-
-mod bodies;
-
-pub use bodies::{
-    done, language_added, policy_set, refused, refused_rule, refused_text, role_set, template_set,
-    used,
-};
