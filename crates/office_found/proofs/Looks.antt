@@ -62,11 +62,6 @@ module _ (a b : State) where
       → IsLook {E = E} a b (Ok x) P → IsLook {E = E} a b (Ok y) Q
   look_mapped x y P Q made it = record { answer = λ clean. made a.now (it.answer clean); same = it.same; stays = it.stays; kept = it.kept; survives = it.survives }
 
-  -- a step that failed
-  pub look_failed : {A B E F : Type 0} (e : E) (r : Result B F) (P : Database → A → Type 0) (Q : Database → B → Type 0) → IsErr r → IsLook a b (Err e) P → IsLook a b r Q
-  look_failed e (Ok y) P Q is it = absurd (let none = is in cc)
-  look_failed e (Err f) P Q is it = record { answer = λ clean. tt; same = λ clean. tt; stays = λ clean. tt; kept = it.kept; survives = it.survives }
-
   before : Survives a b (λ _. ⊥) → HasCleanDisk b → HasCleanDisk a
   before end clean = omega (arith, end.clean)
 
@@ -108,18 +103,6 @@ module _ (a b c : State) where
         if_ok r (λ y answers. (one.answer early, subst (λ db. Q db y) (one.same early) answers)) (two.answer clean);
     same = λ clean. on_ok r (λ same. same ∙ one.same (before b c two.survives clean)) (two.same clean);
     stays = λ clean. on_ok r (stays_both (one.stays (before b c two.survives clean))) (two.stays clean);
-    kept = keeps_both (before b c two.survives) one.kept two.kept;
-    survives = survives_all one.survives two.survives;
-  }
-
-  -- an error behind a read
-  pub look_fails_after : {A B C D E : Type 0} (x : A) (r : Result B E) (given : Result C D) (P : Database → A → Type 0) (Q : Database → B → Type 0) (R : Database → C → Type 0) → IsErr given
-      → IsLook {E = E} a b (Ok x) P → IsLook b c r Q → IsLook a c given R
-  look_fails_after x r (Ok y) P Q R is one two = absurd (let none = is in cc)
-  look_fails_after x r (Err e) P Q R is one two = record {
-    answer = λ clean. tt;
-    same = λ clean. tt;
-    stays = λ clean. tt;
     kept = keeps_both (before b c two.survives) one.kept two.kept;
     survives = survives_all one.survives two.survives;
   }

@@ -1,42 +1,60 @@
 -- What the tests of a row that is shown, and of all of them, tell.
-use Rattle.std.proofs.Common.{◌≡◌, ◌⊎◌, inl, inr, ℕ, ◌+◌, ◌<◌, ◌≤◌, List, [], ◌∷◌, Bool, true, false, ◌||◌, length, take, get_or, All, refl, sym, subst, ◌∙◌}
+use Rattle.std.proofs.Common.{◌≡◌, inl, inr, ℕ, zero, suc, ◌+◌, ◌<◌, ◌≤◌, List, [], ◌∷◌, Bool, true, false, length, map, take, drop, get_or, Bor, All, refl, sym, ap, subst, ◌∙◌, arith}
 use Rattle.std.specs.Bool.{Decides}
-use Rattle.std.proofs.lemmas.Bool.Decides.{Decides-at, Decides-like, Decides-or}
+use Rattle.std.proofs.lemmas.Bool.Decides.{Decides-like}
 use Rattle.std.proofs.lemmas.Bool.{false≢true}
-use Rattle.std.proofs.lemmas.List.{take_all}
+use Rattle.std.proofs.lemmas.List.{take_all, drop_all, at_drop_more, get_or-map, length-map}
 use Rattle.std.proofs.lemmas.List.Elements.{All-from_recursion, recursion_from_All, All-more, All-same, All-get_or}
 use Rattle.sqlite.specs.Order.{Row, column}
 use Rattle.sqlite.specs.Effect.{Database}
 use Rattle.sqlite_trees.specs.Objects.{catalog_tree}
 use Rattle.sqlite_rules.specs.Lists.{Has}
 use Rattle.sqlite_rules.proofs.ListLemmas.{all_has, all_from}
-use Rattle.office_found.specs.Found.{IsMade, IsOneMade, IsOfficeObject, IsShownOfficeObject, AreOfficeObjects, ShowsObjects, shown_object}
+use Rattle.office_found.specs.Found.{office_texts, IsMade, IsOneMade, IsOfficeObject, IsShownOfficeObject, AreOfficeObjects, ShowsObjects, shown_object}
 
 abbrev pub Made : Type 0
 Made = List ℕ × List ℕ
 
-module _ (row : Row) where
-  abbrev OneOfFour : Made → Made → Made → Made → Type 0
-  OneOfFour m n o p = IsMade m row ⊎ (IsMade n row ⊎ (IsMade o row ⊎ IsMade p row))
+has_at : {X : Type 0} (xs : List X) (i : ℕ) (x : X) → i < length xs → Has xs (get_or xs i x)
+has_at [] i x low = absurd (omega arith)
+has_at (y ∷ ys) zero x low = inl refl
+has_at (y ∷ ys) (suc i) x low = inr (has_at ys i x (omega arith))
 
-  one_made : (m n o p : Made) → OneOfFour m n o p → IsOneMade (m ∷ n ∷ o ∷ p ∷ []) row
-  one_made m n o p (inl is) = (m, inl refl, is)
-  one_made m n o p (inr (inl is)) = (n, inr (inl refl), is)
-  one_made m n o p (inr (inr (inl is))) = (o, inr (inr (inl refl)), is)
-  one_made m n o p (inr (inr (inr is))) = (p, inr (inr (inr (inl refl))), is)
+-- the row shows one of the texts from this place on
+abbrev pub IsOneFrom : ℕ → Row → Type 0
+IsOneFrom i row = IsOneMade (drop i office_texts) row
 
-  made_one : (m n o p : Made) (made : Made) → Has (m ∷ n ∷ o ∷ p ∷ []) made → IsMade made row → OneOfFour m n o p
-  made_one m n o p made (inl e) is = inl (subst (λ x. IsMade x row) e is)
-  made_one m n o p made (inr (inl e)) is = inr (inl (subst (λ x. IsMade x row) e is))
-  made_one m n o p made (inr (inr (inl e))) is = inr (inr (inl (subst (λ x. IsMade x row) e is)))
-  made_one m n o p made (inr (inr (inr (inl e)))) is = inr (inr (inr (subst (λ x. IsMade x row) e is)))
-  made_one m n o p made (inr (inr (inr (inr none)))) is = absurd none
+-- the texts of the code, as the loop over them reads them
+abbrev Coded : Type 0
+Coded = Bor (List ℕ) × Bor (List ℕ)
 
-  pub four_made : (m n o p : Made) (r a b c d : Bool) → r ≡ (a || (b || (c || d))) → Decides a (IsMade m row) → Decides b (IsMade n row) → Decides c (IsMade o row) → Decides d (IsMade p row)
-      → Decides r (IsOneMade (m ∷ n ∷ o ∷ p ∷ []) row)
-  four_made m n o p r a b c d e first second third fourth =
-      Decides-at r (a || (b || (c || d))) e (Decides-like (a || (b || (c || d))) (one_made m n o p) (λ it. made_one m n o p it.0 it.1 it.2)
-      (Decides-or a (b || (c || d)) first (Decides-or b (c || d) second (Decides-or c d third fourth))))
+abbrev pub in_code : Coded → Made
+in_code table = (table.0.now, table.1.now)
+
+abbrev no_text : Coded
+no_text = (record { ref_ptr = (0, 0); now = [] }, record { ref_ptr = (0, 0); now = [] })
+
+pub record AreOfficeTexts (tables : List Coded) : Type 0 where
+  pub are : map in_code tables ≡ office_texts
+
+module _ (tables : List Coded) (i : ℕ) (row : Row) (texts : AreOfficeTexts tables) (low : i < 8) where
+  same_text : in_code (get_or tables i no_text) ≡ get_or office_texts i ([], [])
+  same_text =
+      let eight : length tables ≡ 8 = sym (length-map tables in_code) ∙ ap length texts.are in
+      sym (get_or-map in_code tables i no_text ([], []) (omega (arith, low, eight))) ∙ ap (λ l. get_or l i ([], [])) texts.are
+
+  pub shows_it : IsMade (in_code (get_or tables i no_text)) row → IsOneMade office_texts row
+  shows_it shown = (get_or office_texts i ([], []), has_at office_texts i ([], []) low, subst (λ m. IsMade m row) same_text shown)
+
+  pub shows_later : ¬ IsMade (in_code (get_or tables i no_text)) row → IsOneFrom i row → IsOneFrom (i + 1) row
+  shows_later other from = behind (subst (λ texts. IsOneMade texts row) (at_drop_more (λ l. l) office_texts i ([], []) low) from)
+    where
+      behind : IsOneMade (get_or office_texts i ([], []) ∷ drop (i + 1) office_texts) row → IsOneFrom (i + 1) row
+      behind (m, inl e, shown) = absurd (other (subst (λ m. IsMade m row) (e ∙ sym same_text) shown))
+      behind (m, inr there, shown) = (m, there, shown)
+
+pub shows_none : (i : ℕ) (row : Row) → 8 ≤ i → ¬ IsOneFrom i row
+shows_none i row past from = (subst (λ texts. IsOneMade texts row) (drop_all i office_texts past) from).1
 
 -- ---- a loop that stops at the first of a list that fails
 

@@ -1,7 +1,6 @@
 -- What rising rowids tell: rows whose rowids are integers, no two the same.
-use Rattle.std.proofs.Common.{◌≡◌, inl, inr, ℕ, zero, suc, ◌+◌, ◌<◌, ◌≤◌, ℤ, List, [], ◌∷◌, map, length, drop, get_or, Bool, true, false, ◌&&◌, cond, Option, Some, None, refl, sym, ap, subst, ◌∙◌, arith}
+use Rattle.std.proofs.Common.{◌≡◌, inl, inr, ℕ, zero, suc, ◌+◌, ◌<◌, ◌≤◌, ℤ, List, [], ◌∷◌, map, length, drop, get_or, Bool, true, false, cond, Option, Some, None, refl, sym, ap, subst, ◌∙◌, arith}
 use Rattle.std.specs.Bool.{Decides}
-use Rattle.std.proofs.lemmas.Bool.Decides.{Decides-at, Decides-like, Decides-and}
 use Rattle.std.specs.declared.cmp.Ordering.{Ordering}
 use Rattle.std.specs.declared.cmp.Ordering.TheVariants.{Less, Equal, Greater}
 use Rattle.std.specs.Ordering.{int_cmp, is_eq, is_lt, ordering_reverse}
@@ -210,9 +209,3 @@ module _ (last : Option ℤ) (rows : List Row) (i : ℕ) (row : Row) (total : Bo
 
 pub rising_ends : (last : Option ℤ) (rows : List Row) (i : ℕ) (total : Bool) → length rows ≤ i → are_rising last (drop i rows) ≡ total → true ≡ total
 rising_ends last rows i total past before = sym (ap (are_rising last) (drop_past rows i past)) ∙ before
-
--- four tests at a time, as a list of tables has them
-pub four_apart : {A B C D : Type 0} (r a b c d : Bool) → r ≡ (a && (b && (c && d))) → Decides a A → Decides b B → Decides c C → Decides d D → Decides r (A × (B × (C × (D × Unit {0}))))
-four_apart {A} {B} {C} {D} r a b c d e first second third fourth =
-    Decides-at r (a && (b && (c && d))) e (Decides-like (a && (b && (c && d))) (λ h. (h.0, (h.1.0, (h.1.1.0, (h.1.1.1, tt))))) (λ h. (h.0, (h.1.0, (h.1.1.0, h.1.1.1.0))))
-    (Decides-and a (b && (c && d)) first (Decides-and b (c && d) second (Decides-and c d third fourth))))

@@ -1,3 +1,4 @@
 pub mod Found
 pub mod Looks
 pub mod RisingRows
+pub mod RowidQueries

@@ -23,7 +23,7 @@ fn is_index(index: &Index, name: &str, tree: u32) -> bool
 }
 
 /// Whether all four hold.
-pub(crate) fn are_all(first: bool, second: bool, third: bool, fourth: bool) -> bool
+fn are_all(first: bool, second: bool, third: bool, fourth: bool) -> bool
     ensures { result ≡ (first && (second && (third && fourth))) }
 {
     first && second && third && fourth

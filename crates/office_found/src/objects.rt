@@ -1,14 +1,50 @@
 //! Whether the list of objects is that of an office's eight texts.
-ghost use Rattle.std.specs.Prelude.{◌≡◌, ◌↔◌, ◌&&◌, ◌||◌, true, codes, All, take, drop};
+ghost use Rattle.std.specs.Prelude.{◌≡◌, ◌↔◌, true, codes, All};
 ghost use Rattle.sqlite.specs.Held.{state};
 ghost use Rattle.sqlite.specs.Order.{column};
 ghost use Rattle.sqlite.specs.declared.types.Value.TheVariants.{Null, Text};
 ghost use Rattle.sqlite_trees.specs.Objects.{catalog_tree};
-ghost use Rattle.office_found.specs.Found.{office_texts, IsMade, IsOneMade, IsShownOfficeObject, AreOfficeObjects, ShowsObjects};
+ghost use Rattle.office_found.specs.Found.{office_texts, IsMade, IsOneMade, IsShownOfficeObject, AreOfficeObjects};
 ghost use Rattle.office_found.specs.Looks.{IsOver, IsLook, HasLabels};
 
 use sqlite::types::ValueRef;
 use sqlite::{Alter, Error, Row, Transaction};
+
+/// The name of each table, and the text that makes it.
+const TABLES: [(&str, &str); 8] = [
+    (
+        "record",
+        "CREATE TABLE record (number TEXT NOT NULL PRIMARY KEY, content TEXT NOT NULL, status INTEGER NOT NULL, body TEXT NOT NULL) STRICT",
+    ),
+    (
+        "team",
+        "CREATE TABLE team (name TEXT NOT NULL PRIMARY KEY, role INTEGER NOT NULL CHECK (role BETWEEN 1 AND 3)) STRICT",
+    ),
+    (
+        "policy",
+        "CREATE TABLE policy (one INTEGER PRIMARY KEY CHECK (one BETWEEN 1 AND 1), schema INTEGER NOT NULL, reviews INTEGER NOT NULL, guests_suggest INTEGER NOT NULL, voting INTEGER NOT NULL, accept_at INTEGER NOT NULL, placeholders INTEGER NOT NULL, line_ends INTEGER NOT NULL) STRICT",
+    ),
+    (
+        "template",
+        "CREATE TABLE template (place INTEGER PRIMARY KEY, key TEXT NOT NULL UNIQUE, plural TEXT, extracted TEXT NOT NULL, refs TEXT NOT NULL, flags TEXT NOT NULL) STRICT",
+    ),
+    (
+        "language",
+        "CREATE TABLE language (lang TEXT NOT NULL PRIMARY KEY, header TEXT NOT NULL, plural TEXT NOT NULL) STRICT",
+    ),
+    (
+        "unit",
+        "CREATE TABLE unit (lang TEXT NOT NULL, key TEXT NOT NULL, plural TEXT, forms TEXT NOT NULL, state INTEGER NOT NULL CHECK (state BETWEEN 0 AND 3), obsolete INTEGER NOT NULL CHECK (obsolete BETWEEN 0 AND 1), revision INTEGER NOT NULL, comment TEXT NOT NULL, previous TEXT NOT NULL, PRIMARY KEY (lang, key)) STRICT",
+    ),
+    (
+        "suggestion",
+        "CREATE TABLE suggestion (number TEXT NOT NULL PRIMARY KEY REFERENCES record (number), lang TEXT NOT NULL, key TEXT NOT NULL, place INTEGER NOT NULL, suggester TEXT NOT NULL, forms TEXT NOT NULL, UNIQUE (lang, key, place), FOREIGN KEY (lang, key) REFERENCES unit (lang, key) ON DELETE CASCADE) STRICT",
+    ),
+    (
+        "vote",
+        "CREATE TABLE vote (number TEXT NOT NULL REFERENCES suggestion (number) ON DELETE CASCADE, voter TEXT NOT NULL, value INTEGER NOT NULL CHECK (value BETWEEN -1 AND 1) CHECK (value <> 0), PRIMARY KEY (number, voter)) STRICT",
+    ),
+];
 
 /// Whether a column is this text.
 fn is_text(row: &Row, at: usize, text: &str) -> bool
@@ -39,64 +75,16 @@ fn is_made(row: &Row, name: &str, text: &str) -> bool
     named && told
 }
 
-fn is_any(first: bool, second: bool, third: bool, fourth: bool) -> bool
-    ensures { result ≡ (first || (second || (third || fourth))) }
+/// Whether the row shows one of the eight tables.
+fn is_one_made(row: &Row) -> bool
+    ensures { (result ≡ true) ↔ IsOneMade office_texts row.now }
 {
-    first || second || third || fourth
-}
-
-/// Whether the row is that of one of the first four tables.
-fn is_first(row: &Row) -> bool
-    ensures { (result ≡ true) ↔ IsOneMade (take 4 office_texts) row.now }
-{
-    let record = is_made(
-        row,
-        "record",
-        "CREATE TABLE record (number TEXT NOT NULL PRIMARY KEY, content TEXT NOT NULL, status INTEGER NOT NULL, body TEXT NOT NULL) STRICT",
-    );
-    let team = is_made(
-        row,
-        "team",
-        "CREATE TABLE team (name TEXT NOT NULL PRIMARY KEY, role INTEGER NOT NULL CHECK (role BETWEEN 1 AND 3)) STRICT",
-    );
-    let policy = is_made(
-        row,
-        "policy",
-        "CREATE TABLE policy (one INTEGER PRIMARY KEY CHECK (one BETWEEN 1 AND 1), schema INTEGER NOT NULL, reviews INTEGER NOT NULL, guests_suggest INTEGER NOT NULL, voting INTEGER NOT NULL, accept_at INTEGER NOT NULL, placeholders INTEGER NOT NULL, line_ends INTEGER NOT NULL) STRICT",
-    );
-    let template = is_made(
-        row,
-        "template",
-        "CREATE TABLE template (place INTEGER PRIMARY KEY, key TEXT NOT NULL UNIQUE, plural TEXT, extracted TEXT NOT NULL, refs TEXT NOT NULL, flags TEXT NOT NULL) STRICT",
-    );
-    is_any(record, team, policy, template)
-}
-
-/// Whether the row is that of one of the other four.
-fn is_other(row: &Row) -> bool
-    ensures { (result ≡ true) ↔ IsOneMade (drop 4 office_texts) row.now }
-{
-    let language = is_made(
-        row,
-        "language",
-        "CREATE TABLE language (lang TEXT NOT NULL PRIMARY KEY, header TEXT NOT NULL, plural TEXT NOT NULL) STRICT",
-    );
-    let unit = is_made(
-        row,
-        "unit",
-        "CREATE TABLE unit (lang TEXT NOT NULL, key TEXT NOT NULL, plural TEXT, forms TEXT NOT NULL, state INTEGER NOT NULL CHECK (state BETWEEN 0 AND 3), obsolete INTEGER NOT NULL CHECK (obsolete BETWEEN 0 AND 1), revision INTEGER NOT NULL, comment TEXT NOT NULL, previous TEXT NOT NULL, PRIMARY KEY (lang, key)) STRICT",
-    );
-    let suggestion = is_made(
-        row,
-        "suggestion",
-        "CREATE TABLE suggestion (number TEXT NOT NULL PRIMARY KEY REFERENCES record (number), lang TEXT NOT NULL, key TEXT NOT NULL, place INTEGER NOT NULL, suggester TEXT NOT NULL, forms TEXT NOT NULL, UNIQUE (lang, key, place), FOREIGN KEY (lang, key) REFERENCES unit (lang, key) ON DELETE CASCADE) STRICT",
-    );
-    let vote = is_made(
-        row,
-        "vote",
-        "CREATE TABLE vote (number TEXT NOT NULL REFERENCES suggestion (number) ON DELETE CASCADE, voter TEXT NOT NULL, value INTEGER NOT NULL CHECK (value BETWEEN -1 AND 1) CHECK (value <> 0), PRIMARY KEY (number, voter)) STRICT",
-    );
-    is_any(language, unit, suggestion, vote)
+    for (name, text) in &TABLES {
+        if is_made(row, name, text) {
+            return true;
+        }
+    }
+    false
 }
 
 /// Whether the row is that of a table of an office.
@@ -104,9 +92,8 @@ fn is_table_row(row: &Row) -> bool
     ensures { (result ≡ true) ↔ ((column row.now 0 ≡ Text (codes "table")) × IsOneMade office_texts row.now) }
 {
     let table = is_text(row, 0, "table");
-    let first = is_first(row);
-    let other = is_other(row);
-    table && (first || other)
+    let made = is_one_made(row);
+    table && made
 }
 
 /// Whether the row is that of an index with no text.
@@ -139,16 +126,6 @@ fn are_office_objects(rows: &[Row]) -> bool
     true
 }
 
-/// The type, the name and the text of each object, in any order.
-fn list_objects<S: Alter>(tx: &mut Transaction<'_, S>) -> Result<Vec<Row>, Error>
-    requires labelled { IsOver HasLabels (state S.Store tx.old.conn.now) }
-    ensures same_reference { tx.new.conn.ghost_name ≡ tx.old.conn.ghost_name }
-    ensures found { IsLook (state S.Store tx.old.conn.now) (state S.Store tx.new.conn.now) result
-        (λ db rows. ShowsObjects db rows.items) }
-{
-    tx.query_all("SELECT type, name, sql FROM sqlite_schema", &[])
-}
-
 /// Whether the list of objects is that of an office's texts.
 pub(crate) fn has_office_objects<S: Alter>(tx: &mut Transaction<'_, S>) -> Result<bool, Error>
     requires labelled { IsOver HasLabels (state S.Store tx.old.conn.now) }
@@ -156,6 +133,6 @@ pub(crate) fn has_office_objects<S: Alter>(tx: &mut Transaction<'_, S>) -> Resul
     ensures found { IsLook (state S.Store tx.old.conn.now) (state S.Store tx.new.conn.now) result
         (λ db has. (has ≡ true) ↔ AreOfficeObjects (db.trees catalog_tree)) }
 {
-    let rows = list_objects(tx)?;
+    let rows = tx.query_all("SELECT type, name, sql FROM sqlite_schema", &[])?;
     Ok(are_office_objects(&rows))
 }

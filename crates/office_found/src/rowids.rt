@@ -1,18 +1,27 @@
 //! Whether the rowids of each table are integers, no two the same.
-ghost use Rattle.std.specs.Prelude.{◌≡◌, ◌↔◌, ◌&&◌, true, None, take, drop};
-ghost use Rattle.std.specs.List.{AllByRecursion};
+ghost use Rattle.std.specs.Prelude.{◌≡◌, ◌↔◌, true, None, ℕ};
 ghost use Rattle.sqlite.specs.Held.{state};
 ghost use Rattle.sqlite.specs.Order.{column};
 ghost use Rattle.keyed.specs.ApartRows.{AreApart};
 ghost use Rattle.office_sql.specs.Inside.{AreTables};
-ghost use Rattle.office_sql.specs.Schema.{office_schema, record_tree, team_tree, policy_tree, template_tree, language_tree, unit_tree, suggestion_tree, vote_tree};
 ghost use Rattle.office_found.specs.Looks.{IsOver, IsLook, HasSchema};
 ghost use Rattle.office_found.specs.RisingRows as spec;
-ghost use Rattle.office_found.specs.RisingRows.{ShowsRowids};
+ghost use Rattle.office_found.specs.RowidQueries.{IsRowidQuery};
 
-use crate::labels::are_all;
 use sqlite::types::ValueRef;
 use sqlite::{Alter, Error, Row, Transaction};
+
+/// The rowids of each table, upwards.
+const ROWIDS: [&str; 8] = [
+    "SELECT rowid FROM record ORDER BY rowid",
+    "SELECT rowid FROM team ORDER BY rowid",
+    "SELECT rowid FROM policy ORDER BY rowid",
+    "SELECT rowid FROM template ORDER BY rowid",
+    "SELECT rowid FROM language ORDER BY rowid",
+    "SELECT rowid FROM unit ORDER BY rowid",
+    "SELECT rowid FROM suggestion ORDER BY rowid",
+    "SELECT rowid FROM vote ORDER BY rowid",
+];
 
 /// The integer that a row shows first.
 fn integer_of(row: &Row) -> Option<i64>
@@ -57,110 +66,15 @@ fn are_rising(rows: &[Row]) -> bool
     true
 }
 
-fn is_record_apart<S: Alter>(tx: &mut Transaction<'_, S>) -> Result<bool, Error>
+/// Whether the rowids that a query shows are integers, no two the same.
+fn is_apart<S: Alter>(tx: &mut Transaction<'_, S>, query: &str) -> Result<bool, Error>
     requires over { IsOver HasSchema (state S.Store tx.old.conn.now) }
     ensures same_reference { tx.new.conn.ghost_name ≡ tx.old.conn.ghost_name }
-    ensures found { IsLook (state S.Store tx.old.conn.now) (state S.Store tx.new.conn.now) result
-        (λ db apart. (apart ≡ true) ↔ AreApart (db.trees record_tree)) }
+    ensures found { (tree : ℕ) → IsRowidQuery query.now tree → IsLook (state S.Store tx.old.conn.now) (state S.Store tx.new.conn.now) result
+        (λ db apart. (apart ≡ true) ↔ AreApart (db.trees tree)) }
 {
-    let rows = tx.query_all("SELECT rowid FROM record ORDER BY rowid", &[])?;
+    let rows = tx.query_all(query, &[])?;
     Ok(are_rising(&rows))
-}
-
-fn is_team_apart<S: Alter>(tx: &mut Transaction<'_, S>) -> Result<bool, Error>
-    requires over { IsOver HasSchema (state S.Store tx.old.conn.now) }
-    ensures same_reference { tx.new.conn.ghost_name ≡ tx.old.conn.ghost_name }
-    ensures found { IsLook (state S.Store tx.old.conn.now) (state S.Store tx.new.conn.now) result
-        (λ db apart. (apart ≡ true) ↔ AreApart (db.trees team_tree)) }
-{
-    let rows = tx.query_all("SELECT rowid FROM team ORDER BY rowid", &[])?;
-    Ok(are_rising(&rows))
-}
-
-fn is_policy_apart<S: Alter>(tx: &mut Transaction<'_, S>) -> Result<bool, Error>
-    requires over { IsOver HasSchema (state S.Store tx.old.conn.now) }
-    ensures same_reference { tx.new.conn.ghost_name ≡ tx.old.conn.ghost_name }
-    ensures found { IsLook (state S.Store tx.old.conn.now) (state S.Store tx.new.conn.now) result
-        (λ db apart. (apart ≡ true) ↔ AreApart (db.trees policy_tree)) }
-{
-    let rows = tx.query_all("SELECT rowid FROM policy ORDER BY rowid", &[])?;
-    Ok(are_rising(&rows))
-}
-
-fn is_template_apart<S: Alter>(tx: &mut Transaction<'_, S>) -> Result<bool, Error>
-    requires over { IsOver HasSchema (state S.Store tx.old.conn.now) }
-    ensures same_reference { tx.new.conn.ghost_name ≡ tx.old.conn.ghost_name }
-    ensures found { IsLook (state S.Store tx.old.conn.now) (state S.Store tx.new.conn.now) result
-        (λ db apart. (apart ≡ true) ↔ AreApart (db.trees template_tree)) }
-{
-    let rows = tx.query_all("SELECT rowid FROM template ORDER BY rowid", &[])?;
-    Ok(are_rising(&rows))
-}
-
-fn is_language_apart<S: Alter>(tx: &mut Transaction<'_, S>) -> Result<bool, Error>
-    requires over { IsOver HasSchema (state S.Store tx.old.conn.now) }
-    ensures same_reference { tx.new.conn.ghost_name ≡ tx.old.conn.ghost_name }
-    ensures found { IsLook (state S.Store tx.old.conn.now) (state S.Store tx.new.conn.now) result
-        (λ db apart. (apart ≡ true) ↔ AreApart (db.trees language_tree)) }
-{
-    let rows = tx.query_all("SELECT rowid FROM language ORDER BY rowid", &[])?;
-    Ok(are_rising(&rows))
-}
-
-fn is_unit_apart<S: Alter>(tx: &mut Transaction<'_, S>) -> Result<bool, Error>
-    requires over { IsOver HasSchema (state S.Store tx.old.conn.now) }
-    ensures same_reference { tx.new.conn.ghost_name ≡ tx.old.conn.ghost_name }
-    ensures found { IsLook (state S.Store tx.old.conn.now) (state S.Store tx.new.conn.now) result
-        (λ db apart. (apart ≡ true) ↔ AreApart (db.trees unit_tree)) }
-{
-    let rows = tx.query_all("SELECT rowid FROM unit ORDER BY rowid", &[])?;
-    Ok(are_rising(&rows))
-}
-
-fn is_suggestion_apart<S: Alter>(tx: &mut Transaction<'_, S>) -> Result<bool, Error>
-    requires over { IsOver HasSchema (state S.Store tx.old.conn.now) }
-    ensures same_reference { tx.new.conn.ghost_name ≡ tx.old.conn.ghost_name }
-    ensures found { IsLook (state S.Store tx.old.conn.now) (state S.Store tx.new.conn.now) result
-        (λ db apart. (apart ≡ true) ↔ AreApart (db.trees suggestion_tree)) }
-{
-    let rows = tx.query_all("SELECT rowid FROM suggestion ORDER BY rowid", &[])?;
-    Ok(are_rising(&rows))
-}
-
-fn is_vote_apart<S: Alter>(tx: &mut Transaction<'_, S>) -> Result<bool, Error>
-    requires over { IsOver HasSchema (state S.Store tx.old.conn.now) }
-    ensures same_reference { tx.new.conn.ghost_name ≡ tx.old.conn.ghost_name }
-    ensures found { IsLook (state S.Store tx.old.conn.now) (state S.Store tx.new.conn.now) result
-        (λ db apart. (apart ≡ true) ↔ AreApart (db.trees vote_tree)) }
-{
-    let rows = tx.query_all("SELECT rowid FROM vote ORDER BY rowid", &[])?;
-    Ok(are_rising(&rows))
-}
-
-fn are_first_apart<S: Alter>(tx: &mut Transaction<'_, S>) -> Result<bool, Error>
-    requires over { IsOver HasSchema (state S.Store tx.old.conn.now) }
-    ensures same_reference { tx.new.conn.ghost_name ≡ tx.old.conn.ghost_name }
-    ensures found { IsLook (state S.Store tx.old.conn.now) (state S.Store tx.new.conn.now) result
-        (λ db apart. (apart ≡ true) ↔ AllByRecursion (λ t. AreApart (db.trees t.tree)) (take 4 office_schema.tables)) }
-{
-    let record = is_record_apart(tx)?;
-    let team = is_team_apart(tx)?;
-    let policy = is_policy_apart(tx)?;
-    let template = is_template_apart(tx)?;
-    Ok(are_all(record, team, policy, template))
-}
-
-fn are_other_apart<S: Alter>(tx: &mut Transaction<'_, S>) -> Result<bool, Error>
-    requires over { IsOver HasSchema (state S.Store tx.old.conn.now) }
-    ensures same_reference { tx.new.conn.ghost_name ≡ tx.old.conn.ghost_name }
-    ensures found { IsLook (state S.Store tx.old.conn.now) (state S.Store tx.new.conn.now) result
-        (λ db apart. (apart ≡ true) ↔ AllByRecursion (λ t. AreApart (db.trees t.tree)) (drop 4 office_schema.tables)) }
-{
-    let language = is_language_apart(tx)?;
-    let unit = is_unit_apart(tx)?;
-    let suggestion = is_suggestion_apart(tx)?;
-    let vote = is_vote_apart(tx)?;
-    Ok(are_all(language, unit, suggestion, vote))
 }
 
 /// Whether the rowids of each of the eight tables are integers, no two the same.
@@ -170,7 +84,10 @@ pub(crate) fn are_tables_apart<S: Alter>(tx: &mut Transaction<'_, S>) -> Result<
     ensures found { IsLook (state S.Store tx.old.conn.now) (state S.Store tx.new.conn.now) result
         (λ db apart. (apart ≡ true) ↔ AreTables db.trees) }
 {
-    let first = are_first_apart(tx)?;
-    let other = are_other_apart(tx)?;
-    Ok(first && other)
+    for query in &ROWIDS {
+        if !is_apart(tx, query)? {
+            return Ok(false);
+        }
+    }
+    Ok(true)
 }
