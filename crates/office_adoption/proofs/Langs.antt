@@ -9,8 +9,8 @@ use Rattle.office_sql.specs.Keys.{text_at}
 use Rattle.office_in_rows.specs.Shown.{shown_header}
 use Rattle.office_at_hand.specs.OfficeShown.{headers_shown}
 use Rattle.shown_rows.proofs.RowsSoFar.{one_more}
-use Rattle.kept_rules.specs.Given.{AreAll}
-use Rattle.kept_rules.proofs.GivenLemmas.{none_listed, one_listed}
+use Rattle.office_adoption.specs.Given.{AreAll}
+use Rattle.office_adoption.proofs.GivenLemmas.{none_listed, one_listed}
 
 pub no_langs : (rows : List Row) (langs : List Text) → langs ≡ [] → AreAll (headers_shown (take 0 rows)) langs
 no_langs rows langs none = subst (AreAll maps.empty) (sym none) none_listed

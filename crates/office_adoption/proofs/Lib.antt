@@ -1,3 +1,17 @@
+pub mod Tests
+pub mod UnitTests
+pub mod TemplateTests
+pub mod ContentTests
+pub mod MapRows
+pub mod PlaceTests
+pub mod TeamTests
+pub mod LanguageTests
+pub mod OfficeTests
+pub mod BookTests
+pub mod GivenLemmas
+pub mod RecordTexts
+pub mod RecordRows
+pub mod WholeBook
 pub mod Looked
 pub mod Langs
 pub mod Stand

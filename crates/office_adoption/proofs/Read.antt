@@ -18,11 +18,11 @@ use Rattle.units.specs.Office.{Office}
 use Rattle.office_scans.specs.declared.look_ups.WholeOffice.{WholeOffice}
 use Rattle.office_scans.specs.WholeOffice.{ShowsWholeOffice}
 use Rattle.office_at_hand.proofs.WholeOffice.{whole_office}
-use Rattle.record_scans.specs.RecordTable.{ShowsRecords}
+use Rattle.office_adoption.specs.RecordTable.{ShowsRecords}
 use Rattle.shown_rows.specs.RowTests.{AreOfficeRows}
-use Rattle.kept_rules.specs.Given.{AreAll, AreStatusesOf}
-use Rattle.book_at_hand.specs.BookShown.{book_shown, IsRecordRow}
-use Rattle.book_at_hand.proofs.WholeBook.{all_numbered, whole_book}
+use Rattle.office_adoption.specs.Given.{AreAll, AreStatusesOf}
+use Rattle.office_adoption.specs.BookShown.{book_shown, IsRecordRow}
+use Rattle.office_adoption.proofs.WholeBook.{all_numbered, whole_book}
 use Rattle.office_adoption.specs.declared.faults.AdoptionFault.{AdoptionFault}
 use Rattle.office_adoption.specs.declared.faults.AdoptionFault.TheVariants.{Memory, Disk, OtherTables, OtherForm, UnreadRow, BrokenRules}
 use Rattle.office_adoption.specs.declared.office_read.ReadOffice.{ReadOffice}

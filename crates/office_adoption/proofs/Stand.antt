@@ -25,9 +25,9 @@ use Rattle.office_scans.specs.WholeOffice.{ShowsWholeOffice}
 use Rattle.office_scans.specs.declared.look_ups.WholeOffice.{WholeOffice}
 use Rattle.office_at_hand.proofs.WholeOffice.{whole_office}
 use Rattle.units.specs.Office.{Office}
-use Rattle.record_scans.specs.RecordTable.{ShowsRecords}
+use Rattle.office_adoption.specs.RecordTable.{ShowsRecords}
 use Rattle.shown_rows.specs.RowTests.{AreOfficeRows, is_policy_row}
-use Rattle.book_at_hand.specs.BookShown.{IsRecordRow}
+use Rattle.office_adoption.specs.BookShown.{IsRecordRow}
 use Rattle.office_adoption.specs.Adoption.{Each, AreContents, StandForOffice, StandForBook}
 
 -- ---- a table

@@ -18,7 +18,7 @@ use Rattle.office_in_rows.specs.Meaning.{office_of_rows, book_in, AreNumbered}
 use Rattle.office_scans.specs.declared.look_ups.WholeOffice.{WholeOffice}
 use Rattle.office_at_hand.specs.OfficeShown.{headers_shown, office_shown}
 use Rattle.shown_rows.specs.RowTests.{AreOfficeRows}
-use Rattle.kept_rules.specs.Given.{AreAll, AreStatusesOf}
+use Rattle.office_adoption.specs.Given.{AreAll, AreStatusesOf}
 use Rattle.office_adoption.specs.declared.faults.AdoptionFault.{AdoptionFault}
 use Rattle.office_adoption.specs.declared.faults.AdoptionFault.TheVariants.{Memory, Disk, OtherTables, OtherForm, UnreadRow, BrokenRules}
 use Rattle.office_adoption.specs.declared.office_read.ReadOffice.{ReadOffice}

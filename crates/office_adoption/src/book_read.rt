@@ -6,14 +6,14 @@ ghost use Rattle.request_book.specs.Book.{Book};
 ghost use Rattle.deliveries.specs.OfficeRules.{KeepsRules};
 ghost use Rattle.office_maps.specs.OfficeIn.{office_in};
 ghost use Rattle.office_sql.specs.Whole.{IsIdle, IsLookUp};
-ghost use Rattle.kept_rules.specs.Given.{AreStatusesOf};
+ghost use Rattle.office_adoption.specs.Given.{AreStatusesOf};
 ghost use Rattle.office_adoption.specs.Reading.{AreStatusesIn, HasLangs, KeepsBook, RefusesWith, RefusesBook, RefusesKept};
 
+use crate::book_rules::keeps_rules;
 use crate::faults::AdoptionFault;
+use crate::look_ups::look_up_records;
 use crate::office_read::ReadOffice;
-use book_at_hand::statuses_in;
-use kept_rules::keeps_rules;
-use record_scans::look_up_records;
+use crate::statuses::statuses_in;
 use sqlite::{Alter, Connection};
 use std::alloc::Global;
 use std::collections::BTreeMap;

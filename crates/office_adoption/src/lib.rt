@@ -5,9 +5,18 @@
 #![tactic(auto)]
 
 mod book_read;
+mod book_rules;
+mod contents;
 mod faults;
+mod language_rules;
+mod look_ups;
 mod office_read;
+mod office_rules;
+mod place_rules;
+mod statuses;
+mod template_rules;
 mod tested;
+mod unit_rules;
 
 pub use faults::AdoptionFault;
 pub use tested::adopted_office;

@@ -10,7 +10,7 @@ ghost use Rattle.office_at_hand.specs.OfficeShown.{headers_shown};
 ghost use Rattle.std.specs.List.{list_all};
 ghost use Rattle.tables.specs.declared.faults.Lost.TheVariants.{Disk};
 ghost use Rattle.shown_rows.specs.RowTests.{is_language_row, AreOfficeRows, IsUnread};
-ghost use Rattle.kept_rules.specs.Given.{AreAll};
+ghost use Rattle.office_adoption.specs.Given.{AreAll};
 ghost use Rattle.office_adoption.specs.Adoption.{Refuses};
 ghost use Rattle.office_adoption.specs.Reading.{ShowsFirstForm, IsOfRows, IsReadOf, HasLangs, RefusesRows};
 

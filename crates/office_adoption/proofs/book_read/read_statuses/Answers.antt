@@ -2,9 +2,9 @@ use Rattle.std.proofs.Common.{rules, ◌≡◌, Ok, sym, subst}
 use Rattle.std.specs.Prelude.{All}
 use Rattle.sqlite.specs.Held.{state}
 use Rattle.sqlite.specs.declared.error.Error.{Error}
-use Rattle.record_scans.specs.RecordTable.{ShowsRecords}
-use Rattle.kept_rules.specs.Given.{AreStatusesOf}
-use Rattle.book_at_hand.specs.BookShown.{book_shown, IsRecordRow}
+use Rattle.office_adoption.specs.RecordTable.{ShowsRecords}
+use Rattle.office_adoption.specs.Given.{AreStatusesOf}
+use Rattle.office_adoption.specs.BookShown.{book_shown, IsRecordRow}
 use Rattle.office_adoption.specs.Reading.{AreStatusesIn}
 use Rattle.office_adoption.proofs.Looked.{looked_on}
 use Rattle.office_adoption.proofs.Read.{statuses_are_read, book_unread}

@@ -1,6 +1,6 @@
 use Rattle.std.proofs.Common.{take}
 use Rattle.office_at_hand.specs.OfficeShown.{headers_shown}
-use Rattle.kept_rules.specs.Given.{AreAll}
+use Rattle.office_adoption.specs.Given.{AreAll}
 use Rattle.office_adoption.proofs.office_read.langs_in.Given as goal
 
 -- the languages of the rows so far

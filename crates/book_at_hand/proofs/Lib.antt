@@ -1,2 +1,0 @@
-pub mod RecordRows
-pub mod WholeBook

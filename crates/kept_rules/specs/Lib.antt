@@ -1,4 +1,0 @@
-pub mod Parts
-pub mod Contents
-pub mod Given
-pub mod Books
