@@ -34,7 +34,7 @@ passes_at {X} test (x ∷ xs) e = by_test (test x) refl (passes_at test xs) e
     by_test false t later h = let p = later h in record { place = suc p.place; element = p.element; there = p.there; passes = p.passes }
 
 -- two tests that imply each other are equal
-both_ways : (a b : Bool) → (a ≡ true → b ≡ true) → (b ≡ true → a ≡ true) → a ≡ b
+pub both_ways : (a b : Bool) → (a ≡ true → b ≡ true) → (b ≡ true → a ≡ true) → a ≡ b
 both_ways true b f g = sym (f refl)
 both_ways false true f g = g refl
 both_ways false false f g = refl
@@ -47,7 +47,7 @@ tied Greater e = cc
 is_number : (a b : ℕ) → is_at (nat_cmp a) b ≡ true → a ≡ b
 is_number a b e = nat_cmp-IsAntisymmetric a b (tied (nat_cmp a b) e)
 
-is_itself : (a : ℕ) → is_at (nat_cmp a) a ≡ true
+pub is_itself : (a : ℕ) → is_at (nat_cmp a) a ≡ true
 is_itself a = (eq_by_cmp_equiv nat_cmp_total).refl a
 
 is_other : (a b : ℕ) → is_at (nat_cmp a) b ≡ false → a ≡ b → ⊥

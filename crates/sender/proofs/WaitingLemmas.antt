@@ -1,9 +1,10 @@
 -- What the sets of a sender tell, what one request more does to them, and what a reply does.
 use Rattle.std.proofs.Common.{◌≡◌, ℕ, zero, suc, ◌<◌, ◌+◌, arith, is_some, is_none, Bor, List, [], ◌∷◌, ◌++◌, length, take, set, Bool, true, false, cond, not, ◌&&◌, ◌||◌, Option, Some, None, refl, sym, ◌∙◌, ap, subst, inl, inr}
-use Rattle.std.specs.Prelude.{◌⊎◌, slice_get, option_and_then, IsSome, IfOk, OnOk, Result, Ok, Err}
-use Rattle.std.specs.Option.{option_map_or}
+use Rattle.std.specs.Prelude.{◌⊎◌, ◌↔◌, slice_get, option_and_then, IsSome, OnOk, Result, Ok, Err}
+use Rattle.std.specs.Option.{option_map_or, unwrap_or}
 use Rattle.std.specs.List.{list_any}
-use Rattle.std.specs.BTreeSet.{BTreeSet, IsEmpty, Updates}
+use Rattle.std.specs.BTreeSet.{BTreeSet, IsEmpty, Updates, contains}
+use Rattle.std.specs.Map.{lookup}
 use Rattle.std.specs.BTreeMap.{BTreeMap, is_at}
 use Rattle.std.specs.Ordering.{nat_cmp, is_eq}
 use Rattle.std.specs.declared.cmp.Ordering.{Ordering}
@@ -13,6 +14,7 @@ use Rattle.std.proofs.lemmas.Option.{same_Some, slice_get_within, slice_get_read
 use Rattle.std.specs.Slice.{IsItemAt}
 use Rattle.std.proofs.lemmas.Bool.{cases_eq, false_from_ne_true}
 use Rattle.std.proofs.lemmas.List.{length-set, length-append}
+use Rattle.units.specs.declared.unit.Key.{Key}
 use Rattle.units.specs.Office.{Place, place_cmp, place_eq}
 use Rattle.units.specs.Orders.{place_total, place_IsAntisymmetric}
 use Rattle.po_read.specs.Texts.{Text}
@@ -23,12 +25,13 @@ use Rattle.request_book.specs.Clash.{is_office_act, names, clash}
 use Rattle.sender.specs.declared.exchange.Exchange.{Exchange}
 use Rattle.sender.specs.declared.waiting.Waiting.{Waiting}
 use Rattle.request_book.specs.Replies.{Reply}
-use Rattle.sender.specs.Sending.{is_open, is_blocked, is_ready, replied}
+use Rattle.sender.specs.Sending.{is_open, is_blocked, is_ready, is_finished, replied}
 use Rattle.sender.specs.Kept.{IsKept}
 use Rattle.sender.specs.PlaceSets.{HasPlaces, has_below, HasOneLess}
-use Rattle.sender.specs.Waiting.{unit_of, waits_for_office, waits_for_unit, IsUnitSet, IsWaiting, is_free_by, is_free, number_named, IsWithout, HasNewUnit, HasNewPlace, HasNewOfficePlace}
+use Rattle.sender.specs.Numbers.{unit_of, number_in, IsNumberOf, of_office, of_known, of_new}
+use Rattle.sender.specs.Waiting.{waits_for_office, waits_for_unit, IsUnitSet, IsWaiting, is_free_by, is_ready as ready_by, IsWithout, HasEmptySet, HasNewPlace, HasNewOfficePlace, IsPut}
 use Rattle.sender.proofs.NumberLemmas.{same_index, same_request}
-use Rattle.sender.proofs.PlaceSets.{below, put_in, passed_by, taken_out, left_out, same_elsewhere, last_there}
+use Rattle.sender.proofs.PlaceSets.{both_ways, is_itself, below, put_in, passed_by, taken_out, left_out, same_elsewhere, last_there}
 
 -- ---- which requests clash with one
 
@@ -97,13 +100,10 @@ and_true : (o : Bool) → (o && true) ≡ o
 and_true true = refl
 and_true false = refl
 
-pub free : (exchanges : List Exchange) (waiting : Waiting) (number_of : Place → Option ℕ) (place : ℕ) (exchange : Exchange) → IsWaiting exchanges waiting number_of → slice_get exchanges place ≡ Some exchange →
-    is_free waiting place ≡ not (is_blocked (take place exchanges) exchange.request)
+free : (exchanges : List Exchange) (waiting : Waiting) (number_of : Place → Option ℕ) (place : ℕ) (exchange : Exchange) → IsWaiting exchanges waiting number_of → slice_get exchanges place ≡ Some exchange →
+    is_free_by waiting place (option_and_then number_of (unit_of exchange.request.act)) ≡ not (is_blocked (take place exchanges) exchange.request)
 free exchanges waiting number_of place exchange w is = by_unit (unit_of exchange.request.act) refl
   where
-    read : (o : Option Place) → unit_of exchange.request.act ≡ o → slice_get waiting.named.items place ≡ Some (option_and_then number_of o)
-    read o e = w.named place exchange is ∙ ap (λ (u : Option Place). Some (option_and_then number_of u)) e
-
     for_office : unit_of exchange.request.act ≡ None → not (has_below place waiting.all) ≡ not (is_blocked (take place exchanges) exchange.request)
     for_office e =
         let office = office_without_unit exchange.request.act e in
@@ -128,10 +128,10 @@ free exchanges waiting number_of place exchange w is = by_unit (unit_of exchange
         ap (is_free_by waiting place) n
         ∙ (ap (λ (o : Option (BTreeSet ℕ)). not (has_below place waiting.office) && option_map_or (λ places. not (has_below place places)) o false) s.there ∙ for_unit unit number s e)
 
-    by_unit : (o : Option Place) → unit_of exchange.request.act ≡ o → is_free waiting place ≡ not (is_blocked (take place exchanges) exchange.request)
-    by_unit None e = ap (λ (o : Option (Option ℕ)). option_map_or (is_free_by waiting place) o false) (read None e) ∙ for_office e
+    by_unit : (o : Option Place) → unit_of exchange.request.act ≡ o → is_free_by waiting place (option_and_then number_of (unit_of exchange.request.act)) ≡ not (is_blocked (take place exchanges) exchange.request)
+    by_unit None e = ap (λ (u : Option Place). is_free_by waiting place (option_and_then number_of u)) e ∙ for_office e
     by_unit (Some unit) e =
-        ap (λ (o : Option (Option ℕ)). option_map_or (is_free_by waiting place) o false) (read (Some unit) e) ∙ with_number unit (number_of unit) e refl (w.numbered place exchange unit is e)
+        ap (λ (u : Option Place). is_free_by waiting place (option_and_then number_of u)) e ∙ with_number unit (number_of unit) e refl (w.numbered place exchange unit is e)
 
 -- ---- a reply comes
 
@@ -243,23 +243,41 @@ front_same [] y n x e = cc
 front_same (z ∷ zs) y zero x e = e
 front_same (z ∷ zs) y (suc n) x e = front_same zs y n x e
 
-pub numbered : (exchanges : List Exchange) (old new : Waiting) (number_of more : Place → Option ℕ) (unit : Place) → number_of unit ≡ None → HasNewUnit old new number_of more unit → IsWaiting exchanges old number_of →
+-- one set more, which no unit has yet
+spare : (exchanges : List Exchange) (old new : Waiting) (number_of : Place → Option ℕ) → HasEmptySet old new → IsWaiting exchanges old number_of → IsWaiting exchanges new number_of
+spare exchanges old new number_of u w = record {
+  count = ap length u.named ∙ w.count;
+  all = subst (HasPlaces is_open exchanges) (sym u.all) w.all;
+  office = subst (HasPlaces waits_for_office exchanges) (sym u.office) w.office;
+  named = λ k e is. ap (λ (os : List (Option ℕ)). slice_get os k) u.named ∙ w.named k e is;
+  numbered = w.numbered;
+  sets = λ unit number n. let s = w.sets unit number n in record {
+    places = s.places;
+    there = ap (λ (ss : List (BTreeSet ℕ)). slice_get ss number) u.units ∙ front_same old.units.items u.places number s.places s.there;
+    has = s.has;
+  };
+  apart = w.apart;
+}
+
+-- it is that of a unit that had none
+numbered : (exchanges : List Exchange) (old new : Waiting) (number_of more : Place → Option ℕ) (unit : Place) → number_of unit ≡ None →
+    ((other : Place) → more other ≡ cond (place_eq unit other) (Some (length old.units.items)) (number_of other)) → HasEmptySet old new → IsWaiting exchanges old number_of →
     IsWaiting exchanges new more × (more unit ≡ Some (length old.units.items))
-numbered exchanges old new number_of more unit none u w = (
+numbered exchanges old new number_of more unit none numbers u w = (
   record {
     count = ap length u.named ∙ w.count;
     all = subst (HasPlaces is_open exchanges) (sym u.all) w.all;
     office = subst (HasPlaces waits_for_office exchanges) (sym u.office) w.office;
     named = λ k e is. ap (λ (os : List (Option ℕ)). slice_get os k) u.named ∙ (w.named k e is ∙ ap (λ (o : Option ℕ). Some o) (sym (by_unit k e is (unit_of e.request.act) refl)));
     numbered = λ k e other is its. ap is_some (more_same other (w.numbered k e other is its)) ∙ w.numbered k e other is its;
-    sets = λ other number n. by_test other number (place_eq unit other) refl (sym (u.numbers other) ∙ n);
-    apart = λ a b number ea eb. by_tests a b number (place_eq unit a) (place_eq unit b) refl refl (sym (u.numbers a) ∙ ea) (sym (u.numbers b) ∙ eb);
+    sets = λ other number n. by_test other number (place_eq unit other) refl (sym (numbers other) ∙ n);
+    apart = λ a b number ea eb. by_tests a b number (place_eq unit a) (place_eq unit b) refl refl (sym (numbers a) ∙ ea) (sym (numbers b) ∙ eb);
   },
-  u.numbers unit ∙ ap (λ c. cond c (Some (length old.units.items)) (number_of unit)) ((eq_by_cmp_equiv place_total).refl unit),
+  numbers unit ∙ ap (λ c. cond c (Some (length old.units.items)) (number_of unit)) ((eq_by_cmp_equiv place_total).refl unit),
 )
   where
     more_same : (other : Place) → IsSome (number_of other) → more other ≡ number_of other
-    more_same other some = u.numbers other ∙ by_place (place_eq unit other) refl
+    more_same other some = numbers other ∙ by_place (place_eq unit other) refl
       where
         by_place : (c : Bool) → place_eq unit other ≡ c → cond c (Some (length old.units.items)) (number_of other) ≡ number_of other
         by_place true t = let wrong : false ≡ true = sym (ap is_some (ap number_of (sym (same_place unit other t)) ∙ none)) ∙ some in cc
@@ -370,7 +388,7 @@ both_true true true e f = refl
 both_true true false e f = cc
 both_true false b e f = cc
 
-pub put_on_unit : (exchanges : List Exchange) (e : Exchange) (old new : Waiting) (number_of : Place → Option ℕ) (unit : Place) (number : ℕ) → is_open e ≡ true → unit_of e.request.act ≡ Some unit → number_of unit ≡ Some number →
+put_on_unit : (exchanges : List Exchange) (e : Exchange) (old new : Waiting) (number_of : Place → Option ℕ) (unit : Place) (number : ℕ) → is_open e ≡ true → unit_of e.request.act ≡ Some unit → number_of unit ≡ Some number →
     HasNewPlace old new (length exchanges) number → IsWaiting exchanges old number_of → IsWaiting (exchanges ++ e ∷ []) new number_of
 put_on_unit exchanges e old new number_of unit number waits its n u w = record {
   count = count_more exchanges e old.named.items new.named.items (Some number) w.count u.named;
@@ -404,7 +422,7 @@ put_on_unit exchanges e old new number_of unit number waits its n u w = record {
               (λ t. elsewhere (same_Some m number (sym k ∙ (ap number_of (names_its_unit e.request.act other unit its t) ∙ n))))));
         }
 
-pub put_on_office : (exchanges : List Exchange) (e : Exchange) (old new : Waiting) (number_of : Place → Option ℕ) → is_open e ≡ true → unit_of e.request.act ≡ None →
+put_on_office : (exchanges : List Exchange) (e : Exchange) (old new : Waiting) (number_of : Place → Option ℕ) → is_open e ≡ true → unit_of e.request.act ≡ None →
     HasNewOfficePlace old new (length exchanges) → IsWaiting exchanges old number_of → IsWaiting (exchanges ++ e ∷ []) new number_of
 put_on_office exchanges e old new number_of waits its u w = record {
   count = count_more exchanges e old.named.items new.named.items None w.count u.named;
@@ -423,6 +441,10 @@ put_on_office exchanges e old new number_of waits its u w = record {
     none_is_some : (p : Place) → ◌≡◌ {A = Option Place} None (Some p) → ⊥
     none_is_some p wrong = cc
 
+-- an empty map has no numbers
+pub nothing_in : (numbers : BTreeMap (Bor Text × Key) ℕ) (unit : Place) → numbers.entries ≡ [] → number_in numbers unit ≡ None
+nothing_in numbers unit empty = ap (λ (entries : List ((Bor Text × Key) × ℕ)). lookup (is_at (λ (name : Bor Text × Key). place_cmp unit (name.0.now, name.1))) entries) empty
+
 -- nothing waits in no sets
 pub nothing_waits : (w : Waiting) → IsEmpty w.all → IsEmpty w.office → w.named.items ≡ [] → (number_of : Place → Option ℕ) → ((unit : Place) → number_of unit ≡ None) → IsWaiting [] w number_of
 nothing_waits w all office named number_of none = record {
@@ -440,53 +462,105 @@ nothing_waits w all office named number_of none = record {
 
 -- ---- the whole sender
 
--- what two clauses of a result give
-pub both_ok : {T E : Type 0} (r : Result T E) (P : T → Type 0) (Q : Type 0) (R : T → Type 0) → IfOk r P → OnOk r Q → ((t : T) → P t → Q → R t) → IfOk r R
-both_ok (Ok t) P Q R p q f = f t p q
-both_ok (Err e) P Q R p q f = tt
-
 pub on_ok : {T E : Type 0} (r : Result T E) (P Q : Type 0) → OnOk r P → (P → Q) → OnOk r Q
 on_ok (Ok t) P Q p f = f p
 on_ok (Err e) P Q p f = tt
 
 -- one place in none of the sets any more
-named_there : (o : Option (Option ℕ)) (number : ℕ) → Some number ≡ option_and_then (λ named. named) o → o ≡ Some (Some number)
-named_there None number e = cc
-named_there (Some None) number e = cc
-named_there (Some (Some n)) number e = ap (λ (k : ℕ). Some (Some k)) (sym (same_Some number n e))
-
-pub without : (old new : Waiting) (place number : ℕ) → Some number ≡ number_named old place → Updates nat_cmp old.all new.all place false → Updates nat_cmp old.office new.office place false → new.named.items ≡ old.named.items →
-    HasOneLess old.units.items new.units.items number place → IsWithout old new place
+pub without : (old new : Waiting) (place number : ℕ) → slice_get old.named.items place ≡ Some (Some number) → Updates nat_cmp old.all new.all place false → Updates nat_cmp old.office new.office place false →
+    new.named.items ≡ old.named.items → HasOneLess old.units.items new.units.items number place → IsWithout old new place
 without old new place number named all office same less = record {
   all = all;
   office = office;
   named = same;
   emptied = λ n places there found.
-      let here : number ≡ n = same_Some number n (same_Some _ _ (sym (named_there _ number named) ∙ there)) in
+      let here : number ≡ n = same_Some number n (same_Some _ _ (sym named ∙ there)) in
       let it = less.emptied places (ap (slice_get old.units.items) here ∙ found) in
       (it.0, ap (slice_get new.units.items) (sym here) ∙ it.1, it.2);
-  others = λ n not_there. less.others n (λ here. not_there (named_there _ number named ∙ ap (λ (k : ℕ). Some (Some k)) here));
+  others = λ n not_there. less.others n (λ here. not_there (named ∙ ap (λ (k : ℕ). Some (Some k)) here));
 }
 
-pub without_unit : (old new : Waiting) (place : ℕ) → None ≡ number_named old place → Updates nat_cmp old.all new.all place false → Updates nat_cmp old.office new.office place false → new.named.items ≡ old.named.items →
-    new.units.items ≡ old.units.items → IsWithout old new place
-without_unit old new place named all office same units = record {
+pub none_named : (o : Option (Option ℕ)) → option_and_then (λ named. named) o ≡ None → (number : ℕ) → o ≡ Some (Some number) → ⊥
+none_named o none number found = none_is_some (sym none ∙ ap (option_and_then (λ named. named)) found)
+  where
+    none_is_some : ◌≡◌ {A = Option ℕ} None (Some number) → ⊥
+    none_is_some wrong = cc
+
+pub without_unit : (old new : Waiting) (place : ℕ) → ((number : ℕ) → slice_get old.named.items place ≡ Some (Some number) → ⊥) → Updates nat_cmp old.all new.all place false → Updates nat_cmp old.office new.office place false →
+    new.named.items ≡ old.named.items → new.units.items ≡ old.units.items → IsWithout old new place
+without_unit old new place none all office same units = record {
   all = all;
   office = office;
   named = same;
-  emptied = λ n places there found. absurd (none_is_some n (named ∙ ap (option_and_then (λ named. named)) there));
+  emptied = λ n places there found. absurd (none n there);
   others = λ n not_there. ap (λ (ss : List (BTreeSet ℕ)). slice_get ss n) units;
 }
-  where
-    none_is_some : (k : ℕ) → ◌≡◌ {A = Option ℕ} None (Some k) → ⊥
-    none_is_some k wrong = cc
 
--- a request is ready exactly where it is open and free by the sets
-pub ready_by_sets : (exchanges : List Exchange) (places : BTreeMap Text ℕ) (waiting : Waiting) (place : ℕ) (e : Exchange) → IsKept exchanges places waiting → slice_get exchanges place ≡ Some e →
-    is_ready exchanges place ≡ (is_open e && is_free waiting place)
-ready_by_sets exchanges places waiting place e k is =
-    ap (λ (o : Option Exchange). option_map_or (λ exchange. is_open exchange && not (is_blocked (take place exchanges) exchange.request)) o false) is
-    ∙ ap (λ c. is_open e && c) (sym (free exchanges waiting k.number_of place e k.waits is))
+-- a request is ready exactly where it is by the sets
+pub ready_by_sets : (exchanges value : List Exchange) (places : BTreeMap Text ℕ) (waiting : Waiting) (place : ℕ) → IsKept exchanges places waiting → exchanges ≡ value → ready_by waiting place ≡ is_ready value place
+ready_by_sets exchanges value places waiting place k same = by_exchange (slice_get exchanges place) refl ∙ ap (λ (s : List Exchange). is_ready s place) same
+  where
+    waits : (o : Option Exchange) → slice_get exchanges place ≡ o → contains nat_cmp waiting.all place ≡ option_map_or is_open o false
+    waits o is = k.waits.all place ∙ ap (λ (p : Option Exchange). option_map_or is_open p false) is
+
+    past : (o : Option (Option ℕ)) → contains nat_cmp waiting.all place ≡ false → option_map_or (λ named. contains nat_cmp waiting.all place && is_free_by waiting place named) o false ≡ false
+    past None e = refl
+    past (Some named) e = ap (λ c. c && is_free_by waiting place named) e
+
+    ready : Option Exchange → Bool
+    ready o = option_map_or (λ exchange. is_open exchange && not (is_blocked (take place exchanges) exchange.request)) o false
+
+    by_exchange : (o : Option Exchange) → slice_get exchanges place ≡ o → ready_by waiting place ≡ is_ready exchanges place
+    by_exchange None is = past (slice_get waiting.named.items place) (waits None is) ∙ ap ready (sym is)
+    by_exchange (Some e) is =
+        ap (λ (o : Option (Option ℕ)). option_map_or (λ named. contains nat_cmp waiting.all place && is_free_by waiting place named) o false) (k.waits.named place e is)
+        ∙ ((λ i. waits (Some e) is i && free exchanges waiting k.number_of place e k.waits is i) ∙ ap ready (sym is))
+
+-- all replies are held exactly where no request waits
+open_or_held : (o : Option Reply) → is_some o ≡ not (is_none o)
+open_or_held None = refl
+open_or_held (Some r) = refl
+
+all_held : (exchanges : List Exchange) → ((k : ℕ) → option_map_or is_open (slice_get exchanges k) false ≡ false) → is_finished exchanges ≡ true
+all_held [] none = refl
+all_held (e ∷ es) none = λ i. (open_or_held e.reply ∙ ap not (none zero)) i && all_held es (λ k. none (suc k)) i
+
+none_open : (exchanges : List Exchange) → is_finished exchanges ≡ true → (k : ℕ) → option_map_or is_open (slice_get exchanges k) false ≡ false
+none_open [] all k = refl
+none_open (e ∷ es) all zero = is_held e.reply (is_finished es) all
+  where
+    is_held : (o : Option Reply) (b : Bool) → (is_some o && b) ≡ true → is_none o ≡ false
+    is_held None b h = cc
+    is_held (Some r) b h = refl
+none_open (e ∷ es) all (suc k) = none_open es (the_rest e.reply (is_finished es) all) k
+  where
+    the_rest : (o : Option Reply) (b : Bool) → (is_some o && b) ≡ true → b ≡ true
+    the_rest None b h = cc
+    the_rest (Some r) b h = h
+
+pub finished_by_sets : (exchanges value : List Exchange) (places : BTreeMap Text ℕ) (waiting : Waiting) (b : Bool) → IsKept exchanges places waiting → exchanges ≡ value → (b ≡ true) ↔ (length waiting.all.keys ≡ 0) → b ≡ is_finished value
+finished_by_sets exchanges value places waiting b k same is = both_ways b (is_finished exchanges) forth back ∙ ap (λ (s : List Exchange). is_finished s) same
+  where
+    forth : b ≡ true → is_finished exchanges ≡ true
+    forth t = all_held exchanges (λ place. sym (k.waits.all place) ∙ no_place waiting.all.keys place (is.0 t))
+      where
+        no_place : (keys : List ℕ) (place : ℕ) → length keys ≡ 0 → list_any (is_at (nat_cmp place)) keys ≡ false
+        no_place [] place e = refl
+        no_place (key ∷ keys) place e = absurd (omega arith)
+
+    back : is_finished exchanges ≡ true → b ≡ true
+    back t = is.1 (no_key waiting.all.keys (λ place. k.waits.all place ∙ none_open exchanges t place))
+      where
+        no_key : (keys : List ℕ) → ((place : ℕ) → list_any (is_at (nat_cmp place)) keys ≡ false) → length keys ≡ 0
+        no_key [] none = refl
+        no_key (key ∷ keys) none = let wrong : true ≡ false = sym (ap (λ c. c || list_any (is_at (nat_cmp key)) keys) (is_itself key)) ∙ none key in cc
+
+pub kept_or_new : (e : Exchange) (reply held : Reply) → held ≡ unwrap_or e.reply reply → (record { request = e.request; reply = Some held }) ≡ replied reply e
+kept_or_new e reply held is = by_reply e.reply is
+  where
+    by_reply : (o : Option Reply) → held ≡ unwrap_or o reply → (record { request = e.request; reply = Some held }) ≡ replied reply (record { request = e.request; reply = o })
+    by_reply None is = λ i. record { request = e.request; reply = Some (is i) }
+    by_reply (Some r) is = λ i. record { request = e.request; reply = Some (is i) }
 
 shut : (reply : Reply) (e : Exchange) → is_open (replied reply e) ≡ false
 shut reply e = by_reply e.reply refl
@@ -512,35 +586,24 @@ item_there xs ys i x h e = ap (λ zs. slice_get zs i) (sym e) ∙ slice_get_read
 pub no_item : {X : Type 0} (xs ys : List X) (i : ℕ) → IsItemAt xs i None → xs ≡ ys → slice_get ys i ≡ None
 no_item xs ys i h e = ap (λ zs. slice_get zs i) (sym e) ∙ slice_get_past xs i h.3
 
-open_when : (o : Option Reply) (b : Bool) → is_some o ≡ not b → is_none o ≡ b
-open_when None true e = refl
-open_when None false e = cc
-open_when (Some r) true e = cc
-open_when (Some r) false e = refl
-
-pub ready_when_open : (exchanges value : List Exchange) (places : BTreeMap Text ℕ) (waiting : Waiting) (place : ℕ) (e : Exchange) (b c : Bool) → IsKept exchanges places waiting → exchanges ≡ value → slice_get exchanges place ≡ Some e →
-    is_some e.reply ≡ not b → b ≡ true → c ≡ is_free waiting place → c ≡ is_ready value place
-ready_when_open exchanges value places waiting place e b c k same is none t free_is =
-    free_is ∙ (ap (λ o. o && is_free waiting place) (sym (open_when e.reply b none ∙ t))
-    ∙ (sym (ready_by_sets exchanges places waiting place e k is) ∙ ap (λ (s : List Exchange). is_ready s place) same))
-
-pub not_ready_when_held : (exchanges value : List Exchange) (places : BTreeMap Text ℕ) (waiting : Waiting) (place : ℕ) (e : Exchange) (b : Bool) → IsKept exchanges places waiting → exchanges ≡ value → slice_get exchanges place ≡ Some e →
-    is_some e.reply ≡ not b → b ≡ false → b ≡ is_ready value place
-not_ready_when_held exchanges value places waiting place e b k same is none t =
-    t ∙ (ap (λ o. o && is_free waiting place) (sym (open_when e.reply b none ∙ t))
-    ∙ (sym (ready_by_sets exchanges places waiting place e k is) ∙ ap (λ (s : List Exchange). is_ready s place) same))
-
-pub not_ready_past : (exchanges value : List Exchange) (place : ℕ) → exchanges ≡ value → slice_get exchanges place ≡ None → false ≡ is_ready value place
-not_ready_past exchanges value place same none =
-    sym (ap (λ (o : Option Exchange). option_map_or (λ exchange. is_open exchange && not (is_blocked (take place exchanges) exchange.request)) o false) none)
-    ∙ ap (λ (s : List Exchange). is_ready s place) same
-
-pub put_on_unit_there : (exchanges : List Exchange) (e : Exchange) (old new : Waiting) (number_of : Place → Option ℕ) (unit : Place) (number place : ℕ) → is_open e ≡ true → unit_of e.request.act ≡ Some unit → number_of unit ≡ Some number →
+put_on_unit_there : (exchanges : List Exchange) (e : Exchange) (old new : Waiting) (number_of : Place → Option ℕ) (unit : Place) (number place : ℕ) → is_open e ≡ true → unit_of e.request.act ≡ Some unit → number_of unit ≡ Some number →
     length exchanges ≡ place → HasNewPlace old new place number → IsWaiting exchanges old number_of → IsWaiting (exchanges ++ e ∷ []) new number_of
 put_on_unit_there exchanges e old new number_of unit number place waits its n count u w =
     put_on_unit exchanges e old new number_of unit number waits its n (subst (λ (k : ℕ). HasNewPlace old new k number) (sym count) u) w
 
-pub put_on_office_there : (exchanges : List Exchange) (e : Exchange) (old new : Waiting) (number_of : Place → Option ℕ) (place : ℕ) → is_open e ≡ true → unit_of e.request.act ≡ None →
+put_on_office_there : (exchanges : List Exchange) (e : Exchange) (old new : Waiting) (number_of : Place → Option ℕ) (place : ℕ) → is_open e ≡ true → unit_of e.request.act ≡ None →
     length exchanges ≡ place → HasNewOfficePlace old new place → IsWaiting exchanges old number_of → IsWaiting (exchanges ++ e ∷ []) new number_of
 put_on_office_there exchanges e old new number_of place waits its count u w =
     put_on_office exchanges e old new number_of waits its (subst (λ (k : ℕ). HasNewOfficePlace old new k) (sym count) u) w
+
+pub takes_in : (exchanges : List Exchange) (request : Request) (old mid new : Waiting) (number_of more : Place → Option ℕ) (next place : ℕ) (named : Option ℕ) → next ≡ length old.units.items → IsNumberOf number_of more next request.act named →
+    HasEmptySet old mid → IsPut mid new place named → length exchanges ≡ place → IsWaiting exchanges old number_of → IsWaiting (exchanges ++ (record { request = request; reply = None }) ∷ []) new more
+takes_in exchanges request old mid new number_of more next place named last (of_office none is same) empty put count w =
+    put_on_office_there exchanges (record { request = request; reply = None }) mid new more place refl none count (subst (IsPut mid new place) is put)
+    (spare exchanges old mid more empty (subst (IsWaiting exchanges old) (sym same) w))
+takes_in exchanges request old mid new number_of more next place named last (of_known unit its names n is same) empty put count w =
+    put_on_unit_there exchanges (record { request = request; reply = None }) mid new more unit its place refl names (ap (λ (f : Place → Option ℕ). f unit) same ∙ n) count (subst (IsPut mid new place) is put)
+    (spare exchanges old mid more empty (subst (IsWaiting exchanges old) (sym same) w))
+takes_in exchanges request old mid new number_of more next place named last (of_new unit names none is numbers) empty put count w =
+    let all = numbered exchanges old mid number_of more unit none (subst (λ (n : ℕ). (other : Place) → more other ≡ cond (place_eq unit other) (Some n) (number_of other)) last numbers) empty w in
+    put_on_unit_there exchanges (record { request = request; reply = None }) mid new more unit (length old.units.items) place refl names all.1 count (subst (IsPut mid new place) (is ∙ ap (λ (n : ℕ). Some n) last) put) all.0

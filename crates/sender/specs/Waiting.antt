@@ -1,27 +1,18 @@
 -- Which requests of a sender wait for their replies: of all, of the office requests, and of the requests that name each unit.
-use Rattle.std.specs.Prelude.{◌≡◌, ◌++◌, ◌∷◌, [], ℕ, List, length, cond, Bool, true, false, not, ◌&&◌, Option, Some, None, IsSome, slice_get, option_and_then}
+use Rattle.std.specs.Prelude.{◌≡◌, ◌++◌, ◌∷◌, [], ℕ, List, length, Bool, true, false, not, ◌&&◌, Option, Some, None, IsSome, slice_get, option_and_then}
 use Rattle.std.specs.Option.{option_map_or}
-use Rattle.std.specs.BTreeSet.{BTreeSet, Updates, IsEmpty}
+use Rattle.std.specs.BTreeSet.{BTreeSet, contains, Updates, IsEmpty}
 use Rattle.std.specs.Ordering.{nat_cmp}
-use Rattle.units.specs.Office.{Place, place_eq}
-use Rattle.request_book.specs.declared.act.Act.{Act}
-use Rattle.request_book.specs.declared.act.Act.TheVariants.{OnUnit, SetTemplate, AddLanguage, SetRole, SetPolicy}
+use Rattle.units.specs.Office.{Place}
 use Rattle.request_book.specs.declared.act.Request.{Request}
 use Rattle.request_book.specs.Clash.{is_office_act, names}
 use Rattle.sender.specs.declared.exchange.Exchange.{Exchange}
 use Rattle.sender.specs.declared.waiting.Waiting.{Waiting}
 use Rattle.sender.specs.Sending.{is_open}
 use Rattle.sender.specs.PlaceSets.{HasPlaces, has_below, HasOneMore}
+use Rattle.sender.specs.Numbers.{unit_of}
 
 -- ---- the sets of a sender
-
--- the unit that an act names
-abbrev pub unit_of : Act → Option Place
-unit_of (OnUnit lang key act) = Some (lang, key)
-unit_of (SetTemplate po) = None
-unit_of (AddLanguage lang po) = None
-unit_of (SetRole name role) = None
-unit_of (SetPolicy policy) = None
 
 abbrev pub waits_for_office : Exchange → Bool
 waits_for_office exchange = is_open exchange && is_office_act exchange.request.act
@@ -58,12 +49,9 @@ abbrev pub is_free_by : Waiting → ℕ → Option ℕ → Bool
 is_free_by waiting place None = not (has_below place waiting.all)
 is_free_by waiting place (Some number) = not (has_below place waiting.office) && is_first waiting number place
 
-abbrev pub is_free : Waiting → ℕ → Bool
-is_free waiting place = option_map_or (is_free_by waiting place) (slice_get waiting.named.items place) false
-
--- the number of the unit that the request at a place names
-abbrev pub number_named : Waiting → ℕ → Option ℕ
-number_named waiting place = option_and_then (λ named. named) (slice_get waiting.named.items place)
+-- It waits, and no request that waits below it clashes with it.
+abbrev pub is_ready : Waiting → ℕ → Bool
+is_ready waiting place = option_map_or (λ named. contains nat_cmp waiting.all place && is_free_by waiting place named) (slice_get waiting.named.items place) false
 
 -- ---- what is done to the sets
 
@@ -76,12 +64,11 @@ pub record IsWithout (old new : Waiting) (place : ℕ) : Type 0 where
       (less : BTreeSet ℕ) × (slice_get new.units.items number ≡ Some less) × Updates nat_cmp places less place false
   pub others : (number : ℕ) → (slice_get old.named.items place ≡ Some (Some number) → ⊥) → slice_get new.units.items number ≡ slice_get old.units.items number
 
--- a unit has a number and an empty set now
-pub record HasNewUnit (old new : Waiting) (number_of more : Place → Option ℕ) (unit : Place) : Type 0 where
+-- no place waits in one set more
+pub record HasEmptySet (old new : Waiting) : Type 0 where
   pub all : new.all ≡ old.all
   pub office : new.office ≡ old.office
   pub named : new.named.items ≡ old.named.items
-  pub numbers : (other : Place) → more other ≡ cond (place_eq unit other) (Some (length old.units.items)) (number_of other)
   pub places : BTreeSet ℕ
   pub empty : IsEmpty places
   pub units : new.units.items ≡ old.units.items ++ places ∷ []
@@ -100,17 +87,12 @@ pub record HasNewOfficePlace (old new : Waiting) (place : ℕ) : Type 0 where
   pub named : new.named.items ≡ old.named.items ++ None ∷ []
   pub units : new.units.items ≡ old.units.items
 
--- a unit has a number now, and all sets have the places that they should
-abbrev pub IsNumbered : Waiting → Waiting → (Place → Option ℕ) → (Place → Option ℕ) → Place → ℕ → Type 0
-IsNumbered old new number_of more unit number = (exchanges : List Exchange) → IsWaiting exchanges old number_of → IsWaiting exchanges new more × (more unit ≡ Some number)
+-- a place is in the sets of a request that names the unit of this number, or of an office request, which has none
+abbrev pub IsPut : Waiting → Waiting → ℕ → Option ℕ → Type 0
+IsPut old new place None = HasNewOfficePlace old new place
+IsPut old new place (Some number) = HasNewPlace old new place number
 
 -- a request at the end waits too
 abbrev pub TakesIn : Waiting → Waiting → (Place → Option ℕ) → (Place → Option ℕ) → ℕ → Request → Type 0
 TakesIn old new number_of more place request =
     (exchanges : List Exchange) → length exchanges ≡ place → IsWaiting exchanges old number_of → IsWaiting (exchanges ++ (record { request = request; reply = None }) ∷ []) new more
-
--- the same of a request that names a unit
-abbrev pub TakesInUnit : Waiting → Waiting → (Place → Option ℕ) → (Place → Option ℕ) → ℕ → Place → Type 0
-TakesInUnit old new number_of more place unit =
-    (exchanges : List Exchange) (exchange : Exchange) → is_open exchange ≡ true → unit_of exchange.request.act ≡ Some unit → length exchanges ≡ place →
-    IsWaiting exchanges old number_of → IsWaiting (exchanges ++ exchange ∷ []) new more

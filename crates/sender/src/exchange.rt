@@ -1,16 +1,14 @@
 //! A request with the reply that is held for it, and copies of requests.
 
-ghost use Rattle.std.specs.Prelude.{◌≡◌, ◌++◌, ◌∷◌, [], IfOk, OnOk};
-ghost use Rattle.request_book.specs.declared.act.Act.TheVariants.{OnUnit, AddLanguage};
+ghost use Rattle.std.specs.Prelude.{◌≡◌, ◌++◌, ◌∷◌, [], IfSome, OnOk};
 ghost use Rattle.sender.specs.Sending.{unanswered};
 
-use po_read::{Duplicate, Text};
+use po_read::Duplicate;
 use request_book::{Act, Reply, Request};
 use std::alloc::AllocError;
-use units::{Key, Lang, UnitAct};
 
 /// A request, and the reply that is held for it, if there is one.
-#[derive(Debug, Drop)]
+#[derive(Drop)]
 pub struct Exchange {
     pub request: Request,
     pub reply: Option<Reply>,
@@ -23,9 +21,7 @@ impl Exchange {
     pub(crate) fn hold(&mut self, reply: Reply)
         ensures { self.new ≡ replied reply self.old }
     {
-        if self.reply.is_none() {
-            self.reply = Some(reply);
-        }
+        self.reply.get_or_insert(reply);
     }
 }
 
@@ -33,55 +29,44 @@ impl Exchange {
 pub(crate) fn push_copy(exchanges: &mut Vec<Exchange>, request: &Request) -> Result<(), AllocError>
     ensures { OnOk result (exchanges.new.items ≡ exchanges.old.items ++ unanswered (request.now ∷ [])) }
 {
-    let request = copied(request)?;
-    exchanges.push(Exchange {
-        request,
-        reply: None,
-    })?;
-    Ok(())
+    match request.caller.duplicate().ok().zip(copied(&request.act)) {
+        Some((caller, act)) => {
+            let request = Request {
+                number: request.number,
+                caller,
+                act,
+            };
+            exchanges.push(Exchange {
+                request,
+                reply: None,
+            })?;
+            Ok(())
+        }
+        None => Err(AllocError),
+    }
 }
 
-/// A copy of a request.
-fn copied(request: &Request) -> Result<Request, AllocError>
-    ensures { IfOk result (λ copy. copy ≡ request.now) }
-{
-    Ok(Request {
-        number: request.number,
-        caller: request.caller.duplicate()?,
-        act: copied_act(&request.act)?,
-    })
-}
-
-fn copied_act(act: &Act) -> Result<Act, AllocError>
-    ensures { IfOk result (λ copy. copy ≡ act.now) }
+/// A copy of an act; none where a growth was refused.
+fn copied(act: &Act) -> Option<Act>
+    ensures { IfSome result (λ copy. copy ≡ act.now) }
 {
     match act {
-        Act::OnUnit(lang, key, on_unit) => copied_on_unit(lang, key, on_unit),
-        Act::SetTemplate(po) => Ok(Act::SetTemplate(po.duplicate()?)),
-        Act::AddLanguage(lang, po) => copied_language(lang, po),
-        Act::SetRole(name, role) => Ok(Act::SetRole(name.duplicate()?, *role)),
-        Act::SetPolicy(policy) => Ok(Act::SetPolicy(*policy)),
-    }
-}
-
-fn copied_on_unit(lang: &Lang, key: &Key, on_unit: &UnitAct) -> Result<Act, AllocError>
-    ensures { IfOk result (λ copy. copy ≡ OnUnit lang.now key.now on_unit.now) }
-{
-    let lang = lang.duplicate()?;
-    let key = key.duplicate()?;
-    match on_unit.duplicate() {
-        Ok(on_unit) => Ok(Act::OnUnit(lang, key, on_unit)),
-        Err(refused) => {
-            drop(lang);
-            drop(key);
-            Err(refused)
+        Act::OnUnit(lang, key, on_unit) => {
+            let place = lang.duplicate().ok().zip(key.duplicate().ok());
+            match place.zip(on_unit.duplicate().ok()) {
+                Some(((lang, key), on_unit)) => Some(Act::OnUnit(lang, key, on_unit)),
+                None => None,
+            }
         }
+        Act::SetTemplate(po) => po.duplicate().ok().map(Act::SetTemplate),
+        Act::AddLanguage(lang, po) => match lang.duplicate().ok().zip(po.duplicate().ok()) {
+            Some((lang, po)) => Some(Act::AddLanguage(lang, po)),
+            None => None,
+        },
+        Act::SetRole(name, role) => match name.duplicate() {
+            Ok(name) => Some(Act::SetRole(name, *role)),
+            Err(_) => None,
+        },
+        Act::SetPolicy(policy) => Some(Act::SetPolicy(*policy)),
     }
-}
-
-fn copied_language(lang: &Lang, po: &Text) -> Result<Act, AllocError>
-    ensures { IfOk result (λ copy. copy ≡ AddLanguage lang.now po.now) }
-{
-    let lang = lang.duplicate()?;
-    Ok(Act::AddLanguage(lang, po.duplicate()?))
 }

@@ -4,7 +4,6 @@
 mod exchange;
 mod fault;
 mod sending;
-mod unit_name;
 mod waiting;
 
 pub use exchange::Exchange;

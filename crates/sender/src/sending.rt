@@ -66,10 +66,7 @@ impl Sender {
     pub fn ready(&self, place: usize) -> bool
         ensures { result ≡ is_ready self.now place }
     {
-        match self.exchanges.get(place) {
-            Some(exchange) => exchange.reply.is_none() && self.waiting.is_free(place),
-            None => false,
-        }
+        self.waiting.is_ready(place)
     }
 
     /// Takes a reply to a number. It is held for the request with this number, unless one is; a reply to a strange number is
@@ -101,8 +98,6 @@ impl Sender {
     pub fn finished(&self) -> bool
         ensures { result ≡ is_finished self.now }
     {
-        self.exchanges
-            .iter()
-            .all(|exchange| exchange.reply.is_some())
+        self.waiting.is_empty()
     }
 }

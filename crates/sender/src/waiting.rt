@@ -1,30 +1,33 @@
 //! Which requests wait for their replies: of all, of the office requests, and of the requests that name each unit. So whether a request
 //! is ready is told by the first places of two sets, and not by a walk over the requests before it.
 
-ghost use Rattle.std.specs.Prelude.{◌≡◌, ℕ, Option, None, [], IfOk, OnOk, length};
-ghost use Rattle.std.specs.BTreeMap.{get};
-ghost use Rattle.units.specs.Office.{Place, place_cmp};
+ghost use Rattle.std.specs.Prelude.{◌≡◌, ◌↔◌, ℕ, Option, None, [], IsTrue, IfOk, OnOk};
+ghost use Rattle.std.specs.BTreeSet.{btree_set_len};
+ghost use Rattle.units.specs.Office.{Place};
 ghost use Rattle.sender.specs.PlaceSets.{has_below as below, HasOneMore, HasOneLess};
+ghost use Rattle.sender.specs.Numbers.{number_in, IsNumberOf};
 
-use crate::unit_name::UnitName;
 use request_book::{Act, Request};
 use std::alloc::{AllocError, Global};
 use std::collections::{BTreeMap, BTreeSet};
-use units::{Key, Lang};
+use units::{KeyRef, Keyed};
+
+/// A unit's name: its language and its key, both borrowed.
+type UnitName<'a> = (&'a str, KeyRef<'a>);
 
 /// The places of the requests that wait for their replies.
 #[derive(Drop)]
 pub(crate) struct Waiting {
     all: BTreeSet<usize>,
     office: BTreeSet<usize>,
-    /// Of each unit, under a number of its own.
+    /// Of each unit, under its number: how many requests stand before the first that names it.
     units: Vec<BTreeSet<usize>>,
     /// The number of the unit that each request names; none for an office request.
     named: Vec<Option<usize>>,
 }
 
 impl Waiting {
-    ghost use Rattle.sender.specs.Waiting.{IsWaiting, is_free as free_of_earlier, is_free_by as free_by, is_first, number_named, TakesIn, TakesInUnit, IsNumbered, IsWithout, HasNewUnit, HasNewPlace, HasNewOfficePlace};
+    ghost use Rattle.sender.specs.Waiting.{IsWaiting, is_ready as ready_by_sets, is_free_by as free_by, is_first, TakesIn, IsPut, IsWithout};
 
     /// Nothing waits yet.
     pub(crate) fn new(alloc: Global) -> Waiting
@@ -46,95 +49,39 @@ impl Waiting {
         place: usize,
         request: &'a Request,
     ) -> Result<(), AllocError>
-        ensures { OnOk result (TakesIn self.old self.new (get place_cmp numbers.old) (get place_cmp numbers.new) place request.now) }
+        ensures { OnOk result (TakesIn self.old self.new (number_in numbers.old) (number_in numbers.new) place request.now) }
     {
-        match &request.act {
-            Act::OnUnit(lang, key, _) => self.add_on_unit(alloc, numbers, place, lang, key),
-            _ => self.put_on_office(place),
-        }
-    }
-
-    /// One request more waits, which names this unit.
-    fn add_on_unit<'a>(
-        &mut self,
-        alloc: Global,
-        numbers: &mut BTreeMap<UnitName<'a>, usize>,
-        place: usize,
-        lang: &'a Lang,
-        key: &'a Key,
-    ) -> Result<(), AllocError>
-        ensures { OnOk result (TakesInUnit self.old self.new (get place_cmp numbers.old) (get place_cmp numbers.new) place (lang.now, key.now)) }
-    {
-        let number = self.number_of(alloc, numbers, lang, key)?;
-        self.put_on_unit(place, number)?;
-        Ok(())
-    }
-
-    /// The number of a unit: its own, or the next one, if it has none yet.
-    fn number_of<'a>(
-        &mut self,
-        alloc: Global,
-        numbers: &mut BTreeMap<UnitName<'a>, usize>,
-        lang: &'a Lang,
-        key: &'a Key,
-    ) -> Result<usize, AllocError>
-        ensures { IfOk result (IsNumbered self.old self.new (get place_cmp numbers.old) (get place_cmp numbers.new) (lang.now, key.now)) }
-    {
-        let name = UnitName::of(lang, key);
-        match numbers.get(&name) {
-            Some(number) => Ok(*number),
-            None => self.next_number(alloc, numbers, lang, key),
-        }
-    }
-
-    /// The next number, for a unit that has none yet, with an empty set.
-    fn next_number<'a>(
-        &mut self,
-        alloc: Global,
-        numbers: &mut BTreeMap<UnitName<'a>, usize>,
-        lang: &'a Lang,
-        key: &'a Key,
-    ) -> Result<usize, AllocError>
-        ensures number { IfOk result (λ number. number ≡ length self.old.units.items) }
-        ensures unit { OnOk result (HasNewUnit self.old self.new (get place_cmp numbers.old) (get place_cmp numbers.new) (lang.now, key.now)) }
-    {
-        let number = self.units.as_slice().len();
+        let named = number_of(numbers, self.units.len(), &request.act)?;
         self.units.push(BTreeSet::new(alloc))?;
-        numbers.insert(UnitName::of(lang, key), number)?;
-        Ok(number)
+        self.put(place, named)
     }
 
-    /// This place waits too, with the unit of this number.
-    fn put_on_unit(&mut self, place: usize, number: usize) -> Result<(), AllocError>
-        ensures { OnOk result (HasNewPlace self.old self.new place number) }
+    /// This place waits too, with a request that names the unit of this number, or with an office request.
+    fn put(&mut self, place: usize, named: Option<usize>) -> Result<(), AllocError>
+        ensures { OnOk result (IsPut self.old self.new place named) }
     {
         self.all.insert(place)?;
-        self.named.push(Some(number))?;
-        put_into(&mut self.units, number, place)?;
-        Ok(())
+        self.named.push(named)?;
+        match named {
+            Some(number) => put_into(&mut self.units, number, place),
+            None => {
+                self.office.insert(place)?;
+                Ok(())
+            }
+        }
     }
 
-    /// This place waits too, with an office request.
-    fn put_on_office(&mut self, place: usize) -> Result<(), AllocError>
-        ensures { OnOk result (HasNewOfficePlace self.old self.new place) }
-    {
-        self.all.insert(place)?;
-        self.named.push(None)?;
-        self.office.insert(place)?;
-        Ok(())
-    }
-
-    /// Whether the request at this place clashes with no earlier one that waits.
-    pub(crate) fn is_free(&self, place: usize) -> bool
-        ensures { result ≡ free_of_earlier self.now place }
+    /// Whether the request at this place waits, and clashes with no earlier one that does.
+    pub(crate) fn is_ready(&self, place: usize) -> bool
+        ensures { result ≡ ready_by_sets self.now place }
     {
         match self.named.get(place) {
-            Some(named) => self.is_free_by(place, *named),
+            Some(named) => self.all.contains(&place) && self.is_free_by(place, *named),
             None => false,
         }
     }
 
-    /// The same, by the number of the unit that the request names.
+    /// Whether a request at this place that names the unit of this number, or an office request, clashes with no earlier one that waits.
     fn is_free_by(&self, place: usize, named: Option<usize>) -> bool
         ensures { result ≡ free_by self.now place named }
     {
@@ -158,22 +105,40 @@ impl Waiting {
     pub(crate) fn remove(&mut self, place: usize)
         ensures { IsWithout self.old self.new place }
     {
-        let named = self.number_at(place);
         self.all.remove(&place);
         self.office.remove(&place);
-        match named {
-            Some(number) => remove_from(&mut self.units, number, place),
-            None => {},
+        match self.named.get(place) {
+            Some(Some(number)) => remove_from(&mut self.units, *number, place),
+            Some(None) => {}
+            None => {}
         }
     }
 
-    /// The number of the unit that the request at this place names, if it names one.
-    fn number_at(&self, place: usize) -> Option<usize>
-        ensures { result ≡ number_named self.now place }
+    /// Whether no request waits.
+    pub(crate) fn is_empty(&self) -> bool
+        ensures { IsTrue result ↔ (btree_set_len self.now.all ≡ 0) }
     {
-        match self.named.get(place) {
-            Some(named) => *named,
-            None => None,
+        self.all.is_empty()
+    }
+}
+
+/// The number of the unit that an act names: its own, or the next one, if it has none yet; none for an office act.
+fn number_of<'a>(
+    numbers: &mut BTreeMap<UnitName<'a>, usize>,
+    next: usize,
+    act: &'a Act,
+) -> Result<Option<usize>, AllocError>
+    ensures { IfOk result (IsNumberOf (number_in numbers.old) (number_in numbers.new) next act.now) }
+{
+    let Act::OnUnit(lang, key, _) = act else {
+        return Ok(None);
+    };
+    let name = (lang.as_str(), key.key());
+    match numbers.get(&name) {
+        Some(number) => Ok(Some(*number)),
+        None => {
+            numbers.insert(name, next)?;
+            Ok(Some(next))
         }
     }
 }

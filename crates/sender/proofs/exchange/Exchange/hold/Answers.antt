@@ -1,5 +1,5 @@
-use Rattle.std.proofs.Common.{rules}
+use Rattle.sender.proofs.WaitingLemmas.{kept_or_new}
 use Rattle.sender.proofs.exchange.Exchange.hold.Goals as goal
 
-pub returns-then-is_none : goal.returns-then-is_none
-returns-then-is_none c = search rules
+pub returns : goal.returns
+returns c = kept_or_new c.args.self.now c.args.reply c.get_or_insert.result.now c.get_or_insert.ensures.value

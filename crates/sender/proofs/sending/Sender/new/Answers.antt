@@ -1,15 +1,14 @@
-use Rattle.std.proofs.Common.{◌≡◌, ℕ, List, ◌∷◌, [], ◌++◌, take, length, arith, refl, sym, ◌∙◌, ap, subst, None}
+use Rattle.std.proofs.Common.{◌≡◌, List, ◌∷◌, [], ◌++◌, take, length, arith, refl, sym, ◌∙◌, ap, subst, None}
 use Rattle.std.proofs.lemmas.List.{length-take-le, take_all}
 use Rattle.std.proofs.lemmas.Option.{slice_get_read}
-use Rattle.std.specs.Map.{lookup}
-use Rattle.std.specs.BTreeMap.{get, is_at}
-use Rattle.units.specs.Office.{Place, place_cmp}
 use Rattle.request_book.specs.declared.act.Request.{Request}
 use Rattle.sender.specs.declared.exchange.Exchange.{Exchange}
 use Rattle.sender.specs.Sending.{unanswered}
 use Rattle.sender.specs.NumberIndex.{IsNumberIndex}
+use Rattle.sender.specs.Numbers.{number_in}
 use Rattle.sender.specs.Waiting.{IsWaiting}
 use Rattle.sender.proofs.NumberLemmas.{one_more, unanswered-more, distinct_numbers, stands_twice, some_place, none_place, length-unanswered, empty_index}
+use Rattle.sender.proofs.WaitingLemmas.{nothing_in}
 use Rattle.sender.proofs.sending.Sender.new.Goals as goal
 
 pub returns-then-is_some-clause-twice : goal.returns-then-is_some-clause-twice
@@ -36,7 +35,7 @@ loop-place-preserved c =
       so_far = pushed ∙ (ap (λ (es : List Exchange). es ++ made ∷ []) inv.so_far ∙ sym more);
       index = subst (λ (es : List Exchange). IsNumberIndex es c.insert.new.self) (sym pushed)
           (one_more c.loop-place.exchanges.items c.loop-place.places c.insert.new.self made inv.index new (rw count c.in_ok-insert.ensures.updates));
-      waits = subst (λ (es : List Exchange). IsWaiting es c.add.new.self (get place_cmp c.add.new.numbers)) (sym pushed) (c.in_ok-add.ensures c.loop-place.exchanges.items count inv.waits);
+      waits = subst (λ (es : List Exchange). IsWaiting es c.add.new.self (number_in c.add.new.numbers)) (sym pushed) (c.in_ok-add.ensures c.loop-place.exchanges.items count inv.waits);
     }
 
 pub returns-clause-distinct : goal.returns-clause-distinct
@@ -50,13 +49,13 @@ pub loop-place-init : goal.loop-place-init
 loop-place-init c = record {
   so_far = c.new-exchanges.ensures.items;
   index = empty_index c.new-exchanges.result.items c.new-places.result c.new-exchanges.ensures.items c.new-places.ensures.empty;
-  waits = subst (λ (es : List Exchange). IsWaiting es c.new-waiting.result (get place_cmp c.new-numbers.result)) (sym c.new-exchanges.ensures.items)
-      (c.new-waiting.ensures (get place_cmp c.new-numbers.result) (λ unit. ap (λ (entries : List (Place × ℕ)). lookup (is_at (place_cmp unit)) entries) c.new-numbers.ensures.empty));
+  waits = subst (λ (es : List Exchange). IsWaiting es c.new-waiting.result (number_in c.new-numbers.result)) (sym c.new-exchanges.ensures.items)
+      (c.new-waiting.ensures (number_in c.new-numbers.result) (λ unit. nothing_in c.new-numbers.result unit c.new-numbers.ensures.empty));
 }
 
 pub invariant_of-result : goal.invariant_of-result
 invariant_of-result c = record {
   numbers = c.loop-place.invariant.index;
-  number_of = get place_cmp c.loop-place.numbers;
+  number_of = number_in c.loop-place.numbers;
   waits = c.loop-place.invariant.waits;
 }

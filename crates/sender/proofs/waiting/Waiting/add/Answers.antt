@@ -1,10 +1,10 @@
-use Rattle.std.proofs.Common.{rules, None, refl}
-use Rattle.sender.proofs.WaitingLemmas.{on_ok, put_on_office_there}
+use Rattle.std.proofs.Common.{◌≡◌, length, refl, arith}
+use Rattle.sender.proofs.WaitingLemmas.{on_ok, takes_in}
 use Rattle.sender.proofs.waiting.Waiting.add.Goals as goal
 
-pub returns-in-OnUnit : goal.returns-in-OnUnit
-returns-in-OnUnit c = on_ok c.add_on_unit.result _ _ c.add_on_unit.ensures (λ takes exchanges count w. takes exchanges (record { request = c.args.request.now; reply = None }) refl (search rules) count w)
-
-pub returns-in_default : goal.returns-in_default
-returns-in_default c =
-    on_ok c.put_on_office.result _ _ c.put_on_office.ensures (λ added exchanges count w. put_on_office_there exchanges (record { request = c.args.request.now; reply = None }) _ _ _ _ refl (search rules) count added w)
+pub returns : goal.returns
+returns c =
+    let last : c.len.result ≡ length c.args.self.now.units.items = omega (arith, c.len.ensures, c.args.self.now.units.ok) in
+    on_ok c.put.result _ _ c.put.ensures (λ put exchanges count w.
+    takes_in exchanges c.args.request.now c.args.self.now (record c.args.self.now { units = c.push.new.self }) c.put.new.self _ _ c.len.result c.args.place _ last c.in_ok-named.ensures
+    (record { all = refl; office = refl; named = refl; places = c.new.result; empty = c.new.ensures.empty; units = c.in_ok-push.ensures.items }) put count w)
