@@ -14,8 +14,8 @@ use Rattle.std.specs.Cmp.{eq_by_cmp_equiv}
 use Rattle.std.proofs.lemmas.Bool.{ltb-true, lt-ltb}
 use Rattle.std.proofs.lemmas.Cmp.{nat_cmp_total}
 use Rattle.std.proofs.lemmas.Map.Keys.{any_passes_from_place, le_from_not_gt}
-use Rattle.std.proofs.lemmas.Option.{slice_get_within, get_or_from_slice_get}
-use Rattle.sender.specs.PlaceSets.{HasPlaces, has_below}
+use Rattle.std.proofs.lemmas.Option.{same_Some, slice_get_within, get_or_from_slice_get}
+use Rattle.sender.specs.PlaceSets.{HasPlaces, has_below, HasOneMore, HasOneLess}
 use Rattle.sender.proofs.Places.{front_has, in_front}
 
 -- an element that passes, with its place
@@ -102,6 +102,10 @@ below_first keys first end is all = both_ways _ _ forth back
         le_from_not_gt first p.element (subst (IsLeBy nat_cmp first) (get_or_from_slice_get keys p.place p.element p.element p.there) (all p.place p.element (slice_get_within keys p.place p.element p.there))) in
         lt-ltb first end (omega arith)
 
+pub none_below : (keys : List ℕ) (end : ℕ) → (0 < length keys → ⊥) → false ≡ list_any (λ place. nat_lt place end) keys
+none_below [] end none = refl
+none_below (key ∷ keys) end none = absurd (none (omega arith))
+
 -- ---- one element more, at the end
 
 same_before : {X : Type 0} (ys : List X) (x : X) (k : ℕ) → (k ≡ length ys → ⊥) → slice_get (ys ++ x ∷ []) k ≡ slice_get ys k
@@ -167,3 +171,30 @@ left_out test xs x y place places has is t u k = has k ∙ by_place (is_at (nat_
         ap (λ p. option_map_or test (slice_get xs p) false) (sym same) ∙ (ap (λ o. option_map_or test o false) is
         ∙ (t ∙ sym (ap (λ p. option_map_or test (slice_get (set xs place x) p) false) (sym same) ∙ none_there test xs x place u)))
     by_place false e = ap (λ o. option_map_or test o false) (sym (same_elsewhere xs x place k (is_other place k e)))
+
+-- ---- one place less or more in the set of a number
+
+pub one_less : (sets : List (BTreeSet ℕ)) (number place : ℕ) (places less : BTreeSet ℕ) → slice_get sets number ≡ Some places → UpdatesBy nat_cmp (nat_cmp place) places less false →
+    HasOneLess sets (set sets number less) number place
+one_less sets number place places less there out = record {
+  emptied = λ was found. (less, set_there sets number places there, subst (λ (s : BTreeSet ℕ). UpdatesBy nat_cmp (nat_cmp place) s less false) (same_Some places was (sym there ∙ found)) out);
+  others = λ other h. same_elsewhere sets less number other h;
+}
+  where
+    set_there : (ss : List (BTreeSet ℕ)) (n : ℕ) (s : BTreeSet ℕ) → slice_get ss n ≡ Some s → slice_get (set ss n less) n ≡ Some less
+    set_there [] n s e = cc
+    set_there (t ∷ ts) zero s e = refl
+    set_there (t ∷ ts) (suc n) s e = set_there ts n s e
+
+pub nothing_less : (sets : List (BTreeSet ℕ)) (number place : ℕ) → length sets ≤ number → HasOneLess sets sets number place
+nothing_less sets number place past = record {
+  emptied = λ places there. let lt : number < length sets = slice_get_within sets number places there in absurd (omega arith);
+  others = λ other h. refl;
+}
+
+pub one_more : (sets : List (BTreeSet ℕ)) (number place : ℕ) (places more : BTreeSet ℕ) → slice_get sets number ≡ Some places → UpdatesBy nat_cmp (nat_cmp place) places more true →
+    HasOneMore sets (set sets number more) number place
+one_more sets number place places more there put was found = (more, refl, subst (λ (s : BTreeSet ℕ). UpdatesBy nat_cmp (nat_cmp place) s more true) (same_Some places was (sym there ∙ found)) put)
+
+pub nothing_more : (sets : List (BTreeSet ℕ)) (number place : ℕ) → length sets ≤ number → HasOneMore sets sets number place
+nothing_more sets number place past places there = let lt : number < length sets = slice_get_within sets number places there in absurd (omega arith)

@@ -580,6 +580,13 @@ kept_after exchanges places old new place reply e x k is now u = record {
 
 -- ---- what calls read
 
+pub ready_where : (w : Waiting) (place : ℕ) (named : Option ℕ) (b : Bool) → slice_get w.named.items place ≡ Some named → contains nat_cmp w.all place ≡ b → (b && is_free_by w place named) ≡ ready_by w place
+ready_where w place named b there waits =
+    sym (ap (λ (o : Option (Option ℕ)). option_map_or (λ n. contains nat_cmp w.all place && is_free_by w place n) o false) there ∙ ap (λ c. c && is_free_by w place named) waits)
+
+pub not_ready_past : (w : Waiting) (place : ℕ) → slice_get w.named.items place ≡ None → false ≡ ready_by w place
+not_ready_past w place none = sym (ap (λ (o : Option (Option ℕ)). option_map_or (λ n. contains nat_cmp w.all place && is_free_by w place n) o false) none)
+
 pub item_there : {X : Type 0} (xs ys : List X) (i : ℕ) (x : Bor X) → IsItemAt xs i (Some x) → xs ≡ ys → slice_get ys i ≡ Some x.now
 item_there xs ys i x h e = ap (λ zs. slice_get zs i) (sym e) ∙ slice_get_read xs (length xs) i x.now refl h.3.0 h.1
 

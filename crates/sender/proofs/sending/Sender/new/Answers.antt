@@ -45,6 +45,9 @@ returns-clause-distinct c =
     let all = ap (λ (rs : List Request). unanswered rs) (take_all c.loop-place.place requests (omega arith)) in
     distinct_numbers requests c.loop-place.places (subst (λ (es : List Exchange). IsNumberIndex es c.loop-place.places) (inv.so_far ∙ all) inv.index)
 
+pub returns-clause-ok : goal.returns-clause-ok
+returns-clause-ok c = c.loop-place.invariant.so_far ∙ ap (λ (rs : List Request). unanswered rs) (take_all c.loop-place.place c.args.requests.now (omega arith))
+
 pub loop-place-init : goal.loop-place-init
 loop-place-init c = record {
   so_far = c.new-exchanges.ensures.items;
