@@ -1,5 +1,5 @@
 -- The parts of an office act, by its first members and the last two.
-use Rattle.std.proofs.Common.{◌≡◌, ◌≢◌, ℕ, List, Option, Some, None, option_map, option_and_then, refl, sym, ◌∙◌}
+use Rattle.std.proofs.Common.{◌≡◌, ◌≢◌, ℕ, List, Option, Some, None, option_and_then, refl, sym, ◌∙◌}
 use Rattle.std.specs.Prelude.{codes, if◌then◌else◌}
 use Rattle.serde_json.specs.Data.{Data, Members, no_members}
 use Rattle.serde_json.specs.Find.{as_str}

@@ -1,5 +1,7 @@
 pub mod CanonLemmas
 mod Objects
+pub mod EachRead
+pub mod EachWritten
 mod Parsed
 mod Readers
 mod Three

@@ -4,7 +4,7 @@ use units::{Key, Lang, Name, Policy, Role, UnitAct};
 use uuid::Uuid;
 
 /// What a request asks for: an act on one unit, or an office act, which a manager asks for.
-#[derive(Debug, Drop)]
+#[derive(Drop)]
 pub enum Act {
     /// An act on the unit of this language and key.
     OnUnit(Lang, Key, UnitAct),
@@ -19,7 +19,7 @@ pub enum Act {
 }
 
 /// An act with its caller, under a number.
-#[derive(Debug, Drop)]
+#[derive(Drop)]
 pub struct Request {
     pub number: Uuid,
     pub caller: Name,

@@ -8,7 +8,7 @@ use std::alloc::AllocError;
 use uuid::Uuid;
 
 /// What is kept of a request: its number, the canonical text of its content and its first reply.
-#[derive(Debug, Drop)]
+#[derive(Drop)]
 pub struct Record {
     pub number: Uuid,
     pub content: Text,
@@ -26,7 +26,7 @@ impl Duplicate for Record {
 }
 
 /// How a request stands to the record under its number.
-#[derive(Clone, Copy, Debug)]
+#[derive(Clone, Copy)]
 pub enum Class<'a> {
     /// There is no record yet.
     First,

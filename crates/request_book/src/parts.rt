@@ -332,7 +332,11 @@ fn action_members(
         (None, Some(lines), None, None) => Some(ActionMembers::Lines(lines)),
         (None, None, Some(suggestion), None) => Some(ActionMembers::Suggestion(suggestion)),
         (None, None, Some(suggestion), Some(value)) => Some(ActionMembers::Vote(suggestion, value)),
-        (_, _, _, _) => None,
+        (forms, lines, _, _) => {
+            drop(forms);
+            drop(lines);
+            None
+        }
     }
 }
 
@@ -348,11 +352,17 @@ fn action_from(word: &str, given: ActionMembers) -> Option<UnitAction>
         ActionMembers::Forms(forms) => match word {
             "suggest" => Some(UnitAction::Suggest(forms)),
             "translate" => Some(UnitAction::Translate(forms)),
-            _ => None,
+            _ => {
+                drop(forms);
+                None
+            }
         },
         ActionMembers::Lines(lines) => match word {
             "comment" => Some(UnitAction::Comment(lines)),
-            _ => None,
+            _ => {
+                drop(lines);
+                None
+            }
         },
         ActionMembers::Suggestion(suggestion) => match word {
             "accept" => Some(UnitAction::Accept(suggestion)),

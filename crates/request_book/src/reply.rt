@@ -7,7 +7,7 @@ use std::alloc::AllocError;
 use std::marker::Model;
 
 /// What an office answered: a status of HTTP and a body in JSON.
-#[derive(Debug, Drop)]
+#[derive(Drop)]
 pub struct Reply {
     status: u16,
     body: Text,

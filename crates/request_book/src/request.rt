@@ -42,13 +42,22 @@ impl Request {
 fn signed(parts: Parts) -> Option<Request>
     ensures { result ≡ to_request parts.caller parts.number parts.act }
 {
-    match (parts.caller, parts.number) {
+    let Parts {
+        caller,
+        number,
+        act,
+    } = parts;
+    match (caller, number) {
         (Some(caller), Some(number)) => Some(Request {
             number,
             caller,
-            act: parts.act,
+            act,
         }),
-        (_, _) => None,
+        (caller, _) => {
+            drop(caller);
+            drop(act);
+            None
+        }
     }
 }
 
@@ -56,9 +65,11 @@ fn signed(parts: Parts) -> Option<Request>
 fn bare(parts: Parts) -> Option<Act>
     ensures { result ≡ to_act parts.caller parts.number parts.act }
 {
-    match (parts.caller, parts.number) {
-        (None, None) => Some(parts.act),
-        (_, _) => None,
+    if parts.caller.is_none() && parts.number.is_none() {
+        Some(parts.act)
+    } else {
+        drop(parts);
+        None
     }
 }
 

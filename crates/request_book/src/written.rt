@@ -92,8 +92,7 @@ fn put_unit(
     put_number(map, alloc, "number", number)?;
     put(map, alloc, "seen", Value::from(act.seen.number()))?;
     put_number(map, alloc, "suggestion", suggestion_in(&act.action))?;
-    put_vote(map, alloc, &act.action)?;
-    Ok(())
+    put_vote(map, alloc, &act.action)
 }
 
 #[tactic(auto, using(crate::proofs::PutLemmas::puts_template))]
@@ -114,8 +113,7 @@ fn put_template(
     put_text(map, alloc, "act", "template")?;
     put_caller(map, alloc, caller)?;
     put_number(map, alloc, "number", number)?;
-    put_text(map, alloc, "po", po.as_str())?;
-    Ok(())
+    put_text(map, alloc, "po", po.as_str())
 }
 
 #[tactic(auto, using(crate::proofs::PutLemmas::puts_language))]
@@ -138,8 +136,7 @@ fn put_language(
     put_caller(map, alloc, caller)?;
     put_text(map, alloc, "lang", lang.as_str())?;
     put_number(map, alloc, "number", number)?;
-    put_text(map, alloc, "po", po.as_str())?;
-    Ok(())
+    put_text(map, alloc, "po", po.as_str())
 }
 
 #[tactic(auto, using(crate::proofs::PutLemmas::puts_team))]
@@ -162,8 +159,7 @@ fn put_team(
     put_caller(map, alloc, caller)?;
     put_text(map, alloc, "name", name.as_str())?;
     put_number(map, alloc, "number", number)?;
-    put_text(map, alloc, "role", role_word(role))?;
-    Ok(())
+    put_text(map, alloc, "role", role_word(role))
 }
 
 #[tactic(auto, using(crate::proofs::PutLemmas::puts_policy))]
@@ -190,8 +186,7 @@ fn put_policy(
     put_number(map, alloc, "number", number)?;
     put_flag(map, alloc, "placeholders", policy.placeholders)?;
     put_flag(map, alloc, "reviews", policy.reviews)?;
-    put_flag(map, alloc, "voting", policy.voting)?;
-    Ok(())
+    put_flag(map, alloc, "voting", policy.voting)
 }
 
 fn action_word(action: &UnitAction) -> &'static str

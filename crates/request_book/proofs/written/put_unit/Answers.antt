@@ -1,11 +1,11 @@
 -- The members were put in the order of their keys.
+use Rattle.std.proofs.Common.{◌∙◌}
+use Rattle.std.proofs.lemmas.Result.{on_ok_weaker}
 use Rattle.request_book.proofs.PutLemmas.{puts_unit}
 use Rattle.request_book.proofs.written.put_unit.Goals as goal
 
 pub returns-clause-value : goal.returns-clause-value
-returns-clause-value c =
-    rw (
-      c.in_ok-put_vote.ensures,
+returns-clause-value c = on_ok_weaker c.put_vote.result (λ put. put ∙ rw (
       c.in_ok-put_number-2.ensures.value,
       c.suggestion_in.ensures,
       c.in_ok-put.ensures.ok,
@@ -23,4 +23,4 @@ returns-clause-value c =
       c.in_ok-put_text.ensures,
       c.action_word.ensures,
       c.requires,
-    ) (puts_unit _ _ _ _ _ _ _ _ _ _ _)
+    ) (puts_unit _ _ _ _ _ _ _ _ _ _ _)) c.put_vote.ensures
