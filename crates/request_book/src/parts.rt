@@ -81,7 +81,6 @@ pub(crate) enum ActionMembers {
     Vote(Uuid, Option<VoteValue>),
 }
 
-#[tactic(auto, using(crate::proofs::PartsLemmas::parts_of_object, crate::proofs::PartsLemmas::no_object, crate::proofs::PartsLemmas::no_parts))]
 pub(crate) fn parts_from_text(alloc: Global, text: &str) -> Result<Parts, RequestFault>
     ensures ok { IfOk result (IsPartsText text.now) }
     ensures malformed { result ≡ Err Malformed → (p : _) → ¬ IsPartsText text.now p }

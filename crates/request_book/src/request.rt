@@ -23,7 +23,6 @@ impl Request {
     /// within its limits. Of a key that stands twice the last value counts, as `serde_json` reads it.
     ///
     /// `Malformed` where no request has this text; `Memory` where a growth was refused.
-    #[tactic(auto, using(crate::proofs::PartsLemmas::no_request, crate::proofs::PartsLemmas::unsigned))]
     pub fn from_json(alloc: Global, text: &str) -> Result<Request, RequestFault>
         ensures ok { IfOk result (IsRequestText text.now) }
         ensures one { IfOk result
@@ -93,7 +92,6 @@ impl Act {
     /// request's number and caller. Of a key that stands twice the last value counts, as `serde_json` reads it.
     ///
     /// `Malformed` where no act has this text; `Memory` where a growth was refused.
-    #[tactic(auto, using(crate::proofs::PartsLemmas::no_act, crate::proofs::PartsLemmas::not_bare))]
     pub fn from_json(alloc: Global, text: &str) -> Result<Act, RequestFault>
         ensures ok { IfOk result (IsActText text.now) }
         ensures one { IfOk result (λ a. (other : ActValue) → IsActText text.now other → other ≡ a) }
@@ -108,7 +106,6 @@ impl Act {
 
     /// The act's text: its object in compact JSON, keys in byte order, without the number and the caller of a request. No other act
     /// has this text.
-    #[tactic(auto, using(crate::proofs::CanonLemmas::no_floats, crate::proofs::CanonLemmas::read_act))]
     pub fn to_json(&self, alloc: Global) -> Result<Text, Memory>
         ensures value { IfOk result (λ s. s ≡ act_text self.now) }
         ensures is { IfOk result (λ s. IsActText s self.now) }

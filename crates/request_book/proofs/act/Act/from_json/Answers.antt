@@ -1,6 +1,8 @@
 -- What is read of the text is of one act.
 use Rattle.std.proofs.Common.{sym}
-use Rattle.request_book.proofs.PartsLemmas.{one_act_of, act_of_parts, not_bare}
+use Rattle.std.proofs.lemmas.Result.{err_from_is_err_and}
+use Rattle.request_book.proofs.PartsLemmas.{no_act, one_act_of, act_of_parts, not_bare}
+use Rattle.request_book.proofs.Three.{same_err}
 use Rattle.request_book.proofs.act.Act.from_json.Goals as goal
 
 pub returns-in-Some-clause-one : goal.returns-in-Some-clause-one
@@ -11,3 +13,11 @@ returns-in-Some-clause-ok c = act_of_parts _ _ _ c.in_ok-parts.ensures.ok (sym c
 
 pub returns-in-None-clause-malformed : goal.returns-in-None-clause-malformed
 returns-in-None-clause-malformed c = λ e act is. not_bare _ _ act c.in_ok-parts.ensures.ok (sym c.in-None.ensures) is
+
+pub returns-in-Some-clause-malformed : goal.returns-in-Some-clause-malformed
+returns-in-Some-clause-malformed c = λ e. absurd cc
+
+pub returns-in_err-parts-clause-malformed : goal.returns-in_err-parts-clause-malformed
+returns-in_err-parts-clause-malformed c =
+    let p = err_from_is_err_and c.from_residual.result c.from_residual.ensures.1 in
+    rw (p.1, p.2) (λ is act. no_act _ act (c.in_err-parts.ensures.malformed (same_err _ _ is)))
