@@ -2,6 +2,8 @@
 use Rattle.std.specs.Prelude.{◌≡◌, ℕ, ◌+◌, List, ◌∷◌, ◌++◌, Result, Ok, Err, ⊤}
 use Rattle.po_lex.specs.declared.fault.FaultKind.{FaultKind}
 use Rattle.po_lex.specs.declared.fault.PoFault.{PoFault}
+use Rattle.std.specs.Borrow.{Bor}
+use Rattle.po_lex.specs.declared.line.Keyword.{Keyword}
 use Rattle.po_lex.specs.declared.line.Part.{Part as PartToken}
 use Rattle.po_lex.specs.declared.line.Part.TheVariants.{Begins, Continues}
 use Rattle.po_lex.specs.declared.line.Line.{Line as LineToken}
@@ -22,6 +24,10 @@ line_view (Reference text) = reference text.now
 line_view (Flags text) = flags (items_of text.now)
 line_view (Previous obsolete part) = previous obsolete (part_view part)
 line_view (Message obsolete part) = message obsolete (part_view part)
+
+-- how a keyword is written, and the keyword
+abbrev pub spelled : Bor (List ℕ) × Keyword → List ℕ × Keyword
+spelled w = (w.0.now, w.1)
 
 -- what was read, of the part or the line that was told
 abbrev pub read_part : Result PartToken FaultKind → Result Part FaultKind

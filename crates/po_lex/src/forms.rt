@@ -1,15 +1,32 @@
 //! The form of a line.
 
-ghost use Rattle.std.specs.Prelude.{◌≡◌, ◌∷◌, ◌<◌, ◌==◌, not, true, false, length, drop, IfOk, IfErr, IfSome, MatchOption};
-ghost use Rattle.std.specs.List.{list_all, slice_split};
+ghost use Rattle.std.specs.Prelude.{◌≡◌, ◌∷◌, ◌<◌, ◌==◌, not, true, false, length, drop, map, option_map, IfOk, IfErr, IfSome, MatchOption};
+ghost use Rattle.std.specs.List.{find, list_all, slice_split};
+ghost use Rattle.std.specs.Str.{bytes_eq};
 ghost use Rattle.po_lex.specs.Reading.{is_all_white, skip_white};
 ghost use Rattle.po_lex.specs.Escapes.{unescaped};
-ghost use Rattle.po_lex.specs.Lines.{begins_with, word_of, find_keyword, form_keywords, keyword_of, is_form, piece_at, part_at, is_comment_text, comment_of, skip_space, flags_of, previous_at, message_at, spaced, obsolete_at, comment_at, line_of};
-ghost use Rattle.po_lex.specs.Views.{read_part, read_line, line_view, IsSliceOf, SlicesPart, SlicesLine};
+ghost use Rattle.po_lex.specs.Lines.{begins_with, word_of, keyword_of, is_form, piece_at, part_at, is_comment_text, comment_of, skip_space, flags_of, previous_at, message_at, spaced, obsolete_at, comment_at, line_of};
+ghost use Rattle.po_lex.specs.Views.{read_part, read_line, line_view, spelled, IsSliceOf, SlicesPart, SlicesLine};
 
 use crate::fault::FaultKind;
 use crate::line::{Keyword, Line, Part};
 use crate::pieces::{is_all_white, is_white, raw_len};
+
+/// The keywords as they are written.
+const KEYWORDS: [(&str, Keyword); 12] = [
+    ("msgctxt", Keyword::Msgctxt),
+    ("msgid", Keyword::Msgid),
+    ("msgid_plural", Keyword::MsgidPlural),
+    ("msgstr", Keyword::Msgstr),
+    ("msgstr[0]", Keyword::MsgstrAt(0)),
+    ("msgstr[1]", Keyword::MsgstrAt(1)),
+    ("msgstr[2]", Keyword::MsgstrAt(2)),
+    ("msgstr[3]", Keyword::MsgstrAt(3)),
+    ("msgstr[4]", Keyword::MsgstrAt(4)),
+    ("msgstr[5]", Keyword::MsgstrAt(5)),
+    ("msgstr[6]", Keyword::MsgstrAt(6)),
+    ("msgstr[7]", Keyword::MsgstrAt(7)),
+];
 
 fn begins_with(text: &str, mark: char) -> bool
     requires ascii { mark < 128 }
@@ -83,54 +100,22 @@ fn split_word(text: &str) -> (&str, &str)
     text.split_at(word_len(text.as_bytes()))
 }
 
-/// The keyword `msgstr[D]` of the forms from 4 on.
-fn later_form_keyword(word: &str) -> Option<Keyword>
-    ensures { result ≡ find_keyword word.now (drop 4 form_keywords) }
+/// The keyword of the table that is written as this word.
+fn written_as(table: &[(&str, Keyword)], word: &str) -> Option<Keyword>
+    ensures { result ≡ option_map (λ w. w.1) (find (λ w. bytes_eq w.0 word.now) (map spelled table.now)) }
 {
-    if "msgstr[4]" == word {
-        Some(Keyword::MsgstrAt(4))
-    } else if "msgstr[5]" == word {
-        Some(Keyword::MsgstrAt(5))
-    } else if "msgstr[6]" == word {
-        Some(Keyword::MsgstrAt(6))
-    } else if "msgstr[7]" == word {
-        Some(Keyword::MsgstrAt(7))
-    } else {
-        None
+    for (text, keyword) in table {
+        if *text == word {
+            return Some(*keyword);
+        }
     }
-}
-
-/// The keyword `msgstr[D]`.
-fn form_keyword(word: &str) -> Option<Keyword>
-    ensures { result ≡ find_keyword word.now form_keywords }
-{
-    if "msgstr[0]" == word {
-        Some(Keyword::MsgstrAt(0))
-    } else if "msgstr[1]" == word {
-        Some(Keyword::MsgstrAt(1))
-    } else if "msgstr[2]" == word {
-        Some(Keyword::MsgstrAt(2))
-    } else if "msgstr[3]" == word {
-        Some(Keyword::MsgstrAt(3))
-    } else {
-        later_form_keyword(word)
-    }
+    None
 }
 
 fn keyword_of(word: &str) -> Option<Keyword>
     ensures { result ≡ keyword_of word.now }
 {
-    if "msgctxt" == word {
-        Some(Keyword::Msgctxt)
-    } else if "msgid" == word {
-        Some(Keyword::Msgid)
-    } else if "msgid_plural" == word {
-        Some(Keyword::MsgidPlural)
-    } else if "msgstr" == word {
-        Some(Keyword::Msgstr)
-    } else {
-        form_keyword(word)
-    }
+    written_as(&KEYWORDS, word)
 }
 
 /// What stands between the quotes of a piece.
