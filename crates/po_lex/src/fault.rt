@@ -1,31 +1,40 @@
 //! Why a text spells no catalogue.
 
 use std::alloc::{AllocError, AllocFailed};
-use std::fmt;
 use thiserror::Error;
 
 /// What is wrong with a text.
 #[derive(Clone, Copy, Debug, PartialEq, Eq, Drop, Error)]
 pub enum FaultKind {
     /// The bytes are not UTF-8.
+    #[error("the text is not UTF-8")]
     NotUtf8,
     /// The line is of no form.
+    #[error("this line is of no form")]
     Line,
     /// A quoted piece has no first or no last quote, a raw control character, or something behind it.
+    #[error("this piece is not quoted as it has to be")]
     Quote,
     /// A backslash is not followed by one of the nine letters.
+    #[error("a backslash without a known letter behind it")]
     Escape,
     /// The line cannot stand here, by the order of an entry's lines or by its mark.
+    #[error("this line cannot stand here")]
     Order,
     /// A `msgstr` beside a `msgid_plural`, a `msgstr[D]` without one, or a wrong digit.
+    #[error("this is not the form that is due here")]
     Forms,
     /// The entry's key was there before.
+    #[error("this entry's msgctxt and msgid were there before")]
     Duplicate,
     /// The header names a charset other than UTF-8.
+    #[error("the header names a charset other than UTF-8")]
     Charset,
     /// The text, a string or the number of entries passes its limit.
+    #[error("a limit is passed")]
     Limit,
     /// A growth was refused.
+    #[error("out of memory")]
     Memory,
 }
 
@@ -49,23 +58,6 @@ impl FaultKind {
             FaultKind::Limit => 9,
             FaultKind::Memory => 10,
         }
-    }
-}
-
-impl fmt::Display for FaultKind {
-    fn fmt<W: fmt::Write>(&self, f: &mut fmt::Formatter<W>) -> fmt::Result {
-        f.write_str(match self {
-            FaultKind::NotUtf8 => "the text is not UTF-8",
-            FaultKind::Line => "this line is of no form",
-            FaultKind::Quote => "this piece is not quoted as it has to be",
-            FaultKind::Escape => "a backslash without a known letter behind it",
-            FaultKind::Order => "this line cannot stand here",
-            FaultKind::Forms => "this is not the form that is due here",
-            FaultKind::Duplicate => "this entry's msgctxt and msgid were there before",
-            FaultKind::Charset => "the header names a charset other than UTF-8",
-            FaultKind::Limit => "a limit is passed",
-            FaultKind::Memory => "out of memory",
-        })
     }
 }
 
