@@ -10,6 +10,7 @@ use Rattle.serde_json.specs.Written.{has_float}
 use Rattle.po_read.specs.Texts.{Text}
 use Rattle.template_update.specs.declared.plans.Plan.{Plan}
 use Rattle.template_update.specs.declared.plans.Counts.{Counts}
+use Rattle.template_update.specs.declared.plans.Counts.TheVariants.{Updated, Loaded}
 use Rattle.request_book.specs.Words.{Fields, object_of, with_fields}
 use Rattle.replies.specs.Bodies.{count_fields, template_fields}
 use Rattle.replies.specs.LanguageFields.{language_fields}
@@ -71,3 +72,7 @@ one_more left others p counts ms new all cut own puts h =
 
 pub flat_more : (key : Text) (d : Data) (ms new : Members) → new ≡ put key d ms → has_float d ≡ false → has_float (object ms) ≡ false → has_float (object new) ≡ false
 flat_more key d ms new puts hd hm = ap (λ m. has_float (object m)) puts ∙ flat-put key d ms hd hm
+
+pub flat_counts : (counts : Counts) → has_float (object_of (count_fields counts)) ≡ false
+flat_counts (Updated added changed kept obsolete revived) = refl
+flat_counts (Loaded loaded missing obsolete) = refl

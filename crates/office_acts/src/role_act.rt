@@ -77,9 +77,15 @@ pub(crate) fn role_outcome(
     if !has_manager_with(office, name, role) {
         return OfficeOutcome::refused(alloc, Refusal::LastManager);
     }
-    let reply = role_set(alloc, name, role)?;
-    Ok(OfficeOutcome {
-        change: Some(Change::OneRole(name.duplicate()?, role)),
-        reply,
-    })
+    let own = name.duplicate()?;
+    match role_set(alloc, name, role) {
+        Ok(reply) => Ok(OfficeOutcome {
+            change: Some(Change::OneRole(own, role)),
+            reply,
+        }),
+        Err(refused) => {
+            drop(own);
+            Err(Memory::from(refused))
+        }
+    }
 }

@@ -1,23 +1,22 @@
 -- What an office in maps stands for, read at one key and changed at one key.
 use Rattle.std.proofs.Common.{◌≡◌, Option, Some, None, option_map, unwrap_or, string_bytes, refl, sym, ap, ◌∙◌}
 use Rattle.std.specs.FinMap as maps
-use Rattle.std.specs.BTreeMap.{BTreeMap, get_by, insert_entry}
+use Rattle.std.specs.BTreeMap.{get_by}
 use Rattle.po_read.specs.Texts.{Text, text_cmp}
-use Rattle.units.specs.Office.{Place as OfficePlace, place_cmp, role_of, view_of, with_unit, entry_of}
+use Rattle.units.specs.Office.{Place as OfficePlace, place_cmp, role_of, view_of, entry_of}
 use Rattle.units.specs.declared.unit.Role.{Role}
 use Rattle.units.specs.declared.unit.Role.TheVariants.{Guest}
 use Rattle.units.specs.declared.unit.Unit.{Unit}
 use Rattle.units.specs.declared.unit.Key.{Key}
 use Rattle.units.specs.declared.unit.UnitView.{UnitView}
-use Rattle.units.specs.Orders.{text_total, place_total, place_IsAntisymmetric}
+use Rattle.units.specs.Orders.{text_total, place_total}
 use Rattle.plural_expr.specs.Values.{Rule}
 use Rattle.deliveries.specs.declared.values.Found.{Found}
 use Rattle.deliveries.specs.UnitAccess.{found_of}
-use Rattle.office_maps.specs.declared.place.Place.{Place}
 use Rattle.office_maps.specs.declared.office_maps.OfficeMaps.{OfficeMaps}
 use Rattle.deliveries.specs.declared.values.Language.{Language}
 use Rattle.office_maps.specs.OfficeIn.{office_in, place_of}
-use Rattle.office_maps.proofs.Views.{get-viewed, insert-viewed}
+use Rattle.office_maps.proofs.Views.{get-viewed}
 use Rattle.office_maps.proofs.FoundLemmas as lemmas
 
 map_self : {X : Type 0} (o : Option X) → option_map (λ x. x) o ≡ o
@@ -38,10 +37,6 @@ pub view_at : (t : OfficeMaps) (place : OfficePlace) (found : Option Unit) → f
 view_at t place found e = ap (option_map (λ unit. record { unit = unit; source = entry_of t.template.catalogue place.1 })) (e ∙ sym (unit_at t place))
 
 -- a unit put in
-pub units-put : (t : OfficeMaps) (units : BTreeMap Place Unit) (place : Place) (unit : Unit) → units.entries ≡ insert_entry (λ x y. place_cmp (place_of x) (place_of y)) t.units.entries place unit
-    → (office_in (record t { units = units })) ≡ with_unit (office_in t) (place_of place) unit
-units-put t units place unit e i = record (office_in t) { units = insert-viewed place_cmp place_of (λ unit. unit) place_total place_IsAntisymmetric t.units units place unit e i }
-
 -- what is found where the language is there, and where it isn't
 pub found_there : (t : OfficeMaps) (lang : Text) (key : Key) (name : Text) (language : Language) → Some language ≡ get_by (λ k. text_cmp lang (string_bytes k)) t.languages.rows
     → (rule : Rule) (role : Role) (view : Option UnitView) → rule ≡ language.rule → role ≡ role_of (office_in t) name → view ≡ view_of (office_in t) (lang, key)

@@ -11,13 +11,33 @@ use crate::languages::Languages;
 use crate::office_maps::OfficeMaps;
 use crate::place::Place;
 use crate::template::Template;
-use crate::unit_rows::{Displaced, put_all, put_back, put_policy, units_of_plans};
+use crate::unit_rows::{Displaced, put_all, put_at, put_back, put_policy, units_of_plans};
 use deliveries::{Change, Language};
 use po_read::Catalogue;
 use std::alloc::{AllocError, Global};
 use std::collections::BTreeMap;
 use template_update::Plan;
 use units::{Lang, Memory, Name, Policy, Role, Unit};
+
+/// Puts a name with a role into a team.
+pub(crate) fn add_member(
+    alloc: Global,
+    team: &mut BTreeMap<String, Role>,
+    name: &str,
+    role: Role,
+) -> Result<(), AllocError>
+    ensures ok { OnOk result (team_in team.new ≡ maps.insert (team_in team.old) name.now role) }
+    ensures err { OnErr result (team_in team.new ≡ team_in team.old) }
+{
+    let own = String::from_str(alloc, name)?;
+    match team.insert(own, role) {
+        Ok(_) => Ok(()),
+        Err(refused) => {
+            drop(refused);
+            Err(AllocError)
+        }
+    }
+}
 
 /// Sets a name's role: a guest isn't in the team.
 fn put_role(
@@ -34,11 +54,7 @@ fn put_role(
             let _ = team.remove(name.as_str());
             Ok(())
         }
-        _ => {
-            let own = String::from_str(alloc, name.as_str())?;
-            team.insert(own, role)?;
-            Ok(())
-        }
+        _ => add_member(alloc, team, name.as_str(), role),
     }
 }
 
@@ -103,16 +119,7 @@ impl OfficeMaps {
         ensures ok { OnOk result (office_in self.new ≡ with_unit (office_in self.old) (place_of place) unit) }
         ensures err { OnErr result (office_in self.new ≡ office_in self.old) }
     {
-        match self.units.insert(place, unit) {
-            Ok(before) => {
-                drop(before);
-                Ok(())
-            }
-            Err(refused) => {
-                drop(refused);
-                Err(AllocError)
-            }
-        }
+        put_at(&mut self.units, place, unit)
     }
 
     /// Makes what an office act changes.
@@ -127,7 +134,7 @@ impl OfficeMaps {
             Change::OneRole(name, role) => {
                 let done = self.change_role(alloc, &name, role);
                 drop(name);
-                Ok(done?)
+                done
             }
             Change::NewPolicy(policy) => {
                 self.change_policy(policy);
@@ -136,21 +143,19 @@ impl OfficeMaps {
             Change::NewLanguage(lang, language, plan) => {
                 let done = self.add_language(alloc, &lang, language, plan);
                 drop(lang);
-                Ok(done?)
+                done
             }
-            Change::NewTemplate(template, plans) => Ok(self.change_template(
-                alloc, template, plans,
-            )?),
+            Change::NewTemplate(template, plans) => self.change_template(alloc, template, plans),
         }
     }
 
     /// Sets a name's role.
-    fn change_role(&mut self, alloc: Global, name: &Name, role: Role) -> Result<(), AllocError>
+    fn change_role(&mut self, alloc: Global, name: &Name, role: Role) -> Result<(), Memory>
         ensures ok { OnOk result (office_in self.new
             ≡ record (office_in self.old) { team = set_role name.now role (office_in self.old).team }) }
         ensures err { OnErr result (office_in self.new ≡ office_in self.old) }
     {
-        put_role(alloc, &mut self.team, name, role)
+        Ok(put_role(alloc, &mut self.team, name, role)?)
     }
 
     /// Sets the policy, with what it does to units.
@@ -169,19 +174,19 @@ impl OfficeMaps {
         lang: &Lang,
         language: Language,
         plan: Plan,
-    ) -> Result<(), AllocError>
+    ) -> Result<(), Memory>
         ensures ok { OnOk result (office_in self.new ≡ with_language (office_in self.old) lang.now language.header plan) }
         ensures err { OnErr result (office_in self.new ≡ office_in self.old) }
     {
         let Plan { units, counts: _ } = plan;
-        put_language(
+        Ok(put_language(
             alloc,
             &mut self.languages,
             &mut self.units,
             lang,
             language,
             units.into_vec(),
-        )
+        )?)
     }
 
     /// Puts a template in, with the units that each language then has.
@@ -190,7 +195,7 @@ impl OfficeMaps {
         alloc: Global,
         template: Catalogue,
         plans: Vec<(Lang, Plan)>,
-    ) -> Result<(), AllocError>
+    ) -> Result<(), Memory>
         ensures ok { OnOk result (office_in self.new ≡ with_template (office_in self.old) template plans.items) }
         ensures err { OnErr result (office_in self.new ≡ office_in self.old) }
     {

@@ -49,13 +49,15 @@ impl OfficeMaps {
             → IfOk result (λ found. found ≡ plan_of (office_in self.now).template (units_of (office_in self.now) lang.now) next.now (rule_at (office_in self.now) lang.now)) }
     {
         let units = units_of(alloc, &self.units, lang)?;
-        Ok(plan(
+        let planned = plan(
             alloc,
             &self.template.catalogue,
             units.as_slice(),
             next,
             &language.rule,
-        )?)
+        );
+        drop(units);
+        planned
     }
 
     /// What a new template makes of the language with a code.

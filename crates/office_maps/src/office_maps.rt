@@ -35,12 +35,19 @@ impl OfficeMaps {
         let Some(language) = self.languages.get(lang) else {
             return Ok(None);
         };
-        Ok(Some(Found {
-            rule: language.rule.duplicate()?,
-            policy: self.policy,
-            role: self.role_of(name),
-            view: self.unit_of(lang, key)?,
-        }))
+        let rule = language.rule.duplicate()?;
+        match self.unit_of(lang, key) {
+            Ok(view) => Ok(Some(Found {
+                rule,
+                policy: self.policy,
+                role: self.role_of(name),
+                view,
+            })),
+            Err(refused) => {
+                drop(rule);
+                Err(refused)
+            }
+        }
     }
 
     /// A caller's role: who isn't in the team is a guest.

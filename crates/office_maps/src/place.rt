@@ -8,13 +8,14 @@ ghost use Rattle.units.specs.Units.{key_cmp};
 ghost use Rattle.units.specs.Office.{place_cmp};
 ghost use Rattle.units.specs.Orders.{key_total, place_total};
 
-use po_read::{Duplicate, PoString};
+use crate::openings::string;
+use po_read::Duplicate;
 use std::alloc::{AllocError, Global};
 use std::cmp::Ordering;
 use units::{Key, Keyed, Lang};
 
 /// A key in the order of key texts: the msgid, or the context, U+0004 and the msgid.
-#[derive(Debug, Drop)]
+#[derive(Drop)]
 pub struct OrderedKey {
     pub key: Key,
 }
@@ -58,7 +59,7 @@ impl Ord for OrderedKey {
 }
 
 /// A unit's place, in the order of languages and then of keys.
-#[derive(Debug, Drop)]
+#[derive(Drop)]
 pub struct Place {
     pub lang: Lang,
     pub key: OrderedKey,
@@ -70,12 +71,17 @@ impl Place {
         ensures lang { IfOk result (λ place. place.lang ≡ lang.now) }
         ensures key { IfOk result (λ place. place.key.key ≡ key.now) }
     {
-        Ok(Place {
-            lang: lang.duplicate()?,
-            key: OrderedKey {
-                key: key.duplicate()?,
-            },
-        })
+        let lang = lang.duplicate()?;
+        match key.duplicate() {
+            Ok(key) => Ok(Place {
+                lang,
+                key: OrderedKey { key },
+            }),
+            Err(refused) => {
+                drop(lang);
+                Err(refused)
+            }
+        }
     }
 
     /// The place before all others of a language: that of an empty msgid without a context.
@@ -83,16 +89,19 @@ impl Place {
         ensures lang { IfOk result (λ place. place.lang ≡ lang.now) }
         ensures key { IfOk result (λ place. place.key.key ≡ record { ctx = None; id = [] }) }
     {
-        let id = match PoString::try_new(alloc, "")? {
-            Some(id) => id,
-            None => unreachable!(),
-        };
-        Ok(Place {
-            lang: lang.duplicate()?,
-            key: OrderedKey {
-                key: Key { ctx: None, id },
-            },
-        })
+        let lang = lang.duplicate()?;
+        match string(alloc, "") {
+            Ok(id) => Ok(Place {
+                lang,
+                key: OrderedKey {
+                    key: Key { ctx: None, id },
+                },
+            }),
+            Err(refused) => {
+                drop(lang);
+                Err(refused)
+            }
+        }
     }
 }
 

@@ -1,6 +1,6 @@
 //! A project's template, with where the entry of each key stands.
 
-ghost use Rattle.std.specs.Prelude.{◌≡◌, IfOk, option_and_then, slice_get, option_map};
+ghost use Rattle.std.specs.Prelude.{◌≡◌, IfOk};
 ghost use Rattle.std.specs.Option.{option_copied};
 ghost use Rattle.std.proofs.Props.{props};
 ghost use Rattle.units.specs.Units.{key_of};
@@ -59,10 +59,14 @@ fn places_of(alloc: Global, entries: &[Entry]) -> Result<BTreeMap<OrderedKey, us
 pub fn key_of(entry: &Entry) -> Result<OrderedKey, AllocError>
     ensures { IfOk result (λ key. key.key ≡ key_of entry.now) }
 {
-    Ok(OrderedKey {
-        key: Key {
-            ctx: entry.ctx.duplicate()?,
-            id: entry.id.duplicate()?,
-        },
-    })
+    let id = entry.id.duplicate()?;
+    match entry.ctx.duplicate() {
+        Ok(ctx) => Ok(OrderedKey {
+            key: Key { ctx, id },
+        }),
+        Err(refused) => {
+            drop(id);
+            Err(refused)
+        }
+    }
 }

@@ -7,7 +7,7 @@ ghost use Rattle.units.specs.Limits.{revision_limit};
 ghost use Rattle.po_read.specs.Texts.{text_eq};
 ghost use Rattle.units.specs.Changes.{unapproved, under};
 ghost use Rattle.deliveries.specs.OfficeActs.{placed};
-ghost use Rattle.office_maps.specs.Rows.{units_in};
+ghost use Rattle.office_maps.specs.Rows.{place_of, units_in};
 ghost use Rattle.office_maps.specs.DisplacedUnits.{Units, IsDisplaced, AreDisplaced, at_places, with_all};
 
 use crate::place::Place;
@@ -160,6 +160,27 @@ pub(crate) fn put_all(
     Ok(befores)
 }
 
+/// Puts a unit at a place, instead of what stood there.
+pub(crate) fn put_at(
+    units: &mut BTreeMap<Place, Unit>,
+    place: Place,
+    unit: Unit,
+) -> Result<(), AllocError>
+    ensures ok { OnOk result (units_in units.new ≡ maps.insert (units_in units.old) (place_of place) unit) }
+    ensures err { OnErr result (units_in units.new ≡ units_in units.old) }
+{
+    match units.insert(place, unit) {
+        Ok(before) => {
+            drop(before);
+            Ok(())
+        }
+        Err(refused) => {
+            drop(refused);
+            Err(AllocError)
+        }
+    }
+}
+
 /// Puts a unit of a language at its place.
 pub(crate) fn add_unit(
     units: &mut BTreeMap<Place, Unit>,
@@ -169,16 +190,7 @@ pub(crate) fn add_unit(
     ensures { OnOk result (units_in units.new ≡ maps.insert (units_in units.old) (lang.now, unit.key) unit) }
 {
     match Place::of(lang, &unit.key) {
-        Ok(place) => match units.insert(place, unit) {
-            Ok(before) => {
-                drop(before);
-                Ok(())
-            }
-            Err(refused) => {
-                drop(refused);
-                Err(AllocError)
-            }
-        },
+        Ok(place) => put_at(units, place, unit),
         Err(refused) => {
             drop(unit);
             Err(refused)
@@ -225,7 +237,7 @@ pub(crate) fn unapprove(unit: &mut Unit)
     }
     if let Some(revision) = unit.revision.next() {
         unit.state = UnitState::Translated;
-        unit.previous = no_previous();
+        drop(std::mem::replace(&mut unit.previous, no_previous()));
         unit.revision = revision;
     }
 }

@@ -19,9 +19,9 @@ reply_with told = record { status = 200; body = compact_text told }
 
 pub returns : goal.returns
 returns c =
-    let languages = c.in_ok-languages.languages in
-    let puts : members_view c.put.new.map.entries ≡ put (codes "languages") (view (Object languages)) no_members =
-    c.in_ok-put.ensures.ok ∙ ap (λ es. put (codes "languages") (view (Object languages)) (members_view es)) c.new-map.ensures.empty in
-    let told : object (members_view c.put.new.map.entries) ≡ object_of (template_fields (map (λ (p : Text × Plan). (p.0, p.1.counts)) c.args.plans.now)) =
+    let languages = c.in_ok-languages.languages.map in
+    let puts : members_view c.in_ok-member.field-0.map.entries ≡ put (codes "languages") (view (Object languages)) no_members =
+    c.in_ok-member.ensures ∙ ap (λ es. put (codes "languages") (view (Object languages)) (members_view es)) c.new.ensures in
+    let told : object (members_view c.in_ok-member.field-0.map.entries) ≡ object_of (template_fields (map (λ (p : Text × Plan). (p.0, p.1.counts)) c.args.plans.now)) =
     ap object puts ∙ (ap (λ d. object (put (codes "languages") d no_members)) (view-Object languages ∙ c.in_ok-languages.ensures.value) ∙ template_told c.args.plans.now) in
     IfOk-weaker c.reply.result _ _ (λ made is. is ∙ ap reply_with told) c.reply.ensures

@@ -1,5 +1,4 @@
-use Rattle.std.proofs.Common.{rules}
 use Rattle.office_maps.proofs.template.key_of.Goals as goal
 
-pub returns : goal.returns
-returns c = search rules
+pub returns-in-Ok : goal.returns-in-Ok
+returns-in-Ok c = λ i. record { ctx = c.in-Ok.ensures i; id = c.in_ok-id.ensures i }

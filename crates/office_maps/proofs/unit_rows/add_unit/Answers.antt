@@ -1,6 +1,9 @@
-use Rattle.office_maps.proofs.UnitRows.{unit_put}
+use Rattle.std.proofs.Common.{◌∙◌}
+use Rattle.std.specs.FinMap as maps
+use Rattle.std.proofs.lemmas.Result.{on_ok_weaker}
+use Rattle.office_maps.specs.Rows.{units_in}
 use Rattle.office_maps.proofs.unit_rows.add_unit.Goals as goal
 
-pub returns-in-Ok-insert : goal.returns-in-Ok-insert
-returns-in-Ok-insert c =
-    unit_put c.args.units.now c.insert.new.self c.in-Ok.place c.args.unit c.args.lang.now c.in-Ok.ensures.lang c.in-Ok.ensures.key c.in-Ok-insert.ensures.entries
+pub returns-in-Ok : goal.returns-in-Ok
+returns-in-Ok c =
+    on_ok_weaker c.put_at.result (λ put. put ∙ (λ i. maps.insert (units_in c.args.units.now) (c.in-Ok.ensures.lang i, c.in-Ok.ensures.key i) c.args.unit)) c.put_at.ensures.ok

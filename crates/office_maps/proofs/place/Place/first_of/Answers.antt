@@ -1,12 +1,8 @@
-use Rattle.std.proofs.Common.{◌≡◌, Option, Some, None, List, [], ℕ}
+use Rattle.std.proofs.Common.{None}
 use Rattle.office_maps.proofs.place.Place.first_of.Goals as goal
 
--- the text that was made is the empty one
-made : (o : Option (List ℕ)) (id : List ℕ) → o ≡ Some [] → o ≡ Some id → id ≡ []
-made o id is found = cc
+pub returns-in-Ok-clause-lang : goal.returns-in-Ok-clause-lang
+returns-in-Ok-clause-lang c = c.in_ok-lang.ensures
 
-pub returns-clause-lang : goal.returns-clause-lang
-returns-clause-lang c = c.in_ok-duplicate.ensures
-
-pub returns-clause-key : goal.returns-clause-key
-returns-clause-key c = λ i. record { ctx = None; id = made _ _ c.in_ok-id.ensures c.in-Some.is i }
+pub returns-in-Ok-clause-key : goal.returns-in-Ok-clause-key
+returns-in-Ok-clause-key c = λ i. record { ctx = None; id = c.in-Ok.ensures i }

@@ -1,7 +1,7 @@
 use Rattle.office_maps.proofs.place.Place.of.Goals as goal
 
-pub returns-clause-lang : goal.returns-clause-lang
-returns-clause-lang c = c.in_ok-duplicate.ensures
+pub returns-in-Ok-clause-lang : goal.returns-in-Ok-clause-lang
+returns-in-Ok-clause-lang c = c.in_ok-lang.ensures
 
-pub returns-clause-key : goal.returns-clause-key
-returns-clause-key c = c.in_ok-duplicate-2.ensures
+pub returns-in-Ok-clause-key : goal.returns-in-Ok-clause-key
+returns-in-Ok-clause-key c = c.in-Ok.ensures
