@@ -11,9 +11,9 @@ use Rattle.plural_expr.specs.Views.{tree_view}
 abbrev pub frame_view : FrameNode → Frame
 frame_view Parens = in_parens
 frame_view Negated = in_negated
-frame_view (Right o a) = in_right o (tree_view a)
-frame_view (Then c) = in_then (tree_view c)
-frame_view (Else c a) = in_else (tree_view c) (tree_view a)
+frame_view (Right o a) = in_right o (tree_view a.value)
+frame_view (Then c) = in_then (tree_view c.value)
+frame_view (Else c a) = in_else (tree_view c.value) (tree_view a.value)
 
 abbrev pub frames_view : List FrameNode → List Frame
 frames_view frames = fold (λ outer frame. frame_view frame ∷ outer) [] frames

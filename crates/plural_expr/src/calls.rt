@@ -41,17 +41,24 @@ fn counted(written: Token, tree: Tree) -> Result<PluralForms, PluralFault>
     ensures { result ≡ rule_counted written (tree_view tree) }
 {
     let Some(count) = count_of(written) else {
+        drop(tree);
         return Err(PluralFault::Count);
     };
     if !is_within(&tree, MAX_DEPTH) {
+        drop(tree);
         return Err(PluralFault::Depth);
     }
-    let served = count_served(&tree, count)?;
-    Ok(PluralForms {
-        count,
-        tree,
-        served,
-    })
+    match count_served(&tree, count) {
+        Ok(served) => Ok(PluralForms {
+            count,
+            tree,
+            served,
+        }),
+        Err(fault) => {
+            drop(tree);
+            Err(fault)
+        }
+    }
 }
 
 impl PluralForms {

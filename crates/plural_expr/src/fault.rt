@@ -5,18 +5,19 @@ ghost use Rattle.plural_expr.specs.declared.fault.PluralFault.TheVariants as fau
 ghost use Rattle.plural_expr.specs.Faults.{eval_fault_number, fault_at, fault_number};
 
 use std::alloc::{AllocError, AllocFailed};
+use std::fmt;
 use thiserror::Error;
 
 /// Why a rule has no form's number at some n.
 #[derive(Clone, Copy, Debug, PartialEq, Eq, Drop, Error)]
 pub enum EvalFault {
-    #[error("a division by zero")]
+    /// A division by zero.
     Zero,
-    #[error("a difference below zero")]
+    /// A difference below zero.
     Below,
-    #[error("a value over 18446744073709551615")]
+    /// A value over 2^64 - 1.
     Above,
-    #[error("a value that is not below nplurals")]
+    /// A value that is not below nplurals.
     Range,
 }
 
@@ -34,20 +35,31 @@ impl EvalFault {
     }
 }
 
+impl fmt::Display for EvalFault {
+    fn fmt<W: fmt::Write>(&self, f: &mut fmt::Formatter<W>) -> fmt::Result {
+        f.write_str(match self {
+            EvalFault::Zero => "a division by zero",
+            EvalFault::Below => "a difference below zero",
+            EvalFault::Above => "a value over 18446744073709551615",
+            EvalFault::Range => "a value that is not below nplurals",
+        })
+    }
+}
+
 /// The first test that a text fails as a plural rule.
 #[derive(Clone, Copy, Debug, PartialEq, Eq, Drop, Error)]
 pub enum PluralFault {
-    #[error("the text is not of the grammar of plural rules")]
+    /// The text is not of the grammar.
     Syntax,
-    #[error("nplurals is not one digit from 1 to 8")]
+    /// nplurals is not one digit from 1 to 8.
     Count,
-    #[error("the text has more than 512 bytes, or the expression is deeper than 32")]
+    /// The text has more than 512 bytes, or the expression is deeper than 32.
     Depth,
-    #[error("the expression has no value at n = {0}")]
+    /// The expression has no value at this n.
     Faults(u32),
-    #[error("the value at n = {0} is not below nplurals")]
+    /// The value at this n is not below nplurals.
     Range(u32),
-    #[error("out of memory")]
+    /// A growth was refused.
     Memory,
 }
 
@@ -75,6 +87,22 @@ impl PluralFault {
             PluralFault::Faults(n) | PluralFault::Range(n) => Some(*n),
             _ => None,
         }
+    }
+}
+
+impl fmt::Display for PluralFault {
+    fn fmt<W: fmt::Write>(&self, f: &mut fmt::Formatter<W>) -> fmt::Result {
+        let text = match self {
+            PluralFault::Syntax => "the text is not of the grammar of plural rules",
+            PluralFault::Count => "nplurals is not one digit from 1 to 8",
+            PluralFault::Depth => {
+                "the text has more than 512 bytes, or the expression is deeper than 32"
+            }
+            PluralFault::Faults(n) => return write!(f, "the expression has no value at n = {n}"),
+            PluralFault::Range(n) => return write!(f, "the value at n = {n} is not below nplurals"),
+            PluralFault::Memory => "out of memory",
+        };
+        f.write_str(text)
     }
 }
 
