@@ -10,7 +10,7 @@ use crate::text::Text;
 use std::alloc::AllocError;
 
 /// What the msgctxt, the msgid and the msgid_plural were before, where the entry says so.
-#[derive(Debug, Drop, PartialEq, Eq)]
+#[derive(Drop, PartialEq, Eq)]
 pub struct Previous {
     pub ctx: Option<PoString>,
     pub id: Option<PoString>,
@@ -19,7 +19,7 @@ pub struct Previous {
 
 /// One entry of a catalogue, as "The Format of PO Files" of the GNU gettext manual has it. The first four are its translator
 /// comments, extracted comments, references and flags. A context that is absent and one that is empty are different.
-#[derive(Debug, Drop)]
+#[derive(Drop)]
 pub struct Entry {
     pub translator: Items<Text>,
     pub extracted: Items<Text>,

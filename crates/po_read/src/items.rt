@@ -7,7 +7,7 @@ use std::marker::Model;
 use std::mem::replace;
 
 /// A list of values that keeps its allocator.
-#[derive(Debug, Drop, Clone)]
+#[derive(Debug, Drop)]
 pub struct Items<T> {
     inner: Vec<T>,
 }

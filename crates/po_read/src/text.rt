@@ -4,12 +4,13 @@ ghost use Rattle.std.specs.Ordering.{nat_cmp};
 ghost use Rattle.std.specs.Cmp.{partial_equiv_from_equiv};
 ghost use Rattle.std.specs.Cmp.Lexicographic.{pointwise, slice_cmp, nat_list_eq_equiv, nat_list_cmp_total, texts_ties, texts_po};
 
+use crate::duplicate::Duplicate;
 use std::alloc::{AllocError, Global};
 use std::cmp::Ordering;
 use std::marker::Model;
 
 /// Any Unicode text. Texts are ordered by their bytes.
-#[derive(Debug, Drop, Clone)]
+#[derive(Debug, Drop)]
 pub struct Text {
     inner: String,
 }
@@ -50,6 +51,14 @@ impl Text {
         ensures { result.now ≡ self.now }
     {
         &self.inner
+    }
+}
+
+impl Duplicate for Text {
+    fn duplicate(&self) -> Result<Text, AllocError> {
+        Ok(Text {
+            inner: self.inner.clone()?,
+        })
     }
 }
 

@@ -1,5 +1,4 @@
-use Rattle.std.proofs.Common.{rules}
 use Rattle.po_read.proofs.items.Items.into_vec.Goals as goal
 
 pub returns : goal.returns
-returns g c = search rules
+returns g c = c.self.view_is

@@ -1,5 +1,5 @@
-use Rattle.std.proofs.Common.{rules}
+use Rattle.std.proofs.Common.{refl}
 use Rattle.po_read.proofs.text.Text.from_string.Goals as goal
 
 pub returns : goal.returns
-returns c = search rules
+returns c = refl
