@@ -42,16 +42,6 @@ mod texts;
 mod told;
 mod written;
 
-use crate::words::{Outcome, both_sides};
-use deeds::told;
+pub(crate) use deeds::tell;
 pub(crate) use stage::Stage;
-use std::alloc::Global;
-use texts::is_wanted;
-
-/// What a row comes to. None where it can't be read.
-pub(crate) fn found(alloc: Global, stage: &mut Stage, row: &str) -> Option<Outcome> {
-    let (deed, wanted) = both_sides(row);
-    let text = told(alloc, stage, deed)?;
-    let as_said = is_wanted(alloc, stage, wanted, text.as_str());
-    Some(Outcome::of(text, as_said))
-}
+pub(crate) use texts::means;

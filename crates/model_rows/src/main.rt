@@ -14,18 +14,25 @@ mod stage;
 mod unit_rows;
 mod words;
 
-use stage::{Stage, found};
+use stage::Stage;
 use std::alloc::Global;
 use std::io;
 use std::rt::HostRuntime;
-use words::Outcome;
+use words::both_sides;
 
 /// Tells a row that comes to something else than it says.
 fn tell(rt: &HostRuntime, alloc: Global, stage: &mut Stage, row: &str) -> io::Result<()> {
-    match found(alloc, stage, row) {
-        Some(Outcome::AsSaid) => Ok(()),
-        Some(Outcome::Other(text)) => println!(rt; "{row}, not {text}"),
-        None => println!(rt; "{row}: unread"),
+    if row.starts_with('#') {
+        return Ok(());
+    }
+    let (deed, wanted) = both_sides(row);
+    let mut told = String::new(alloc);
+    if stage.tell(alloc, &mut told, deed).is_none() {
+        println!(rt; "{row}: unread")
+    } else if stage.means(alloc, wanted, told.as_str()) {
+        Ok(())
+    } else {
+        println!(rt; "{row}, not {told}")
     }
 }
 

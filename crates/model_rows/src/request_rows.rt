@@ -21,7 +21,6 @@
 //!
 //! In a deed and in what it comes to `<U+1F>` stands for a character by its number, and `<1000*TEXT>` for a text so many
 //! times.
-mod acts;
 mod book;
 mod escapes;
 mod limits;
@@ -30,18 +29,7 @@ mod stage;
 mod streams;
 mod told;
 mod voting;
-mod words;
 
-use crate::words::{Outcome, both_sides};
-use escapes::means;
+pub(crate) use escapes::means;
 pub(crate) use stage::Stage;
-use std::alloc::Global;
-use told::told;
-
-/// What a row comes to. None where it can't be read.
-pub(crate) fn found(alloc: Global, stage: &mut Stage, row: &str) -> Option<Outcome> {
-    let (deed, wanted) = both_sides(row);
-    let text = told(alloc, stage, deed)?;
-    let as_said = means(alloc, wanted, text.as_str());
-    Some(Outcome::of(text, as_said))
-}
+pub(crate) use told::tell;

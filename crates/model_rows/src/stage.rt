@@ -1,5 +1,4 @@
 //! What the rows so far set, and what a row makes of it.
-use crate::words::Outcome;
 use crate::{catalogue_rows, request_rows, unit_rows};
 use std::alloc::Global;
 
@@ -40,20 +39,26 @@ impl Stage {
             requests: request_rows::Stage::new(alloc),
         }
     }
-}
 
-/// What a row comes to. None where it can't be read.
-pub(crate) fn found(alloc: Global, stage: &mut Stage, row: &str) -> Option<Outcome> {
-    if row.starts_with('#') {
-        return Some(Outcome::AsSaid);
+    /// Tells what a deed comes to, which is nothing where it only sets something. None where it can't be read.
+    pub(crate) fn tell(&mut self, alloc: Global, told: &mut String, deed: &str) -> Option<()> {
+        if let Some(name) = deed.strip_prefix("== ") {
+            self.part = Part::named(name)?;
+            return Some(());
+        }
+        match self.part {
+            Part::Catalogues => catalogue_rows::tell(alloc, told, &mut self.catalogues, deed),
+            Part::Units => unit_rows::tell(alloc, told, &mut self.units, deed),
+            Part::Requests => request_rows::tell(alloc, told, &mut self.requests, deed),
+        }
     }
-    if let Some(name) = row.strip_prefix("== ") {
-        stage.part = Part::named(name)?;
-        return Some(Outcome::AsSaid);
-    }
-    match stage.part {
-        Part::Catalogues => catalogue_rows::found(alloc, &mut stage.catalogues, row),
-        Part::Units => unit_rows::found(alloc, &mut stage.units, row),
-        Part::Requests => request_rows::found(alloc, &mut stage.requests, row),
+
+    /// Whether what a row wants stands for this text.
+    pub(crate) fn means(&self, alloc: Global, wanted: &str, text: &str) -> bool {
+        match self.part {
+            Part::Catalogues => catalogue_rows::means(alloc, &self.catalogues, wanted, text),
+            Part::Units => wanted == text,
+            Part::Requests => request_rows::means(alloc, wanted, text),
+        }
     }
 }

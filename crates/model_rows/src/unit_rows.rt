@@ -43,45 +43,25 @@ mod stage;
 mod updates;
 mod words;
 
-use crate::words::{Outcome, both_sides, word, words_and_texts};
-use shown::{empty_told, flag_told, shown_told};
+use crate::words::{word, words_and_texts};
+use shown::{tell_empty, tell_flag, tell_shown};
 pub(crate) use stage::Stage;
 use std::alloc::Global;
-use updates::{loaded_told, planned_told, put_template, stripped_told, units_put};
+use updates::{put_template, put_units, tell_loaded, tell_planned, tell_stripped};
 
-/// What a deed on templates and texts comes to, or one on a unit.
-fn update_told(
-    alloc: Global,
-    stage: &mut Stage,
-    words: &str,
-    texts: Option<&str>,
-) -> Option<String> {
+/// Tells what a deed comes to. None where it can't be read, or memory is wanting.
+pub(crate) fn tell(alloc: Global, told: &mut String, stage: &mut Stage, deed: &str) -> Option<()> {
+    let (words, texts) = words_and_texts(deed);
     let lines = texts.unwrap_or("");
     match word(words, 0) {
+        "shown" => tell_shown(alloc, told, stage, words, lines),
+        "flag" => tell_flag(alloc, told, words, lines),
+        "empty" => tell_empty(alloc, told, lines),
         "template" => put_template(alloc, stage, lines),
-        "units" => units_put(alloc, stage, words, lines),
-        "then" => planned_told(alloc, stage, lines),
-        "load" => loaded_told(alloc, stage, words, lines),
-        "strip" => stripped_told(alloc, lines),
-        _ => decisions::found(alloc, stage, words, texts),
+        "units" => put_units(alloc, stage, words, lines),
+        "then" => tell_planned(alloc, told, stage, lines),
+        "load" => tell_loaded(alloc, told, stage, words, lines),
+        "strip" => tell_stripped(alloc, told, lines),
+        _ => decisions::tell(alloc, told, stage, words, texts),
     }
-}
-
-/// What a deed comes to. None where it can't be read, or memory is wanting.
-fn told(alloc: Global, stage: &mut Stage, deed: &str) -> Option<String> {
-    let (words, texts) = words_and_texts(deed);
-    match word(words, 0) {
-        "shown" => shown_told(alloc, stage, words, texts?),
-        "flag" => flag_told(alloc, words, texts?),
-        "empty" => empty_told(alloc, texts?),
-        _ => update_told(alloc, stage, words, texts),
-    }
-}
-
-/// What a row comes to. None where it can't be read, or memory is wanting.
-pub(crate) fn found(alloc: Global, stage: &mut Stage, row: &str) -> Option<Outcome> {
-    let (deed, wanted) = both_sides(row);
-    let text = told(alloc, stage, deed)?;
-    let as_said = text.as_str() == wanted;
-    Some(Outcome::of(text, as_said))
 }

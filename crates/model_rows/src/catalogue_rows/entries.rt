@@ -16,30 +16,17 @@ fn string(alloc: Global, text: &str) -> Option<PoString>
         .flatten()
 }
 
-/// The value of the first item of this name.
-fn value<'a>(items: &'a str, wanted: &str) -> Option<&'a str> {
-    for item in items.split("; ") {
-        let (name, value) = around(item, "=");
-        if name == wanted {
-            return Some(value);
-        }
-    }
-    None
-}
-
 fn forms(alloc: Global, items: &str) -> Option<Forms> {
     let mut strings = Vec::new(alloc);
     for item in items.split("; ") {
-        let (name, value) = around(item, "=");
-        if name == "msgstr" {
-            strings.push(string(alloc, value)?).ok()?;
+        if let Some(text) = item.strip_prefix("msgstr=") {
+            strings.push(string(alloc, text)?).ok()?;
         }
     }
     Forms::try_new(strings)
 }
 
-/// An entry without comments, flags, context and previous strings. Nothing fails here: each way out past an entry half made is
-/// dear to prove.
+/// An entry with these forms, and else without texts. Nothing fails here: each way out past an entry half made is dear to prove.
 fn bare(alloc: Global, id: PoString, forms: Forms) -> Entry {
     Entry {
         translator: Items::new(alloc),
@@ -77,6 +64,10 @@ fn put_named(entry: &mut Entry, name: &str, string: PoString) -> Option<()> {
         "was msgctxt" => put_string(&mut entry.previous.ctx, string),
         "was msgid" => put_string(&mut entry.previous.id, string),
         "was msgid_plural" => put_string(&mut entry.previous.plural, string),
+        "msgid" => {
+            entry.id = string;
+            Some(())
+        }
         _ => {
             drop(string);
             None
@@ -84,27 +75,20 @@ fn put_named(entry: &mut Entry, name: &str, string: PoString) -> Option<()> {
     }
 }
 
-/// Adds an item of a text or a string.
-fn put_value(alloc: Global, entry: &mut Entry, name: &str, value: &str) -> Option<()> {
+/// Adds an item, unless it is a form.
+fn put_item(alloc: Global, entry: &mut Entry, item: &str) -> Option<()> {
+    let (name, value) = around(item, "=");
     match name {
+        "msgstr" => Some(()),
+        "obsolete" => {
+            entry.obsolete = true;
+            Some(())
+        }
         "#" => put_text(alloc, &mut entry.translator, value),
         "#." => put_text(alloc, &mut entry.extracted, value),
         "#:" => put_text(alloc, &mut entry.references, value),
         "#," => put_text(alloc, &mut entry.flags, value),
         _ => put_named(entry, name, string(alloc, value)?),
-    }
-}
-
-/// Adds an item, unless it is the msgid or a form.
-fn put_item(alloc: Global, entry: &mut Entry, item: &str) -> Option<()> {
-    let (name, value) = around(item, "=");
-    match name {
-        "msgid" | "msgstr" => Some(()),
-        "obsolete" => {
-            entry.obsolete = true;
-            Some(())
-        }
-        _ => put_value(alloc, entry, name, value),
     }
 }
 
@@ -116,44 +100,39 @@ fn put_items(alloc: Global, entry: &mut Entry, items: &str) -> Option<()> {
 }
 
 /// Adds the entry of these items.
-pub(crate) fn put_entry(alloc: Global, stage: &mut Stage, items: &str) -> Option<String> {
-    let id = string(alloc, value(items, "msgid")?)?;
+pub(crate) fn put_entry(alloc: Global, stage: &mut Stage, items: &str) -> Option<()> {
     let forms = forms(alloc, items)?;
+    let id = string(alloc, "")?;
     stage.entries.push(bare(alloc, id, forms)).ok()?;
-    put_items(alloc, stage.entries.last_mut()?, items)?;
-    Some(String::new(alloc))
+    put_items(alloc, stage.entries.last_mut()?, items)
 }
 
-fn copies(alloc: Global, entries: &[Entry]) -> Option<Vec<Entry>> {
-    let mut copies = Vec::new(alloc);
+fn put_copies(copies: &mut Vec<Entry>, entries: &[Entry]) -> Option<()> {
     for entry in entries {
         copies.push(entry.duplicate().ok()?).ok()?;
     }
-    Some(copies)
-}
-
-fn entries_of(alloc: Global, bytes: &[u8]) -> Option<Vec<Entry>> {
-    let catalogue = read(alloc, bytes).ok()?;
-    copies(alloc, catalogue.entries())
+    Some(())
 }
 
 /// Sets the entries to those of a text.
-pub(crate) fn put_entries(alloc: Global, stage: &mut Stage, bytes: &[u8]) -> Option<String> {
-    let entries = entries_of(alloc, bytes)?;
-    drop(replace(&mut stage.entries, entries));
-    Some(String::new(alloc))
+pub(crate) fn put_entries(alloc: Global, stage: &mut Stage, bytes: &[u8]) -> Option<()> {
+    let catalogue = read(alloc, bytes).ok()?;
+    stage.entries.clear();
+    let put = put_copies(&mut stage.entries, catalogue.entries());
+    drop(catalogue);
+    put
 }
 
-/// How many entries the catalogue of the entries has.
-pub(crate) fn made(alloc: Global, stage: &mut Stage) -> Option<String> {
+/// Tells how many entries the catalogue of the entries has.
+pub(crate) fn tell_made(alloc: Global, told: &mut String, stage: &mut Stage) -> Option<()> {
     let entries = replace(&mut stage.entries, Vec::new(alloc));
     match Catalogue::try_new(alloc, entries) {
         Ok(Some(catalogue)) => {
             let count = catalogue.entries().len();
             drop(catalogue);
-            format!(in alloc; "{count}").ok()
+            write!(told, "{count}").ok()
         }
-        Ok(None) => String::from_str(alloc, "refused").ok(),
+        Ok(None) => told.push_str("refused").ok(),
         Err(_) => None,
     }
 }

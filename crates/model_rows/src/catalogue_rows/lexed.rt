@@ -1,10 +1,11 @@
 //! What the lexer and the reader make of a text.
-use crate::catalogue_rows::told::entries_told;
+use crate::catalogue_rows::told::tell_entries;
 use po_lex::{PoFault, Token, lex};
 use po_read::read;
 use std::alloc::{AllocError, Global};
 
-fn first_fault(text: &str) -> Option<PoFault> {
+/// The lexer's first fault.
+pub(crate) fn first_fault(text: &str) -> Option<PoFault> {
     let mut lines = lex(text);
     for _ in 0..text.len() {
         if let Err(fault) = lines.next()? {
@@ -14,67 +15,37 @@ fn first_fault(text: &str) -> Option<PoFault> {
     None
 }
 
-fn fault_told(alloc: Global, fault: PoFault) -> Result<String, AllocError> {
-    let line = fault.line;
-    let number = fault.number();
-    format!(in alloc; "{line} {number}")
-}
-
-/// The lexer's first fault.
-pub(crate) fn lexer_fault(alloc: Global, bytes: &[u8]) -> Option<String> {
-    match first_fault(str::from_utf8(bytes).ok()?) {
-        Some(fault) => fault_told(alloc, fault).ok(),
-        None => String::from_str(alloc, "none").ok(),
+/// Tells the line and the number of a fault, if there is one.
+pub(crate) fn tell_fault(told: &mut String, fault: Option<PoFault>) -> Option<()> {
+    match fault {
+        Some(fault) => write!(told, "{} {}", fault.line, fault.number()).ok(),
+        None => told.push_str("none").ok(),
     }
 }
 
-/// The lexer's first fault in words.
-pub(crate) fn fault_in_words(alloc: Global, bytes: &[u8]) -> Option<String> {
-    let fault = first_fault(str::from_utf8(bytes).ok()?)?;
-    format!(in alloc; "{fault}").ok()
-}
-
-fn line_told(text: &mut String, next: Result<Token<'_>, PoFault>) -> Result<(), AllocError> {
+fn tell_line(told: &mut String, next: Result<Token<'_>, PoFault>) -> Result<(), AllocError> {
     match next {
-        Ok(token) => {
-            let number = token.number;
-            let line = token.line;
-            write!(text, "{number} {line:?}\n")
-        }
-        Err(fault) => {
-            let number = fault.line;
-            let kind = fault.number();
-            write!(text, "{number} fault {kind}\n")
-        }
+        Ok(token) => write!(told, "{} {:?}\n", token.number, token.line),
+        Err(fault) => write!(told, "{} fault {}\n", fault.line, fault.number()),
     }
 }
 
-/// Each line that the lexer tells.
-pub(crate) fn lines_told(alloc: Global, bytes: &[u8]) -> Option<String> {
-    let source = str::from_utf8(bytes).ok()?;
-    let mut text = String::new(alloc);
-    let mut lines = lex(source);
-    for _ in 0..source.len() {
+/// Tells each line that the lexer gives.
+pub(crate) fn tell_lines(told: &mut String, text: &str) -> Option<()> {
+    let mut lines = lex(text);
+    for _ in 0..text.len() {
         let Some(next) = lines.next() else {
-            return Some(text);
+            return Some(());
         };
-        line_told(&mut text, next).ok()?;
+        tell_line(told, next).ok()?;
     }
-    Some(text)
+    Some(())
 }
 
-/// The reader's fault.
-pub(crate) fn reader_fault(alloc: Global, bytes: &[u8]) -> Option<String> {
+/// Tells the entries, or the reader's fault.
+pub(crate) fn tell_read(alloc: Global, told: &mut String, bytes: &[u8]) -> Option<()> {
     match read(alloc, bytes) {
-        Ok(_) => String::from_str(alloc, "none").ok(),
-        Err(fault) => fault_told(alloc, fault).ok(),
-    }
-}
-
-/// The entries, or the reader's fault.
-pub(crate) fn read_told(alloc: Global, bytes: &[u8]) -> Option<String> {
-    match read(alloc, bytes) {
-        Ok(catalogue) => entries_told(alloc, catalogue.entries()).ok(),
-        Err(fault) => fault_told(alloc, fault).ok(),
+        Ok(catalogue) => tell_entries(told, catalogue.entries()).ok(),
+        Err(fault) => tell_fault(told, Some(fault)),
     }
 }

@@ -1,65 +1,60 @@
 //! Plural rules.
 use crate::catalogue_rows::stage::Stage;
 use crate::catalogue_rows::texts::plain;
-use plural_expr::{EvalFault, PluralFault, PluralForms};
-use std::alloc::{AllocError, Global};
+use plural_expr::{PluralFault, PluralForms};
+use std::alloc::Global;
 
-fn number_told(alloc: Global, number: u32) -> Option<String> {
-    format!(in alloc; "{number}").ok()
-}
-
-fn fault_told(alloc: Global, fault: &PluralFault) -> Result<String, AllocError> {
+fn tell_number(told: &mut String, fault: PluralFault) -> Option<()> {
     let number = fault.number();
     match fault.at() {
-        Some(n) => format!(in alloc; "fault {number} at {n}"),
-        None => format!(in alloc; "fault {number}"),
+        Some(n) => write!(told, "fault {number} at {n}").ok(),
+        None => write!(told, "fault {number}").ok(),
     }
 }
 
-fn put(alloc: Global, stage: &mut Stage, rule: PluralForms) -> Option<String> {
+fn push(told: &mut String, stage: &mut Stage, rule: PluralForms) -> Option<()> {
     let count = rule.count();
     stage.rules.push(rule).ok()?;
-    number_told(alloc, count)
+    write!(told, "{count}").ok()
 }
 
-/// How many forms a rule has, which then is that of the rows below, or its fault.
-pub(crate) fn rule(alloc: Global, stage: &mut Stage, text: &str) -> Option<String> {
+/// Tells how many forms a rule has, which then is that of the rows below, or its fault.
+pub(crate) fn put(alloc: Global, told: &mut String, stage: &mut Stage, text: &str) -> Option<()> {
     let text = plain(alloc, text)?;
     match PluralForms::parse(alloc, text.as_str()) {
-        Ok(rule) => put(alloc, stage, rule),
-        Err(fault) => fault_told(alloc, &fault).ok(),
+        Ok(rule) => push(told, stage, rule),
+        Err(fault) => tell_number(told, fault),
     }
 }
 
-/// The fault of a rule in words.
-pub(crate) fn fault_in_words(alloc: Global, text: &str) -> Option<String> {
-    match PluralForms::parse(alloc, text) {
-        Ok(_) => None,
-        Err(fault) => format!(in alloc; "{fault}").ok(),
+/// Tells the fault of a rule in words.
+pub(crate) fn tell_fault(alloc: Global, told: &mut String, text: &str) -> Option<()> {
+    let fault = PluralForms::parse(alloc, text).err()?;
+    write!(told, "{fault}").ok()
+}
+
+/// Tells the form at n, or the fault there.
+pub(crate) fn tell_index(told: &mut String, stage: &Stage, n: &str) -> Option<()> {
+    let (Some(rule), Ok(n)) = (stage.rules.last(), n.parse::<u32>()) else {
+        return None;
+    };
+    match rule.index(n) {
+        Ok(form) => write!(told, "{form}").ok(),
+        Err(fault) => write!(told, "fault {}", fault.number()).ok(),
     }
 }
 
-fn index_told(alloc: Global, index: Result<u32, EvalFault>) -> Option<String> {
-    match index {
-        Ok(form) => number_told(alloc, form),
-        Err(fault) => format!(in alloc; "fault {}", fault.number()).ok(),
+/// Tells whether a form serves one number.
+pub(crate) fn tell_serves(told: &mut String, stage: &Stage, form: &str) -> Option<()> {
+    match (stage.rules.last(), form.parse::<u32>()) {
+        (Some(rule), Ok(form)) => write!(told, "{}", rule.serves_one(form)).ok(),
+        _ => None,
     }
-}
-
-/// The form at n, or the fault there.
-pub(crate) fn index(alloc: Global, stage: &Stage, n: &str) -> Option<String> {
-    index_told(alloc, stage.rules.last()?.index(n.parse::<u32>().ok()?))
-}
-
-/// Whether a form serves one number.
-pub(crate) fn serves(alloc: Global, stage: &Stage, form: &str) -> Option<String> {
-    let serves = stage.rules.last()?.serves_one(form.parse::<u32>().ok()?);
-    format!(in alloc; "{serves}").ok()
 }
 
 /// Puts a copy of the rule in its place.
-pub(crate) fn copy(alloc: Global, stage: &mut Stage) -> Option<String> {
+pub(crate) fn put_copy(alloc: Global, told: &mut String, stage: &mut Stage) -> Option<()> {
     let copy = stage.rules.last()?.duplicate().ok()?;
     stage.rules = Vec::new(alloc);
-    put(alloc, stage, copy)
+    push(told, stage, copy)
 }

@@ -39,17 +39,21 @@ fn turns(alloc: Global, bytes: &mut Vec<u8>, kept: &[u8], inside: &str) -> Optio
     Some(())
 }
 
-/// The bytes that a text stands for.
-fn bytes_of(alloc: Global, kept: &[u8], text: &str) -> Option<Vec<u8>> {
-    let mut bytes = Vec::new(alloc);
+/// Adds the bytes that a text stands for.
+fn put_bytes(alloc: Global, bytes: &mut Vec<u8>, kept: &[u8], text: &str) -> Option<()> {
     let mut parts = text.split('{');
-    let front = parts.next()?;
-    bytes.extend_from_slice(front.as_bytes()).ok()?;
+    bytes.extend_from_slice(parts.next()?.as_bytes()).ok()?;
     for part in parts {
         let (inside, behind) = part.split_once('}')?;
-        turns(alloc, &mut bytes, kept, inside)?;
+        turns(alloc, bytes, kept, inside)?;
         bytes.extend_from_slice(behind.as_bytes()).ok()?;
     }
+    Some(())
+}
+
+fn bytes_of(alloc: Global, kept: &[u8], text: &str) -> Option<Vec<u8>> {
+    let mut bytes = Vec::new(alloc);
+    put_bytes(alloc, &mut bytes, kept, text)?;
     Some(bytes)
 }
 
@@ -74,7 +78,8 @@ pub(crate) fn plain(alloc: Global, text: &str) -> Option<String> {
     String::from_utf8(bytes_of(alloc, &[], text)?).ok()
 }
 
-pub(crate) fn is_wanted(alloc: Global, stage: &Stage, wanted: &str, text: &str) -> bool {
+/// Whether what a row wants stands for this text.
+pub(crate) fn means(alloc: Global, stage: &Stage, wanted: &str, text: &str) -> bool {
     match po_bytes(alloc, stage, wanted) {
         Some(bytes) => bytes.as_slice() == text.as_bytes(),
         None => false,

@@ -1,7 +1,7 @@
 //! What the writer makes of entries.
 
 use crate::catalogue_rows::stage::Stage;
-use po_read::{Catalogue, Entry, read};
+use po_read::{Entry, read};
 use po_write::{CatalogueWriter, WriteFault, write_catalogue, write_entry};
 use std::alloc::{AllocError, Global};
 use units::{ByteSink, VecSink};
@@ -16,99 +16,93 @@ fn sink(alloc: Global, most: usize) -> VecSink {
     }
 }
 
-/// What the sink took, where all was written and no write failed.
-fn taken(alloc: Global, sink: &VecSink, is_done: bool) -> Option<String> {
-    if !is_done || sink.failures() != 0 {
-        return String::from_str(alloc, "a fault").ok();
+/// Tells what the sink took, where all was written and no write failed.
+fn tell_taken(told: &mut String, sink: &VecSink, is_done: bool) -> Option<()> {
+    if is_done && sink.failures() == 0 {
+        told.push_str(str::from_utf8(sink.bytes.as_slice()).ok()?)
+            .ok()
+    } else {
+        told.push_str("a fault").ok()
     }
-    String::from_str(alloc, str::from_utf8(sink.bytes.as_slice()).ok()?).ok()
 }
 
-fn catalogue_text(alloc: Global, catalogue: &Catalogue) -> Option<String> {
+/// Tells the canonical text of a catalogue.
+pub(crate) fn tell_canonical(alloc: Global, told: &mut String, bytes: &[u8]) -> Option<()> {
+    let catalogue = read(alloc, bytes).ok()?;
     let mut sink = sink(alloc, usize::MAX);
-    let is_done = write_catalogue(&mut sink, catalogue).is_ok();
-    taken(alloc, &sink, is_done)
+    let is_done = write_catalogue(&mut sink, &catalogue).is_ok();
+    drop(catalogue);
+    tell_taken(told, &sink, is_done)
 }
 
-/// The canonical text of a catalogue.
-pub(crate) fn canonical(alloc: Global, bytes: &[u8]) -> Option<String> {
-    match read(alloc, bytes) {
-        Ok(catalogue) => catalogue_text(alloc, &catalogue),
-        Err(_) => None,
-    }
-}
-
-/// The text of the last entry.
-pub(crate) fn one(alloc: Global, stage: &Stage) -> Option<String> {
+/// Tells the text of the last entry.
+pub(crate) fn tell_one(alloc: Global, told: &mut String, stage: &Stage) -> Option<()> {
     let entry = stage.entries.last()?;
     let mut sink = sink(alloc, usize::MAX);
     let is_done = write_entry(&mut sink, entry).is_ok();
-    taken(alloc, &sink, is_done)
+    tell_taken(told, &sink, is_done)
 }
 
-/// The text of all entries, pushed one after the other.
-pub(crate) fn pushed(alloc: Global, stage: &Stage) -> Option<String> {
+/// Tells the text of all entries, pushed one after the other.
+pub(crate) fn tell_pushed(alloc: Global, told: &mut String, stage: &Stage) -> Option<()> {
     let mut writer = CatalogueWriter::new(sink(alloc, usize::MAX));
     let mut is_done = true;
     for entry in stage.entries.as_slice() {
         is_done = writer.push(entry).is_ok() && is_done;
     }
     let (sink, finished) = writer.finish();
-    taken(alloc, &sink, is_done && finished.is_ok())
+    tell_taken(told, &sink, is_done && finished.is_ok())
 }
 
-fn outcome_told(text: &mut String, outcome: Result<(), WriteFault>) -> Result<(), AllocError> {
+fn tell_outcome(told: &mut String, outcome: Result<(), WriteFault>) -> Result<(), AllocError> {
     match outcome {
-        Ok(()) => text.push_str("ok "),
-        Err(fault) => write!(text, "{fault:?} "),
+        Ok(()) => told.push_str("ok "),
+        Err(fault) => write!(told, "{fault:?} "),
     }
 }
 
-fn full_told(
-    alloc: Global,
-    outcomes: &[Result<(), WriteFault>],
-    sink: &VecSink,
-) -> Result<String, AllocError> {
-    let mut text = String::new(alloc);
+fn tell_outcomes(told: &mut String, outcomes: &[Result<(), WriteFault>]) -> Result<(), AllocError> {
     for outcome in outcomes {
-        outcome_told(&mut text, *outcome)?;
+        tell_outcome(told, *outcome)?;
     }
-    let failures = sink.failures();
-    let taken = String::from_utf8_lossy(alloc, sink.bytes.as_slice())?;
-    write!(text, "{failures} {taken}")?;
-    Ok(text)
+    Ok(())
 }
 
 /// Two entries and the first again go to a sink that is full after so many bytes.
-fn push_to_full(alloc: Global, most: usize, first: &Entry, second: &Entry) -> Option<String> {
+fn push_to_full(
+    alloc: Global,
+    told: &mut String,
+    most: usize,
+    first: &Entry,
+    second: &Entry,
+) -> Option<()> {
     let mut writer = CatalogueWriter::new(sink(alloc, most));
     let outcomes = [writer.push(first), writer.push(second), writer.push(first)];
     let (sink, finished) = writer.finish();
     let [one, two, three] = outcomes;
-    full_told(alloc, &[one, two, three, finished], &sink).ok()
+    let done = tell_outcomes(told, &[one, two, three, finished]).ok();
+    match String::from_utf8_lossy(alloc, sink.bytes.as_slice()) {
+        Ok(taken) => done.and(write!(told, "{} {taken}", sink.failures()).ok()),
+        Err(_) => None,
+    }
 }
 
-/// What comes of writing two entries to a sink that is full after so many bytes.
-pub(crate) fn full(alloc: Global, stage: &Stage, most: &str) -> Option<String> {
+/// Tells what comes of writing two entries to a sink that is full after so many bytes.
+pub(crate) fn tell_full(alloc: Global, told: &mut String, stage: &Stage, most: &str) -> Option<()> {
     let most = most.parse::<usize>().ok()?;
     match stage.entries.as_slice() {
-        [first, second] => push_to_full(alloc, most, first, second),
+        [first, second] => push_to_full(alloc, told, most, first, second),
         _ => None,
     }
 }
 
-fn write_fault(name: &str) -> Option<WriteFault> {
-    match name {
-        "Device" => Some(WriteFault::Device),
-        "Memory" => Some(WriteFault::Memory),
-        "Failed" => Some(WriteFault::Failed),
-        _ => None,
-    }
-}
-
-/// The number and the words of a fault.
-pub(crate) fn write_fault_told(alloc: Global, name: &str) -> Option<String> {
-    let fault = write_fault(name)?;
-    let number = fault.number();
-    format!(in alloc; "{number} {fault}").ok()
+/// Tells the number and the words of a fault.
+pub(crate) fn tell_write_fault(told: &mut String, name: &str) -> Option<()> {
+    let fault = match name {
+        "Device" => WriteFault::Device,
+        "Memory" => WriteFault::Memory,
+        "Failed" => WriteFault::Failed,
+        _ => return None,
+    };
+    write!(told, "{} {fault}", fault.number()).ok()
 }

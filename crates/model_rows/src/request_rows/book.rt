@@ -5,82 +5,81 @@ use po_read::{Duplicate, Text};
 use request_book::{Class, Record, Reply, Request, RequestFault, canon, classify};
 use std::alloc::Global;
 use units::{SinkFault, SourceFault};
-use uuid::Uuid;
 
-fn numbered_content(alloc: Global, request: &Request) -> Option<(Uuid, Text)> {
-    Some((request.number, canon(alloc, request).ok()?))
-}
-
-fn content_of(alloc: Global, json: &str) -> Option<(Uuid, Text)> {
-    match Request::from_json(alloc, json) {
-        Ok(request) => {
-            let content = numbered_content(alloc, &request);
-            drop(request);
-            content
+/// The record of a request that got this reply.
+fn record(alloc: Global, request: &Request, reply: Reply) -> Option<Record> {
+    match canon(alloc, request) {
+        Ok(content) => Some(Record {
+            number: request.number,
+            content,
+            reply,
+        }),
+        Err(_) => {
+            drop(reply);
+            None
         }
-        Err(_) => None,
     }
 }
 
-fn record(alloc: Global, status: u16, json: &str, body: &str) -> Option<Record> {
-    let body = Text::from_text(alloc, body).ok()?;
-    let (number, content) = content_of(alloc, json)?;
-    Some(Record {
-        number,
-        content,
-        reply: Reply::new(status, body),
-    })
+/// The record of a request in JSON.
+fn record_of(alloc: Global, json: &str, reply: Reply) -> Option<Record> {
+    match Request::from_json(alloc, json) {
+        Ok(request) => {
+            let record = record(alloc, &request, reply);
+            drop(request);
+            record
+        }
+        Err(_) => {
+            drop(reply);
+            None
+        }
+    }
 }
 
 /// Keeps a copy of the last record.
 fn keep_copy(stage: &mut Stage) -> Option<()> {
-    match stage.record()?.duplicate() {
+    match stage.records.last()?.duplicate() {
         Ok(copy) => stage.keep(copy),
         Err(_) => None,
     }
 }
 
-pub(crate) fn keep_told(
+/// Keeps a copy of the record of a request, and tells its canonical text.
+pub(crate) fn keep(
     alloc: Global,
+    told: &mut String,
     stage: &mut Stage,
     words: &str,
     texts: &str,
-) -> Option<String> {
+) -> Option<()> {
     let (json, body) = texts.split_once('|')?;
     let status = word(words, 1).parse::<u16>().ok()?;
-    stage.keep(record(alloc, status, json, body)?)?;
+    let reply = Reply::new(status, Text::from_text(alloc, body).ok()?);
+    stage.keep(record_of(alloc, json, reply)?)?;
     keep_copy(stage)?;
-    match stage.record() {
-        Some(kept) => String::from_str(alloc, kept.content.as_str()).ok(),
-        None => None,
-    }
+    told.push_str(stage.records.last()?.content.as_str()).ok()
 }
 
-fn repeat_told(alloc: Global, reply: &Reply) -> Option<String> {
-    let status = reply.status();
-    let body = reply.body();
-    format!(in alloc; "repeat {status} {body}").ok()
-}
-
-pub(crate) fn class_told(alloc: Global, known: Option<&Record>, content: &str) -> Option<String> {
+/// Tells how a request with this canonical text stands to the record that is known.
+pub(crate) fn tell_class(told: &mut String, known: Option<&Record>, content: &str) -> Option<()> {
     match classify(content, known) {
-        Class::First => String::from_str(alloc, "first").ok(),
-        Class::Repeat(reply) => repeat_told(alloc, reply),
-        Class::NumberUsed => String::from_str(alloc, "number used").ok(),
+        Class::First => told.push_str("first").ok(),
+        Class::Repeat(reply) => write!(told, "repeat {} {}", reply.status(), reply.body()).ok(),
+        Class::NumberUsed => told.push_str("number used").ok(),
     }
 }
 
-fn request_fault_told(alloc: Global, fault: RequestFault) -> Option<String> {
-    let number = fault.number();
-    format!(in alloc; "{number} {fault}").ok()
+fn tell_request_fault(told: &mut String, fault: RequestFault) -> Option<()> {
+    write!(told, "{} {fault}", fault.number()).ok()
 }
 
-pub(crate) fn fault_told(alloc: Global, name: &str) -> Option<String> {
+/// Tells a fault's number and text.
+pub(crate) fn tell_fault(told: &mut String, name: &str) -> Option<()> {
     match name {
-        "malformed" => request_fault_told(alloc, RequestFault::Malformed),
-        "memory" => request_fault_told(alloc, RequestFault::Memory),
-        "sink" => format!(in alloc; "{} {}", SinkFault.number(), SinkFault).ok(),
-        "source" => format!(in alloc; "{} {}", SourceFault.number(), SourceFault).ok(),
+        "malformed" => tell_request_fault(told, RequestFault::Malformed),
+        "memory" => tell_request_fault(told, RequestFault::Memory),
+        "sink" => write!(told, "{} {SinkFault}", SinkFault.number()).ok(),
+        "source" => write!(told, "{} {SourceFault}", SourceFault.number()).ok(),
         _ => None,
     }
 }

@@ -1,47 +1,38 @@
 //! Marks for what a line can't hold.
 use std::alloc::Global;
 
-fn character(alloc: Global, digits: &str) -> Option<String> {
-    let number = u32::from_str_radix(digits, 16).ok()?;
-    let character = char::from_u32(number)?;
-    format!(in alloc; "{character}").ok()
-}
-
-fn repeated(alloc: Global, mark: &str) -> Option<String> {
-    let (times, text) = mark.split_once('*')?;
-    text.repeat(alloc, times.parse::<usize>().ok()?).ok()
-}
-
-fn marked(alloc: Global, mark: &str) -> Option<String> {
-    match mark.strip_prefix("U+") {
-        Some(digits) => character(alloc, digits),
-        None => repeated(alloc, mark),
+/// Puts what a mark stands for.
+fn put_mark(text: &mut String, mark: &str) -> Option<()> {
+    if let Some(digits) = mark.strip_prefix("U+") {
+        let number = u32::from_str_radix(digits, 16).ok()?;
+        return text.push(char::from_u32(number)?).ok();
     }
+    let (times, repeated) = mark.split_once('*')?;
+    for _ in 0..times.parse::<u32>().ok()? {
+        text.push_str(repeated).ok()?;
+    }
+    Some(())
 }
 
 /// Puts what a mark stands for, and the text behind it.
-fn put_marked(text: &mut String, alloc: Global, piece: &str) -> Option<()> {
+fn put_marked(text: &mut String, piece: &str) -> Option<()> {
     let (mark, rest) = piece.split_once('>')?;
-    text.push_str(marked(alloc, mark)?.as_str()).ok()?;
+    put_mark(text, mark)?;
     text.push_str(rest).ok()
 }
 
-/// The text that a row writes with marks.
-pub(crate) fn written_out(alloc: Global, row: &str) -> Option<String> {
-    let Some((front, pieces)) = row.split_once('<') else {
-        return String::from_str(alloc, row).ok();
-    };
-    let mut text = String::from_str(alloc, front).ok()?;
-    for piece in pieces.split('<') {
-        put_marked(&mut text, alloc, piece)?;
+/// Puts the text that a row writes with marks.
+pub(crate) fn put_text(text: &mut String, row: &str) -> Option<()> {
+    let mut pieces = row.split('<');
+    text.push_str(pieces.next()?).ok()?;
+    for piece in pieces {
+        put_marked(text, piece)?;
     }
-    Some(text)
+    Some(())
 }
 
-/// Whether a row's words stand for a text.
-pub(crate) fn means(alloc: Global, row: &str, text: &str) -> bool {
-    match written_out(alloc, row) {
-        Some(meant) => meant.as_str() == text,
-        None => false,
-    }
+/// Whether what a row wants stands for this text.
+pub(crate) fn means(alloc: Global, wanted: &str, text: &str) -> bool {
+    let mut meant = String::new(alloc);
+    put_text(&mut meant, wanted).is_some() && meant.as_str() == text
 }

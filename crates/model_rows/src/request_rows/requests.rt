@@ -1,64 +1,92 @@
 //! Requests as JSON texts, and their canonical texts.
-use crate::request_rows::words::count;
+use crate::words::word;
+use po_read::Duplicate;
 use request_book::{Act, Request, RequestFault, canon};
 use std::alloc::Global;
 
-pub(crate) fn canon_told(alloc: Global, request: &Request) -> Option<String> {
-    let text = canon(alloc, request).ok()?;
-    String::from_str(alloc, text.as_str()).ok()
+fn tell_canon(alloc: Global, told: &mut String, request: &Request) -> Option<()> {
+    match canon(alloc, request) {
+        Ok(text) => told.push_str(text.as_str()).ok(),
+        Err(_) => None,
+    }
 }
 
-pub(crate) fn no_request_told(alloc: Global, fault: RequestFault) -> Option<String> {
+fn tell_no_request(told: &mut String, fault: RequestFault) -> Option<()> {
     match fault {
-        RequestFault::Malformed => String::from_str(alloc, "malformed").ok(),
+        RequestFault::Malformed => told.push_str("malformed").ok(),
         RequestFault::Memory => None,
     }
 }
 
-/// What a text comes to as a request.
-pub(crate) fn read_told(alloc: Global, text: &str) -> Option<String> {
+/// Tells what a text comes to as a request.
+pub(crate) fn tell_read(alloc: Global, told: &mut String, text: &str) -> Option<()> {
     match Request::from_json(alloc, text) {
         Ok(request) => {
-            let told = canon_told(alloc, &request);
+            let done = tell_canon(alloc, told, &request);
             drop(request);
-            told
+            done
         }
-        Err(fault) => no_request_told(alloc, fault),
+        Err(fault) => tell_no_request(told, fault),
     }
 }
 
-fn act_text(alloc: Global, act: &Act) -> Option<String> {
-    let text = act.to_json(alloc).ok()?;
-    String::from_str(alloc, text.as_str()).ok()
+fn tell_json(alloc: Global, told: &mut String, act: &Act) -> Option<()> {
+    match act.to_json(alloc) {
+        Ok(text) => told.push_str(text.as_str()).ok(),
+        Err(_) => None,
+    }
 }
 
-/// What a text comes to as an act alone.
-pub(crate) fn act_told(alloc: Global, text: &str) -> Option<String> {
+/// Tells what a text comes to as an act alone.
+pub(crate) fn tell_act(alloc: Global, told: &mut String, text: &str) -> Option<()> {
     match Act::from_json(alloc, text) {
         Ok(act) => {
-            let told = act_text(alloc, &act);
+            let done = tell_json(alloc, told, &act);
             drop(act);
-            told
+            done
         }
-        Err(fault) => no_request_told(alloc, fault),
+        Err(fault) => tell_no_request(told, fault),
     }
 }
 
-/// What the text comes to with another one in the place of one of its own, where it has that one.
-pub(crate) fn but_told(alloc: Global, text: &str, change: &str) -> Option<String> {
+/// Puts a copy of the request's act on a unit in its place. None where it is no such act.
+fn put_copy(request: &mut Request) -> Option<()> {
+    match &mut request.act {
+        Act::OnUnit(_, _, act) => {
+            *act = act.duplicate().ok()?;
+            Some(())
+        }
+        _ => None,
+    }
+}
+
+/// Tells what a text comes to as a request, with a copy of its act on a unit.
+pub(crate) fn tell_copy(alloc: Global, told: &mut String, text: &str) -> Option<()> {
+    match Request::from_json(alloc, text) {
+        Ok(mut request) => {
+            let done = match put_copy(&mut request) {
+                Some(()) => tell_canon(alloc, told, &request),
+                None => None,
+            };
+            drop(request);
+            done
+        }
+        Err(fault) => tell_no_request(told, fault),
+    }
+}
+
+/// Tells what the text comes to with another one in the place of one of its own, where it has that one.
+pub(crate) fn tell_but(alloc: Global, told: &mut String, text: &str, change: &str) -> Option<()> {
     let (old, new) = change.split_once('|')?;
     if !text.contains(old) {
         return None;
     }
     let changed = text.replace(alloc, old, new).ok()?;
-    read_told(alloc, changed.as_str())
+    tell_read(alloc, told, changed.as_str())
 }
 
-/// What the text's first bytes come to.
-pub(crate) fn cut_told(alloc: Global, text: &str, words: &str) -> Option<String> {
-    let front = text.as_bytes().get(..count(words, 1)?)?;
-    match str::from_utf8(front) {
-        Ok(front) => read_told(alloc, front),
-        Err(_) => None,
-    }
+/// Tells what the text's first bytes come to.
+pub(crate) fn tell_cut(alloc: Global, told: &mut String, text: &str, words: &str) -> Option<()> {
+    let count = word(words, 1).parse::<usize>().ok()?;
+    tell_read(alloc, told, text.get(..count)?)
 }

@@ -9,7 +9,7 @@ use units::Votes;
 pub(crate) struct Stage {
     pub(crate) request: String,
     pub(crate) votes: Votes,
-    records: Vec<Record>,
+    pub(crate) records: Vec<Record>,
 }
 
 impl Stage {
@@ -19,14 +19,6 @@ impl Stage {
             votes: Votes::new(alloc),
             records: Vec::new(alloc),
         }
-    }
-
-    pub(crate) fn set_request(&mut self, text: String) {
-        self.request = text;
-    }
-
-    pub(crate) fn record(&self) -> Option<&Record> {
-        self.records.last()
     }
 
     pub(crate) fn keep(&mut self, record: Record) -> Option<()> {

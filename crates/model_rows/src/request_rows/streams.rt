@@ -1,7 +1,7 @@
 //! Sinks and sources over memory.
 ghost use Rattle.std.specs.Prelude.{Some};
 
-use crate::request_rows::words::count;
+use crate::words::word;
 use std::alloc::Global;
 use units::{ByteSink, ByteSource, SinkFault, SourceFault, VecSink};
 
@@ -32,7 +32,7 @@ impl<'a> ByteSource for SliceSource<'a> {
     }
 }
 
-fn write_told(told: &mut String, sink: &mut VecSink, bytes: &[u8]) -> Option<()> {
+fn tell_write(told: &mut String, sink: &mut VecSink, bytes: &[u8]) -> Option<()> {
     if bytes.is_empty() {
         return None;
     }
@@ -42,62 +42,50 @@ fn write_told(told: &mut String, sink: &mut VecSink, bytes: &[u8]) -> Option<()>
     }
 }
 
-fn writes_told(told: &mut String, sink: &mut VecSink, texts: &str) -> Option<()> {
+fn tell_writes(told: &mut String, sink: &mut VecSink, texts: &str) -> Option<()> {
     for text in texts.split('|') {
-        write_told(told, sink, text.as_bytes())?;
+        tell_write(told, sink, text.as_bytes())?;
     }
     Some(())
 }
 
-fn end_told(told: &mut String, sink: &mut VecSink) -> Option<()> {
+fn tell_end(told: &mut String, sink: &mut VecSink) -> Option<()> {
     let flushed = if sink.flush().is_ok() {
         "flushed"
     } else {
         "stuck"
     };
-    let failures = sink.failures();
-    match str::from_utf8(sink.bytes.as_slice()) {
-        Ok(taken) => write!(told, "{flushed}, {failures} failed: {taken}").ok(),
-        Err(_) => None,
-    }
+    let taken = str::from_utf8(sink.bytes.as_slice()).ok()?;
+    write!(told, "{flushed}, {} failed: {taken}", sink.failures()).ok()
 }
 
-pub(crate) fn sink_told(alloc: Global, words: &str, texts: &str) -> Option<String> {
-    let room = count(words, 1)?;
-    let mut told = String::new(alloc);
+/// Tells what each write of a text comes to, and what the sink holds then.
+pub(crate) fn tell_sink(alloc: Global, told: &mut String, words: &str, texts: &str) -> Option<()> {
+    let room = word(words, 1).parse::<usize>().ok()?;
     let mut sink = VecSink {
         bytes: Vec::new(alloc),
         piece: 1,
         room,
         failed: 0,
     };
-    writes_told(&mut told, &mut sink, texts)?;
-    end_told(&mut told, &mut sink)?;
-    Some(told)
+    tell_writes(told, &mut sink, texts)?;
+    tell_end(told, &mut sink)
 }
 
-fn read_one_told(told: &mut String, source: &mut SliceSource) -> Option<()> {
+fn tell_one_read(told: &mut String, source: &mut SliceSource) -> Option<()> {
     let mut room = [0u8; 4];
     let came = source.read(&mut room).ok()?;
-    match str::from_utf8(room.get(..came)?) {
-        Ok(text) => write!(told, "{came} {text}, ").ok(),
-        Err(_) => None,
-    }
+    let text = str::from_utf8(room.get(..came)?).ok()?;
+    write!(told, "{came} {text}, ").ok()
 }
 
-/// What so many reads give, and how many of them failed.
-fn reads_told(told: &mut String, bytes: &[u8], count: usize) -> Option<()> {
-    let mut source = SliceSource { left: bytes };
-    for _ in 0..count {
-        read_one_told(told, &mut source)?;
+/// Tells what so many reads give, and how many of them failed.
+pub(crate) fn tell_source(told: &mut String, words: &str, text: &str) -> Option<()> {
+    let mut source = SliceSource {
+        left: text.as_bytes(),
+    };
+    for _ in 0..word(words, 1).parse::<u32>().ok()? {
+        tell_one_read(told, &mut source)?;
     }
-    let failures = source.failures();
-    write!(told, "{failures} failed").ok()
-}
-
-pub(crate) fn source_told(alloc: Global, words: &str, text: &str) -> Option<String> {
-    let count = count(words, 1)?;
-    let mut told = String::new(alloc);
-    reads_told(&mut told, text.as_bytes(), count)?;
-    Some(told)
+    write!(told, "{} failed", source.failures()).ok()
 }

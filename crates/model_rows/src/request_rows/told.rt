@@ -1,62 +1,64 @@
 //! What a row comes to.
-use crate::request_rows::acts::copy_told;
-use crate::request_rows::book::{class_told, fault_told, keep_told};
-use crate::request_rows::escapes::written_out;
+use crate::request_rows::book::{keep, tell_class, tell_fault};
+use crate::request_rows::escapes::put_text;
 use crate::request_rows::limits::{
-    accept_at_told, below_told, comment_told, lang_told, name_told, refusal_told, revision_told,
+    tell_accept_at, tell_below, tell_comment, tell_made, tell_refusal, tell_revision,
 };
-use crate::request_rows::requests::{act_told, but_told, cut_told, read_told};
+use crate::request_rows::requests::{tell_act, tell_but, tell_copy, tell_cut, tell_read};
 use crate::request_rows::stage::Stage;
-use crate::request_rows::streams::{sink_told, source_told};
-use crate::request_rows::voting::{vote_told, votes_told};
+use crate::request_rows::streams::{tell_sink, tell_source};
+use crate::request_rows::voting::{tell_vote, tell_votes};
 use crate::words::{word, words_and_texts};
 use std::alloc::Global;
+use units::{Lang, Name};
 
-/// What a deed comes to. None where it can't be read.
-pub(crate) fn told(alloc: Global, stage: &mut Stage, deed: &str) -> Option<String> {
-    if deed.is_empty() {
-        return Some(String::new(alloc));
+/// Tells what a deed comes to. None where it can't be read.
+pub(crate) fn tell(alloc: Global, told: &mut String, stage: &mut Stage, deed: &str) -> Option<()> {
+    let mut text = String::new(alloc);
+    put_text(&mut text, deed)?;
+    let (words, texts) = words_and_texts(text.as_str());
+    match texts {
+        Some(texts) => tell_of_texts(alloc, told, stage, words, texts),
+        None => tell_of_words(alloc, told, stage, words),
     }
-    let deed = written_out(alloc, deed)?;
-    let (words, texts) = words_and_texts(deed.as_str());
-    let told = match texts {
-        Some(texts) => of_texts(alloc, stage, words, texts),
-        None => of_words(alloc, stage, words),
-    };
-    drop(deed);
-    told
 }
 
-fn of_words(alloc: Global, stage: &mut Stage, words: &str) -> Option<String> {
+fn tell_of_words(alloc: Global, told: &mut String, stage: &mut Stage, words: &str) -> Option<()> {
     match word(words, 0) {
-        "revision" => revision_told(alloc, words),
-        "accept-at" => accept_at_told(alloc, words),
-        "below" => below_told(alloc, words),
-        "comment" => comment_told(alloc, None),
-        "votes" => votes_told(alloc, &stage.votes),
-        "vote" => vote_told(alloc, &mut stage.votes, words),
-        "refusal" => refusal_told(alloc, word(words, 1)),
-        "fault" => fault_told(alloc, word(words, 1)),
-        "cut" => cut_told(alloc, stage.request.as_str(), words),
+        "revision" => tell_revision(told, words),
+        "accept-at" => tell_accept_at(told, words),
+        "below" => tell_below(told, words),
+        "comment" => tell_comment(alloc, told, None),
+        "votes" => tell_votes(alloc, told, &stage.votes),
+        "vote" => tell_vote(alloc, told, &mut stage.votes, words),
+        "refusal" => tell_refusal(alloc, told, word(words, 1)),
+        "fault" => tell_fault(told, word(words, 1)),
+        "cut" => tell_cut(alloc, told, stage.request.as_str(), words),
         _ => None,
     }
 }
 
-fn of_texts(alloc: Global, stage: &mut Stage, words: &str, texts: &str) -> Option<String> {
+fn tell_of_texts(
+    alloc: Global,
+    told: &mut String,
+    stage: &mut Stage,
+    words: &str,
+    texts: &str,
+) -> Option<()> {
     match word(words, 0) {
-        "name" => name_told(alloc, texts),
-        "lang" => lang_told(alloc, texts),
-        "comment" => comment_told(alloc, Some(texts)),
-        "sink" => sink_told(alloc, words, texts),
-        "source" => source_told(alloc, words, texts),
-        "but" => but_told(alloc, stage.request.as_str(), texts),
-        "copy" => copy_told(alloc, texts),
-        "act" => act_told(alloc, texts),
-        "class" => class_told(alloc, stage.record(), texts),
-        "keep" => keep_told(alloc, stage, words, texts),
+        "name" => tell_made(told, Name::try_new(alloc, texts).ok()?),
+        "lang" => tell_made(told, Lang::try_new(alloc, texts).ok()?),
+        "comment" => tell_comment(alloc, told, Some(texts)),
+        "sink" => tell_sink(alloc, told, words, texts),
+        "source" => tell_source(told, words, texts),
+        "but" => tell_but(alloc, told, stage.request.as_str(), texts),
+        "copy" => tell_copy(alloc, told, texts),
+        "act" => tell_act(alloc, told, texts),
+        "class" => tell_class(told, stage.records.last(), texts),
+        "keep" => keep(alloc, told, stage, words, texts),
         "read" => {
-            stage.set_request(String::from_str(alloc, texts).ok()?);
-            read_told(alloc, texts)
+            stage.request = String::from_str(alloc, texts).ok()?;
+            tell_read(alloc, told, texts)
         }
         _ => None,
     }

@@ -1,45 +1,72 @@
 //! The votes of a suggestion.
-use crate::request_rows::words::{vote, vote_word};
 use crate::words::word;
 use po_read::Duplicate;
 use std::alloc::Global;
-use units::{Name, Votes};
+use units::{Name, VoteValue, Votes};
 
 fn name(alloc: Global, text: &str) -> Option<Name> {
     Name::try_new(alloc, text).ok().flatten()
 }
 
-/// How many votes there are, their sum, and that of `bea`.
-fn shown(alloc: Global, votes: &Votes) -> Option<String> {
-    let bea = vote_word(votes.get(&name(alloc, "bea")?));
-    let count = votes.len();
-    let sum = votes.sum();
-    format!(in alloc; "{count} votes, sum {sum}, bea {bea}").ok()
+/// A vote, which has no value where it is taken back.
+fn vote(word: &str) -> Option<Option<VoteValue>> {
+    match word {
+        "for" => Some(Some(VoteValue::For)),
+        "against" => Some(Some(VoteValue::Against)),
+        "none" => Some(None),
+        _ => None,
+    }
 }
 
-fn copy_shown(alloc: Global, votes: &Votes) -> Option<String> {
+fn vote_word(vote: Option<VoteValue>) -> &'static str {
+    match vote {
+        Some(VoteValue::For) => "for",
+        Some(VoteValue::Against) => "against",
+        None => "none",
+    }
+}
+
+/// Shows how many votes there are, their sum, and that of `bea`.
+fn show(alloc: Global, text: &mut String, votes: &Votes) -> Option<()> {
+    let bea = vote_word(votes.get(&name(alloc, "bea")?));
+    write!(
+        text,
+        "{} votes, sum {}, bea {bea}",
+        votes.len(),
+        votes.sum()
+    )
+    .ok()
+}
+
+fn show_copy(alloc: Global, text: &mut String, votes: &Votes) -> Option<()> {
     match votes.duplicate() {
-        Ok(copy) => shown(alloc, &copy),
+        Ok(copy) => show(alloc, text, &copy),
         Err(_) => None,
     }
 }
 
-/// What the votes and their copy show.
-pub(crate) fn votes_told(alloc: Global, votes: &Votes) -> Option<String> {
-    let told = shown(alloc, votes)?;
-    let copied = copy_shown(alloc, votes)?;
+/// Tells what the votes and their copy show.
+pub(crate) fn tell_votes(alloc: Global, told: &mut String, votes: &Votes) -> Option<()> {
+    let mut copied = String::new(alloc);
+    show(alloc, told, votes)?;
+    show_copy(alloc, &mut copied, votes)?;
     if told.as_str() == copied.as_str() {
-        Some(told)
-    } else {
-        format!(in alloc; "{told}, as a copy {copied}").ok()
+        return Some(());
     }
+    write!(told, ", as a copy {copied}").ok()
 }
 
-pub(crate) fn vote_told(alloc: Global, votes: &mut Votes, words: &str) -> Option<String> {
+/// Tells the same with one more vote, or one that is taken back.
+pub(crate) fn tell_vote(
+    alloc: Global,
+    told: &mut String,
+    votes: &mut Votes,
+    words: &str,
+) -> Option<()> {
     let voter = name(alloc, word(words, 1))?;
     match vote(word(words, 2))? {
         Some(value) => votes.insert(voter, value).ok()?,
         None => votes.remove(&voter),
     }
-    votes_told(alloc, votes)
+    tell_votes(alloc, told, votes)
 }

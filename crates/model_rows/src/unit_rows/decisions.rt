@@ -5,85 +5,90 @@ mod unit_view;
 
 use crate::unit_rows::stage::Stage;
 use crate::unit_rows::words::TWO;
-use crate::words::word;
+use crate::words::{policy, role, word};
 use plural_expr::PluralForms;
-use requests::{Request, decision, read_actor, read_request};
+use requests::{Request, decision, read_request};
 use review::Decision;
 use std::alloc::Global;
-use told::{decision_told, left_told};
+use told::{tell_decision, tell_left};
 use unit_view::unit_view;
 use units::{Policy, Role};
 
-/// What a deed comes to: of an act the reply, of `left` what is there, and else nothing.
-pub(crate) fn found(
+/// Tells what a deed comes to: of an act the reply, of `left` what is there, and else nothing.
+pub(crate) fn tell(
     alloc: Global,
+    told: &mut String,
     stage: &mut Stage,
     words: &str,
     texts: Option<&str>,
-) -> Option<String> {
+) -> Option<()> {
     match word(words, 0) {
-        "by" => put_actor(alloc, stage, words),
-        "unit" => put_unit(alloc, stage, words, texts?),
-        "left" => left_told(alloc, stage.view()?).ok(),
-        _ => requested(alloc, stage, words, texts),
+        "by" => put_actor(stage, words),
+        "unit" => stage.put(unit_view(alloc, words, texts?)?),
+        "left" => tell_left(told, stage.views.last()?).ok(),
+        _ => tell_request(alloc, told, stage, words, texts),
     }
 }
 
-fn put_actor(alloc: Global, stage: &mut Stage, words: &str) -> Option<String> {
-    stage.actor = Some(read_actor(words)?);
-    Some(String::new(alloc))
+fn put_actor(stage: &mut Stage, words: &str) -> Option<()> {
+    stage.actor = Some((role(word(words, 1))?, policy(words, word(words, 2))?));
+    Some(())
 }
 
-fn put_unit(alloc: Global, stage: &mut Stage, words: &str, texts: &str) -> Option<String> {
-    stage.put(unit_view(alloc, words, texts)?)?;
-    Some(String::new(alloc))
-}
-
-/// What comes of a request under the rule of German.
-fn requested(alloc: Global, stage: &mut Stage, words: &str, texts: Option<&str>) -> Option<String> {
+/// Tells what comes of a request under the rule of German.
+fn tell_request(
+    alloc: Global,
+    told: &mut String,
+    stage: &mut Stage,
+    words: &str,
+    texts: Option<&str>,
+) -> Option<()> {
     let actor = stage.actor?;
     let rule = PluralForms::parse(alloc, TWO).ok()?;
     let request = read_request(alloc, words, texts)?;
-    let told = decided(alloc, stage, &actor, &rule, &request);
+    let done = tell_decided(alloc, told, stage, &actor, &rule, &request);
     drop(request);
     drop(rule);
-    told
+    done
 }
 
-/// What comes of a request; behind a decision that memory was refused to, what comes of it then.
-fn decided(
+/// Tells what comes of a request; behind a decision that memory was refused to, what comes of it then.
+fn tell_decided(
     alloc: Global,
+    told: &mut String,
     stage: &mut Stage,
     actor: &(Role, Policy),
     rule: &PluralForms,
     request: &Request,
-) -> Option<String> {
-    if let Some(text) = decided_once(alloc, stage, actor, rule, request)? {
-        return Some(text);
+) -> Option<()> {
+    if is_decided(alloc, told, stage, actor, rule, request)? {
+        return Some(());
     }
-    match decided_once(alloc, stage, actor, rule, request)? {
-        Some(text) => format!(in alloc; "{text} after want of memory").ok(),
-        None => String::from_str(alloc, "want of memory, twice").ok(),
+    if is_decided(alloc, told, stage, actor, rule, request)? {
+        told.push_str(" after want of memory").ok()
+    } else {
+        told.push_str("want of memory, twice").ok()
     }
 }
 
-/// What comes of a request. The inner None where memory is refused to the decision.
-fn decided_once(
+/// Tells what comes of a request. False where memory is refused to the decision.
+fn is_decided(
     alloc: Global,
+    told: &mut String,
     stage: &mut Stage,
     actor: &(Role, Policy),
     rule: &PluralForms,
     request: &Request,
-) -> Option<Option<String>> {
-    match decision(alloc, stage.view()?, actor, rule, request) {
-        Ok(decision) => taken(alloc, stage, decision).map(Some),
-        Err(_) => Some(None),
+) -> Option<bool> {
+    match decision(alloc, stage.views.last()?, actor, rule, request) {
+        Ok(decision) => take(told, stage, decision),
+        Err(_) => Some(false),
     }
 }
 
-/// What a decision tells, whose unit is that of the rows below.
-fn taken(alloc: Global, stage: &mut Stage, decision: Decision) -> Option<String> {
-    let told = decision_told(alloc, &decision);
+/// Tells what a decision comes to, whose unit is that of the rows below.
+fn take(told: &mut String, stage: &mut Stage, decision: Decision) -> Option<bool> {
+    let done = tell_decision(told, &decision);
     stage.take(decision)?;
-    told.ok()
+    Some(done.is_ok())
 }

@@ -31,21 +31,31 @@ pub(crate) fn entry(alloc: Global, text: &str) -> Option<Entry> {
     }
 }
 
-/// Adds a suggestion of `ann`, as number 20.
+/// A suggestion of `ann`, as number 20.
+fn suggestion(ann: Name, forms: Forms, votes: Votes) -> Suggestion {
+    Suggestion {
+        number: Uuid::from_u128(20),
+        suggester: ann,
+        forms,
+        votes,
+    }
+}
+
+/// Adds a suggestion of `ann`.
 pub(crate) fn put_suggestion(
     alloc: Global,
     suggestions: &mut Items<Suggestion>,
     forms: Forms,
     votes: Votes,
 ) -> Option<()> {
-    let suggester = Name::try_new(alloc, "ann").ok().flatten()?;
-    let suggestion = Suggestion {
-        number: Uuid::from_u128(20),
-        suggester,
-        forms,
-        votes,
-    };
-    suggestions.push(suggestion).ok()
+    match Name::try_new(alloc, "ann").ok().flatten() {
+        Some(ann) => suggestions.push(suggestion(ann, forms, votes)).ok(),
+        None => {
+            drop(forms);
+            drop(votes);
+            None
+        }
+    }
 }
 
 /// The entry's unit. Nothing fails here: each way out past a unit half made is dear to prove.

@@ -33,9 +33,8 @@ fn view_in(alloc: Global, flag: &str, state: UnitState) -> Option<UnitView> {
     })
 }
 
-/// The state that a unit shows, whether it is read-only, and whether its previous msgid is kept.
-fn view_told(alloc: Global, view: &UnitView) -> Option<String> {
-    let state = view.shown_state();
+/// Tells the state that a unit shows, whether it is read-only, and whether its previous msgid is kept.
+fn tell_view(told: &mut String, view: &UnitView) -> Option<()> {
     let read_only = if view.is_read_only() {
         "read-only"
     } else {
@@ -46,42 +45,43 @@ fn view_told(alloc: Global, view: &UnitView) -> Option<String> {
     } else {
         ""
     };
-    format!(in alloc; "{state:?}, {read_only}{previous}").ok()
+    write!(told, "{:?}, {read_only}{previous}", view.shown_state()).ok()
 }
 
 fn put_copy(stage: &mut Stage) -> Option<()> {
-    match stage.view()?.duplicate() {
+    match stage.views.last()?.duplicate() {
         Ok(copy) => stage.put(copy),
         Err(_) => None,
     }
 }
 
-/// What the copy of such a unit shows.
-pub(crate) fn shown_told(
+/// Tells what the copy of such a unit shows.
+pub(crate) fn tell_shown(
     alloc: Global,
+    told: &mut String,
     stage: &mut Stage,
     words: &str,
     flag: &str,
-) -> Option<String> {
+) -> Option<()> {
     let state = state(word(words, 1))?;
     stage.put(view_in(alloc, flag, state)?)?;
     put_copy(stage)?;
-    view_told(alloc, stage.view()?)
+    tell_view(told, stage.views.last()?)
 }
 
-/// Whether an entry with the flag has the other one.
-pub(crate) fn flag_told(alloc: Global, words: &str, flag: &str) -> Option<String> {
+/// Tells whether an entry with the flag has the other one.
+pub(crate) fn tell_flag(alloc: Global, told: &mut String, words: &str, flag: &str) -> Option<()> {
     let entry = flagged(alloc, flag)?;
-    let found = yes_or_no(has_flag(word(words, 1), &entry));
+    let found = has_flag(word(words, 1), &entry);
     drop(entry);
-    String::from_str(alloc, found).ok()
+    told.push_str(yes_or_no(found)).ok()
 }
 
-/// Whether all forms are empty, or some.
-pub(crate) fn empty_told(alloc: Global, texts: &str) -> Option<String> {
+/// Tells whether all forms are empty, or some.
+pub(crate) fn tell_empty(alloc: Global, told: &mut String, texts: &str) -> Option<()> {
     let forms = forms(alloc, texts)?;
     let all = yes_or_no(all_empty(forms.as_slice()));
     let some = yes_or_no(some_empty(forms.as_slice()));
     drop(forms);
-    format!(in alloc; "all {all}, some {some}").ok()
+    write!(told, "all {all}, some {some}").ok()
 }

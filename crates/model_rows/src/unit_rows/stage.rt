@@ -10,7 +10,7 @@ use units::{Policy, Role, Unit, UnitView};
 #[derive(Drop)]
 pub(crate) struct Stage {
     pub(crate) actor: Option<(Role, Policy)>,
-    views: Vec<UnitView>,
+    pub(crate) views: Vec<UnitView>,
     pub(crate) template: Catalogue,
     pub(crate) units: Items<Unit>,
 }
@@ -23,10 +23,6 @@ impl Stage {
             template: Catalogue::empty(alloc),
             units: Items::new(alloc),
         }
-    }
-
-    pub(crate) fn view(&self) -> Option<&UnitView> {
-        self.views.last()
     }
 
     pub(crate) fn put(&mut self, view: UnitView) -> Option<()> {

@@ -6,17 +6,8 @@ use units::{Revision, UnitState};
 /// Two forms, of which the first serves one.
 pub(crate) const TWO: &str = "nplurals=2; plural=n != 1;";
 
-pub(crate) fn has(words: &str, mark: &str) -> bool {
-    for word in words.split(' ') {
-        if word == mark {
-            return true;
-        }
-    }
-    false
-}
-
 pub(crate) fn revision(word: &str) -> Option<Revision> {
-    word.parse::<u64>().ok().and_then(Revision::try_new)
+    Revision::try_new(word.parse::<u64>().ok()?)
 }
 
 pub(crate) fn state(word: &str) -> Option<UnitState> {
@@ -29,11 +20,10 @@ pub(crate) fn state(word: &str) -> Option<UnitState> {
     }
 }
 
-/// Adds forms, each behind a stroke.
-pub(crate) fn forms_told(text: &mut String, forms: &[PoString]) -> Result<(), AllocError> {
+/// Tells forms, each behind a stroke.
+pub(crate) fn tell_forms(told: &mut String, forms: &[PoString]) -> Result<(), AllocError> {
     for form in forms {
-        let form = form.as_str();
-        write!(text, "|{form}")?;
+        write!(told, "|{}", form.as_str())?;
     }
     Ok(())
 }

@@ -1,41 +1,12 @@
 //! The request of a row, and what is decided on it.
 use crate::unit_rows::parts::forms;
-use crate::unit_rows::words::{has, revision};
-use crate::words::word;
+use crate::unit_rows::words::revision;
+use crate::words::{comment, word};
 use plural_expr::PluralForms;
-use po_read::{Items, Text};
 use review::{Decision, decide};
 use std::alloc::Global;
-use units::{
-    AcceptAt, CommentLines, Memory, Name, Policy, Role, UnitAct, UnitAction, UnitView, VoteValue,
-};
+use units::{Memory, Name, Policy, Role, UnitAct, UnitAction, UnitView, VoteValue};
 use uuid::Uuid;
-
-fn role(word: &str) -> Option<Role> {
-    match word {
-        "guest" => Some(Role::Guest),
-        "translator" => Some(Role::Translator),
-        "reviewer" => Some(Role::Reviewer),
-        "manager" => Some(Role::Manager),
-        _ => None,
-    }
-}
-
-/// Who acts by such words, and under which policy.
-pub(super) fn read_actor(words: &str) -> Option<(Role, Policy)> {
-    let policy = Policy {
-        reviews: has(words, "reviews"),
-        guests_suggest: has(words, "guests"),
-        voting: has(words, "voting"),
-        accept_at: word(words, 2)
-            .parse::<u8>()
-            .ok()
-            .and_then(AcceptAt::try_new)?,
-        placeholders: has(words, "placeholders"),
-        line_ends: false,
-    };
-    Some((role(word(words, 1))?, policy))
-}
 
 /// An act with who acts, and the request's number.
 #[derive(Drop)]
@@ -46,21 +17,10 @@ pub(super) struct Request {
 }
 
 fn number(word: &str) -> Option<Uuid> {
-    word.parse::<u64>()
-        .ok()
-        .map(u128::from)
-        .map(Uuid::from_u128)
-}
-
-/// The comment of these lines, which stand between the strokes of a text.
-fn comment(alloc: Global, texts: Option<&str>) -> Option<CommentLines> {
-    let mut lines = Items::new(alloc);
-    if let Some(texts) = texts {
-        for text in texts.split('|') {
-            lines.push(Text::from_text(alloc, text).ok()?).ok()?;
-        }
+    match word.parse::<u64>() {
+        Ok(number) => Some(Uuid::from_u128(u128::from(number))),
+        Err(_) => None,
     }
-    CommentLines::try_new(lines)
 }
 
 /// An act on the suggestion that is named.
@@ -80,7 +40,7 @@ fn action(alloc: Global, words: &str, texts: Option<&str>) -> Option<UnitAction>
     match word(words, 2) {
         "suggest" => forms(alloc, texts?).map(UnitAction::Suggest),
         "translate" => forms(alloc, texts?).map(UnitAction::Translate),
-        "comment" => comment(alloc, texts).map(UnitAction::Comment),
+        "comment" => comment(alloc, texts)?.map(UnitAction::Comment),
         "approve" => Some(UnitAction::Approve),
         "send-back" => Some(UnitAction::SendBack),
         _ => suggestion_action(words),

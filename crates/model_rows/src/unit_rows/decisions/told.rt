@@ -1,67 +1,52 @@
 //! What a decision tells, and what is left.
-use crate::unit_rows::words::forms_told;
+use crate::unit_rows::words::tell_forms;
 use review::{Decision, Values};
-use std::alloc::{AllocError, Global};
-use units::UnitView;
+use std::alloc::AllocError;
+use units::{Revision, ShownState, UnitView};
 
-pub(super) fn decision_told(alloc: Global, decision: &Decision) -> Result<String, AllocError> {
+pub(super) fn tell_decision(told: &mut String, decision: &Decision) -> Result<(), AllocError> {
     match decision {
-        Decision::Done(view, values) => values_told(alloc, view, *values),
-        Decision::Refused(refusal) => format!(in alloc; "{refusal:?}"),
+        Decision::Done(view, values) => tell_values(told, view, *values),
+        Decision::Refused(refusal) => write!(told, "{refusal:?}"),
     }
 }
 
-fn values_told(alloc: Global, view: &UnitView, values: Values) -> Result<String, AllocError> {
-    let (revision, state) = match values {
-        Values::Plain { revision, state } => (revision, state),
-        Values::Suggested {
-            revision,
-            state,
-            ..
-        } => (revision, state),
-        Values::Voted {
-            revision,
-            state,
-            ..
-        } => (revision, state),
-    };
-    let n = revision.number();
-    let mut text = format!(in alloc; "{n} {state:?}")?;
-    more_told(&mut text, view, values)?;
-    Ok(text)
+fn tell_state(told: &mut String, revision: Revision, state: ShownState) -> Result<(), AllocError> {
+    write!(told, "{} {state:?}", revision.number())
 }
 
-/// What a reply tells beside the revision and the state.
-fn more_told(text: &mut String, view: &UnitView, values: Values) -> Result<(), AllocError> {
+fn tell_values(told: &mut String, view: &UnitView, values: Values) -> Result<(), AllocError> {
     match values {
-        Values::Plain { .. } if view.unit.previous.id.is_some() => text.push_str(" with previous"),
-        Values::Plain { .. } => Ok(()),
+        Values::Plain { revision, state } => {
+            let keeps_previous = view.unit.previous.id.is_some();
+            let previous = if keeps_previous { " with previous" } else { "" };
+            tell_state(told, revision, state).and(told.push_str(previous))
+        }
         Values::Suggested {
+            revision,
+            state,
             suggestion,
             votes,
-            ..
         } => {
             let number = suggestion.as_u128();
-            write!(text, " suggestion {number} {votes}")
+            tell_state(told, revision, state).and(write!(told, " suggestion {number} {votes}"))
         }
         Values::Voted {
             accepted,
+            revision,
+            state,
             votes,
-            ..
         } => {
             let what = if accepted { "accepted" } else { "voted" };
-            write!(text, " {what} {votes}")
+            tell_state(told, revision, state).and(write!(told, " {what} {votes}"))
         }
     }
 }
 
-/// The numbers of the suggestions, and the forms.
-pub(super) fn left_told(alloc: Global, view: &UnitView) -> Result<String, AllocError> {
-    let mut text = String::new(alloc);
+/// Tells the numbers of the suggestions, and the forms.
+pub(super) fn tell_left(told: &mut String, view: &UnitView) -> Result<(), AllocError> {
     for suggestion in view.unit.suggestions.as_slice() {
-        let number = suggestion.number.as_u128();
-        write!(text, "{number} ")?;
+        write!(told, "{} ", suggestion.number.as_u128())?;
     }
-    forms_told(&mut text, view.unit.forms.as_slice())?;
-    Ok(text)
+    tell_forms(told, view.unit.forms.as_slice())
 }

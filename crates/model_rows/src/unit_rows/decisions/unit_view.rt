@@ -1,7 +1,7 @@
 //! The unit of a row.
 use crate::unit_rows::parts::{entry, forms, put_suggestion, unit};
-use crate::unit_rows::words::{has, revision, state};
-use crate::words::word;
+use crate::unit_rows::words::{revision, state};
+use crate::words::{has, word};
 use po_read::{Entry, Items};
 use std::alloc::Global;
 use units::{Name, Suggestion, Unit, UnitView, VoteValue, Votes};

@@ -1,23 +1,15 @@
 //! Catalogues and units of a row.
 use crate::unit_rows::parts::{put_suggestion, unit};
-use crate::unit_rows::words::{has, revision, state};
-use crate::words::word;
+use crate::unit_rows::words::{revision, state};
+use crate::words::{has, word};
 use po_read::{Catalogue, Duplicate, Entry, Items, read};
-use std::alloc::{AllocError, Global};
+use std::alloc::Global;
 use units::{Suggestion, Unit, Votes};
-
-fn lines(alloc: Global, texts: &str) -> Result<String, AllocError> {
-    let mut text = String::new(alloc);
-    for line in texts.split("; ") {
-        text.push_str(line)?;
-        text.push('\n')?;
-    }
-    Ok(text)
-}
 
 /// The catalogue of the lines.
 pub(super) fn catalogue(alloc: Global, texts: &str) -> Option<Catalogue> {
-    let text = lines(alloc, texts).ok()?;
+    let mut text = texts.replace(alloc, "; ", "\n").ok()?;
+    text.push('\n').ok()?;
     read(alloc, text.as_bytes()).ok()
 }
 
@@ -39,7 +31,7 @@ fn unit_of(alloc: Global, words: &str, entry: &Entry) -> Option<Unit> {
 }
 
 /// Adds the unit of such words, so many times.
-fn put_unit(
+fn push_unit(
     alloc: Global,
     units: &mut Items<Unit>,
     words: &str,
@@ -53,7 +45,7 @@ fn put_unit(
 }
 
 /// Adds the units of such words, by these entries.
-pub(super) fn put_units(
+pub(super) fn push_units(
     alloc: Global,
     units: &mut Items<Unit>,
     words: &str,
@@ -61,7 +53,7 @@ pub(super) fn put_units(
 ) -> Option<()> {
     let count = word(words, 1).parse::<u32>().ok()?;
     for entry in entries {
-        put_unit(alloc, units, words, entry, count)?;
+        push_unit(alloc, units, words, entry, count)?;
     }
     Some(())
 }

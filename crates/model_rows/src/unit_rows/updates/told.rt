@@ -1,23 +1,23 @@
 //! What a plan and a template tell.
-use crate::unit_rows::words::forms_told;
+use crate::unit_rows::words::tell_forms;
 use po_read::{Entry, Text};
-use std::alloc::{AllocError, Global};
+use std::alloc::AllocError;
 use template_update::{Counts, Plan};
 use units::Unit;
 
-/// The reply's numbers, and the first unit.
-pub(super) fn plan_told(alloc: Global, plan: Option<&Plan>) -> Result<String, AllocError> {
+/// Tells the reply's numbers, and the first unit.
+pub(super) fn tell_plan(told: &mut String, plan: Option<&Plan>) -> Result<(), AllocError> {
     let Some(plan) = plan else {
-        return String::from_str(alloc, "past a limit");
+        return told.push_str("past a limit");
     };
-    let mut text = counts_told(alloc, plan.counts)?;
-    if let Some(unit) = plan.units.as_slice().first() {
-        unit_told(&mut text, unit)?;
+    let done = tell_counts(told, plan.counts);
+    match plan.units.as_slice().first() {
+        Some(unit) => done.and(tell_unit(told, unit)),
+        None => done,
     }
-    Ok(text)
 }
 
-fn counts_told(alloc: Global, counts: Counts) -> Result<String, AllocError> {
+fn tell_counts(told: &mut String, counts: Counts) -> Result<(), AllocError> {
     match counts {
         Counts::Updated {
             added,
@@ -25,57 +25,62 @@ fn counts_told(alloc: Global, counts: Counts) -> Result<String, AllocError> {
             kept,
             obsolete,
             revived,
-        } => format!(in alloc;
+        } => write!(
+            told,
             "{added} added, {changed} changed, {kept} kept, {obsolete} obsolete, {revived} revived"
         ),
         Counts::Loaded {
             loaded,
             missing,
             obsolete,
-        } => format!(in alloc; "{loaded} loaded, {missing} missing, {obsolete} obsolete"),
+        } => write!(
+            told,
+            "{loaded} loaded, {missing} missing, {obsolete} obsolete"
+        ),
     }
 }
 
-fn unit_told(text: &mut String, unit: &Unit) -> Result<(), AllocError> {
-    let n = unit.revision.number();
-    let state = unit.state;
+fn tell_unit(told: &mut String, unit: &Unit) -> Result<(), AllocError> {
     let obsolete = if unit.obsolete { " obsolete" } else { "" };
-    write!(text, ": {state:?} {n}{obsolete}")?;
+    write!(
+        told,
+        ": {:?} {}{obsolete}",
+        unit.state,
+        unit.revision.number()
+    )?;
     let suggestions = unit.suggestions.as_slice().len();
     if suggestions > 0 {
-        write!(text, " suggestions {suggestions}")?;
+        write!(told, " suggestions {suggestions}")?;
     }
     if let Some(id) = &unit.previous.id {
-        let id = id.as_str();
-        write!(text, " was {id}")?;
+        write!(told, " was {}", id.as_str())?;
     }
-    forms_told(text, unit.forms.as_slice())
+    tell_forms(told, unit.forms.as_slice())
 }
 
-fn texts_told(text: &mut String, mark: &str, texts: &[Text]) -> Result<(), AllocError> {
-    for one in texts {
-        let one = one.as_str();
-        write!(text, "{mark}{one} ")?;
+fn tell_texts(told: &mut String, mark: &str, texts: &[Text]) -> Result<(), AllocError> {
+    for text in texts {
+        write!(told, "{mark}{} ", text.as_str())?;
     }
     Ok(())
 }
 
-fn entry_told(text: &mut String, entry: &Entry) -> Result<(), AllocError> {
-    texts_told(text, "#", entry.translator.as_slice())?;
-    texts_told(text, "#.", entry.extracted.as_slice())?;
-    texts_told(text, "#,", entry.flags.as_slice())?;
-    if entry.previous.id.is_some() {
-        text.push_str("with previous ")?;
-    }
-    text.push_str(entry.id.as_str())?;
-    forms_told(text, entry.forms.as_slice())
+fn tell_entry(told: &mut String, entry: &Entry) -> Result<(), AllocError> {
+    let keeps_previous = entry.previous.id.is_some();
+    let previous = if keeps_previous { "with previous " } else { "" };
+    tell_texts(told, "#", entry.translator.as_slice())
+        .and(tell_texts(told, "#.", entry.extracted.as_slice()))
+        .and(tell_texts(told, "#,", entry.flags.as_slice()))
+        .and(told.push_str(previous))
+        .and(told.push_str(entry.id.as_str()))
+        .and(tell_forms(told, entry.forms.as_slice()))
 }
 
-/// How many entries there are, and of each its comments and flags, its msgid and its forms.
-pub(super) fn entries_told(alloc: Global, entries: &[Entry]) -> Result<String, AllocError> {
-    let mut text = format!(in alloc; "{}: ", entries.len())?;
+/// Tells how many entries there are, and of each its comments and flags, its msgid and its forms.
+pub(super) fn tell_entries(told: &mut String, entries: &[Entry]) -> Result<(), AllocError> {
+    write!(told, "{}: ", entries.len())?;
     for entry in entries {
-        entry_told(&mut text, entry)?;
+        tell_entry(told, entry)?;
     }
-    Ok(text)
+    Ok(())
 }
