@@ -5,19 +5,18 @@ ghost use Rattle.plural_expr.specs.declared.fault.PluralFault.TheVariants as fau
 ghost use Rattle.plural_expr.specs.Faults.{eval_fault_number, fault_at, fault_number};
 
 use std::alloc::{AllocError, AllocFailed};
-use std::fmt;
 use thiserror::Error;
 
 /// Why a rule has no form's number at some n.
 #[derive(Clone, Copy, Debug, PartialEq, Eq, Drop, Error)]
 pub enum EvalFault {
-    /// A division by zero.
+    #[error("a division by zero")]
     Zero,
-    /// A difference below zero.
+    #[error("a difference below zero")]
     Below,
-    /// A value over 2^64 - 1.
+    #[error("a value over 18446744073709551615")]
     Above,
-    /// A value that is not below nplurals.
+    #[error("a value that is not below nplurals")]
     Range,
 }
 
@@ -35,31 +34,20 @@ impl EvalFault {
     }
 }
 
-impl fmt::Display for EvalFault {
-    fn fmt<W: fmt::Write>(&self, f: &mut fmt::Formatter<W>) -> fmt::Result {
-        f.write_str(match self {
-            EvalFault::Zero => "a division by zero",
-            EvalFault::Below => "a difference below zero",
-            EvalFault::Above => "a value over 18446744073709551615",
-            EvalFault::Range => "a value that is not below nplurals",
-        })
-    }
-}
-
 /// The first test that a text fails as a plural rule.
 #[derive(Clone, Copy, Debug, PartialEq, Eq, Drop, Error)]
 pub enum PluralFault {
-    /// The text is not of the grammar.
+    #[error("the text is not of the grammar of plural rules")]
     Syntax,
-    /// nplurals is not one digit from 1 to 8.
+    #[error("nplurals is not one digit from 1 to 8")]
     Count,
-    /// The text has more than 512 bytes, or the expression is deeper than 32.
+    #[error("the text has more than 512 bytes, or the expression is deeper than 32")]
     Depth,
-    /// The expression has no value at this n.
+    #[error("the expression has no value at n = {0}")]
     Faults(u32),
-    /// The value at this n is not below nplurals.
+    #[error("the value at n = {0} is not below nplurals")]
     Range(u32),
-    /// A growth was refused.
+    #[error("out of memory")]
     Memory,
 }
 
@@ -87,22 +75,6 @@ impl PluralFault {
             PluralFault::Faults(n) | PluralFault::Range(n) => Some(*n),
             _ => None,
         }
-    }
-}
-
-impl fmt::Display for PluralFault {
-    fn fmt<W: fmt::Write>(&self, f: &mut fmt::Formatter<W>) -> fmt::Result {
-        let text = match self {
-            PluralFault::Syntax => "the text is not of the grammar of plural rules",
-            PluralFault::Count => "nplurals is not one digit from 1 to 8",
-            PluralFault::Depth => {
-                "the text has more than 512 bytes, or the expression is deeper than 32"
-            }
-            PluralFault::Faults(n) => return write!(f, "the expression has no value at n = {n}"),
-            PluralFault::Range(n) => return write!(f, "the value at n = {n} is not below nplurals"),
-            PluralFault::Memory => "out of memory",
-        };
-        f.write_str(text)
     }
 }
 
