@@ -1,3 +1,4 @@
+pub mod AnswerLemmas
 pub mod Coming
 pub mod Connecting
 pub mod Exporting

@@ -18,9 +18,12 @@ status_line status = codes "HTTP/1.1 " ++ (decimal status ++ (codes " " ++ (phra
 abbrev pub field_line : List ℕ → List ℕ → List ℕ
 field_line name value = name ++ (codes ": " ++ (value ++ line_end))
 
+abbrev pub media_type : Content → List ℕ
+media_type Json = codes "application/json"
+media_type (PoText digest) = codes "text/plain; charset=utf-8"
+
 abbrev pub content_type : Content → List ℕ
-content_type Json = field_line (codes "Content-Type") (codes "application/json")
-content_type (PoText digest) = field_line (codes "Content-Type") (codes "text/plain; charset=utf-8")
+content_type content = field_line (codes "Content-Type") (media_type content)
 
 abbrev pub length_line : ℕ → List ℕ
 length_line n = field_line (codes "Content-Length") (decimal n)

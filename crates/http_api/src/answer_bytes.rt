@@ -1,18 +1,17 @@
 //! The bytes of an answer.
-ghost use Rattle.std.specs.Prelude.{◌≡◌, decimal};
+ghost use Rattle.std.specs.Prelude.{◌≡◌, ◌++◌, flat_map};
 ghost use Rattle.hex.specs.Hex.{encode_lower};
 ghost use Rattle.po_write.specs.Sending.{Sends};
-ghost use Rattle.http_api.specs.Answers.{status_line, field_line, content_type, length_line, digest_line, close_line, head_text, answer_text, refusal_text};
+ghost use Rattle.http_api.specs.Answers.{line_end, media_type, digest_line, close_line, head_text, answer_text};
 ghost use Rattle.http_api.specs.declared.answer_bytes.Content.TheVariants.{Json};
 
-use crate::refusals::{phrase, refusal_body, refusal_status};
-use http_messages::Refusal;
-use itoa::{Buffer, Integer};
+use crate::refusals::phrase;
+use itoa::Buffer;
 use po_write::send;
 use units::{ByteSink, SinkFault};
 
 /// What a body is.
-#[derive(Clone, Copy, Debug, PartialEq, Eq, Drop)]
+#[derive(Clone, Copy, Drop)]
 pub(crate) enum Content {
     /// A value in JSON.
     Json,
@@ -21,7 +20,7 @@ pub(crate) enum Content {
 }
 
 /// What the head of an answer says.
-#[derive(Clone, Copy, Debug, Drop)]
+#[derive(Clone, Copy, Drop)]
 pub(crate) struct AnswerHead {
     pub status: u16,
     pub content: Content,
@@ -31,47 +30,24 @@ pub(crate) struct AnswerHead {
     pub last: bool,
 }
 
-fn send_number<W: ByteSink, N: Integer>(w: &mut W, number: N) -> Result<(), SinkFault>
-    ensures { Sends W.taken W.failed w.old w.new (N.text number) result }
+/// Writes texts one behind another.
+fn send_all<W: ByteSink>(w: &mut W, texts: &[&str]) -> Result<(), SinkFault>
+    ensures { Sends W.taken W.failed w.old w.new (flat_map (λ text. text.now) texts.now) result }
 {
-    let mut buffer = Buffer::new();
-    let digits = buffer.format(number);
-    send(w, digits.as_bytes())
+    for text in texts {
+        send(w, text.as_bytes())?;
+    }
+    Ok(())
 }
 
-fn send_status_line<W: ByteSink>(w: &mut W, status: u16) -> Result<(), SinkFault>
-    ensures { Sends W.taken W.failed w.old w.new (status_line status) result }
-{
-    send(w, b"HTTP/1.1 ")?;
-    send_number(w, status)?;
-    send(w, b" ")?;
-    send(w, phrase(status).as_bytes())?;
-    send(w, b"\r\n")
-}
-
-fn send_field<W: ByteSink>(w: &mut W, name: &[u8], value: &[u8]) -> Result<(), SinkFault>
-    ensures { Sends W.taken W.failed w.old w.new (field_line name.now value.now) result }
-{
-    send(w, name)?;
-    send(w, b": ")?;
-    send(w, value)?;
-    send(w, b"\r\n")
-}
-
-fn send_content_type<W: ByteSink>(w: &mut W, content: Content) -> Result<(), SinkFault>
-    ensures { Sends W.taken W.failed w.old w.new (content_type content) result }
+/// The media type of a body.
+fn media_type(content: Content) -> &'static str
+    ensures { result.now ≡ media_type content }
 {
     match content {
-        Content::Json => send(w, b"Content-Type: application/json\r\n"),
-        Content::PoText(_) => send(w, b"Content-Type: text/plain; charset=utf-8\r\n"),
+        Content::Json => "application/json",
+        Content::PoText(_) => "text/plain; charset=utf-8",
     }
-}
-
-fn send_length<W: ByteSink>(w: &mut W, length: u64) -> Result<(), SinkFault>
-    ensures { Sends W.taken W.failed w.old w.new (length_line length) result }
-{
-    let mut buffer = Buffer::new();
-    send_field(w, b"Content-Length", buffer.format(length).as_bytes())
 }
 
 /// The digits of a digest.
@@ -84,22 +60,26 @@ fn digest_digits(sha256: [u8; 32]) -> [u8; 64]
     digits
 }
 
+/// Writes the line of a digest, where a body has one.
 fn send_digest<W: ByteSink>(w: &mut W, content: Content) -> Result<(), SinkFault>
     ensures { Sends W.taken W.failed w.old w.new (digest_line content) result }
 {
-    match content {
-        Content::Json => send(w, b""),
-        Content::PoText(sha256) => send_field(w, b"X-Office-SHA256", &digest_digits(sha256)),
-    }
+    let Content::PoText(sha256) = content else {
+        return Ok(());
+    };
+    send(w, b"X-Office-SHA256: ")?;
+    send(w, &digest_digits(sha256))?;
+    send(w, b"\r\n")
 }
 
-fn send_close<W: ByteSink>(w: &mut W, last: bool) -> Result<(), SinkFault>
-    ensures { Sends W.taken W.failed w.old w.new (close_line last) result }
+/// The end of a head.
+fn head_end(last: bool) -> &'static [u8]
+    ensures { result.now ≡ close_line last ++ line_end }
 {
     if last {
-        send(w, b"Connection: close\r\n")
+        b"Connection: close\r\n\r\n"
     } else {
-        send(w, b"")
+        b"\r\n"
     }
 }
 
@@ -107,12 +87,22 @@ fn send_close<W: ByteSink>(w: &mut W, last: bool) -> Result<(), SinkFault>
 pub(crate) fn write_head<W: ByteSink>(w: &mut W, head: AnswerHead) -> Result<(), SinkFault>
     ensures { Sends W.taken W.failed w.old w.new (head_text head) result }
 {
-    send_status_line(w, head.status)?;
-    send_content_type(w, head.content)?;
-    send_length(w, head.length)?;
+    let mut status = Buffer::new();
+    let mut length = Buffer::new();
+    let texts = [
+        "HTTP/1.1 ",
+        status.format(head.status),
+        " ",
+        phrase(head.status),
+        "\r\nContent-Type: ",
+        media_type(head.content),
+        "\r\nContent-Length: ",
+        length.format(head.length),
+        "\r\n",
+    ];
+    send_all(w, &texts)?;
     send_digest(w, head.content)?;
-    send_close(w, head.last)?;
-    send(w, b"\r\n")
+    send(w, head_end(head.last))
 }
 
 /// Writes an answer with a body in JSON.
@@ -132,15 +122,4 @@ pub(crate) fn write_json<W: ByteSink>(
     };
     write_head(w, head)?;
     send(w, body.as_bytes())
-}
-
-/// Writes an answer that is an error.
-pub(crate) fn write_refusal<W: ByteSink>(
-    w: &mut W,
-    refusal: Refusal,
-    last: bool,
-) -> Result<(), SinkFault>
-    ensures { Sends W.taken W.failed w.old w.new (refusal_text refusal last) result }
-{
-    write_json(w, refusal_status(refusal), refusal_body(refusal), last)
 }

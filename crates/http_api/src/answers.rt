@@ -13,10 +13,11 @@ ghost use Rattle.commands.specs.Writers.{writer_at};
 ghost use Rattle.http_api.specs.Outcomes.{Outcome, posted, lost_refusal, result_answer, exchange_answer, outcome_answer};
 ghost use Rattle.http_api.specs.Answering.{ComesTo, Tells, Writes, query_refusal};
 
-use crate::answer_bytes::{write_json, write_refusal};
+use crate::answer_bytes::write_json;
 use crate::exports::answer_export;
 use crate::faults::ServeFault;
 use crate::posts::request_of;
+use crate::refusals::{refusal_body, refusal_status};
 use http_messages::{Asked, Refusal, RequestParts, UnitName};
 use office::{Desk, QueryFault};
 use request_book::{Request, RequestFault};
@@ -62,10 +63,7 @@ pub(crate) fn send_refusal<W: ByteSink>(
 ) -> Result<(), ServeFault>
     ensures { Tells (writer_at W.taken W.failed w.old) (writer_at W.taken W.failed w.new) (refusal_text refusal last) result }
 {
-    match write_refusal(w, refusal, last) {
-        Ok(()) => Ok(()),
-        Err(fault) => Err(ServeFault::from(fault)),
-    }
+    send_json(w, refusal_status(refusal), refusal_body(refusal), last)
 }
 
 /// Delivers a request and writes its answer.

@@ -66,8 +66,7 @@ fn refuse<W: ByteSink>(refusal: Refusal, w: &mut W) -> Result<Next, ServeFault>
     ensures next { IfOk result (λ next. next ≡ Last) }
 {
     send_refusal(w, refusal, true)?;
-    hand_on(w)?;
-    Ok(Next::Last)
+    hand_on(w).and(Ok(Next::Last))
 }
 
 /// Answers the message at the front, by how many bytes its head and its body have; `full` says that no more may be answered. Tells
@@ -91,13 +90,11 @@ fn answer_front<T: Tables, W: ByteSink>(
     match inbox.asking(alloc, head, body) {
         Ok(asking) => {
             let last = is_last(asking.ends, full);
-            answer(alloc, desk, asking.asked, last, w)?;
-            Ok(last)
+            answer(alloc, desk, asking.asked, last, w).and(Ok(last))
         }
         Err(unread) => {
             let last = is_last(unread.ends, full);
-            send_refusal(w, Refusal::Memory, last)?;
-            Ok(last)
+            send_refusal(w, Refusal::Memory, last).and(Ok(last))
         }
     }
 }
@@ -123,8 +120,7 @@ fn serve_message<T: Tables, W: ByteSink>(
     let last = answer_front(alloc, desk, inbox, head, body, full, w)?;
     inbox.take_off(head);
     inbox.take_off(body);
-    hand_on(w)?;
-    Ok(next_of(last))
+    hand_on(w).and(Ok(next_of(last)))
 }
 
 /// Reads a message and answers it.

@@ -99,13 +99,13 @@ pub(crate) fn request_of(alloc: Global, parts: RequestParts<'_>) -> Result<Reque
     let Some(number) = number_in(parts.number) else {
         return Err(RequestFault::Malformed);
     };
+    let Some(caller) = caller_in(alloc, parts.callers)? else {
+        return Err(RequestFault::Malformed);
+    };
     let act = act_in(alloc, parts.body)?;
-    match caller_in(alloc, parts.callers)? {
-        Some(caller) => Ok(Request {
-            number,
-            caller,
-            act,
-        }),
-        None => Err(RequestFault::Malformed),
-    }
+    Ok(Request {
+        number,
+        caller,
+        act,
+    })
 }

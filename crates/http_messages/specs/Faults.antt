@@ -2,7 +2,7 @@
 use Rattle.std.specs.Prelude.{ℕ}
 use Rattle.http_messages.specs.declared.inbox.ReadFault.{ReadFault}
 use Rattle.http_messages.specs.declared.inbox.ReadFault.TheVariants.{Source, Memory}
-use Rattle.http_messages.specs.declared.inbox.Unread.{Unread}
+use Rattle.http_messages.specs.declared.message.Unread.{Unread}
 
 abbrev pub fault_number : ReadFault → ℕ
 fault_number Source = 1

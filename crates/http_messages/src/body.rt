@@ -9,7 +9,7 @@ use crate::refusal::Refusal;
 const BODY_LIMIT: u32 = 5_242_880;
 
 /// How many bytes the body behind a head has. A refusal where the head alone fails a test; then the connection ends.
-pub(crate) fn body_size(head: &Head<'_>) -> Result<u32, Refusal>
+pub(crate) fn body_size(head: &Head<'_>) -> Result<usize, Refusal>
     ensures { MatchResult result (λ size. (first_failed (head_tests head.now) ≡ None) × (size ≡ body_size head.now))
         (λ refusal. option_map (λ test. test.refusal) (first_failed (head_tests head.now)) ≡ Some refusal) }
 {
@@ -17,6 +17,6 @@ pub(crate) fn body_size(head: &Head<'_>) -> Result<u32, Refusal>
         BodyLength::Absent => Ok(0),
         BodyLength::Bad => Err(Refusal::Malformed),
         BodyLength::Given(size) if size > BODY_LIMIT => Err(Refusal::TooLarge),
-        BodyLength::Given(size) => Ok(size),
+        BodyLength::Given(size) => Ok(size as usize),
     }
 }

@@ -1,27 +1,14 @@
 //! Where a head ends.
 ghost use Rattle.std.specs.Prelude.{◌≡◌, ◌≤◌, length, take, option_map, IfSome};
-ghost use Rattle.http_messages.specs.Cut.{head_cut, end_length, line_end_length};
-
-/// How long the line end at the front is, or 0.
-fn line_end_length(bytes: &[u8]) -> usize
-    ensures { result ≡ line_end_length bytes.now }
-{
-    match bytes {
-        [b'\n', ..] => 1,
-        [b'\r', b'\n', ..] => 2,
-        _ => 0,
-    }
-}
+ghost use Rattle.http_messages.specs.Cut.{head_cut, end_length};
 
 /// How long the LF and the line end at the front are, or 0.
 fn end_length(bytes: &[u8]) -> usize
     ensures { result ≡ end_length bytes.now }
 {
-    match bytes.split_first() {
-        Some((first, rest)) if *first == b'\n' => {
-            let more = line_end_length(rest);
-            if more > 0 { 1 + more } else { 0 }
-        }
+    match bytes {
+        [b'\n', b'\n', ..] => 2,
+        [b'\n', b'\r', b'\n', ..] => 3,
         _ => 0,
     }
 }

@@ -14,7 +14,7 @@ use std::marker::Model;
 const FIELD_LIMIT: usize = 32;
 
 /// How long the body behind a head is, as its field lines say.
-#[derive(Clone, Copy, Debug, PartialEq, Eq, Drop)]
+#[derive(Clone, Copy, Drop)]
 pub(crate) enum BodyLength {
     /// No length is given.
     Absent,

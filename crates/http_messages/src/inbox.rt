@@ -12,7 +12,7 @@ ghost use Rattle.http_messages.specs.declared.inbox.Arrival.TheVariants.{Refused
 use crate::body::body_size;
 use crate::cut::head_length;
 use crate::head::Head;
-use crate::message::{Asked, Asking, asking_of};
+use crate::message::{Asked, Asking, Unread, asking_of};
 use crate::refusal::Refusal;
 use std::alloc::{AllocError, Global};
 use std::marker::Model;
@@ -25,7 +25,7 @@ const HEAD_LIMIT: usize = 8_192;
 const ROOM: usize = 16_384;
 
 /// Why no message was read.
-#[derive(Clone, Copy, Debug, Drop, PartialEq, Eq, Error)]
+#[derive(Clone, Copy, Debug, Drop, Error)]
 pub enum ReadFault {
     /// A read of the source failed.
     #[error("the source failed")]
@@ -73,7 +73,7 @@ impl From<AllocError> for ReadFault {
 }
 
 /// What stands at the front of what was read.
-#[derive(Clone, Copy, Debug, Drop, PartialEq, Eq)]
+#[derive(Clone, Copy, Drop)]
 pub enum Arrival {
     /// Nothing: the stream has ended.
     End,
@@ -81,26 +81,6 @@ pub enum Arrival {
     Refused(Refusal),
     /// A message, by how many bytes its head and its body have.
     Message { head: usize, body: usize },
-}
-
-/// There was no memory to read what a message asks.
-#[derive(Clone, Copy, Debug, Drop, PartialEq, Eq, Error)]
-#[error("out of memory")]
-pub struct Unread {
-    /// Whether the connection ends behind it.
-    pub ends: bool,
-}
-
-impl Unread {
-    ghost use Rattle.std.specs.Prelude.{◌≡◌};
-    ghost use Rattle.http_messages.specs.Faults.{unread_number};
-
-    /// The fault's number, which is 1: it has one kind.
-    pub fn number(self) -> u8
-        ensures { result ≡ unread_number self }
-    {
-        1
-    }
 }
 
 /// What was read of a stream, and not yet taken off.
@@ -189,10 +169,10 @@ impl Inbox {
         ensures err { IfErr result (RefusesHead (head_of (take head self.now))) }
         ensures most { IfOk result (λ size. size ≤ body_limit) }
     {
-        let Some(head) = Head::read(&self.bytes[..head]) else {
-            return Err(Refusal::Malformed);
-        };
-        Ok(body_size(&head)? as usize)
+        match Head::read(&self.bytes[..head]) {
+            Some(head) => body_size(&head),
+            None => Err(Refusal::Malformed),
+        }
     }
 
     /// What stands there where no head ends in the bytes.
@@ -240,16 +220,11 @@ impl Inbox {
         ensures ends { IfErr result (λ unread. unread.ends ≡ (asking_in self.now head body).ends) }
     {
         let (front, behind) = self.bytes.split_at(head);
-        let Some(head) = Head::read(front) else {
-            return Ok(Asking {
+        match Head::read(front) {
+            Some(head) => asking_of(alloc, &head, &behind[..body]),
+            None => Ok(Asking {
                 asked: Asked::Refused(Refusal::Malformed),
                 ends: true,
-            });
-        };
-        match asking_of(alloc, &head, &behind[..body]) {
-            Ok(asking) => Ok(asking),
-            Err(_) => Err(Unread {
-                ends: head.closes(),
             }),
         }
     }

@@ -13,8 +13,8 @@ mod refusal;
 mod route;
 mod target;
 
-pub use inbox::{Arrival, Inbox, ReadFault, Unread};
+pub use inbox::{Arrival, Inbox, ReadFault};
 pub use lines::Values;
-pub use message::{Asked, Asking, RequestParts};
+pub use message::{Asked, Asking, RequestParts, Unread};
 pub use query::UnitName;
 pub use refusal::Refusal;

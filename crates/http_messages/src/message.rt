@@ -1,6 +1,6 @@
 //! What a message asks: the tests that it has to pass, in their order, and its question.
-ghost use Rattle.std.specs.Prelude.{◌≡◌, ◌&&◌, Some, option_map, IfOk, OnErr};
-ghost use Rattle.http_messages.specs.Framing.{body_length, closes};
+ghost use Rattle.std.specs.Prelude.{◌≡◌, ◌&&◌, Some, option_map, IfOk, IfErr, OnErr};
+ghost use Rattle.http_messages.specs.Framing.{body_length};
 ghost use Rattle.http_messages.specs.Asked.{target_route, wants_length, is_absent, asked_of, lang_in, unit_in_query, export, unit, stats, question, asking_of};
 ghost use Rattle.http_messages.specs.Askings.{IsAsked, IsAsking, MayTakeMemory, route_at};
 
@@ -11,6 +11,7 @@ use crate::refusal::Refusal;
 use crate::route::{Route, RouteKind, route_of};
 use crate::target::{Target, split_target};
 use std::alloc::{AllocError, Global};
+use thiserror::Error;
 use units::Lang;
 
 /// A request as a message brings it, undecoded.
@@ -45,16 +46,35 @@ pub struct Asking<'b> {
     pub ends: bool,
 }
 
+/// There was no memory to read what a message asks.
+#[derive(Clone, Copy, Debug, Drop, Error)]
+#[error("out of memory")]
+pub struct Unread {
+    /// Whether the connection ends behind it.
+    pub ends: bool,
+}
+
+impl Unread {
+    ghost use Rattle.std.specs.Prelude.{◌≡◌};
+    ghost use Rattle.http_messages.specs.Faults.{unread_number};
+
+    /// The fault's number, which is 1: it has one kind.
+    pub fn number(self) -> u8
+        ensures { result ≡ unread_number self }
+    {
+        1
+    }
+}
+
 /// The route of a head's target, if it has no query or may have one.
 fn target_route<'b>(head: &Head<'b>) -> Option<Route<'b>>
     ensures { option_map route_at result ≡ target_route head.now }
 {
     let target = split_target(head.target());
-    let route = route_of(target.path)?;
-    if target.query.is_some() && !route.kind.may_have_query() {
-        return None;
+    match route_of(target.path) {
+        Some(route) if target.query.is_none() || route.kind.may_have_query() => Some(route),
+        _ => None,
     }
-    Some(route)
 }
 
 /// Whether a request's head says nothing of its body's length.
@@ -134,27 +154,27 @@ fn question<'b>(
 
 /// What a message asks that has this head and this body, of the size that the head gives.
 ///
-/// An error where a growth was refused: then the message fails no test but the last, by which a part of it may be malformed, and the
-/// connection ends as the head says.
+/// An error where a growth was refused: then the message fails no test but the last, by which a part of it may be malformed.
 pub(crate) fn asking_of<'b>(
     alloc: Global,
     head: &Head<'b>,
     body: &'b [u8],
-) -> Result<Asking<'b>, AllocError>
+) -> Result<Asking<'b>, Unread>
     ensures asking { IfOk result (λ asking. IsAsking asking (asking_of head.now body.now)) }
     ensures memory { OnErr result (MayTakeMemory (asking_of head.now body.now).asked) }
-    ensures ends { OnErr result ((asking_of head.now body.now).ends ≡ closes head.now) }
+    ensures ends { IfErr result (λ unread. unread.ends ≡ (asking_of head.now body.now).ends) }
 {
+    let ends = head.closes();
     let Some(route) = target_route(head) else {
         return Ok(Asking {
             asked: Asked::Refused(Refusal::NoRoute),
-            ends: head.closes(),
+            ends,
         });
     };
     if head.method() != route.kind.method() {
         return Ok(Asking {
             asked: Asked::Refused(Refusal::Method),
-            ends: head.closes(),
+            ends,
         });
     }
     if lacks_length(route, head) {
@@ -163,9 +183,8 @@ pub(crate) fn asking_of<'b>(
             ends: true,
         });
     }
-    let asked = question(alloc, route, head, body)?;
-    Ok(Asking {
-        asked,
-        ends: head.closes(),
-    })
+    match question(alloc, route, head, body) {
+        Ok(asked) => Ok(Asking { asked, ends }),
+        Err(_) => Err(Unread { ends }),
+    }
 }

@@ -14,7 +14,7 @@ use std::borrow::CowStr;
 use units::{Key, Lang};
 
 /// A unit by its language and its key.
-#[derive(Debug, Drop)]
+#[derive(Drop)]
 pub struct UnitName {
     pub lang: Lang,
     pub key: Key,

@@ -1,7 +1,7 @@
 //! Errors.
 
 /// An answer that is an error. Its body is `{"error":WORD}`.
-#[derive(Clone, Copy, Debug, PartialEq, Eq, Drop)]
+#[derive(Clone, Copy, Drop)]
 pub enum Refusal {
     /// 431 `head`: no head ends within 8,192 bytes.
     LongHead,

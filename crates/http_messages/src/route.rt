@@ -4,7 +4,7 @@ ghost use Rattle.std.specs.List.{list_any};
 ghost use Rattle.http_messages.specs.Routes.{is_part, part_behind, route_of, may_have_query, method_of};
 
 /// Which route it is.
-#[derive(Clone, Copy, Debug, PartialEq, Eq, Drop)]
+#[derive(Clone, Copy, Drop)]
 pub(crate) enum RouteKind {
     /// `POST /v1/requests/{number}`
     Requests,
@@ -17,7 +17,7 @@ pub(crate) enum RouteKind {
 }
 
 /// A route, with the part of the path that it names.
-#[derive(Clone, Copy, Debug, Drop)]
+#[derive(Clone, Copy, Drop)]
 pub(crate) struct Route<'b> {
     pub kind: RouteKind,
     /// What stands at the place in braces; empty where the route has none.

@@ -5,7 +5,7 @@ ghost use Rattle.http_messages.specs.Targets.{path_of, query_of, HasNoMark};
 use memchr::memchr;
 
 /// A target, undecoded.
-#[derive(Clone, Copy, Debug, Drop)]
+#[derive(Clone, Copy, Drop)]
 pub(crate) struct Target<'b> {
     pub path: &'b [u8],
     /// What stands behind the first `?`, if there is one.

@@ -1,19 +1,29 @@
-use Rattle.std.proofs.Common.{◌≡◌, true, refl}
+use Rattle.std.proofs.Common.{◌≡◌, ℕ, List, true, refl, ap, ◌∙◌, drop}
 use Rattle.std.specs.Prelude.{◌||◌}
+use Rattle.std.proofs.Math.Seq.{drop-drop}
 use Rattle.http_messages.specs.Arrivals.{asking_in}
 use Rattle.commands.specs.Writers.{writer_at}
-use Rattle.http_api.proofs.Handing.{passed_writes, held_back}
+use Rattle.http_api.specs.declared.connection.Next.{Next}
+use Rattle.http_api.specs.Steps.{next_of}
+use Rattle.http_api.proofs.Handing.{writes_handed, writes_and, ok_and, at_ok}
 use Rattle.http_api.proofs.connection.serve_message.Goals as goal
 
-pub returns-in_err-hand_on-clause-answered : goal.returns-in_err-hand_on-clause-answered
-returns-in_err-hand_on-clause-answered g c =
+pub returns-clause-answered : goal.returns-clause-answered
+returns-clause-answered g c =
     let came = c.in_ok-last.ensures.answered in
     let last = (asking_in c.args.inbox.now c.args.head c.args.body).ends || c.args.full in
+    let honest = g.T.Tables.is_honest c.answer_front.new.desk in
+    let stopped = g.T.Tables.is_stopped c.answer_front.new.desk ≡ true in
     let old = writer_at g.W.ByteSink.taken g.W.ByteSink.failed c.args.w.now in
     let mid = writer_at g.W.ByteSink.taken g.W.ByteSink.failed c.answer_front.new.w in
-    let new = writer_at g.W.ByteSink.taken g.W.ByteSink.failed c.hand_on.new.w in (
-      came.0,
-      came.1,
-      passed_writes (g.T.Tables.is_honest c.answer_front.new.desk) (g.T.Tables.is_stopped c.answer_front.new.desk ≡ true) old new came.0 last last c.from_residual-in_err-hand_on.result c.in_err-hand_on.field-0.0 c.from_residual-in_err-hand_on.ensures.1 refl
-          (held_back (g.T.Tables.is_honest c.answer_front.new.desk) (g.T.Tables.is_stopped c.answer_front.new.desk ≡ true) old mid new came.0 last c.in_err-hand_on.field-0.0 c.in_err-hand_on.ensures.0 came.2 c.in_err-hand_on.ensures.1),
-    )
+    let new = writer_at g.W.ByteSink.taken g.W.ByteSink.failed c.hand_on.new.w in
+    (came.0, came.1, writes_and honest stopped old new came.0 last last c.hand_on.result _ c.and.result c.and.ensures refl (writes_handed honest stopped old mid new came.0 last c.hand_on.result came.2 c.hand_on.ensures))
+
+pub returns-clause-next : goal.returns-clause-next
+returns-clause-next g c =
+    let last = (asking_in c.args.inbox.now c.args.head c.args.body).ends || c.args.full in
+    ok_and (λ (next : Next). next ≡ next_of last) c.hand_on.result c.next_of.result c.and.result c.and.ensures (c.next_of.ensures ∙ ap next_of c.in_ok-last.ensures.last)
+
+pub returns-clause-behind : goal.returns-clause-behind
+returns-clause-behind g c =
+    at_ok _ c.and.result (c.take_off-2.ensures ∙ ap (λ (bytes : List ℕ). drop c.args.body bytes) c.take_off.ensures ∙ drop-drop c.args.body c.args.head c.args.inbox.now)
