@@ -1,32 +1,41 @@
--- What the tests of names and places tell, four at a time.
-use Rattle.std.proofs.Common.{◌≡◌, ◌<◌, List, [], ◌∷◌, Bool, ◌&&◌, length, map, take, get_or, sym, ap, ◌∙◌, arith}
-use Rattle.std.specs.Bool.{Decides}
-use Rattle.std.proofs.lemmas.Bool.Decides.{Decides-at, Decides-like, Decides-and}
+-- What the tests of names and places tell, one after another.
+use Rattle.std.proofs.Common.{◌≡◌, ℕ, ◌+◌, ◌<◌, ◌≤◌, List, [], ◌∷◌, ◌++◌, length, map, take, get_or, Bor, sym, ap, ◌∙◌, arith}
+use Rattle.std.proofs.lemmas.List.{take_all, take_more, map_more, get_or-map, length-map}
 
-module _ {X L : Type 0} (f : X → L) where
-  pub four_told : (xs : List X) (p q r s : X) (k l m n : L) → 3 < length xs → p ≡ get_or xs 0 p → q ≡ get_or xs 1 q → r ≡ get_or xs 2 r → s ≡ get_or xs 3 s
-      → (t a b c d : Bool) → t ≡ (a && (b && (c && d))) → Decides a (f p ≡ k) → Decides b (f q ≡ l) → Decides c (f r ≡ m) → Decides d (f s ≡ n)
-      → Decides t (map f (take 4 xs) ≡ k ∷ l ∷ m ∷ n ∷ [])
-  four_told [] p q r s k l m n long is_p is_q is_r is_s t a b c d e first second third fourth = absurd (omega arith)
-  four_told (w ∷ []) p q r s k l m n long is_p is_q is_r is_s t a b c d e first second third fourth = absurd (omega arith)
-  four_told (w ∷ x ∷ []) p q r s k l m n long is_p is_q is_r is_s t a b c d e first second third fourth = absurd (omega arith)
-  four_told (w ∷ x ∷ y ∷ []) p q r s k l m n long is_p is_q is_r is_s t a b c d e first second third fourth = absurd (omega arith)
-  four_told (w ∷ x ∷ y ∷ z ∷ rest) p q r s k l m n long is_p is_q is_r is_s t a b c d e first second third fourth =
-      Decides-at t (a && (b && (c && d))) e (Decides-like (a && (b && (c && d))) to from
-      (Decides-and a (b && (c && d)) first (Decides-and b (c && d) second (Decides-and c d third fourth))))
-    where
-      to : (f p ≡ k) × ((f q ≡ l) × ((f r ≡ m) × (f s ≡ n))) → f w ∷ f x ∷ f y ∷ f z ∷ [] ≡ k ∷ l ∷ m ∷ n ∷ []
-      to h =
-          let e_w : f w ≡ k = ap f (sym is_p) ∙ h.0 in
-          let e_x : f x ≡ l = ap f (sym is_q) ∙ h.1.0 in
-          let e_y : f y ≡ m = ap f (sym is_r) ∙ h.1.1.0 in
-          let e_z : f z ≡ n = ap f (sym is_s) ∙ h.1.1.1 in
-          (λ i. e_w i ∷ e_x i ∷ e_y i ∷ e_z i ∷ [])
+abbrev pub Label : Type 0
+Label = List ℕ × ℕ
 
-      from : f w ∷ f x ∷ f y ∷ f z ∷ [] ≡ k ∷ l ∷ m ∷ n ∷ [] → (f p ≡ k) × ((f q ≡ l) × ((f r ≡ m) × (f s ≡ n)))
-      from h =
-          let e_w : f w ≡ k = cc in
-          let e_x : f x ≡ l = cc in
-          let e_y : f y ≡ m = cc in
-          let e_z : f z ≡ n = cc in
-          (ap f is_p ∙ e_w, (ap f is_q ∙ e_x, (ap f is_r ∙ e_y, ap f is_s ∙ e_z)))
+-- a label as the code has it
+abbrev Coded : Type 0
+Coded = Bor (List ℕ) × ℕ
+
+abbrev in_code : Coded → Label
+in_code label = (label.0.now, label.1)
+
+abbrev no_label : Coded
+no_label = (record { ref_ptr = (0, 0); now = [] }, 0)
+
+pub record AreLabels (labels : List Label) (coded : List Coded) : Type 0 where
+  pub eight : length labels ≡ 8
+  pub are : map in_code coded ≡ labels
+
+module _ {X : Type 0} (f : X → Label) (labels : List Label) (coded : List Coded) (are : AreLabels labels coded) (xs : List X) (long : length xs ≡ 8) (i : ℕ) where
+  label_of : i < 8 → in_code (get_or coded i no_label) ≡ get_or labels i ([], 0)
+  label_of low =
+      let eight : length coded ≡ 8 = sym (length-map coded in_code) ∙ ap length are.are ∙ are.eight in
+      sym (get_or-map in_code coded i no_label ([], 0) (omega (arith, low, eight))) ∙ ap (λ l. get_or l i ([], 0)) are.are
+
+  pub label_next : i < 8 → (x : X) → x ≡ get_or xs i x → (name : List ℕ) → name ≡ (f x).0 → (name ≡ (get_or coded i no_label).0.now) × ((f x).1 ≡ (get_or coded i no_label).1) → map f (take i xs) ≡ take i labels
+      → map f (take (i + 1) xs) ≡ take (i + 1) labels
+  label_next low x is name named same before =
+      let here : f (get_or xs i x) ≡ get_or labels i ([], 0) = ap f (sym is) ∙ (λ j. ((sym named ∙ same.0) j, same.1 j)) ∙ label_of low in
+      map_more f xs i x (omega (arith, low, long)) ∙ (λ j. before j ++ here j ∷ []) ∙ sym (take_more labels i ([], 0) (omega (arith, low, are.eight)))
+
+  pub label_not : i < 8 → (x : X) → x ≡ get_or xs i x → (name : List ℕ) → name ≡ (f x).0 → map f xs ≡ labels → (name ≡ (get_or coded i no_label).0.now) × ((f x).1 ≡ (get_or coded i no_label).1)
+  label_not low x is name named all =
+      let here : f x ≡ in_code (get_or coded i no_label) =
+      ap f is ∙ sym (get_or-map f xs i x ([], 0) (omega (arith, low, long))) ∙ ap (λ l. get_or l i ([], 0)) all ∙ sym (label_of low) in
+      (named ∙ ap (λ (l : Label). l.0) here, ap (λ (l : Label). l.1) here)
+
+  pub labels_same : 8 ≤ i → map f (take i xs) ≡ take i labels → map f xs ≡ labels
+  labels_same past before = ap (map f) (sym (take_all i xs (omega (arith, past, long)))) ∙ before ∙ take_all i labels (omega (arith, past, are.eight))

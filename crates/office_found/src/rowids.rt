@@ -70,7 +70,8 @@ fn are_rising(rows: &[Row]) -> bool
 fn is_apart<S: Alter>(tx: &mut Transaction<'_, S>, query: &str) -> Result<bool, Error>
     requires over { IsOver HasSchema (state S.Store tx.old.conn.now) }
     ensures same_reference { tx.new.conn.ghost_name ≡ tx.old.conn.ghost_name }
-    ensures found { (tree : ℕ) → IsRowidQuery query.now tree → IsLook (state S.Store tx.old.conn.now) (state S.Store tx.new.conn.now) result
+    ensures found { (tree : ℕ) → IsRowidQuery query.now tree
+        → IsLook (state S.Store tx.old.conn.now) (state S.Store tx.new.conn.now) result
         (λ db apart. (apart ≡ true) ↔ AreApart (db.trees tree)) }
 {
     let rows = tx.query_all(query, &[])?;
