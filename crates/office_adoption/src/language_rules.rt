@@ -21,8 +21,9 @@ use units::{Lang, Unit};
 fn is_valid_alone(alloc: Global, entry: &Entry) -> Result<bool, AllocError>
     ensures { IfOk result (λ valid. (valid ≡ true) ↔ IsValid (entry.now ∷ [])) }
 {
+    let copy = entry.duplicate()?;
     let mut entries = Vec::new(alloc);
-    entries.push(entry.duplicate()?)?;
+    entries.push(copy)?;
     let made = Catalogue::try_new(alloc, entries)?;
     let valid = made.is_some();
     drop(made);

@@ -114,5 +114,7 @@ pub fn read_office<S: Alter>(
     ensures refused { IfErr result (λ fault. HasCleanDisk (state S.Store connection.new) → Refuses (state S.Store connection.old).now fault) }
 {
     let rows = look_up_office(connection)?;
-    first_office(alloc, &rows)
+    let read = first_office(alloc, &rows);
+    drop(rows);
+    read
 }
