@@ -33,7 +33,7 @@ unended byte (next ∷ text) none =
     in_front_of byte (next ∷ text) ((byte ∷ next ∷ text) ∷ []) (none zero (omega arith) (omega arith))
     (ap (in_front byte) (unended next text (later byte (length (next ∷ text)) (next ∷ text) none)))
 
-behind_of : (text : Text) (n : ℕ) → take (length text - n) (drop n text) ≡ drop n text
+pub behind_of : (text : Text) (n : ℕ) → take (length text - n) (drop n text) ≡ drop n text
 behind_of text n = take_all (length text - n) (drop n text) (simp length-drop (omega arith))
 
 -- a line with its end

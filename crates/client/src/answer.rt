@@ -4,7 +4,7 @@ ghost use Rattle.std.specs.Prelude.{◌≡◌, Ok, None, length, map, drop, All,
 ghost use Rattle.httparse.specs.Grammar.{ResponseHead};
 ghost use Rattle.httparse.specs.Spans.{IsHeaderWithin, IsResponseWithin, IsResponseAt, header_bytes};
 ghost use Rattle.request_book.specs.Replies.{Reply as ReplyValue};
-ghost use Rattle.client.specs.Answers.{IsReplyIn, IsReplyBehind, same_letters, is_other as gives_other, says_length as length_said, lines_say, is_reply_status as is_status};
+ghost use Rattle.client.specs.Answers.{IsReplyIn, IsReplyBehind, same_letters, is_other as gives_other, says_length as length_said, is_reply_status as is_status};
 
 use httparse::Status;
 use httparse::spans::{EMPTY_HEADER_SPAN, HeaderSpan, ResponseSpans, parse_response};
@@ -15,7 +15,7 @@ use std::alloc::Global;
 use units::Memory;
 
 /// The reply that an answer is; none where it isn't one whole response of HTTP with a reply's status: 200, 403, 404, 409 or 422.
-pub fn reply_in(alloc: Global, answer: &[u8]) -> Result<Option<Reply>, Memory>
+pub(crate) fn reply_in(alloc: Global, answer: &[u8]) -> Result<Option<Reply>, Memory>
     ensures reply { IfOk result (λ found. IfSome found (λ reply. IsReplyIn answer.now reply)) }
     ensures none { result ≡ Ok None → (reply : ReplyValue) → ¬ IsReplyIn answer.now reply }
 {
@@ -69,21 +69,13 @@ fn is_reply_status(status: u16) -> bool
     matches!(status, 200 | 403 | 404 | 409 | 422)
 }
 
-/// Whether the header lines say that the body has so many bytes.
+/// Whether the header lines say that the body has so many bytes: one gives this length, and none gives another.
 fn says_length(answer: &[u8], headers: &[HeaderSpan], count: usize) -> bool
     requires { All (IsHeaderWithin (length answer.now)) headers.now }
     ensures { result ≡ length_said count (map (header_bytes answer.now) headers.now) }
 {
     let mut buffer = Buffer::new();
-    let digits = buffer.format(count);
-    lines_say_length(answer, headers, digits.as_bytes())
-}
-
-/// Whether the header lines say that the body has the length of these digits: one gives it, and none gives another.
-fn lines_say_length(answer: &[u8], headers: &[HeaderSpan], digits: &[u8]) -> bool
-    requires { All (IsHeaderWithin (length answer.now)) headers.now }
-    ensures { result ≡ lines_say digits.now (map (header_bytes answer.now) headers.now) }
-{
+    let digits = buffer.format(count).as_bytes();
     let mut is_given = false;
     for header in headers {
         let name = header.name.of(answer);

@@ -11,7 +11,6 @@ mod sending;
 mod source;
 mod telling;
 
-pub use answer::reply_in;
 pub use lines::send_lines;
 pub use link::{Link, LinkFault};
 pub use messages::message;

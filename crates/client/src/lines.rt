@@ -3,9 +3,8 @@
 ghost use Rattle.std.specs.Prelude.{◌≡◌, ◌⊎◌, IfOk, OnOk, IfErr, OnErr};
 ghost use Rattle.units.specs.Streams.{RoseOrStands};
 ghost use Rattle.po_write.specs.Sending.{TookAll, TookPart};
-ghost use Rattle.sender.specs.Sending.{unanswered, HasDistinctNumbers};
 ghost use Rattle.client.specs.Talks.{Talked, IsWithin};
-ghost use Rattle.client.specs.SendLines.{IsListOf, IsFaultOf, WasSent, WasSentFrom, SentLines};
+ghost use Rattle.client.specs.SendLines.{IsFaultOf, WasSent, WasSentFrom, SentLines};
 ghost use Rattle.client.specs.Steps.{IsListFault};
 
 use crate::fault::SendFault;
@@ -67,17 +66,9 @@ fn send_source<R: ByteSource, L: Link, W: ByteSink>(
     ensures err { IfErr result (IsFaultOf (R.left source.old) (RoseOrStands (R.failed source.old) (R.failed source.new))) }
     ensures unsent { OnErr result ((link.new ≡ link.old) × (replies.new ≡ replies.old)) }
 {
-    let requests = read_requests(alloc, source)?;
-    send_list(alloc, requests.as_slice(), link, tries, replies)
-}
-
-/// The requests of a source.
-fn read_requests<R: ByteSource>(alloc: Global, source: &mut R) -> Result<Vec<Request>, SendFault>
-    ensures ok { IfOk result (λ requests. IsListOf (R.left source.old) requests.items) }
-    ensures err { IfErr result (IsFaultOf (R.left source.old) (RoseOrStands (R.failed source.old) (R.failed source.new))) }
-{
     let text = gather(alloc, source)?;
-    requests_in(alloc, text.as_slice())
+    let requests = requests_in(alloc, text.as_slice())?;
+    send_list(alloc, requests.as_slice(), link, tries, replies)
 }
 
 /// Sends requests, and tells what is held for each.
@@ -94,25 +85,9 @@ fn send_list<L: Link, W: ByteSink>(
     ensures err { IfErr result (IsListFault requests.now) }
     ensures unsent { OnErr result ((link.new ≡ link.old) × (replies.new ≡ replies.old)) }
 {
-    let sender = sent(alloc, requests, link, tries)?;
-    Ok(tell_held(replies, &sender, requests.len()))
-}
-
-/// A sender of requests, after they were sent.
-fn sent<L: Link>(
-    alloc: Global,
-    requests: &[Request],
-    link: &mut L,
-    tries: u32,
-) -> Result<Sender, SendFault>
-    ensures distinct { OnOk result (HasDistinctNumbers requests.now) }
-    ensures talked { IfOk result (Talked (IsWithin tries) (L.said link.old) (L.said link.new) (unanswered requests.now)) }
-    ensures err { IfErr result (IsListFault requests.now) }
-    ensures unsent { OnErr result (link.new ≡ link.old) }
-{
     let mut sender = Sender::new(alloc, requests)?;
     match send_all(alloc, &mut sender, requests, link, tries) {
-        Ok(()) => Ok(sender),
+        Ok(()) => Ok(tell_held(replies, &sender, requests.len())),
         Err(Memory) => Err(SendFault::Memory),
     }
 }

@@ -6,7 +6,7 @@ ghost use Rattle.client.specs.Talks.{Said, said_behind};
 use thiserror::Error;
 
 /// Why no answer came back.
-#[derive(Clone, Copy, Debug, Drop, PartialEq, Eq, Error)]
+#[derive(Clone, Copy, Debug, Drop, Error)]
 pub enum LinkFault {
     /// None came: the message or its answer was lost.
     #[error("no answer came")]

@@ -45,10 +45,7 @@ fn push_line(alloc: Global, line: &[u8], requests: &mut Vec<Request>) -> Result<
     ensures err { IfErr result (IsLineFault line.now requests.old.items) }
 {
     match request_of(alloc, line) {
-        Ok(request) => match requests.push(request) {
-            Ok(()) => Ok(()),
-            Err(_) => Err(SendFault::Memory),
-        },
+        Ok(request) => requests.push(request).or(Err(SendFault::Memory)),
         Err(RequestFault::Malformed) => Err(SendFault::Malformed(requests.len() + 1)),
         Err(RequestFault::Memory) => Err(SendFault::Memory),
     }

@@ -1,7 +1,6 @@
 //! All requests of a sender over a link.
 
-ghost use Rattle.std.specs.Prelude.{◌≡◌, List, Some, true, false, OnErr, IfSome, slice_get};
-ghost use Rattle.client.specs.Answers.{IsReplyIn};
+ghost use Rattle.std.specs.Prelude.{◌≡◌, List, Some, true, false, OnErr, slice_get};
 ghost use Rattle.request_book.specs.declared.act.Request.{Request as RequestValue};
 ghost use Rattle.sender.specs.Sending.{is_ready};
 ghost use Rattle.client.specs.Talks.{Talked, IsWithin, requests_of};
@@ -96,15 +95,7 @@ fn takes_try(sender: &Sender, left: &mut [u32], place: usize) -> bool
     ensures taken { result ≡ true → Takes place left.old left.new }
     ensures none { result ≡ false → left.new ≡ left.old }
 {
-    sender.ready(place) && takes_one(left, place)
-}
-
-/// Takes a try of the request at this place, if one is left. Tells whether one was.
-fn takes_one(left: &mut [u32], place: usize) -> bool
-    ensures taken { result ≡ true → Takes place left.old left.new }
-    ensures none { result ≡ false → left.new ≡ left.old }
-{
-    if left.len() <= place || left[place] == 0 {
+    if !sender.ready(place) || left.len() <= place || left[place] == 0 {
         return false;
     }
     left[place] -= 1;
@@ -125,23 +116,13 @@ fn send_one<L: Link>(alloc: Global, sender: &mut Sender, request: &Request, link
     }
 }
 
-/// The reply that comes back for a message, if one does.
+/// The reply that comes back for a message, if one does; none also where memory is wanting.
 fn exchanged<L: Link>(alloc: Global, link: &mut L, message: &[u8]) -> Option<Reply>
     ensures { Exchanged (L.said link.old) (L.said link.new) message.now result }
 {
     let mut answer = Vec::new(alloc);
     match link.exchange(message, &mut answer) {
-        Ok(()) => heard(alloc, answer.as_slice()),
-        Err(_) => None,
-    }
-}
-
-/// The reply that an answer is; none also where memory is wanting.
-fn heard(alloc: Global, answer: &[u8]) -> Option<Reply>
-    ensures { IfSome result (λ reply. IsReplyIn answer.now reply) }
-{
-    match reply_in(alloc, answer) {
-        Ok(reply) => reply,
+        Ok(()) => reply_in(alloc, answer.as_slice()).unwrap_or(None),
         Err(_) => None,
     }
 }

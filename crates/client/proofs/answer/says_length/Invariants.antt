@@ -2,7 +2,7 @@ use Rattle.std.proofs.Common.{◌≡◌, map, take, false}
 use Rattle.std.specs.List.{list_any}
 use Rattle.httparse.specs.Spans.{header_bytes}
 use Rattle.client.specs.Answers.{is_length, is_other}
-use Rattle.client.proofs.answer.lines_say_length.Given as goal
+use Rattle.client.proofs.answer.says_length.Given as goal
 
 abbrev pub invariant-loop-header : goal.invariant-loop-header
 invariant-loop-header l = record {
