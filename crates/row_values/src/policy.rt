@@ -9,7 +9,7 @@ use crate::numbers::{accept_at_column, accept_at_from, flag_column, flag_from};
 use units::Policy;
 
 /// The six columns of a policy, each by its name in [`Policy`].
-#[derive(Clone, Copy, Debug, PartialEq, Eq)]
+#[derive(Clone, Copy)]
 pub struct PolicyColumns {
     pub reviews: i64,
     pub guests_suggest: i64,
