@@ -1,35 +1,49 @@
 //! Copies of units and of their parts, each equal to what it is a copy of.
-ghost use Rattle.std.specs.Prelude.{◌≡◌, IfOk};
+ghost use Rattle.std.specs.Prelude.{◌≡◌, Ok, IfOk};
 
 use crate::unit::{Key, Suggestion, Unit, UnitAct, UnitAction, UnitView};
 use po_read::{Duplicate, Forms, Items, PoString, Previous, Text};
 use std::alloc::AllocError;
 
+/// Both values, where both are there.
+fn both<A: Drop, B: Drop>(
+    first: Result<A, AllocError>,
+    second: Result<B, AllocError>,
+) -> Result<(A, B), AllocError>
+    ensures first { IfOk result (λ both. first ≡ Ok both.0) }
+    ensures second { IfOk result (λ both. second ≡ Ok both.1) }
+{
+    Ok((first?, second?))
+}
+
 impl Duplicate for Key {
     fn duplicate(&self) -> Result<Key, AllocError> {
-        let id = self.id.duplicate()?;
-        Ok(Key {
-            ctx: self.ctx.duplicate()?,
-            id,
-        })
+        let (ctx, id) = both(self.ctx.duplicate(), self.id.duplicate())?;
+        Ok(Key { ctx, id })
     }
 }
 
 impl Duplicate for Suggestion {
     fn duplicate(&self) -> Result<Suggestion, AllocError> {
+        let (suggester, (forms, votes)) = both(
+            self.suggester.duplicate(),
+            both(self.forms.duplicate(), self.votes.duplicate()),
+        )?;
         Ok(Suggestion {
             number: self.number,
-            suggester: self.suggester.duplicate()?,
-            forms: self.forms.duplicate()?,
-            votes: self.votes.duplicate()?,
+            suggester,
+            forms,
+            votes,
         })
     }
 }
 
 impl Duplicate for Unit {
     fn duplicate(&self) -> Result<Unit, AllocError> {
-        let (comment, previous, suggestions) = copied_notes(self)?;
-        let (key, plural, forms) = copied_texts(self)?;
+        let ((key, (plural, forms)), (comment, (previous, suggestions))) = both(
+            copied_texts(self),
+            copied_notes(self),
+        )?;
         Ok(Unit {
             key,
             plural,
@@ -45,30 +59,28 @@ impl Duplicate for Unit {
 }
 
 /// The unit's key, msgid_plural and forms, copied.
-fn copied_texts(unit: &Unit) -> Result<(Key, Option<PoString>, Forms), AllocError>
-    ensures { IfOk result (λ copy. copy ≡ (unit.now.key, unit.now.plural, unit.now.forms)) }
+fn copied_texts(unit: &Unit) -> Result<(Key, (Option<PoString>, Forms)), AllocError>
+    ensures { IfOk result (λ copy. copy ≡ (unit.now.key, (unit.now.plural, unit.now.forms))) }
 {
-    let plural = unit.plural.duplicate()?;
-    let forms = unit.forms.duplicate()?;
-    Ok((unit.key.duplicate()?, plural, forms))
+    both(
+        unit.key.duplicate(),
+        both(unit.plural.duplicate(), unit.forms.duplicate()),
+    )
 }
 
 /// Its comment lines, previous strings and suggestions, copied.
-fn copied_notes(unit: &Unit) -> Result<(Items<Text>, Previous, Items<Suggestion>), AllocError>
-    ensures { IfOk result (λ copy. copy ≡ (unit.now.comment, unit.now.previous, unit.now.suggestions)) }
+fn copied_notes(unit: &Unit) -> Result<(Items<Text>, (Previous, Items<Suggestion>)), AllocError>
+    ensures { IfOk result (λ copy. copy ≡ (unit.now.comment, (unit.now.previous, unit.now.suggestions))) }
 {
-    let previous = unit.previous.duplicate()?;
-    let comment = unit.comment.duplicate()?;
-    Ok((comment, previous, unit.suggestions.duplicate()?))
+    both(
+        unit.comment.duplicate(),
+        both(unit.previous.duplicate(), unit.suggestions.duplicate()),
+    )
 }
 
 impl Duplicate for UnitView {
     fn duplicate(&self) -> Result<UnitView, AllocError> {
-        let unit = self.unit.duplicate()?;
-        let source = match &self.source {
-            Some(entry) => Some(entry.duplicate()?),
-            None => None,
-        };
+        let (unit, source) = both(self.unit.duplicate(), self.source.duplicate())?;
         Ok(UnitView { unit, source })
     }
 }

@@ -138,10 +138,7 @@ fn kept_previous(state: UnitState, previous: Previous) -> Previous
     if state == UnitState::NeedsEditing {
         previous
     } else {
-        Previous {
-            ctx: None,
-            id: None,
-            plural: None,
-        }
+        drop(previous);
+        no_previous()
     }
 }

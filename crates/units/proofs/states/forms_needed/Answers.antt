@@ -1,5 +1,5 @@
-use Rattle.std.proofs.Common.{rules}
+use Rattle.std.proofs.Common.{refl}
 use Rattle.units.proofs.states.forms_needed.Goals as goal
 
 pub returns-in-None : goal.returns-in-None
-returns-in-None c = search rules
+returns-in-None c = rw c.in-None.is refl

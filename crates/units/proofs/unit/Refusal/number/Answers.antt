@@ -1,8 +1,8 @@
-use Rattle.std.proofs.Common.{rules}
+use Rattle.std.proofs.Common.{refl}
 use Rattle.units.proofs.unit.Refusal.number.Goals as goal
 
 pub returns-in-IsFull : goal.returns-in-IsFull
-returns-in-IsFull c = search rules
+returns-in-IsFull c = rw c.in-IsFull.is refl
 
 pub returns-in-IsSame : goal.returns-in-IsSame
-returns-in-IsSame c = search rules
+returns-in-IsSame c = rw c.in-IsSame.is refl

@@ -1,5 +1,5 @@
-use Rattle.std.proofs.Common.{rules}
+use Rattle.std.proofs.Common.{refl}
 use Rattle.units.proofs.unit.Role.is_below.Goals as goal
 
 pub returns : goal.returns
-returns c = search rules
+returns c = rw (c.rank.ensures, c.rank-2.ensures) refl
