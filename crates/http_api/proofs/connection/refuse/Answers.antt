@@ -19,7 +19,7 @@ returns-clause-told g c =
     let mid = writer_at g.W.ByteSink.taken g.W.ByteSink.failed c.send_refusal.new.w in
     let new = writer_at g.W.ByteSink.taken g.W.ByteSink.failed c.hand_on.new.w in
     let text = refusal_text c.args.refusal true in
-    tells_and old new text c.hand_on.result Last c.and.result c.and.ensures (tells_handed old mid new text c.hand_on.result c.in_ok-send_refusal.ensures c.hand_on.ensures)
+    tells_and old new text c.hand_on.result _ c.and.result c.and.ensures (tells_handed old mid new text c.hand_on.result c.in_ok-send_refusal.ensures c.hand_on.ensures)
 
 pub returns-clause-next : goal.returns-clause-next
 returns-clause-next g c = ok_and (λ (next : Next). next ≡ Last) c.hand_on.result Last c.and.result c.and.ensures refl
