@@ -1,6 +1,6 @@
 -- The index from numbers to places: one request more, and what a reply changes.
 use Rattle.std.proofs.Common.{◌≡◌, ℕ, zero, suc, ◌<◌, List, [], ◌∷◌, ◌++◌, length, map, take, set, get_or, Bool, true, false, cond, Option, Some, None, refl, sym, ◌∙◌, ap, subst, arith, inl, inr, add-one, ◌+◌, is_some}
-use Rattle.std.specs.Prelude.{◌⊎◌, ◌↔◌, slice_get, option_map}
+use Rattle.std.specs.Prelude.{◌⊎◌, ◌↔◌, slice_get, option_map, Result, Ok, Err}
 use Rattle.std.specs.Map.{lookup}
 use Rattle.std.specs.BTreeMap.{BTreeMap, get, is_at, Updates}
 use Rattle.std.specs.Cmp.Lexicographic.{texts_ties}
@@ -137,6 +137,18 @@ stands_twice requests places i place x index at_i found distinct = by_request (s
 pub some_place : (o g : Option ℕ) (b : Bool) → o ≡ g → b ≡ is_some o → b ≡ true → (p : ℕ) × (g ≡ Some p)
 some_place None g b e is t = cc
 some_place (Some p) g b e is t = (p, sym e)
+
+pub known_place : (o : Option ℕ) → is_some o ≡ true → (p : ℕ) × (o ≡ Some p)
+known_place None t = cc
+known_place (Some p) t = (p, refl)
+
+-- one fault of two kinds of results
+pub same_fault : {S T E : Type 0} (e d : E) → ◌≡◌ {A = Result S E} (Err e) (Err d) → ◌≡◌ {A = Result T E} (Err e) (Err d)
+same_fault {S} {T} {E} e d is = ap recast is
+  where
+    recast : Result S E → Result T E
+    recast (Ok x) = Err d
+    recast (Err f) = Err f
 
 pub none_place : (o g : Option ℕ) (b : Bool) → o ≡ g → b ≡ is_some o → b ≡ false → g ≡ None
 none_place None g b e is t = sym e

@@ -1,12 +1,16 @@
 //! The sender.
 
-ghost use Rattle.std.specs.Prelude.{◌≡◌, Err, IfOk, OnOk, option_map};
+ghost use Rattle.std.specs.Prelude.{◌≡◌, ◌++◌, ◌∷◌, [], Some, None, Err, IsSome, IfOk, OnOk, option_map};
+ghost use Rattle.std.specs.BTreeMap.{get, Updates};
+ghost use Rattle.po_read.specs.Texts.{text_cmp};
 ghost use Rattle.sender.specs.Sending.{HasDistinctNumbers, unanswered, is_ready, hear, held as reply_held, is_finished};
+ghost use Rattle.sender.specs.Numbers.{number_in};
+ghost use Rattle.sender.specs.Waiting.{TakesIn};
 ghost use Rattle.sender.specs.declared.fault.SenderFault.TheVariants.{Twice};
 
 use crate::exchange::{Exchange, push_copy};
 use crate::fault::SenderFault;
-use crate::waiting::Waiting;
+use crate::waiting::{UnitName, Waiting};
 use request_book::{Reply, Request};
 use std::alloc::Global;
 use std::collections::BTreeMap;
@@ -48,11 +52,15 @@ impl Sender {
         let mut waiting = Waiting::new(alloc);
         let mut numbers = BTreeMap::new(alloc);
         for (place, request) in requests.iter().enumerate() {
-            if places.insert(request.number, place)?.is_some() {
-                return Err(SenderFault::Twice);
-            }
-            waiting.add(alloc, &mut numbers, place, request)?;
-            push_copy(&mut exchanges, request)?;
+            take_in(
+                alloc,
+                &mut exchanges,
+                &mut places,
+                &mut waiting,
+                &mut numbers,
+                place,
+                request,
+            )?;
         }
         Ok(Sender {
             exchanges,
@@ -100,4 +108,28 @@ impl Sender {
     {
         self.waiting.is_empty()
     }
+}
+
+/// Takes one request more, at the end of all: its place is the number of those before it.
+fn take_in<'a>(
+    alloc: Global,
+    exchanges: &mut Vec<Exchange>,
+    places: &mut BTreeMap<Uuid, usize>,
+    waiting: &mut Waiting,
+    numbers: &mut BTreeMap<UnitName<'a>, usize>,
+    place: usize,
+    request: &'a Request,
+) -> Result<(), SenderFault>
+    ensures pushed { OnOk result (exchanges.new.items ≡ exchanges.old.items ++ unanswered (request.now ∷ [])) }
+    ensures new { OnOk result (get text_cmp places.old request.now.number ≡ None) }
+    ensures placed { OnOk result (Updates text_cmp places.old places.new request.now.number (Some place)) }
+    ensures waits { OnOk result (TakesIn waiting.old waiting.new (number_in numbers.old) (number_in numbers.new) place request.now) }
+    ensures twice { result ≡ Err Twice → IsSome (get text_cmp places.old request.now.number) }
+{
+    if places.insert(request.number, place)?.is_some() {
+        return Err(SenderFault::Twice);
+    }
+    waiting.add(alloc, numbers, place, request)?;
+    push_copy(exchanges, request)?;
+    Ok(())
 }

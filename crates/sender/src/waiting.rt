@@ -13,7 +13,7 @@ use std::collections::{BTreeMap, BTreeSet};
 use units::{KeyRef, Keyed};
 
 /// A unit's name: its language and its key, both borrowed.
-type UnitName<'a> = (&'a str, KeyRef<'a>);
+pub(crate) type UnitName<'a> = (&'a str, KeyRef<'a>);
 
 /// The places of the requests that wait for their replies.
 #[derive(Drop)]

@@ -1,24 +1,27 @@
 use Rattle.std.proofs.Common.{◌≡◌, List, ◌∷◌, [], ◌++◌, take, length, arith, refl, sym, ◌∙◌, ap, subst, None}
 use Rattle.std.proofs.lemmas.List.{length-take-le, take_all}
 use Rattle.std.proofs.lemmas.Option.{slice_get_read}
+use Rattle.std.proofs.lemmas.Result.{err_from_is_err_and}
 use Rattle.request_book.specs.declared.act.Request.{Request}
 use Rattle.sender.specs.declared.exchange.Exchange.{Exchange}
 use Rattle.sender.specs.Sending.{unanswered}
 use Rattle.sender.specs.NumberIndex.{IsNumberIndex}
 use Rattle.sender.specs.Numbers.{number_in}
 use Rattle.sender.specs.Waiting.{IsWaiting}
-use Rattle.sender.proofs.NumberLemmas.{one_more, unanswered-more, distinct_numbers, stands_twice, some_place, none_place, length-unanswered, empty_index}
+use Rattle.sender.proofs.NumberLemmas.{one_more, unanswered-more, distinct_numbers, stands_twice, known_place, same_fault, length-unanswered, empty_index}
 use Rattle.sender.proofs.WaitingLemmas.{nothing_in}
 use Rattle.sender.proofs.sending.Sender.new.Goals as goal
 
-pub returns-then-is_some-clause-twice : goal.returns-then-is_some-clause-twice
-returns-then-is_some-clause-twice c = λ _ distinct.
+pub returns-in_err-take_in-clause-twice : goal.returns-in_err-take_in-clause-twice
+returns-in_err-take_in-clause-twice c =
     let requests = c.args.requests.now in
     let i = c.loop-place.place in
     let x = c.index-requests-place.result in
     let index = subst (λ (es : List Exchange). IsNumberIndex es c.loop-place.places) c.loop-place.invariant.so_far c.loop-place.invariant.index in
-    let before = some_place _ _ _ c.in_ok-insert.ensures.old c.is_some.ensures c.if-is_some.true in
-    stands_twice requests c.loop-place.places i before.0 x index (slice_get_read requests (length requests) i x refl c.loop-place-test.true c.index-requests-place.is) before.1 distinct
+    let p = err_from_is_err_and c.from_residual.result c.from_residual.ensures.1 in
+    rw (p.1, p.2) (λ twice distinct.
+    let before = known_place _ (c.in_err-take_in.ensures.twice (same_fault _ _ twice)) in
+    stands_twice requests c.loop-place.places i before.0 x index (slice_get_read requests (length requests) i x refl c.loop-place-test.true c.index-requests-place.is) before.1 distinct)
 
 pub loop-place-preserved : goal.loop-place-preserved
 loop-place-preserved c =
@@ -27,15 +30,14 @@ loop-place-preserved c =
     let x = c.index-requests-place.result in
     let inv = c.loop-place.invariant in
     let made : Exchange = record { request = x; reply = None } in
-    let new = none_place _ _ _ c.in_ok-insert.ensures.old c.is_some.ensures c.if-is_some.false in
-    let pushed : c.push_copy.new.exchanges.items ≡ c.loop-place.exchanges.items ++ made ∷ [] = c.in_ok-push_copy.ensures in
+    let pushed : c.take_in.new.exchanges.items ≡ c.loop-place.exchanges.items ++ made ∷ [] = c.in_ok-take_in.ensures.pushed in
     let more = unanswered-more requests i x c.loop-place-test.true c.index-requests-place.is in
     let count : length c.loop-place.exchanges.items ≡ i = ap length inv.so_far ∙ (length-unanswered (take i requests) ∙ length-take-le i requests (omega arith)) in
     record {
       so_far = pushed ∙ (ap (λ (es : List Exchange). es ++ made ∷ []) inv.so_far ∙ sym more);
-      index = subst (λ (es : List Exchange). IsNumberIndex es c.insert.new.self) (sym pushed)
-          (one_more c.loop-place.exchanges.items c.loop-place.places c.insert.new.self made inv.index new (rw count c.in_ok-insert.ensures.updates));
-      waits = subst (λ (es : List Exchange). IsWaiting es c.add.new.self (number_in c.add.new.numbers)) (sym pushed) (c.in_ok-add.ensures c.loop-place.exchanges.items count inv.waits);
+      index = subst (λ (es : List Exchange). IsNumberIndex es c.take_in.new.places) (sym pushed)
+          (one_more c.loop-place.exchanges.items c.loop-place.places c.take_in.new.places made inv.index c.in_ok-take_in.ensures.new (rw count c.in_ok-take_in.ensures.placed));
+      waits = subst (λ (es : List Exchange). IsWaiting es c.take_in.new.waiting (number_in c.take_in.new.numbers)) (sym pushed) (c.in_ok-take_in.ensures.waits c.loop-place.exchanges.items count inv.waits);
     }
 
 pub returns-clause-distinct : goal.returns-clause-distinct
