@@ -68,6 +68,7 @@ fn send_source<R: ByteSource, L: Link, W: ByteSink>(
 {
     let text = gather(alloc, source)?;
     let requests = requests_in(alloc, text.as_slice())?;
+    drop(text);
     send_list(alloc, requests.as_slice(), link, tries, replies)
 }
 
