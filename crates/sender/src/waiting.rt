@@ -81,7 +81,7 @@ impl Waiting {
         }
     }
 
-    /// Whether a request at this place that names the unit of this number, or an office request, clashes with no earlier one that waits.
+    /// Whether it clashes with no earlier one that waits, by the number of the unit that it names; an office request has none.
     fn is_free_by(&self, place: usize, named: Option<usize>) -> bool
         ensures { result ≡ free_by self.now place named }
     {
