@@ -12,3 +12,7 @@ pub mod SuggestionsAdded
 pub mod UnitActions
 pub mod Orphans
 pub mod UnitsEmptied
+pub mod RecordRows
+pub mod VoteRows
+pub mod Cascades
+pub mod ClearedUnits

@@ -1,11 +1,2 @@
-//! The statements by which a change of an office writes: of a member's role, of the policy, of the template, and of units with their
-//! suggestions.
-//!
-//! Each takes a transaction that is open and leaves it open. What is said of values is said while the disk returns what was written.
+//! What the statements by which a change of an office writes do to the eight tables. It has no code.
 #![tactic(auto)]
-
-pub mod policy;
-pub mod suggestions;
-pub mod team;
-pub mod template;
-pub mod units;

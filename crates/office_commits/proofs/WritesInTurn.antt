@@ -2,6 +2,7 @@
 use Rattle.std.proofs.Common.{◌≡◌, inl, inr, ℕ, ℤ, pos, ◌+◌, List, [], ◌∷◌, ◌++◌, length, map, take, get_or, ◌<◌, Some, w64, to_z, of_z, Result, Ok, Err, OnOk, IsTrue, refl, sym, ap, subst, ◌∙◌, arith}
 use Rattle.std.proofs.lemmas.List.{take_more, length-take, map-append}
 use Rattle.std.specs.FinMap as maps
+use Rattle.std.specs.Prelude.{MatchResult, IsErrAnd}
 use Rattle.sqlite.specs.declared.types.Value.TheVariants.{Int, Text as Words}
 use Rattle.sqlite.specs.Effect.{Database}
 use Rattle.sqlite.specs.Order.{Row}
@@ -30,6 +31,13 @@ module _ (a b : State) where
   -- a write that succeeded, with another result, and what it made told in other words
   pub write_told : {A B E F : Type 0} (x : A) (y : B) (P Q : Database → Database → Type 0) → (P a.now b.now → Q a.now b.now) → IsInside {E = E} a b (Ok x) P → IsInside {E = F} a b (Ok y) Q
   write_told x y P Q tells it = record { made = λ clean. tells (it.made clean); ready = it.ready; stays = it.stays; kept = it.kept; survives = it.survives }
+
+  -- a write whose error is told as another, and what it made told in other words
+  pub write_mapped : {A E F : Type 0} (r : Result A E) (told : Result A F) (Tells : E → F → Type 0) (P Q : Database → Database → Type 0)
+      → MatchResult r (λ x. told ≡ Ok x) (λ e. IsErrAnd told (Tells e)) → (P a.now b.now → Q a.now b.now) → IsInside a b r P → IsInside a b told Q
+  write_mapped {A} {E} {F} (Ok x) told Tells P Q is tells it = subst (λ t. IsInside a b t Q) (sym is) (write_told {A = A} {B = A} {E = E} {F = F} x x P Q tells it)
+  write_mapped (Err e) (Ok x) Tells P Q is tells it = absurd is
+  write_mapped (Err e) (Err f) Tells P Q is tells it = record { made = λ clean. tt; ready = λ clean. tt; stays = λ clean. tt; kept = it.kept; survives = it.survives }
 
 module _ (a : State) where
   keeps_same : KeepsCommit a a
@@ -136,12 +144,10 @@ adds_numbered_suggestion lang key number again suggester forms at place s old mi
       valid,
     )
 
-pub writes_numbered_unit : (code code_gone code_all lang key key_all : Text) (unit : Unit) (ss : List Suggestion) (old mid new : Database)
-    → code ≡ lang → code_gone ≡ lang → code_all ≡ lang → key ≡ key_text unit.key → key_all ≡ key_text unit.key → ss ≡ unit.suggestions
-    → PutsRow unit_tree first_texts (HoldsValues (unit_cells code unit)) old mid → Then (ClearsUnit code_gone key) (AddsNumberedSuggestions code_all key_all ss) mid new → WritesNumberedUnit lang unit old new
-writes_numbered_unit code code_gone code_all lang key key_all unit ss old mid new is_code is_gone is_all is_key is_key_all are row (next, cleared, all) =
-    let own = subst (λ l. PutsRow unit_tree first_texts (HoldsValues (unit_cells l unit)) old mid) is_code row in
-    let gone = subst (λ l. ClearsUnit l (key_text unit.key) mid next) is_gone (subst (λ k. ClearsUnit code_gone k mid next) is_key cleared) in
-    let put = subst (λ l. AddsNumberedSuggestions l (key_text unit.key) unit.suggestions next new) is_all
-    (subst (λ k. AddsNumberedSuggestions code_all k unit.suggestions next new) is_key_all (subst (λ xs. AddsNumberedSuggestions code_all key_all xs next new) are all)) in
-    (mid, own, (next, gone, put))
+pub writes_numbered_unit : (lang key key_all : Text) (unit : Unit) (ss : List Suggestion) (old mid new : Database)
+    → key ≡ key_text unit.key → key_all ≡ key_text unit.key → ss ≡ unit.suggestions
+    → PutsRow unit_tree first_texts (HoldsValues (unit_cells lang unit)) old mid → Then (ClearsUnit lang key) (AddsNumberedSuggestions lang key_all ss) mid new → WritesNumberedUnit lang unit old new
+writes_numbered_unit lang key key_all unit ss old mid new is_key is_key_all are row (next, cleared, all) =
+    let gone = subst (λ k. ClearsUnit lang k mid next) is_key cleared in
+    let put = subst (λ k. AddsNumberedSuggestions lang k unit.suggestions next new) is_key_all (subst (λ xs. AddsNumberedSuggestions lang key_all xs next new) are all) in
+    (mid, row, (next, gone, put))

@@ -7,8 +7,8 @@ ghost use Rattle.office_sql.specs.Inside.{IsSteady, IsInside};
 ghost use Rattle.office_in_changed_rows.specs.Commits.{PutsEntry, PutsEntries, PutsTemplate};
 ghost use Rattle.office_commits.specs.Columns.{columns_of_entry};
 
+use crate::statements::empty_template;
 use crate::strings::entry_key_fits;
-use office_changes::template::empty_template;
 use office_sql::template::put_entry as put_entry_row;
 use po_read::{Entry, Text};
 use row_values::{plural_column, texts_column};
@@ -102,6 +102,6 @@ fn put_entry<S: Alter>(
         columns.extracted.as_str(),
         columns.references.as_str(),
         columns.flags.as_str(),
-    )?;
-    Ok(())
+    )
+    .map_err(Failure::from)
 }

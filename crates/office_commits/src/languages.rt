@@ -85,8 +85,7 @@ fn put_language_of<S: Alter>(
 {
     header_fits(header);
     let column = header_column(alloc, header)?;
-    put_language(tx, lang.as_str(), column.as_str(), rule_text(header))?;
-    Ok(())
+    put_language(tx, lang.as_str(), column.as_str(), rule_text(header)).map_err(Failure::from)
 }
 
 /// The value of a header's field `Plural-Forms`, empty where it has none.

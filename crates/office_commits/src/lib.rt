@@ -7,6 +7,7 @@ mod planned_units;
 mod policies;
 mod records;
 mod roles;
+mod statements;
 mod strings;
 mod templates;
 mod unit_writes;

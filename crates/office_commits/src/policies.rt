@@ -6,8 +6,7 @@ ghost use Rattle.office_sql.specs.Whole.{IsIdle, IsCommit};
 ghost use Rattle.office_in_changed_rows.specs.Commits.{PutsPolicy, WritesPolicy, MakesPolicy};
 
 use crate::records::put_record_of;
-use office_changes::policy::set_policy;
-use office_changes::units::unapprove_units;
+use crate::statements::{set_policy, unapprove_units};
 use request_book::Record;
 use row_values::policy_columns;
 use shown_rows::Failure;
@@ -45,8 +44,7 @@ fn put_record_and_policy<S: Alter>(
     ensures put { IsInside (state S.Store tx.old.conn.now) (state S.Store tx.new.conn.now) result (MakesPolicy row.now policy.now) }
 {
     put_record_of(tx, alloc, row)?;
-    write_policy(tx, policy)?;
-    Ok(())
+    write_policy(tx, policy).map_err(Failure::from)
 }
 
 /// Writes the policy, and what it makes of units.

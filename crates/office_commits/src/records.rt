@@ -5,7 +5,7 @@ ghost use Rattle.office_sql.specs.Inside.{IsSteady, IsInside};
 ghost use Rattle.office_sql.specs.Whole.{IsIdle, IsCommit};
 ghost use Rattle.office_in_changed_rows.specs.Commits.{PutsNumberedRecord};
 
-use office_sql::records::put_record;
+use crate::statements::put_record;
 use request_book::Record;
 use row_values::{number_column, status_column};
 use shown_rows::Failure;
@@ -45,6 +45,6 @@ pub fn put_record_of<S: Alter>(
         row.content.as_str(),
         status_column(row.reply.status()),
         row.reply.body(),
-    )?;
-    Ok(())
+    )
+    .map_err(Failure::from)
 }

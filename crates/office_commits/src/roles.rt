@@ -7,7 +7,7 @@ ghost use Rattle.row_values.specs.Numbers.{role_number};
 ghost use Rattle.office_in_changed_rows.specs.Commits.{WritesRole, MakesRole};
 
 use crate::records::put_record_of;
-use office_changes::team::{remove_member, set_member};
+use crate::statements::{remove_member, set_member};
 use request_book::Record;
 use row_values::role_column;
 use shown_rows::Failure;
@@ -46,8 +46,7 @@ fn put_record_and_role<S: Alter>(
     ensures put { IsInside (state S.Store tx.old.conn.now) (state S.Store tx.new.conn.now) result (MakesRole row.now name.now role) }
 {
     put_record_of(tx, alloc, row)?;
-    write_role(tx, name.as_str(), role)?;
-    Ok(())
+    write_role(tx, name.as_str(), role).map_err(Failure::from)
 }
 
 /// Writes a member's row, or takes that of a guest away.

@@ -8,7 +8,7 @@ ghost use Rattle.office_in_changed_rows.specs.Commits.{WritesPlans, WritesTempla
 use crate::entries::put_template;
 use crate::planned_units::write_plans_back;
 use crate::records::put_record_of;
-use office_changes::units::empty_units;
+use crate::statements::empty_units;
 use po_read::{Catalogue, Entry};
 use request_book::Record;
 use shown_rows::Failure;

@@ -11,10 +11,8 @@ ghost use Rattle.office_in_rows.specs.Written.{PutsRows};
 ghost use Rattle.office_in_changed_rows.specs.UnitWrites.{AddsNumberedSuggestion, AddsNumberedSuggestions, WritesNumberedUnit};
 ghost use Rattle.office_commits.specs.Columns.{columns_of_unit};
 
-use office_changes::suggestions::add_suggestion as add_suggestion_row;
-use office_sql::suggestions::clear_suggestions;
+use crate::statements::{add_suggestion as add_suggestion_row, clear_suggestions, put_vote};
 use office_sql::units::put_unit;
-use office_sql::votes::put_vote;
 use po_read::Text;
 use row_values::{
     flag_column, forms_column, number_column, plural_column, previous_column, revision_column,
@@ -37,15 +35,7 @@ pub fn write_unit<S: Alter>(
     ensures put { IsInside (state S.Store tx.old.conn.now) (state S.Store tx.new.conn.now) result (WritesNumberedUnit lang.now unit.now) }
 {
     let columns = columns_of(alloc, unit)?;
-    put_row(tx, lang.as_str(), unit, &columns)?;
-    clear_suggestions(tx, lang.as_str(), columns.key.as_str())?;
-    add_suggestions(
-        tx,
-        alloc,
-        lang.as_str(),
-        columns.key.as_str(),
-        unit.suggestions.as_slice(),
-    )
+    write_columns(tx, alloc, lang.as_str(), unit, &columns)
 }
 
 /// The columns of a unit that take memory.
@@ -66,6 +56,30 @@ fn columns_of(alloc: Global, unit: &Unit) -> Result<UnitColumns, AllocError>
         comment: texts_column(alloc, &unit.comment)?,
         previous: previous_column(alloc, &unit.previous)?,
     })
+}
+
+/// Writes the row and the suggestions of a unit that has these columns.
+fn write_columns<S: Alter>(
+    tx: &mut Transaction<'_, S>,
+    alloc: Global,
+    lang: &str,
+    unit: &Unit,
+    columns: &UnitColumns,
+) -> Result<(), Failure>
+    requires columns { columns.now ≡ columns_of_unit unit.now }
+    requires steady { IsSteady (state S.Store tx.old.conn.now) }
+    ensures same_reference { tx.new.conn.ghost_name ≡ tx.old.conn.ghost_name }
+    ensures put { IsInside (state S.Store tx.old.conn.now) (state S.Store tx.new.conn.now) result (WritesNumberedUnit lang.now unit.now) }
+{
+    put_row(tx, lang, unit, columns)?;
+    clear_suggestions(tx, lang, columns.key.as_str())?;
+    add_suggestions(
+        tx,
+        alloc,
+        lang,
+        columns.key.as_str(),
+        unit.suggestions.as_slice(),
+    )
 }
 
 /// Writes the row of a unit that has these columns.
@@ -92,8 +106,8 @@ fn put_row<S: Alter>(
         revision_column(unit.revision),
         columns.comment.as_str(),
         columns.previous.as_str(),
-    )?;
-    Ok(())
+    )
+    .map_err(Failure::from)
 }
 
 /// Adds a unit's suggestions, from the first place on.

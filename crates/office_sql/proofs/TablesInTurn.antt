@@ -1,6 +1,7 @@
 -- What each of the eight texts makes, after those before it.
-use Rattle.std.proofs.Common.{refl, take}
+use Rattle.std.proofs.Common.{◌≡◌, ℕ, zero, suc, ◌+◌, ◌<◌, List, [], ◌∷◌, ◌++◌, get_or, refl, take, arith}
 use Rattle.sqlite.specs.Listing.{understood}
+use Rattle.sqlite.specs.Table.{Table}
 use Rattle.sqlite_tied.specs.Compute.{everything}
 use Rattle.office_sql.specs.Schema.{office_tables, record_text, record_table, team_text, team_table, policy_text, policy_table, template_text, template_table, language_text, language_table, unit_text, unit_table, suggestion_text, suggestion_table, vote_text, vote_table}
 use Rattle.office_sql.proofs.Creations.{IsCreation}
@@ -37,3 +38,20 @@ makes_suggestion = record { command = refl; statement = refl; plain = (refl, ref
 pub makes_vote : IsCreation (take 7 office_tables) vote_table vote_text
 unfolding understood everything
 makes_vote = record { command = refl; statement = refl; plain = (refl, refl); defines = vote_is; uncounted = refl }
+
+-- the texts in the order of their tables
+abbrev pub table_texts : List (List ℕ)
+table_texts = record_text ∷ team_text ∷ policy_text ∷ template_text ∷ language_text ∷ unit_text ∷ suggestion_text ∷ vote_text ∷ []
+
+-- each makes its table after those before it
+pub text_makes : (k : ℕ) (text : List ℕ) → k < 8
+    → (table : Table) × IsCreation (take k office_tables) table (get_or table_texts k text) × (take k office_tables ++ table ∷ [] ≡ take (k + 1) office_tables)
+text_makes zero text within = (record_table, makes_record, refl)
+text_makes (suc zero) text within = (team_table, makes_team, refl)
+text_makes (suc (suc zero)) text within = (policy_table, makes_policy, refl)
+text_makes (suc (suc (suc zero))) text within = (template_table, makes_template, refl)
+text_makes (suc (suc (suc (suc zero)))) text within = (language_table, makes_language, refl)
+text_makes (suc (suc (suc (suc (suc zero))))) text within = (unit_table, makes_unit, refl)
+text_makes (suc (suc (suc (suc (suc (suc zero)))))) text within = (suggestion_table, makes_suggestion, refl)
+text_makes (suc (suc (suc (suc (suc (suc (suc zero))))))) text within = (vote_table, makes_vote, refl)
+text_makes (suc (suc (suc (suc (suc (suc (suc (suc k)))))))) text within = absurd (omega (arith, within))

@@ -1,15 +1,14 @@
-use Rattle.std.proofs.Common.{◌≡◌, Ok, rules, arith, w64}
+use Rattle.std.proofs.Common.{◌≡◌, rules, arith, w64}
 use Rattle.std.proofs.lemmas.Int.{to_z_pos}
 use Rattle.sqlite.specs.Held.{state}
 use Rattle.units.specs.KeyTexts.{HasStrings}
 use Rattle.units.specs.Units.{key_of}
-use Rattle.shown_rows.specs.declared.faults.Failure.{Failure}
 use Rattle.office_sql.specs.Inside.{PutsRow}
 use Rattle.office_sql.specs.Keys.{row_number}
 use Rattle.office_sql.specs.Schema.{template_tree}
 use Rattle.office_in_changed_rows.specs.Commits.{entry_row}
 use Rattle.office_commits.proofs.PlannedWrites.{leaves_with, entry_told}
-use Rattle.office_commits.proofs.WritesInTurn.{write_told}
+use Rattle.office_commits.proofs.WritesInTurn.{write_mapped}
 use Rattle.office_commits.proofs.entries.put_entry.Goals as goal
 
 pub returns-clause-put : goal.returns-clause-put
@@ -21,4 +20,4 @@ returns-clause-put g c =
     let Puts = PutsRow template_tree row_number (λ row. row ≡ entry_row place entry) in
     let told = entry_told place _ c.as_str.result.now c.as_str-2.result.now c.as_str-3.result.now c.as_str-4.result.now _ entry old.now new.now (to_z_pos w64 place (omega (arith, c.requires.fits)))
     (search rules) (search rules) (search rules) (search rules) (search rules) in
-    leaves_with old new (Ok tt) Puts (HasStrings (key_of entry)) c.entry_key_fits.ensures (write_told old new {F = Failure} c.in_ok-put_entry.field-0 tt _ Puts told c.in_ok-put_entry.ensures.put)
+    leaves_with old new c.map_err.result Puts (HasStrings (key_of entry)) c.entry_key_fits.ensures (write_mapped old new c.put_entry.result c.map_err.result _ _ Puts c.map_err.ensures.cases told c.put_entry.ensures.put)

@@ -1,14 +1,13 @@
-use Rattle.std.proofs.Common.{◌≡◌, Ok, true, rules}
+use Rattle.std.proofs.Common.{◌≡◌, true, rules}
 use Rattle.sqlite.specs.Held.{state}
 use Rattle.po_read.specs.Strings.{is_forms}
 use Rattle.row_values.specs.Written.{ArePrevious}
-use Rattle.shown_rows.specs.declared.faults.Failure.{Failure}
 use Rattle.office_sql.specs.Inside.{PutsRow, HoldsValues}
 use Rattle.office_sql.specs.Keys.{first_text}
 use Rattle.office_sql.specs.Schema.{language_tree}
 use Rattle.office_in_changed_rows.specs.Commits.{language_cells}
 use Rattle.office_commits.proofs.PlannedWrites.{leaves_with_both, language_told}
-use Rattle.office_commits.proofs.WritesInTurn.{write_told}
+use Rattle.office_commits.proofs.WritesInTurn.{write_mapped}
 use Rattle.office_commits.proofs.languages.put_language_of.Goals as goal
 
 pub returns-clause-put : goal.returns-clause-put
@@ -19,5 +18,5 @@ returns-clause-put g c =
     let header = c.args.header.now in
     let Puts = PutsRow language_tree first_text (HoldsValues (language_cells lang header)) in
     let told = language_told lang c.as_str.result.now c.as_str-2.result.now c.rule_text.result.now header old.now new.now (search rules) (search rules) (search rules) in
-    leaves_with_both old new (Ok tt) Puts (is_forms header.forms ≡ true) (ArePrevious header.previous) c.header_fits.ensures.forms c.header_fits.ensures.previous
-    (write_told old new {F = Failure} c.in_ok-put_language.field-0 tt _ Puts told c.in_ok-put_language.ensures.put)
+    leaves_with_both old new c.map_err.result Puts (is_forms header.forms ≡ true) (ArePrevious header.previous) c.header_fits.ensures.forms c.header_fits.ensures.previous
+    (write_mapped old new c.put_language.result c.map_err.result _ _ Puts c.map_err.ensures.cases told c.put_language.ensures.put)
