@@ -32,7 +32,7 @@ mod many;
 mod numbers;
 mod offices;
 mod stage;
-mod told;
 
+pub(crate) use asked::unit_told;
 pub(crate) use offices::{Both, Offices};
-pub(crate) use stage::{Stage, found};
+pub(crate) use stage::{Stage, deed_told};

@@ -1,26 +1,41 @@
-//! Desks over tables in maps.
+//! Desks over tables in maps, and sinks.
 use office::Desk;
 use std::alloc::Global;
 use store::{PlainTables, Start};
-use units::Name;
+use units::{Name, VecSink};
 
 /// The demo office, or one with this manager alone.
 pub(crate) fn start(alloc: Global, who: &str) -> Option<Start> {
     if who == "demo" {
         return Some(Start::Demo);
     }
-    Some(Start::Opening(Name::try_new(alloc, who).ok()??))
+    match Name::try_new(alloc, who).ok().flatten() {
+        Some(manager) => Some(Start::Opening(manager)),
+        None => None,
+    }
 }
 
 pub(crate) fn desk_in_maps(alloc: Global, start: &Start) -> Option<Desk<PlainTables>> {
-    let tables = PlainTables::new(alloc, start).ok()?;
-    Some(Desk::new(alloc, tables))
+    match PlainTables::new(alloc, start) {
+        Ok(tables) => Some(Desk::new(alloc, tables)),
+        Err(_) => None,
+    }
 }
 
 /// A desk of this office.
 pub(crate) fn desk_opened(alloc: Global, who: &str) -> Option<Desk<PlainTables>> {
-    let start = start(alloc, who)?;
-    let desk = desk_in_maps(alloc, &start);
-    drop(start);
-    desk
+    match start(alloc, who) {
+        Some(start) => desk_in_maps(alloc, &start),
+        None => None,
+    }
+}
+
+/// A sink that is full after so many bytes.
+pub(crate) fn sink(alloc: Global, most: usize) -> VecSink {
+    VecSink {
+        bytes: Vec::new(alloc),
+        piece: usize::MAX,
+        room: most,
+        failed: 0,
+    }
 }

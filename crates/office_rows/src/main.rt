@@ -10,17 +10,18 @@
 
 mod desk_rows;
 mod desks;
+mod named;
 mod sender_rows;
 mod stage;
 mod stream_rows;
 mod words;
 
 use desk_rows::{Both, Offices};
-use stage::{Stage, found};
+use stage::Stage;
 use std::alloc::Global;
 use std::io;
 use std::rt::HostRuntime;
-use words::Outcome;
+use words::both_sides;
 
 /// Tells a row that comes to something else than it says.
 fn tell<O: Offices>(
@@ -29,11 +30,17 @@ fn tell<O: Offices>(
     stage: &mut Stage<O>,
     row: &str,
 ) -> io::Result<()> {
-    match found(rt, alloc, stage, row) {
-        Some(Outcome::AsSaid) => Ok(()),
-        Some(Outcome::Other(text)) => println!(rt; "{row}, not {text}"),
-        None => println!(rt; "{row}: unread"),
+    if row.starts_with('#') {
+        return Ok(());
     }
+    let (deed, wanted) = both_sides(row);
+    let Some(told) = stage.told(rt, alloc, deed) else {
+        return println!(rt; "{row}: unread");
+    };
+    if stage.means(alloc, deed, wanted, told.as_str()) {
+        return Ok(());
+    }
+    println!(rt; "{row}, not {told}")
 }
 
 /// Tells those rows, and how many there were.

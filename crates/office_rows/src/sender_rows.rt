@@ -21,12 +21,9 @@
 //! gives its length twice, and `l` in small letters: they are replies. Behind the script all is lost.
 mod answers;
 mod draws;
-mod exports;
-mod lists;
-mod requests;
 mod schedules;
 mod scripted;
 mod stage;
 mod texts;
 
-pub(crate) use stage::{Stage, found};
+pub(crate) use stage::{Stage, deed_told};

@@ -1,6 +1,5 @@
 //! What the rows so far set, and what a row makes of it.
 use crate::desk_rows::Offices;
-use crate::words::Outcome;
 use crate::{desk_rows, sender_rows, stream_rows};
 use std::alloc::Global;
 use std::rt::HostRuntime;
@@ -42,25 +41,25 @@ impl<O: Offices> Stage<O> {
             senders: sender_rows::Stage::new(alloc),
         }
     }
-}
 
-/// What a row comes to. None where it can't be read.
-pub(crate) fn found<O: Offices>(
-    rt: &HostRuntime,
-    alloc: Global,
-    stage: &mut Stage<O>,
-    row: &str,
-) -> Option<Outcome> {
-    if row.starts_with('#') {
-        return Some(Outcome::AsSaid);
+    /// What a deed comes to, which is nothing where it only sets something. None where it can't be read.
+    pub(crate) fn told(&mut self, rt: &HostRuntime, alloc: Global, deed: &str) -> Option<String> {
+        if let Some(name) = deed.strip_prefix("== ") {
+            self.part = Part::named(name)?;
+            return Some(String::new(alloc));
+        }
+        match self.part {
+            Part::Desks => desk_rows::deed_told(alloc, &mut self.desks, deed),
+            Part::Streams => stream_rows::deed_told(rt, alloc, &mut self.streams, deed),
+            Part::Senders => sender_rows::deed_told(alloc, &mut self.senders, deed),
+        }
     }
-    if let Some(name) = row.strip_prefix("== ") {
-        stage.part = Part::named(name)?;
-        return Some(Outcome::AsSaid);
-    }
-    match stage.part {
-        Part::Desks => desk_rows::found(alloc, &mut stage.desks, row),
-        Part::Streams => stream_rows::found(rt, alloc, &mut stage.streams, row),
-        Part::Senders => sender_rows::found(alloc, &mut stage.senders, row),
+
+    /// Whether what a deed's row wants stands for this text.
+    pub(crate) fn means(&self, alloc: Global, deed: &str, wanted: &str, text: &str) -> bool {
+        match self.part {
+            Part::Streams => stream_rows::means(alloc, &self.streams, deed, wanted, text),
+            _ => wanted == text,
+        }
     }
 }

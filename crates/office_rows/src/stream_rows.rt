@@ -74,5 +74,6 @@ mod table_rows;
 mod texts;
 mod words;
 
-pub(crate) use found::found;
+pub(crate) use found::{deed_told, means};
 pub(crate) use stage::Stage;
+pub(crate) use streams::Streams;

@@ -1,4 +1,4 @@
-//! The words of a row, and what it came to.
+//! The words of a row.
 
 /// A row's deed, and what it is to come to.
 pub(crate) fn both_sides(row: &str) -> (&str, &str) {
@@ -14,22 +14,5 @@ pub(crate) fn behind(words: &str) -> &str {
     match words.split_once(' ') {
         Some((_, rest)) => rest,
         None => "",
-    }
-}
-
-/// What a row came to: what it says, or something else.
-#[derive(Drop)]
-pub(crate) enum Outcome {
-    AsSaid,
-    Other(String),
-}
-
-impl Outcome {
-    pub(crate) fn of(told: String, wanted: &str) -> Outcome {
-        if told.as_str() == wanted {
-            drop(told);
-            return Outcome::AsSaid;
-        }
-        Outcome::Other(told)
     }
 }

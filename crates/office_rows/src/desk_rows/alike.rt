@@ -1,62 +1,79 @@
 //! Runs over a list beside single deliveries.
+use crate::desk_rows::asked::Asked;
 use crate::desk_rows::course::{Course, Sent};
-use crate::desk_rows::exports::exports;
+use crate::desk_rows::exports::put_exports;
 use crate::desk_rows::offices::Offices;
 use request_book::Request;
 use std::alloc::Global;
 
-/// The requests that weren't lost on their way.
-fn requests(alloc: Global, sent: &[Sent]) -> Option<Vec<Request>> {
-    let mut requests = Vec::new(alloc);
-    for one in sent.iter().filter(|one| !one.lost) {
-        requests
-            .push(Request::from_json(alloc, one.line.as_str()).ok()?)
-            .ok()?;
+fn put_request(alloc: Global, requests: &mut Vec<Request>, line: &str) -> Option<()> {
+    match Request::from_json(alloc, line) {
+        Ok(request) => requests.push(request).ok(),
+        Err(_) => None,
     }
-    Some(requests)
 }
 
-/// What a run over all requests at once answers.
-fn run_replies<O: Offices>(alloc: Global, offices: &mut O, sent: &[Sent]) -> Option<String> {
-    let requests = requests(alloc, sent)?;
-    let told = offices.run(alloc, &requests);
+/// Adds the requests that weren't lost on their way.
+fn put_requests(alloc: Global, requests: &mut Vec<Request>, sent: &[Sent]) -> Option<()> {
+    for one in sent {
+        if !one.lost {
+            put_request(alloc, requests, one.line.as_str())?;
+        }
+    }
+    Some(())
+}
+
+/// What a run over these requests at once answers.
+fn replies<O: Offices>(alloc: Global, offices: &mut O, sent: &[Sent]) -> Option<String> {
+    let mut requests = Vec::new(alloc);
+    let told = match put_requests(alloc, &mut requests, sent) {
+        Some(()) => offices.told(alloc, Asked::Run(requests.as_slice())),
+        None => None,
+    };
     drop(requests);
     told
 }
 
+/// What such a run answers, and the exports that it leaves.
 fn run_text<O: Offices>(alloc: Global, offices: &mut O, sent: &[Sent]) -> Option<String> {
-    let replies = run_replies(alloc, offices, sent)?;
-    let exports = exports(alloc, offices, sent)?;
-    format!(in alloc; "{replies}{exports}").ok()
+    let mut text = replies(alloc, offices, sent)?;
+    put_exports(alloc, &mut text, offices, sent)?;
+    Some(text)
 }
 
 /// The same of offices that were opened so.
 fn new_run_text<O: Offices>(alloc: Global, course: &Course<O>) -> Option<String> {
     let mut offices = O::open(alloc, course.opening.as_str())?;
-    let text = run_text(alloc, &mut offices, &course.sent);
+    let text = run_text(alloc, &mut offices, course.sent.as_slice());
     drop(offices);
     text
 }
 
-/// What the offices answered.
-fn replies(alloc: Global, sent: &[Sent]) -> Option<String> {
-    let mut text = String::new(alloc);
-    for one in sent.iter().filter(|one| !one.lost) {
-        let reply = one.reply.as_str();
-        write!(text, "{reply}; ").ok()?;
+/// Adds what the offices answered, and counts the requests.
+fn put_replies(text: &mut String, sent: &[Sent]) -> Option<u64> {
+    let mut count = 0u64;
+    for one in sent {
+        if !one.lost {
+            write!(text, "{}; ", one.reply).ok()?;
+            count = count.saturating_add(1);
+        }
     }
-    Some(text)
+    Some(count)
 }
 
 /// How many requests have the same replies and leave the same exports in a run; or what is other.
 pub(crate) fn alike<O: Offices>(alloc: Global, course: &mut Course<O>) -> Option<String> {
-    let replies = replies(alloc, &course.sent)?;
-    let exports = course.exports(alloc)?;
-    let wanted = format!(in alloc; "{replies}{exports}").ok()?;
+    let mut wanted = String::new(alloc);
+    let count = put_replies(&mut wanted, course.sent.as_slice())?;
+    put_exports(
+        alloc,
+        &mut wanted,
+        &mut course.offices,
+        course.sent.as_slice(),
+    )?;
     let told = new_run_text(alloc, course)?;
-    if told.as_str() != wanted.as_str() {
-        return format!(in alloc; "run: {told}").ok();
+    if told.as_str() == wanted.as_str() {
+        return format!(in alloc; "{count} alike").ok();
     }
-    let count = course.sent.iter().filter(|one| !one.lost).count();
-    format!(in alloc; "{count} alike").ok()
+    format!(in alloc; "run: {told}").ok()
 }

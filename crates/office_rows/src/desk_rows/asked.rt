@@ -1,17 +1,77 @@
-//! What a desk answers to questions about its office.
+//! What a desk is asked, and what it answers.
+use crate::desk_rows::exports::exported;
 use office::{Desk, QueryFault};
 use po_read::PoString;
+use request_book::{Reply, Request};
 use std::alloc::Global;
+use store::Lost;
 use tables::Tables;
 use units::{Key, Lang};
+
+/// What desks are asked alike.
+#[derive(Clone, Copy)]
+pub(crate) enum Asked<'a> {
+    /// The reply to a request.
+    Reply(&'a Request),
+    /// What a run over all requests at once answers.
+    Run(&'a [Request]),
+    /// The export of a language into so much room.
+    Export(&'a str, usize),
+    /// A unit as callers see it, by its language and key.
+    Unit(&'a str),
+    /// A language's counts.
+    Stats(&'a str),
+}
+
+/// What a desk answers.
+pub(crate) fn answer<T: Tables>(
+    alloc: Global,
+    desk: &mut Desk<T>,
+    asked: Asked<'_>,
+) -> Option<String> {
+    match asked {
+        Asked::Reply(request) => reply_told(alloc, desk, request),
+        Asked::Run(requests) => run_told(alloc, desk, requests),
+        Asked::Export(code, most) => exported(alloc, desk, code, most),
+        Asked::Unit(place) => unit_told(alloc, desk, place),
+        Asked::Stats(code) => stats_told(alloc, desk, code),
+    }
+}
+
+/// A reply, or why there is none.
+fn outcome_told(alloc: Global, outcome: &Result<Reply, Lost>) -> Option<String> {
+    match outcome {
+        Ok(reply) => format!(in alloc; "{} {}", reply.status(), reply.body()).ok(),
+        Err(lost) => format!(in alloc; "lost: {lost}").ok(),
+    }
+}
+
+fn reply_told<T: Tables>(alloc: Global, desk: &mut Desk<T>, request: &Request) -> Option<String> {
+    let outcome = desk.deliver(request);
+    let told = outcome_told(alloc, &outcome);
+    drop(outcome);
+    told
+}
+
+fn put_outcomes(alloc: Global, text: &mut String, outcomes: &[Result<Reply, Lost>]) -> Option<()> {
+    for outcome in outcomes {
+        let told = outcome_told(alloc, outcome)?;
+        write!(text, "{told}; ").ok()?;
+    }
+    Some(())
+}
+
+fn run_told<T: Tables>(alloc: Global, desk: &mut Desk<T>, requests: &[Request]) -> Option<String> {
+    let outcomes = desk.run(requests).ok()?;
+    let mut text = String::new(alloc);
+    put_outcomes(alloc, &mut text, outcomes.as_slice())?;
+    Some(text)
+}
 
 fn answer_told(alloc: Global, answer: Result<String, QueryFault>) -> Option<String> {
     match answer {
         Ok(text) => Some(text),
-        Err(fault) => {
-            let number = fault.number();
-            format!(in alloc; "fault {number}").ok()
-        }
+        Err(fault) => format!(in alloc; "fault {}", fault.number()).ok(),
     }
 }
 
@@ -39,17 +99,16 @@ pub(crate) fn unit_told<T: Tables>(
     place: &str,
 ) -> Option<String> {
     let (code, key) = place.split_once('|')?;
-    let lang = Lang::try_new(alloc, code).ok()??;
     let key = key_of(alloc, key)?;
-    answer_told(alloc, desk.unit(&lang, &key))
+    match Lang::try_new(alloc, code).ok().flatten() {
+        Some(lang) => answer_told(alloc, desk.unit(&lang, &key)),
+        None => None,
+    }
 }
 
-/// A language's counts.
-pub(crate) fn stats_told<T: Tables>(
-    alloc: Global,
-    desk: &mut Desk<T>,
-    code: &str,
-) -> Option<String> {
-    let lang = Lang::try_new(alloc, code).ok()??;
-    answer_told(alloc, desk.stats(&lang))
+fn stats_told<T: Tables>(alloc: Global, desk: &mut Desk<T>, code: &str) -> Option<String> {
+    match Lang::try_new(alloc, code).ok().flatten() {
+        Some(lang) => answer_told(alloc, desk.stats(&lang)),
+        None => None,
+    }
 }

@@ -1,6 +1,7 @@
 //! Two offices with the requests that they got so far.
-use crate::desk_rows::exports::exports;
-use crate::desk_rows::offices::Offices;
+use crate::desk_rows::asked::Asked;
+use crate::desk_rows::exports::put_exports;
+use crate::desk_rows::offices::{Offices, reply};
 use std::alloc::Global;
 
 /// A request's line, and the first reply to it, if it wasn't lost on its way.
@@ -35,39 +36,51 @@ pub(crate) fn opened<O: Offices>(alloc: Global, who: &str) -> Option<Course<O>> 
     }
 }
 
+/// What is told of a request whose reply is another than before.
+fn changed<O: Offices>(alloc: Global, offices: &mut O, one: &Sent) -> Option<Option<String>> {
+    let reply = reply(alloc, offices, one.line.as_str())?;
+    if reply.as_str() == one.reply.as_str() {
+        return Some(None);
+    }
+    Some(Some(format!(in alloc; "{} gets {reply}", one.line).ok()?))
+}
+
 /// Sends the lines once more: how many there are, or the first whose reply is another than before.
 fn repeated<O: Offices>(alloc: Global, offices: &mut O, sent: &[Sent]) -> Option<String> {
     let mut count = 0u64;
-    for one in sent.iter().filter(|one| !one.lost) {
-        let line = one.line.as_str();
-        let reply = offices.answered(alloc, line)?;
-        if reply.as_str() != one.reply.as_str() {
-            return format!(in alloc; "{line} gets {reply}").ok();
+    for one in sent {
+        if !one.lost {
+            if let Some(told) = changed(alloc, offices, one)? {
+                return Some(told);
+            }
+            count = count.saturating_add(1);
         }
-        count = count.saturating_add(1);
     }
     format!(in alloc; "{count} as before").ok()
 }
 
 impl<O: Offices> Course<O> {
-    pub(crate) fn deliver(&mut self, alloc: Global, line: String) -> Option<String> {
-        let reply = self.offices.answered(alloc, line.as_str())?;
-        let told = reply.clone().ok()?;
-        self.keep(line, false, reply)?;
-        Some(told)
+    pub(crate) fn deliver(&mut self, alloc: Global, line: &str) -> Option<String> {
+        let reply = reply(alloc, &mut self.offices, line)?;
+        self.keep(alloc, line, false, reply.as_str())?;
+        Some(reply)
     }
 
-    fn keep(&mut self, line: String, lost: bool, reply: String) -> Option<()> {
+    fn keep(&mut self, alloc: Global, line: &str, lost: bool, reply: &str) -> Option<()> {
+        let line = String::from_str(alloc, line).ok()?;
+        let reply = String::from_str(alloc, reply).ok()?;
         self.sent.push(Sent { line, lost, reply }).ok()
     }
 
-    pub(crate) fn lose(&mut self, alloc: Global, line: String) -> Option<String> {
-        self.keep(line, true, String::new(alloc))?;
+    pub(crate) fn lose(&mut self, alloc: Global, line: &str) -> Option<String> {
+        self.keep(alloc, line, true, "")?;
         Some(String::new(alloc))
     }
 
-    pub(crate) fn exports(&mut self, alloc: Global) -> Option<String> {
-        exports(alloc, &mut self.offices, &self.sent)
+    fn exports(&mut self, alloc: Global) -> Option<String> {
+        let mut text = String::new(alloc);
+        put_exports(alloc, &mut text, &mut self.offices, self.sent.as_slice())?;
+        Some(text)
     }
 
     pub(crate) fn export(&mut self, alloc: Global, code: &str, room: &str) -> Option<String> {
@@ -76,31 +89,28 @@ impl<O: Offices> Course<O> {
         } else {
             room.parse::<usize>().ok()?
         };
-        self.offices.exported(alloc, code, room)
+        self.offices.told(alloc, Asked::Export(code, room))
     }
 
     pub(crate) fn again(&mut self, alloc: Global) -> Option<String> {
         let before = self.exports(alloc)?;
-        let reply = self
-            .offices
-            .answered(alloc, self.sent.last()?.line.as_str())?;
-        self.unchanged(alloc, before, reply)
+        let told = reply(alloc, &mut self.offices, self.sent.last()?.line.as_str())?;
+        self.unchanged(alloc, before.as_str(), told)
     }
 
     pub(crate) fn over(&mut self, alloc: Global) -> Option<String> {
         let before = self.exports(alloc)?;
-        let count = repeated(alloc, &mut self.offices, &self.sent)?;
-        self.unchanged(alloc, before, count)
+        let told = repeated(alloc, &mut self.offices, self.sent.as_slice())?;
+        self.unchanged(alloc, before.as_str(), told)
     }
 
     /// What is told, if the exports are those before.
-    fn unchanged(&mut self, alloc: Global, before: String, told: String) -> Option<String> {
+    fn unchanged(&mut self, alloc: Global, before: &str, told: String) -> Option<String> {
         let after = self.exports(alloc)?;
-        if after.as_str() == before.as_str() {
-            Some(told)
-        } else {
-            format!(in alloc; "{told}, other exports: {after}").ok()
+        if after.as_str() == before {
+            return Some(told);
         }
+        format!(in alloc; "{told}, other exports: {after}").ok()
     }
 
     /// Closes the offices, and tells how many rows the tables on SQLite have.

@@ -30,7 +30,7 @@ fn deliver_list<O: Offices>(
     for group in groups.split(' ') {
         let size = size(group);
         let name = group.split(',').nth(rest.checked_rem(size)?)?;
-        course.deliver(alloc, stage.line(alloc, name)?)?;
+        course.deliver(alloc, stage.line(alloc, name)?.as_str())?;
         rest = rest.checked_div(size)?;
     }
     Some(())

@@ -1,10 +1,10 @@
 //! Exports of a desk, and of both offices.
+use crate::desk_rows::asked::Asked;
 use crate::desk_rows::course::Sent;
 use crate::desk_rows::offices::Offices;
-use crate::desk_rows::told::receipt_told;
+use crate::desks::sink;
 use office::{Desk, ExportFault, ExportReceipt};
 use std::alloc::Global;
-use std::str;
 use tables::Tables;
 use units::{Lang, VecSink};
 
@@ -15,44 +15,61 @@ fn code_in(line: &str) -> Option<&str> {
     Some(code)
 }
 
+fn put_code<'a>(codes: &mut Vec<&'a str>, line: &'a str) -> Option<()> {
+    match code_in(line) {
+        Some(code) if !codes.contains(&code) => codes.push(code).ok(),
+        _ => Some(()),
+    }
+}
+
 /// The codes of the demo office's language and of those that the requests name.
-pub(crate) fn codes<'a>(alloc: Global, sent: &'a [Sent]) -> Option<Vec<&'a str>> {
+fn codes<'a>(alloc: Global, sent: &'a [Sent]) -> Option<Vec<&'a str>> {
     let mut codes = Vec::new(alloc);
     codes.push("de").ok()?;
     for one in sent {
-        if let Some(code) = code_in(one.line.as_str()) {
-            if !codes.contains(&code) {
-                codes.push(code).ok()?;
-            }
-        }
+        put_code(&mut codes, one.line.as_str())?;
     }
     Some(codes)
 }
 
-/// Exports a language into a sink.
-fn export_into<T: Tables>(
+/// The length and the digest.
+fn receipt_told(alloc: Global, receipt: &ExportReceipt) -> Option<String> {
+    match hex::encode(alloc, receipt.sha256) {
+        Ok(digest) => format!(in alloc; "{} bytes {digest}", receipt.bytes).ok(),
+        Err(_) => None,
+    }
+}
+
+/// The length and the digest, or the fault's number.
+fn outcome_told(
+    alloc: Global,
+    outcome: Result<ExportReceipt, ExportFault>,
+    taken: usize,
+) -> Option<String> {
+    match outcome {
+        Ok(receipt) => receipt_told(alloc, &receipt),
+        Err(fault) => format!(in alloc; "fault {} after {taken} bytes", fault.number()).ok(),
+    }
+}
+
+fn taken_told(alloc: Global, sink: &VecSink) -> Option<String> {
+    match str::from_utf8(sink.bytes.as_slice()) {
+        Ok(text) => text.replace(alloc, "\n", "¶").ok(),
+        Err(_) => None,
+    }
+}
+
+/// What the export of a language into a sink is told as.
+fn exported_into<T: Tables>(
     alloc: Global,
     desk: &mut Desk<T>,
-    code: &str,
+    lang: &Lang,
     sink: &mut VecSink,
-) -> Option<Result<ExportReceipt, ExportFault>> {
-    let lang = Lang::try_new(alloc, code).ok()??;
-    Some(desk.export(&lang, sink))
-}
-
-fn taken_told(alloc: Global, taken: &[u8]) -> Option<String> {
-    let text = str::from_utf8(taken).ok()?;
-    text.replace(alloc, "\n", "¶").ok()
-}
-
-/// A sink that is full after so many bytes.
-fn sink_with(alloc: Global, most: usize) -> VecSink {
-    VecSink {
-        bytes: Vec::new(alloc),
-        piece: usize::MAX,
-        room: most,
-        failed: 0,
-    }
+) -> Option<String> {
+    let outcome = desk.export(lang, sink);
+    let outcome = outcome_told(alloc, outcome, sink.bytes.len())?;
+    let text = taken_told(alloc, sink)?;
+    format!(in alloc; "{outcome}|{text}").ok()
 }
 
 /// What the export of a language into so much room is told as.
@@ -62,19 +79,35 @@ pub(crate) fn exported<T: Tables>(
     code: &str,
     most: usize,
 ) -> Option<String> {
-    let mut sink = sink_with(alloc, most);
-    let outcome = export_into(alloc, desk, code, &mut sink)?;
-    let receipt = receipt_told(alloc, outcome, sink.bytes.len())?;
-    let text = taken_told(alloc, &sink.bytes)?;
-    format!(in alloc; "{receipt}|{text}").ok()
+    match Lang::try_new(alloc, code).ok().flatten() {
+        Some(lang) => exported_into(alloc, desk, &lang, &mut sink(alloc, most)),
+        None => None,
+    }
 }
 
-/// The exports of each language.
-pub(crate) fn exports<O: Offices>(alloc: Global, offices: &mut O, sent: &[Sent]) -> Option<String> {
-    let mut text = String::new(alloc);
-    for code in codes(alloc, sent)? {
-        let more = offices.exported(alloc, code, usize::MAX)?;
-        write!(text, "{code} {more}; ").ok()?;
+/// Adds the export of a language.
+fn put_export<O: Offices>(
+    alloc: Global,
+    text: &mut String,
+    offices: &mut O,
+    code: &str,
+) -> Option<()> {
+    match offices.told(alloc, Asked::Export(code, usize::MAX)) {
+        Some(told) => write!(text, "{code} {told}; ").ok(),
+        None => None,
     }
-    Some(text)
+}
+
+/// Adds the exports of each language.
+pub(crate) fn put_exports<O: Offices>(
+    alloc: Global,
+    text: &mut String,
+    offices: &mut O,
+    sent: &[Sent],
+) -> Option<()> {
+    let codes = codes(alloc, sent)?;
+    for code in codes.as_slice() {
+        put_export(alloc, text, offices, *code)?;
+    }
+    Some(())
 }

@@ -1,7 +1,7 @@
 //! Requests that differ in a number.
 use crate::desk_rows::course::Course;
 use crate::desk_rows::offices::Offices;
-use crate::words::word;
+use crate::words::{behind, word};
 use std::alloc::Global;
 
 /// The reply to the request with this number, where @ stands for the number in its body.
@@ -13,7 +13,7 @@ fn numbered<O: Offices>(
 ) -> Option<String> {
     let digits = format!(in alloc; "{number}").ok()?;
     let line = line.replace(alloc, "@", digits.as_str()).ok()?;
-    let told = course.deliver(alloc, line)?;
+    let told = course.deliver(alloc, line.as_str())?;
     let (status, body) = told.as_str().split_once(' ')?;
     let body = body.replace(alloc, digits.as_str(), "@").ok()?;
     format!(in alloc; "{status} {body}").ok()
@@ -37,12 +37,6 @@ fn all_numbered<O: Offices>(
     Some(told)
 }
 
-/// The line behind `many FROM TO`.
-fn line_of(deed: &str) -> Option<&str> {
-    let mut parts = deed.splitn(4, ' ');
-    parts.nth(3)
-}
-
 /// The reply that all the requests get.
 pub(crate) fn many<O: Offices>(
     alloc: Global,
@@ -51,5 +45,5 @@ pub(crate) fn many<O: Offices>(
 ) -> Option<String> {
     let from = word(deed, 1).parse::<u32>().ok()?;
     let to = word(deed, 2).parse::<u32>().ok()?;
-    all_numbered(alloc, course, line_of(deed)?, from, to)
+    all_numbered(alloc, course, behind(behind(behind(deed))), from, to)
 }

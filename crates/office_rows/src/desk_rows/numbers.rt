@@ -3,24 +3,21 @@ use office::{ExportFault, QueryFault};
 use std::alloc::Global;
 use store::Lost;
 
-fn number(name: &str) -> Option<u8> {
-    match name {
-        "NoLanguage" => Some(ExportFault::NoLanguage.number()),
-        "Device" => Some(ExportFault::Device.number()),
-        "Memory" => Some(ExportFault::Memory.number()),
-        "Disk" => Some(ExportFault::Disk.number()),
-        "Long" => Some(ExportFault::Long.number()),
-        "AskedNoLanguage" => Some(QueryFault::NoLanguage.number()),
-        "AskedNoUnit" => Some(QueryFault::NoUnit.number()),
-        "AskedMemory" => Some(QueryFault::Memory.number()),
-        "AskedDisk" => Some(QueryFault::Disk.number()),
-        "LostMemory" => Some(Lost::Memory.number()),
-        "LostDisk" => Some(Lost::Disk.number()),
-        _ => None,
-    }
-}
-
+/// The number of the fault of this name.
 pub(crate) fn number_of(alloc: Global, name: &str) -> Option<String> {
-    let number = number(name)?;
+    let number = match name {
+        "NoLanguage" => ExportFault::NoLanguage.number(),
+        "Device" => ExportFault::Device.number(),
+        "Memory" => ExportFault::Memory.number(),
+        "Disk" => ExportFault::Disk.number(),
+        "Long" => ExportFault::Long.number(),
+        "AskedNoLanguage" => QueryFault::NoLanguage.number(),
+        "AskedNoUnit" => QueryFault::NoUnit.number(),
+        "AskedMemory" => QueryFault::Memory.number(),
+        "AskedDisk" => QueryFault::Disk.number(),
+        "LostMemory" => Lost::Memory.number(),
+        "LostDisk" => Lost::Disk.number(),
+        _ => return None,
+    };
     format!(in alloc; "{number}").ok()
 }

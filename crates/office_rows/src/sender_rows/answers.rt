@@ -1,20 +1,23 @@
 //! Answers of HTTP, whole and spoilt.
 use request_book::Reply;
-use std::alloc::Global;
+use std::alloc::{AllocError, Global};
 
-/// The lines that say how long a body of so many bytes is, as a letter of a script says.
-fn length_lines(alloc: Global, letter: u8, count: usize) -> Option<String> {
-    let more = count.checked_add(1)?;
-    let lines = match letter {
-        b'c' => format!(in alloc; "Content-Length: {more}\r\n"),
-        b'x' => format!(in alloc; "Content-Length: {count}\r\nContent-Length: {more}\r\n"),
-        b't' => format!(in alloc; "Content-Length: {count}\r\nTransfer-Encoding: chunked\r\n"),
-        b'd' => format!(in alloc; "Content-Length: {count}\r\nContent-Length: {count}\r\n"),
-        b'l' => format!(in alloc; "content-length:{count}\r\n"),
-        b'n' => Ok(String::new(alloc)),
-        _ => format!(in alloc; "Content-Length: {count}\r\n"),
-    };
-    lines.ok()
+fn put_length(lines: &mut String, count: usize) -> Result<(), AllocError> {
+    write!(lines, "Content-Length: {count}\r\n")
+}
+
+/// Adds the lines that say how long a body of so many bytes is, as a letter of a script says.
+fn put_lengths(lines: &mut String, letter: u8, count: usize) -> Result<(), AllocError> {
+    let more = count.saturating_add(1);
+    match letter {
+        b'c' => put_length(lines, more),
+        b'x' => put_length(lines, count).and(put_length(lines, more)),
+        b't' => put_length(lines, count).and(lines.push_str("Transfer-Encoding: chunked\r\n")),
+        b'd' => put_length(lines, count).and(put_length(lines, count)),
+        b'l' => write!(lines, "content-length:{count}\r\n"),
+        b'n' => Ok(()),
+        _ => put_length(lines, count),
+    }
 }
 
 /// An answer with this status, these lines in front of the body, and the body.
@@ -32,6 +35,7 @@ pub(crate) fn answer_by(alloc: Global, letter: u8, reply: &Reply) -> Option<Stri
     }
     let status = if letter == b's' { 503 } else { reply.status() };
     let end = if letter == b'm' { " " } else { "" };
-    let lines = length_lines(alloc, letter, body.len())?;
+    let mut lines = String::new(alloc);
+    put_lengths(&mut lines, letter, body.len()).ok()?;
     answer(alloc, status, lines.as_str(), body, end)
 }

@@ -1,14 +1,13 @@
 //! Schedules of a network, drawn from a seed.
-use crate::desks::desk_opened;
+use crate::desks::{desk_opened, sink};
 use crate::sender_rows::draws::Draws;
-use crate::sender_rows::exports::exported;
-use crate::sender_rows::requests::reply_told;
 use office::Desk;
 use po_read::Duplicate;
 use request_book::{Reply, Request};
 use sender::Sender;
 use std::alloc::Global;
 use store::PlainTables;
+use units::Lang;
 
 /// How many events a schedule has at most.
 const EVENTS: u32 = 100_000;
@@ -70,15 +69,11 @@ impl<'a> World<'a> {
         Some(())
     }
 
-    fn count(&self) -> usize {
-        self.requests.len()
-    }
-
     /// The next event. Each ninth is a delivery that is lost, which changes nothing.
     fn happen(&mut self, draws: &mut Draws) -> Option<()> {
         let kind = draws.below(9);
         if kind < 3 {
-            let place = draws.below(self.count());
+            let place = draws.below(self.requests.len());
             self.send(place)
         } else if kind < 6 {
             let which = draws.below(self.sent.len());
@@ -107,33 +102,70 @@ impl<'a> World<'a> {
     /// The replies that are held, and the export.
     fn told(&mut self, alloc: Global) -> Option<String> {
         let mut text = String::new(alloc);
-        for place in 0..self.requests.len() {
-            let told = reply_told(alloc, self.sender.held(place))?;
-            write!(text, "{told}; ").ok()?;
-        }
-        text.push_str(exported(alloc, &mut self.desk)?.as_str())
-            .ok()?;
+        put_held(&mut text, &self.sender, self.requests.len())?;
+        put_export(alloc, &mut text, &mut self.desk)?;
         Some(text)
     }
 }
 
-/// What a list that is delivered once and in order is told, and the export that it leaves.
-fn once(alloc: Global, requests: &[Request]) -> Option<String> {
-    let mut desk = desk_opened(alloc, "demo")?;
-    let text = delivered(alloc, &mut desk, requests);
-    drop(desk);
-    text
+/// Adds a reply, if there is one.
+fn put_reply(text: &mut String, reply: Option<&Reply>) -> Option<()> {
+    match reply {
+        Some(reply) => write!(text, "{} {}; ", reply.status(), reply.body()).ok(),
+        None => text.push_str("none; ").ok(),
+    }
 }
 
-fn delivered(alloc: Global, desk: &mut Desk<PlainTables>, requests: &[Request]) -> Option<String> {
-    let mut text = String::new(alloc);
-    for request in requests {
-        let reply = desk.deliver(request).ok()?;
-        let told = reply_told(alloc, Some(&reply))?;
-        write!(text, "{told}; ").ok()?;
+/// Adds the replies that a sender of so many requests holds.
+pub(crate) fn put_held(text: &mut String, sender: &Sender, count: usize) -> Option<()> {
+    for place in 0..count {
+        put_reply(text, sender.held(place))?;
     }
-    text.push_str(exported(alloc, desk)?.as_str()).ok()?;
-    Some(text)
+    Some(())
+}
+
+/// Adds the export of the demo office's language.
+fn put_export(alloc: Global, text: &mut String, desk: &mut Desk<PlainTables>) -> Option<()> {
+    let lang = Lang::try_new(alloc, "de").ok()??;
+    let mut sink = sink(alloc, usize::MAX);
+    if desk.export(&lang, &mut sink).is_err() {
+        return None;
+    }
+    text.push_str(str::from_utf8(sink.bytes.as_slice()).ok()?)
+        .ok()
+}
+
+/// Delivers a request, and adds the reply.
+fn put_delivered(text: &mut String, desk: &mut Desk<PlainTables>, request: &Request) -> Option<()> {
+    match desk.deliver(request) {
+        Ok(reply) => put_reply(text, Some(&reply)),
+        Err(_) => None,
+    }
+}
+
+/// Delivers requests once and in order, and adds the replies and the export that they leave.
+fn put_all_delivered(
+    alloc: Global,
+    text: &mut String,
+    desk: &mut Desk<PlainTables>,
+    requests: &[Request],
+) -> Option<()> {
+    for request in requests {
+        put_delivered(text, desk, request)?;
+    }
+    put_export(alloc, text, desk)
+}
+
+/// What a list that is delivered once and in order is told, and the export that it leaves.
+fn once(alloc: Global, requests: &[Request]) -> Option<String> {
+    let mut text = String::new(alloc);
+    let mut desk = desk_opened(alloc, "demo")?;
+    let done = put_all_delivered(alloc, &mut text, &mut desk, requests);
+    drop(desk);
+    match done {
+        Some(()) => Some(text),
+        None => None,
+    }
 }
 
 /// What a schedule comes to, when all replies are held.

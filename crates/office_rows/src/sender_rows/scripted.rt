@@ -40,8 +40,10 @@ impl<'a> Scripted<'a> {
     /// The desk's reply to the request that a message brings.
     fn reply_to(&mut self, message: &[u8]) -> Option<Reply> {
         let line = request_line(self.alloc, str::from_utf8(message).ok()?)?;
-        let request = Request::from_json(self.alloc, line.as_str()).ok()?;
-        self.desk.deliver(&request).ok()
+        match Request::from_json(self.alloc, line.as_str()) {
+            Ok(request) => self.desk.deliver(&request).ok(),
+            Err(_) => None,
+        }
     }
 
     /// The next letter of the script.

@@ -1,37 +1,32 @@
 //! What the rows above set, and what a row makes of it.
+use crate::desk_rows::unit_told;
 use crate::desks::desk_opened;
-use crate::sender_rows::lists::Lists;
-use crate::sender_rows::requests::{reply_told, requests_of};
-use crate::sender_rows::schedules::schedules;
+use crate::named::{Named, keep_named};
+use crate::sender_rows::schedules::{put_held, schedules};
 use crate::sender_rows::scripted::Scripted;
 use crate::sender_rows::texts::lines_told;
-use crate::words::{Outcome, behind, both_sides, word};
+use crate::words::{behind, word};
 use client::{message, send_all};
 use office::Desk;
-use po_read::{PoString, Text};
+use po_read::Text;
 use request_book::{Reply, Request};
 use sender::Sender;
 use std::alloc::Global;
 use store::PlainTables;
-use units::{Key, Lang};
 
-/// The lists, and the desks of the links so far: the last is that of the next row.
+/// The requests of lists, and the desks of the links so far: the last is that of the next row.
 #[derive(Drop)]
 pub(crate) struct Stage {
-    lists: Lists,
+    named: Vec<Named>,
     desks: Vec<Desk<PlainTables>>,
 }
 
 impl Stage {
     pub(crate) fn new(alloc: Global) -> Stage {
         Stage {
-            lists: Lists::new(alloc),
+            named: Vec::new(alloc),
             desks: Vec::new(alloc),
         }
-    }
-
-    fn requests(&self, alloc: Global, name: &str) -> Option<Vec<Request>> {
-        requests_of(alloc, self.lists.lines(name)?)
     }
 
     /// Sends a list over a link, and keeps the desk behind it.
@@ -48,22 +43,43 @@ impl Stage {
 
     /// What a list comes to over a link.
     fn told_over(&self, alloc: Global, deed: &str, link: &mut Scripted<'_>) -> Option<String> {
-        let lines = self.lists.lines(word(deed, 1))?;
         let tries = word(deed, 2).parse::<u32>().ok()?;
         match word(deed, 0) {
-            "link" => sent_told(alloc, &requests_of(alloc, lines)?, link, tries),
-            _ => lines_told(alloc, lines, link, tries, deed),
+            "link" => sent_told(alloc, &self.requests(alloc, word(deed, 1))?, link, tries),
+            _ => lines_told(alloc, self.named.as_slice(), link, tries, deed),
         }
     }
 
-    /// A unit of the last desk, as callers see it.
-    fn unit(&mut self, alloc: Global, place: &str) -> Option<String> {
-        let (code, id) = place.split_once('|')?;
-        let lang = Lang::try_new(alloc, code).ok()??;
-        let id = PoString::try_new(alloc, id).ok()??;
-        let key = Key { ctx: None, id };
-        self.desks.last_mut()?.unit(&lang, &key).ok()
+    fn requests(&self, alloc: Global, list: &str) -> Option<Vec<Request>> {
+        let mut requests = Vec::new(alloc);
+        put_requests(alloc, &mut requests, self.named.as_slice(), list)?;
+        Some(requests)
     }
+}
+
+/// Adds the requests of a list.
+fn put_requests(
+    alloc: Global,
+    requests: &mut Vec<Request>,
+    named: &[Named],
+    list: &str,
+) -> Option<()> {
+    for one in named {
+        if one.name.as_str() == list {
+            requests
+                .push(Request::from_json(alloc, one.line.as_str()).ok()?)
+                .ok()?;
+        }
+    }
+    Some(())
+}
+
+/// The replies that a sender holds.
+fn held_told(alloc: Global, sender: &Sender, count: usize) -> Option<String> {
+    let mut text = String::new(alloc);
+    put_held(&mut text, sender, count)?;
+    let told = text.as_str();
+    String::from_str(alloc, told.strip_suffix("; ").unwrap_or(told)).ok()
 }
 
 /// The replies that a sender of the list holds once all is sent.
@@ -82,18 +98,6 @@ fn sent_told(
     told
 }
 
-fn held_told(alloc: Global, sender: &Sender, count: usize) -> Option<String> {
-    let mut text = String::new(alloc);
-    for place in 0..count {
-        if 0 < place {
-            text.push_str("; ").ok()?;
-        }
-        let told = reply_told(alloc, sender.held(place))?;
-        text.push_str(told.as_str()).ok()?;
-    }
-    Some(text)
-}
-
 /// Which places are ready.
 fn ready_told(alloc: Global, sender: &Sender, count: usize) -> Option<String> {
     let mut text = String::new(alloc);
@@ -109,10 +113,14 @@ fn ready_told(alloc: Global, sender: &Sender, count: usize) -> Option<String> {
 
 /// Has a sender hear a reply to each of these places.
 fn hear_all(alloc: Global, sender: &mut Sender, requests: &[Request], places: &str) -> Option<()> {
-    for place in places.split(',').filter(|place| *place != "-") {
+    if places == "-" {
+        return Some(());
+    }
+    for place in places.split(',') {
         let place = place.parse::<usize>().ok()?.checked_sub(1)?;
+        let number = requests.get(place)?.number;
         let body = Text::from_text(alloc, "{}").ok()?;
-        sender.on_reply(requests.get(place)?.number, Reply::new(200, body));
+        sender.on_reply(number, Reply::new(200, body));
     }
     Some(())
 }
@@ -143,21 +151,12 @@ fn message_told(alloc: Global, requests: &[Request]) -> Option<String> {
     text.as_str().replace(alloc, "\r\n", "|").ok()
 }
 
-/// What a row comes to. None where it can't be read.
-pub(crate) fn found(alloc: Global, stage: &mut Stage, row: &str) -> Option<Outcome> {
-    let (deed, wanted) = both_sides(row);
-    Some(Outcome::of(deed_told(alloc, stage, deed)?, wanted))
-}
-
 /// What a deed comes to. None where it can't be read.
-fn deed_told(alloc: Global, stage: &mut Stage, deed: &str) -> Option<String> {
+pub(crate) fn deed_told(alloc: Global, stage: &mut Stage, deed: &str) -> Option<String> {
     match word(deed, 0) {
         "link" | "lines" => stage.link(alloc, deed),
-        "unit" => stage.unit(alloc, behind(deed)),
-        _ if word(deed, 1) == "is" => {
-            stage.lists.add(alloc, word(deed, 0), behind(behind(deed)))?;
-            Some(String::new(alloc))
-        }
+        "unit" => unit_told(alloc, stage.desks.last_mut()?, behind(deed)),
+        _ if word(deed, 1) == "is" => keep_named(alloc, &mut stage.named, deed),
         _ => of_list(alloc, stage, deed),
     }
 }

@@ -34,7 +34,7 @@ pub(crate) fn status(
 /// The language that a word names, if there is a word.
 pub(crate) fn lang(alloc: Global, word: Option<&str>) -> Option<Option<Lang>> {
     match word {
-        Some(word) => Lang::try_new(alloc, word).ok()?.map(Some),
+        Some(word) => Some(Some(Lang::try_new(alloc, word).ok()??)),
         None => Some(None),
     }
 }
@@ -60,24 +60,27 @@ fn deliver(
 }
 
 fn export(alloc: Global, streams: &mut Streams<'_>, office: &str, code: &[u8]) -> Option<u8> {
-    let lang = Lang::try_new(alloc, str::from_utf8(code).ok()?).ok()??;
+    let lang = lang(alloc, str::from_utf8(code).ok())??;
     let mut desk = desk_opened(alloc, office)?;
     let status = export_text(&mut desk, &lang, &mut streams.output, &mut streams.faults);
     drop(desk);
-    drop(lang);
     Some(status)
+}
+
+fn put_numbers(numbers: &mut Vec<u32>, words: &str) -> Option<()> {
+    for word in words.split(' ') {
+        if !word.is_empty() {
+            numbers.push(word.parse::<u32>().ok()?).ok()?;
+        }
+    }
+    Some(())
 }
 
 /// The numbers behind `plural`.
 fn numbers(alloc: Global, words: &str) -> Option<Vec<u32>> {
+    let (_, behind) = words.split_once("plural")?;
     let mut numbers = Vec::new(alloc);
-    for word in words
-        .split(' ')
-        .skip_while(|word| *word != "plural")
-        .skip(1)
-    {
-        numbers.push(word.parse::<u32>().ok()?).ok()?;
-    }
+    put_numbers(&mut numbers, behind)?;
     Some(numbers)
 }
 

@@ -9,14 +9,21 @@ use store::PlainTables;
 
 pub(crate) fn outcome_told(alloc: Global, outcome: Result<Served, ServeFault>) -> Option<String> {
     match outcome {
-        Ok(served) => {
-            let answered = served.answered;
-            format!(in alloc; "{answered}").ok()
-        }
-        Err(fault) => {
-            let number = fault.number();
-            format!(in alloc; "fault {number}").ok()
-        }
+        Ok(served) => format!(in alloc; "{}", served.answered).ok(),
+        Err(fault) => format!(in alloc; "fault {}", fault.number()).ok(),
+    }
+}
+
+/// An outcome, and the bytes that were written.
+pub(crate) fn with_answers(
+    alloc: Global,
+    stage: &Stage,
+    outcome: &str,
+    bytes: &[u8],
+) -> Option<String> {
+    match stage.texts.shown(bytes) {
+        Some(answers) => format!(in alloc; "{outcome}; {answers}").ok(),
+        None => None,
     }
 }
 
@@ -40,8 +47,7 @@ fn connected(
     let mut streams = Streams::new(alloc, words, stream, piece);
     let outcome = served(alloc, stage.desks.last_mut()?, &mut streams);
     let told = outcome_told(alloc, outcome)?;
-    let answers = stage.texts.shown(streams.output.bytes())?;
-    format!(in alloc; "{told}; {answers}").ok()
+    with_answers(alloc, stage, told.as_str(), streams.output.bytes())
 }
 
 /// What comes of a connection at a new desk, by any pieces; where that isn't the same, what came by how many bytes.
@@ -74,7 +80,8 @@ pub(crate) fn connection_told(alloc: Global, stage: &mut Stage, deed: &str) -> O
 /// What a row wants of a connection, told alike.
 pub(crate) fn connection_wanted(alloc: Global, stage: &Stage, wanted: &str) -> Option<String> {
     let (outcome, text) = words_and_text(wanted);
-    let bytes = stage.texts.bytes_of(text.unwrap_or(""))?;
-    let answers = stage.texts.shown(bytes.as_slice())?;
-    format!(in alloc; "{outcome}; {answers}").ok()
+    match stage.texts.bytes_of(text.unwrap_or("")) {
+        Some(bytes) => with_answers(alloc, stage, outcome, bytes.as_slice()),
+        None => None,
+    }
 }

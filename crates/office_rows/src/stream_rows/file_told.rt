@@ -9,7 +9,6 @@ use crate::stream_rows::stage::Stage;
 use crate::stream_rows::streams::Streams;
 use crate::stream_rows::words::{has, word_behind, words_and_text};
 use std::alloc::Global;
-use units::Lang;
 
 /// What a command came to, and the file afterwards.
 #[derive(Drop)]
@@ -20,30 +19,25 @@ pub(crate) struct Outcome {
 
 /// Makes an office in the file.
 fn init(alloc: Global, file: &[u8], streams: &mut Streams<'_>, who: &str) -> Option<(u8, Vec<u8>)> {
-    let start = start(alloc, who)?;
-    in_file(alloc, file, Deed::Make(&start), streams)
+    match start(alloc, who) {
+        Some(start) => in_file(alloc, file, Deed::Make(&start), streams),
+        None => None,
+    }
 }
 
-/// Delivers lines to the office in the file, and then exports a language, if one is named.
-fn deliver(
+/// Delivers lines to the office in the file, and then exports a language, if one is named; or exports one alone.
+fn deliver_or_export(
     alloc: Global,
     file: &[u8],
     streams: &mut Streams<'_>,
-    export: Option<&str>,
+    words: &str,
 ) -> Option<(u8, Vec<u8>)> {
-    let lang = lang(alloc, export)?;
-    in_file(alloc, file, Deed::Deliver(lang.as_ref()), streams)
-}
-
-/// Exports a language of the office in the file.
-fn export(
-    alloc: Global,
-    file: &[u8],
-    streams: &mut Streams<'_>,
-    code: &str,
-) -> Option<(u8, Vec<u8>)> {
-    let lang = Lang::try_new(alloc, code).ok()??;
-    in_file(alloc, file, Deed::Export(&lang), streams)
+    let lang = lang(alloc, word_behind(words, "export"))?;
+    if has(words, "deliver") {
+        in_file(alloc, file, Deed::Deliver(lang.as_ref()), streams)
+    } else {
+        in_file(alloc, file, Deed::Export(lang.as_ref()?), streams)
+    }
 }
 
 /// Runs the words' command on the file.
@@ -53,12 +47,9 @@ fn run(
     streams: &mut Streams<'_>,
     words: &str,
 ) -> Option<(u8, Vec<u8>)> {
-    if let Some(who) = word_behind(words, "init") {
-        init(alloc, file, streams, who)
-    } else if has(words, "deliver") {
-        deliver(alloc, file, streams, word_behind(words, "export"))
-    } else {
-        export(alloc, file, streams, word_behind(words, "export")?)
+    match word_behind(words, "init") {
+        Some(who) => init(alloc, file, streams, who),
+        None => deliver_or_export(alloc, file, streams, words),
     }
 }
 
@@ -66,7 +57,7 @@ fn run(
 pub(crate) fn come(alloc: Global, file: &[u8], words: &str, lines: &[u8]) -> Option<Outcome> {
     let mut streams = Streams::new(alloc, words, lines, usize::MAX);
     let (status, file) = run(alloc, file, &mut streams, words)?;
-    let told = told(alloc, status, &streams, 0).ok()?;
+    let told = told(alloc, status, &streams, false)?;
     Some(Outcome { told, file })
 }
 

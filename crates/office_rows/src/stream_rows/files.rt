@@ -75,7 +75,7 @@ pub(crate) fn written(alloc: Global, bytes: &[u8], statements: &str) -> Option<V
 pub(crate) fn all_rows(alloc: Global, bytes: &[u8]) -> Option<String> {
     let mut streams = Streams::new(alloc, "", b"", usize::MAX);
     match in_file(alloc, bytes, Deed::Rows, &mut streams)? {
-        (0, _) => told(alloc, 0, &streams, 0).ok(),
+        (0, _) => told(alloc, 0, &streams, false),
         _ => None,
     }
 }

@@ -1,10 +1,9 @@
 //! What goes over real sockets: a client and the office, in one thread.
 use crate::stream_rows::command_told::told;
-use crate::stream_rows::connections::outcome_told;
+use crate::stream_rows::connections::{outcome_told, with_answers};
 use crate::stream_rows::stage::Stage;
 use crate::stream_rows::streams::Streams;
 use crate::stream_rows::words::words_and_text;
-use client::send_lines;
 use sockets::{SocketLink, serve_next};
 use std::alloc::Global;
 use std::io::{self, Error, ErrorKind, Write};
@@ -43,8 +42,7 @@ fn served(rt: &HostRuntime, alloc: Global, stage: &mut Stage, stream: &[u8]) -> 
     client.write_all(stream).ok()?;
     let told = taken(alloc, stage, &listener)?;
     let answers = io::read_to_string(alloc, client).ok()?;
-    let shown = stage.texts.shown(answers.as_bytes())?;
-    format!(in alloc; "{told}; {shown}").ok()
+    with_answers(alloc, stage, told.as_str(), answers.as_bytes())
 }
 
 /// A port that was taken a moment ago, where nobody listens any more.
@@ -53,24 +51,12 @@ fn silent_port(rt: &HostRuntime) -> Option<u16> {
     Some(listener.local_addr().ok()?.port())
 }
 
-/// The exit status of sending the lines of a row to a port.
-fn sent_status(rt: &HostRuntime, alloc: Global, streams: &mut Streams<'_>, port: u16) -> u8 {
-    send_lines(
-        alloc,
-        &mut streams.source,
-        &mut SocketLink { net: rt, port },
-        TRIES,
-        &mut streams.output,
-        &mut streams.faults,
-    )
-}
-
 /// What comes of lines that are sent to a port where nobody listens.
 fn sent(rt: &HostRuntime, alloc: Global, lines: &[u8]) -> Option<String> {
     let port = silent_port(rt)?;
     let mut streams = Streams::new(alloc, "", lines, usize::MAX);
-    let status = sent_status(rt, alloc, &mut streams, port);
-    told(alloc, status, &streams, 0).ok()
+    let status = streams.send(alloc, &mut SocketLink { net: rt, port }, TRIES);
+    told(alloc, status, &streams, false)
 }
 
 /// What a row over sockets comes to. None where it can't be read.

@@ -2,8 +2,9 @@
 ghost use Rattle.std.specs.Prelude.{None};
 
 use crate::stream_rows::words::{has, most};
+use client::{Link, send_lines};
 use std::alloc::Global;
-use units::{ByteSink, ByteSource, SinkFault, SourceFault};
+use units::{ByteSink, ByteSource, SinkFault, SourceFault, VecSink};
 
 /// A source that gives a piece at a time, and fails once it gave so many bytes.
 #[derive(Drop)]
@@ -45,52 +46,53 @@ impl<'a> ByteSource for Given<'a> {
     }
 }
 
-/// A sink that takes a piece at a time, and fails once it took so many bytes.
+/// A sink in memory, which may hand on nothing that it holds back.
 #[derive(Drop)]
 pub(crate) struct Kept {
-    bytes: Vec<u8>,
-    piece: usize,
-    before_fault: usize,
+    sink: VecSink,
     flushes: bool,
-    failures: u64,
 }
 
 impl Kept {
+    fn new(alloc: Global, piece: usize, room: usize, flushes: bool) -> Kept {
+        let sink = VecSink {
+            bytes: Vec::new(alloc),
+            piece,
+            room,
+            failed: 0,
+        };
+        Kept { sink, flushes }
+    }
+
     pub(crate) fn bytes(&self) -> &[u8] {
-        self.bytes.as_slice()
+        self.sink.bytes.as_slice()
     }
 
     /// Keeps bytes besides those that are written.
     pub(crate) fn keep(&mut self, bytes: &[u8]) -> Option<()> {
-        self.bytes.extend_from_slice(bytes).ok()
+        self.sink.bytes.extend_from_slice(bytes).ok()
     }
 }
 
 impl ByteSink for Kept {
     ghost taken = { λ _. None };
 
-    ghost failed = { λ s. s.failures };
+    ghost failed = { λ s. s.sink.failed };
 
     fn write(&mut self, bytes: &[u8]) -> Result<usize, SinkFault> {
-        let count = self.piece.min(self.before_fault).min(bytes.len());
-        if count == 0 || self.bytes.extend_from_slice(&bytes[..count]).is_err() {
-            self.failures = self.failures.saturating_add(1);
-            return Err(SinkFault);
-        }
-        self.before_fault -= count;
-        Ok(count)
+        self.sink.write(bytes)
     }
 
     fn flush(&mut self) -> Result<(), SinkFault> {
         if self.flushes {
             return Ok(());
         }
-        self.failures = self.failures.saturating_add(1);
+        self.sink.failed = self.sink.failed.saturating_add(1);
         Err(SinkFault)
     }
 
     fn failures(&self) -> u64 {
-        self.failures
+        self.sink.failed
     }
 }
 
@@ -112,20 +114,26 @@ impl<'a> Streams<'a> {
                 before_fault: most(words, "reader"),
                 failures: 0,
             },
-            output: Kept {
-                bytes: Vec::new(alloc),
-                piece,
-                before_fault: most(words, "writer"),
-                flushes: !has(words, "flush"),
-                failures: 0,
-            },
-            faults: Kept {
-                bytes: Vec::new(alloc),
-                piece,
-                before_fault: most(words, "faults"),
-                flushes: true,
-                failures: 0,
-            },
+            output: Kept::new(alloc, piece, most(words, "writer"), !has(words, "flush")),
+            faults: Kept::new(alloc, piece, most(words, "faults"), true),
         }
+    }
+
+    /// Sends the source's lines over a link. Answers the exit status.
+    pub(crate) fn send<L: Link>(&mut self, alloc: Global, link: &mut L, tries: u32) -> u8 {
+        send_lines(
+            alloc,
+            &mut self.source,
+            link,
+            tries,
+            &mut self.output,
+            &mut self.faults,
+        )
+    }
+
+    /// Has the source fail once it gave so many bytes, and the output be full after so many.
+    pub(crate) fn limit(&mut self, read: usize, written: usize) {
+        self.source.before_fault = read;
+        self.output.sink.room = written;
     }
 }

@@ -91,11 +91,11 @@ pub(crate) fn show(text: &mut String, bytes: &[u8]) -> Result<(), AllocError> {
 fn show_text(text: &mut String, plain: &str) -> Result<(), AllocError> {
     for letter in plain.chars() {
         match letter {
-            '\n' => text.push_str("^n")?,
-            '\r' => text.push_str("^r")?,
-            '\t' => text.push_str("^t")?,
-            _ => text.push(letter)?,
-        }
+            '\n' => text.push_str("^n"),
+            '\r' => text.push_str("^r"),
+            '\t' => text.push_str("^t"),
+            _ => text.push(letter),
+        }?;
     }
     Ok(())
 }

@@ -9,12 +9,24 @@ pub(crate) fn words_and_text(deed: &str) -> (&str, Option<&str>) {
 }
 
 pub(crate) fn has(words: &str, wanted: &str) -> bool {
-    words.split(' ').any(|word| word == wanted)
+    for word in words.split(' ') {
+        if word == wanted {
+            return true;
+        }
+    }
+    false
 }
 
 /// The word behind this one, if it is there.
 pub(crate) fn word_behind<'a>(words: &'a str, wanted: &str) -> Option<&'a str> {
-    words.split(' ').skip_while(|word| *word != wanted).nth(1)
+    let mut is_next = false;
+    for word in words.split(' ') {
+        if is_next {
+            return Some(word);
+        }
+        is_next = word == wanted;
+    }
+    None
 }
 
 /// The number behind a word; as many as there may be where the word isn't there.

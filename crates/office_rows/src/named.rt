@@ -1,0 +1,18 @@
+//! Lines of rows under names.
+use crate::words::{behind, word};
+use std::alloc::Global;
+
+/// A request's line under a name.
+#[derive(Drop)]
+pub(crate) struct Named {
+    pub(crate) name: String,
+    pub(crate) line: String,
+}
+
+/// Keeps the line of a deed `NAME is LINE`.
+pub(crate) fn keep_named(alloc: Global, kept: &mut Vec<Named>, deed: &str) -> Option<String> {
+    let name = String::from_str(alloc, word(deed, 0)).ok()?;
+    let line = String::from_str(alloc, behind(behind(deed))).ok()?;
+    kept.push(Named { name, line }).ok()?;
+    Some(String::new(alloc))
+}
