@@ -1,3 +1,4 @@
 pub mod WritesInTurn
 pub mod PlannedWrites
-pub mod Transactions
+pub mod WholeTransactions
+pub mod ActsWritten

@@ -4,10 +4,9 @@ ghost use Rattle.sqlite.specs.Held.{state};
 ghost use Rattle.sqlite.specs.State.{HasCleanDisk};
 ghost use Rattle.units.specs.Units.{key_text, key_of};
 ghost use Rattle.office_sql.specs.Inside.{IsSteady, IsInside};
-ghost use Rattle.office_in_changed_rows.specs.Commits.{PutsEntry, PutsEntries, PutsTemplate};
+ghost use Rattle.office_in_changed_rows.specs.Commits.{PutsEntry, PutsEntries};
 ghost use Rattle.office_commits.specs.Columns.{columns_of_entry};
 
-use crate::statements::empty_template;
 use crate::strings::entry_key_fits;
 use office_sql::template::put_entry as put_entry_row;
 use po_read::{Entry, Text};
@@ -16,22 +15,8 @@ use shown_rows::Failure;
 use sqlite::{Alter, Transaction};
 use std::alloc::{AllocError, Global};
 
-/// Writes a template in the place of the one that is there.
-pub fn put_template<S: Alter>(
-    tx: &mut Transaction<'_, S>,
-    alloc: Global,
-    entries: &[Entry],
-) -> Result<(), Failure>
-    requires steady { IsSteady (state S.Store tx.old.conn.now) }
-    ensures same_reference { tx.new.conn.ghost_name ≡ tx.old.conn.ghost_name }
-    ensures put { IsInside (state S.Store tx.old.conn.now) (state S.Store tx.new.conn.now) result (PutsTemplate entries.now) }
-{
-    empty_template(tx)?;
-    put_entries(tx, alloc, entries)
-}
-
 /// Writes entries, from the first place on.
-fn put_entries<S: Alter>(
+pub fn put_entries<S: Alter>(
     tx: &mut Transaction<'_, S>,
     alloc: Global,
     entries: &[Entry],

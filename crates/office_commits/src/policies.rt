@@ -1,54 +1,16 @@
 //! The policy.
-ghost use Rattle.std.specs.Prelude.{◌≡◌, false};
+ghost use Rattle.std.specs.Prelude.{◌≡◌};
 ghost use Rattle.sqlite.specs.Held.{state};
 ghost use Rattle.office_sql.specs.Inside.{IsSteady, IsInside};
-ghost use Rattle.office_sql.specs.Whole.{IsIdle, IsCommit};
-ghost use Rattle.office_in_changed_rows.specs.Commits.{PutsPolicy, WritesPolicy, MakesPolicy};
+ghost use Rattle.office_in_changed_rows.specs.Commits.{PutsPolicy, WritesPolicy};
 
-use crate::records::put_record_of;
 use crate::statements::{set_policy, unapprove_units};
-use request_book::Record;
 use row_values::policy_columns;
-use shown_rows::Failure;
-use sqlite::{Alter, Connection, Error, Transaction};
-use std::alloc::Global;
+use sqlite::{Alter, Error, Transaction};
 use units::Policy;
 
-/// Records a request and sets the policy. Under one without reviews each approved unit, also an obsolete one, becomes translated at
-/// its next revision.
-pub fn commit_policy<S: Alter>(
-    connection: &mut Connection<S>,
-    alloc: Global,
-    row: &Record,
-    policy: &Policy,
-) -> Result<(), Failure>
-    requires autocommit { connection.old.in_transaction ≡ false }
-    requires idle { IsIdle (state S.Store connection.old) }
-    ensures committed { IsCommit (state S.Store connection.old) (state S.Store connection.new) result (MakesPolicy row.now policy.now) }
-{
-    let mut tx = connection.transaction();
-    put_record_and_policy(&mut tx, alloc, row, policy)?;
-    tx.commit()?;
-    Ok(())
-}
-
-/// Writes a request's record and the policy that it sets.
-fn put_record_and_policy<S: Alter>(
-    tx: &mut Transaction<'_, S>,
-    alloc: Global,
-    row: &Record,
-    policy: &Policy,
-) -> Result<(), Failure>
-    requires steady { IsSteady (state S.Store tx.old.conn.now) }
-    ensures same_reference { tx.new.conn.ghost_name ≡ tx.old.conn.ghost_name }
-    ensures put { IsInside (state S.Store tx.old.conn.now) (state S.Store tx.new.conn.now) result (MakesPolicy row.now policy.now) }
-{
-    put_record_of(tx, alloc, row)?;
-    write_policy(tx, policy).map_err(Failure::from)
-}
-
-/// Writes the policy, and what it makes of units.
-fn write_policy<S: Alter>(tx: &mut Transaction<'_, S>, policy: &Policy) -> Result<(), Error>
+/// Writes the policy. Under one without reviews each approved unit, also an obsolete one, becomes translated at its next revision.
+pub fn write_policy<S: Alter>(tx: &mut Transaction<'_, S>, policy: &Policy) -> Result<(), Error>
     requires steady { IsSteady (state S.Store tx.old.conn.now) }
     ensures same_reference { tx.new.conn.ghost_name ≡ tx.old.conn.ghost_name }
     ensures put { IsInside (state S.Store tx.old.conn.now) (state S.Store tx.new.conn.now) result (WritesPolicy policy.now) }

@@ -1,32 +1,15 @@
 //! A request's record.
-ghost use Rattle.std.specs.Prelude.{◌≡◌, false};
+ghost use Rattle.std.specs.Prelude.{◌≡◌};
 ghost use Rattle.sqlite.specs.Held.{state};
 ghost use Rattle.office_sql.specs.Inside.{IsSteady, IsInside};
-ghost use Rattle.office_sql.specs.Whole.{IsIdle, IsCommit};
 ghost use Rattle.office_in_changed_rows.specs.Commits.{PutsNumberedRecord};
 
 use crate::statements::put_record;
 use request_book::Record;
 use row_values::{number_column, status_column};
 use shown_rows::Failure;
-use sqlite::{Alter, Connection, Transaction};
+use sqlite::{Alter, Transaction};
 use std::alloc::Global;
-
-/// Records a request that changes nothing else.
-pub fn commit_record<S: Alter>(
-    connection: &mut Connection<S>,
-    alloc: Global,
-    row: &Record,
-) -> Result<(), Failure>
-    requires autocommit { connection.old.in_transaction ≡ false }
-    requires idle { IsIdle (state S.Store connection.old) }
-    ensures committed { IsCommit (state S.Store connection.old) (state S.Store connection.new) result (PutsNumberedRecord row.now) }
-{
-    let mut tx = connection.transaction();
-    put_record_of(&mut tx, alloc, row)?;
-    tx.commit()?;
-    Ok(())
-}
 
 /// Writes a request's record inside a transaction. Its number must be new.
 pub fn put_record_of<S: Alter>(

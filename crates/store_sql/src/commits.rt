@@ -3,10 +3,10 @@ ghost use Rattle.std.specs.Prelude.{◌≡◌, false, IfSome};
 ghost use Rattle.row_values.specs.Written.{ArePrevious};
 ghost use Rattle.sqlite.specs.Held.{state};
 ghost use Rattle.office_sql.specs.Whole.{IsIdle, IsCommit};
-ghost use Rattle.store_sql.specs.Writes.{MakesAct};
+ghost use Rattle.office_commits.specs.Acts.{MakesAct};
 
 use crate::strings::view_fits;
-use office_commits::{commit_record, commit_unit};
+use office_commits::commit_act;
 use request_book::Record;
 use shown_rows::Failure;
 use sqlite::{Alter, Connection};
@@ -14,24 +14,6 @@ use std::alloc::Global;
 use units::{Lang, UnitView};
 
 /// Records a request and writes the unit's new view, if it has one.
-pub fn commit_act<S: Alter>(
-    connection: &mut Connection<S>,
-    alloc: Global,
-    row: &Record,
-    lang: &Lang,
-    view: &Option<UnitView>,
-) -> Result<(), Failure>
-    requires autocommit { connection.old.in_transaction ≡ false }
-    requires idle { IsIdle (state S.Store connection.old) }
-    ensures committed { IsCommit (state S.Store connection.old) (state S.Store connection.new) result (MakesAct row.now lang.now view.now) }
-{
-    match view {
-        Some(view) => commit_unit(connection, alloc, row, lang, &view.unit),
-        None => commit_record(connection, alloc, row),
-    }
-}
-
-/// The same, for a record and a view that are given away.
 pub fn commit_given<S: Alter>(
     connection: &mut Connection<S>,
     alloc: Global,

@@ -1,0 +1,40 @@
+use Rattle.std.proofs.Common.{subst}
+use Rattle.sqlite.specs.Held.{state}
+use Rattle.po_read.specs.Texts.{Text}
+use Rattle.row_values.specs.Numbers.{role_number}
+use Rattle.office_sql.specs.Inside.{IsInside}
+use Rattle.office_in_changed_rows.specs.Commits.{WritesRole, WritesPolicy, WritesLanguage, WritesTemplate}
+use Rattle.office_commits.proofs.WritesInTurn.{write_mapped}
+use Rattle.office_commits.proofs.acts.write_change.Goals as goal
+
+pub returns-in-OneRole-clause-put : goal.returns-in-OneRole-clause-put
+returns-in-OneRole-clause-put g c =
+    let old = state g.S.Store c.args.tx.now.conn.now in
+    let new = state g.S.Store c.write_role.new.tx.conn.now in
+    let role = c.in-OneRole.role in
+    let Writes = λ (name : Text). WritesRole name (role_number role) in
+    rw c.in-OneRole.is (write_mapped old new c.write_role.result c.map_err.result _ (Writes c.as_str.result.now) (Writes c.in-OneRole.name) c.map_err.ensures.cases
+    (subst (λ name. Writes name old.now new.now) c.as_str.ensures.value) c.write_role.ensures.put)
+
+pub returns-in-NewPolicy-clause-put : goal.returns-in-NewPolicy-clause-put
+returns-in-NewPolicy-clause-put g c =
+    let old = state g.S.Store c.args.tx.now.conn.now in
+    let new = state g.S.Store c.write_policy.new.tx.conn.now in
+    let Writes = WritesPolicy c.in-NewPolicy.policy in
+    rw c.in-NewPolicy.is (write_mapped old new c.write_policy.result c.map_err-in-NewPolicy.result _ Writes Writes c.map_err-in-NewPolicy.ensures.cases (λ made. made) c.write_policy.ensures.put)
+
+pub returns-in-NewLanguage-clause-put : goal.returns-in-NewLanguage-clause-put
+returns-in-NewLanguage-clause-put g c =
+    let old = state g.S.Store c.args.tx.now.conn.now in
+    let new = state g.S.Store c.write_language.new.tx.conn.now in
+    let lang = c.in-NewLanguage.lang in
+    let header = c.in-NewLanguage.language.header in
+    rw c.in-NewLanguage.is (subst (λ units. IsInside old new c.write_language.result (WritesLanguage lang header units)) c.as_slice.ensures c.write_language.ensures.put)
+
+pub returns-in-NewTemplate-clause-put : goal.returns-in-NewTemplate-clause-put
+returns-in-NewTemplate-clause-put g c =
+    let old = state g.S.Store c.args.tx.now.conn.now in
+    let new = state g.S.Store c.write_template.new.tx.conn.now in
+    let template = c.in-NewTemplate.template in
+    rw c.in-NewTemplate.is (subst (λ plans. IsInside old new c.write_template.result (WritesTemplate template plans)) c.as_slice-in-NewTemplate.ensures.value
+    (subst (λ entries. IsInside old new c.write_template.result (WritesTemplate entries c.as_slice-in-NewTemplate.result.now)) c.entries.ensures.value c.write_template.ensures.put))

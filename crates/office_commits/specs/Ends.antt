@@ -1,0 +1,17 @@
+-- How a transaction ends behind what was written in it. Only private clauses and proofs cite this file.
+use Rattle.std.specs.Prelude.{◌≡◌, false, Result, OnOk, OnErr}
+use Rattle.std.specs.Result.{IsErr}
+use Rattle.sqlite.specs.Held.{Held, state}
+use Rattle.sqlite.specs.State.{HasCleanDisk, Shows, IsRolledBack, Survives}
+use Rattle.sqlite.specs.Steps.{FailsToCommit}
+use Rattle.sqlite.specs.declared.error.Error.{Error}
+use Rattle.sqlite_trees.specs.declared.store.Store as store
+
+-- Where all was written, it is committed, or the commit fails; a crash leaves what it left before, or what was written. Where a write
+-- failed, that is told, and all is undone.
+pub record Finishes {S : Type 0} (g : store.Ghosts S) {A B E F : Type 0} (mid last : Held S) (written : Result A E) (result : Result B F) : Type 0 where
+  pub commits : OnOk written (OnOk result (HasCleanDisk (state g last) → Shows (state g mid) (state g last) (state g mid).now (state g mid).now false))
+  pub fails : OnOk written (OnErr result ((cause : Error) × (HasCleanDisk (state g last) → FailsToCommit (state g mid) (state g last) cause)))
+  pub left : OnOk written (Survives (state g mid) (state g last) (λ db. db ≡ (state g mid).now.trees))
+  pub told : OnErr written (IsErr result)
+  pub undone : OnErr written ((HasCleanDisk (state g last) → IsRolledBack (state g mid) (state g last)) × Survives (state g mid) (state g last) (λ _. ⊥))
