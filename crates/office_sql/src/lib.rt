@@ -1,17 +1,12 @@
-//! The eight tables of an office in SQL: what makes them, what reads a row, and the statements that write one for a start, one function
-//! for each. Those that a commit alone writes by stand in `office_commits`.
+//! The eight tables of an office in SQL: the statements by which both a start and a commit write a row, the one by which all reads look up
+//! the policy, and the laws of all others. Those stand in the crates that run them: a start's and the look-ups' in `store_sql`, a commit's in
+//! `office_commits`.
 //!
-//! A function that takes a transaction wants it open and leaves it open; one that takes the connection is a whole transaction. What is
-//! said of values is said while the disk returns what was written.
+//! A function takes a transaction that is open and leaves it open. What is said of values is said while the disk returns what was written.
 #![tactic(auto)]
 
-pub mod create;
 pub mod languages;
 pub mod look_ups;
 pub mod office_reads;
-pub mod policy;
-mod record_reads;
-pub mod team;
 pub mod template;
-mod unit_reads;
 pub mod units;

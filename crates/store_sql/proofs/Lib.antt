@@ -1,4 +1,5 @@
 pub mod Results
+pub mod LookedUp
 pub mod StillKept
 pub mod RecordsRead
 pub mod ViewsRead

@@ -24,16 +24,15 @@ ghost use Rattle.store_sql.specs.Faults.{RefusesIn};
 ghost use Rattle.store_sql.specs.Kept.{KeepsOffice, KeepsOwnRules, IsAtHand, is_honest, is_whole, means, may_leave, is_stopped, is_loaded};
 ghost use Rattle.store_sql.specs.Making.{AreMade, IsHandedBack};
 
-use crate::changes::commit_change;
-use crate::commits::commit_given;
 use crate::faults::OpenFault;
 use crate::making::make;
 use crate::records::read_record;
-use crate::strings::key_fits;
+use crate::strings::{key_fits, view_fits};
 use crate::views::read_view;
 use crate::whole_office::{forget, keep, read_office};
 use deliveries::{Change, Found};
 use office_adoption::{AdoptionFault, adopted_office};
+use office_commits::{commit_act, commit_change};
 use office_entries::{counts, hand_entries};
 use office_maps::OfficeMaps;
 use request_book::Record;
@@ -71,12 +70,15 @@ impl<S: Alter> Model for Rows<S> {
 impl<S: Alter + Drop> Drop for Rows<S> {
     fn drop(self) {
         let Rows {
-            connection: _,
+            connection,
             stopped: _,
             alloc: _,
-            kept_rule: _,
-            office: _,
+            kept_rule,
+            office,
         } = self;
+        drop(kept_rule);
+        drop(office);
+        drop(connection);
     }
 }
 
@@ -283,23 +285,24 @@ impl<S: Alter> Rows<S> {
     /// leaves must keep the rules.
     pub(crate) fn commit_unit(
         &mut self,
-        row: Record,
+        row: &Record,
         lang: &Lang,
         key: &Key,
-        view: Option<UnitView>,
+        view: &Option<UnitView>,
     ) -> Result<(), Lost>
-        requires rules { is_honest S.Store self.old → KeepsRules (record { office = with_view (means S.Store self.old).office lang.now key.now view; book = with_record (means S.Store self.old).book row }) }
-        ensures done { is_honest S.Store self.new → OnOk result (means S.Store self.new ≡ record { office = with_view (means S.Store self.old).office lang.now key.now view; book = with_record (means S.Store self.old).book row }) }
+        requires rules { is_honest S.Store self.old → KeepsRules (record { office = with_view (means S.Store self.old).office lang.now key.now view.now; book = with_record (means S.Store self.old).book row.now }) }
+        ensures done { is_honest S.Store self.new → OnOk result (means S.Store self.new ≡ record { office = with_view (means S.Store self.old).office lang.now key.now view.now; book = with_record (means S.Store self.old).book row.now }) }
         ensures same { is_honest S.Store self.new → is_whole S.Store self.new → OnErr result (means S.Store self.new ≡ means S.Store self.old) }
         ensures kept { IsKept (is_honest S.Store) (is_whole S.Store) (means S.Store) (may_leave S.Store) (is_stopped S.Store) self.old self.new result Disk
-            (λ m. m ≡ record { office = with_view (means S.Store self.old).office lang.now key.now view; book = with_record (means S.Store self.old).book row }) }
+            (λ m. m ≡ record { office = with_view (means S.Store self.old).office lang.now key.now view.now; book = with_record (means S.Store self.old).book row.now }) }
     {
         if self.stopped {
             return Err(Lost::Disk);
         }
         key_fits(key);
+        view_fits(view);
         forget(&mut self.office);
-        match commit_given(&mut self.connection, self.alloc, row, lang, view) {
+        match commit_act(&mut self.connection, self.alloc, row, lang, view) {
             Ok(()) => Ok(()),
             Err(failure) => Err(self.lost(failure)),
         }
@@ -307,12 +310,16 @@ impl<S: Alter> Rows<S> {
 
     /// Writes a request's record and what its act changes, if it changes anything; or neither. The number must be new, and what the
     /// commit leaves must keep the rules.
-    pub(crate) fn commit_office(&mut self, row: Record, change: Option<Change>) -> Result<(), Lost>
-        requires rules { is_honest S.Store self.old → KeepsRules (record { office = changed_by (means S.Store self.old).office change; book = with_record (means S.Store self.old).book row }) }
-        ensures done { is_honest S.Store self.new → OnOk result (means S.Store self.new ≡ record { office = changed_by (means S.Store self.old).office change; book = with_record (means S.Store self.old).book row }) }
+    pub(crate) fn commit_office(
+        &mut self,
+        row: &Record,
+        change: &Option<Change>,
+    ) -> Result<(), Lost>
+        requires rules { is_honest S.Store self.old → KeepsRules (record { office = changed_by (means S.Store self.old).office change.now; book = with_record (means S.Store self.old).book row.now }) }
+        ensures done { is_honest S.Store self.new → OnOk result (means S.Store self.new ≡ record { office = changed_by (means S.Store self.old).office change.now; book = with_record (means S.Store self.old).book row.now }) }
         ensures same { is_honest S.Store self.new → is_whole S.Store self.new → OnErr result (means S.Store self.new ≡ means S.Store self.old) }
         ensures kept { IsKept (is_honest S.Store) (is_whole S.Store) (means S.Store) (may_leave S.Store) (is_stopped S.Store) self.old self.new result Disk
-            (λ m. m ≡ record { office = changed_by (means S.Store self.old).office change; book = with_record (means S.Store self.old).book row }) }
+            (λ m. m ≡ record { office = changed_by (means S.Store self.old).office change.now; book = with_record (means S.Store self.old).book row.now }) }
     {
         if self.stopped {
             return Err(Lost::Disk);

@@ -4,15 +4,18 @@ use Rattle.sqlite.specs.declared.error.Error.{Error}
 use Rattle.deliveries.specs.UnitAccess.{found_of}
 use Rattle.office_sql.specs.UnitRows.{ShowsViewRows}
 use Rattle.office_in_rows.specs.Meaning.{office_of_rows}
-use Rattle.store_sql.proofs.Results.{look_up_mapped}
+use Rattle.shown_rows.specs.ShownFound.{IsShownFound}
+use Rattle.store_sql.proofs.Results.{look_up_answered}
 use Rattle.store_sql.proofs.ViewsRead.{reads_view}
 use Rattle.store_sql.proofs.views.read_view.Goals as goal
 
 pub returns : goal.returns
-returns g c = record {
-  found = look_up_mapped (state g.S.Store c.args.connection.now) (state g.S.Store c.look_up_view.new.connection) {E = Error} c.in_ok-rows.rows c.in_ok-found.found
-      (ShowsViewRows c.as_str.result.now c.as_str-2.result.now c.as_str-3.result.now) (λ db r. r ≡ found_of (office_of_rows db.trees) c.args.lang.now c.args.key.now c.args.name.now)
-      c.in_ok-rows.ensures.found
-      (λ clean is_open. reads_view (state g.S.Store c.args.connection.now) c.args.lang.now c.args.key.now c.args.name.now c.as_str.result.now c.as_str-2.result.now c.as_str-3.result.now
-      c.in_ok-rows.rows c.in_ok-found.found c.requires.keeps c.key_fits.ensures c.as_str.ensures.value (search rules) c.as_str-3.ensures.value clean is_open c.in_ok-found.ensures.shown);
-}
+returns g c =
+    let old = state g.S.Store c.args.connection.now in
+    record {
+      found = look_up_answered old (state g.S.Store c.look_up_view.new.connection) {E = Error} c.in_ok-rows.rows _
+          (ShowsViewRows c.as_str.result.now c.as_str-2.result.now c.as_str-3.result.now) (IsShownFound c.args.key.now c.in_ok-rows.rows)
+          (λ db r. r ≡ found_of (office_of_rows db.trees) c.args.lang.now c.args.key.now c.args.name.now) c.in_ok-rows.ensures.found c.found_in-found.ensures.shown
+          (λ clean is_open shows found shown. reads_view old c.args.lang.now c.args.key.now c.args.name.now c.as_str.result.now c.as_str-2.result.now c.as_str-3.result.now
+          c.in_ok-rows.rows found c.requires.keeps c.key_fits.ensures c.as_str.ensures.value (search rules) c.as_str-3.ensures.value clean is_open shown shows);
+    }

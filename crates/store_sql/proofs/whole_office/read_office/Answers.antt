@@ -5,14 +5,14 @@ use Rattle.office_maps.specs.OfficeIn.{office_in}
 use Rattle.office_scans.specs.WholeOffice.{ShowsWholeOffice}
 use Rattle.office_in_rows.specs.Meaning.{office_of_rows}
 use Rattle.office_at_hand.proofs.WholeOffice.{whole_office}
-use Rattle.store_sql.proofs.Results.{look_up_mapped}
+use Rattle.store_sql.proofs.Results.{look_up_answered}
 use Rattle.store_sql.proofs.whole_office.read_office.Goals as goal
 
 pub returns : goal.returns
 returns g c =
     let old = state g.S.Store c.args.connection.now in
     record {
-      found = look_up_mapped old (state g.S.Store c.look_up_office.new.connection) {E = Error} c.in_ok-rows.rows c.in_ok-maps.maps
-          ShowsWholeOffice (λ db maps. office_in maps ≡ office_of_rows db.trees) c.in_ok-rows.ensures.found
-          (λ clean is_open shown. c.in_ok-maps.ensures.shown ∙ whole_office old.now (c.requires.keeps.idle.ready clean is_open) c.in_ok-rows.rows shown);
+      found = look_up_answered old (state g.S.Store c.look_up_office.new.connection) {E = Error} c.in_ok-rows.rows _
+          ShowsWholeOffice _ (λ db maps. office_in maps ≡ office_of_rows db.trees) c.in_ok-rows.ensures.found c.office_in-maps.ensures.shown
+          (λ clean is_open shown maps is. is ∙ whole_office old.now (c.requires.keeps.idle.ready clean is_open) c.in_ok-rows.rows shown);
     }

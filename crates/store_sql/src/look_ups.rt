@@ -1,0 +1,123 @@
+//! Whole transactions that read. Each ends by a commit, since only that tells that the connection is still open.
+ghost use Rattle.std.specs.Prelude.{◌≡◌, false};
+ghost use Rattle.sqlite.specs.Held.{state};
+ghost use Rattle.office_sql.specs.Answers.{ShowsRecord};
+ghost use Rattle.office_sql.specs.Inside.{IsSteady, IsRead};
+ghost use Rattle.office_sql.specs.UnitRows.{ShowsOfficeRows, ShowsUnitRows, ShowsViewRows, ShowsWithVotes, ShowsEachWithVotes};
+ghost use Rattle.office_sql.specs.Whole.{IsIdle, IsLookUp};
+
+use crate::office_reads::{find_language, find_member};
+use crate::record_reads::find_record;
+use crate::unit_reads::{find_entry, find_unit, suggestions_of, votes_on};
+use office_sql::look_ups::{OfficeRows, SuggestionRows, UnitRows, ViewRows};
+use office_sql::office_reads::find_policy;
+use sqlite::{Alter, Connection, Error, Row, Transaction};
+
+/// The record of a request. None, where no record has the number.
+pub(crate) fn look_up_record<S: Alter>(
+    connection: &mut Connection<S>,
+    number: &str,
+) -> Result<Option<Row>, Error>
+    requires autocommit { connection.old.in_transaction ≡ false }
+    requires idle { IsIdle (state S.Store connection.old) }
+    ensures found { IsLookUp (state S.Store connection.old) (state S.Store connection.new) result
+        (ShowsRecord number.now) }
+{
+    let mut tx = connection.transaction();
+    let found = find_record(&mut tx, number)?;
+    tx.commit().and(Ok(found))
+}
+
+/// The rows of the office that a look at a unit takes.
+fn office_part<'a, S: Alter>(
+    tx: &mut Transaction<'_, S>,
+    lang: &'a str,
+    name: &'a str,
+) -> Result<OfficeRows, Error>
+    requires steady { IsSteady (state S.Store tx.old.conn.now) }
+    ensures same_reference { tx.new.conn.ghost_name ≡ tx.old.conn.ghost_name }
+    ensures found { IsRead (state S.Store tx.old.conn.now) (state S.Store tx.new.conn.now) result
+        (ShowsOfficeRows lang.now name.now) }
+{
+    let language = find_language(tx, lang)?;
+    let policy = find_policy(tx)?;
+    let role = find_member(tx, name)?;
+    Ok(OfficeRows {
+        language,
+        policy,
+        role,
+    })
+}
+
+/// A suggestion with the votes on it.
+fn with_votes<S: Alter>(
+    tx: &mut Transaction<'_, S>,
+    suggestion: Row,
+) -> Result<SuggestionRows, Error>
+    requires steady { IsSteady (state S.Store tx.old.conn.now) }
+    ensures same_reference { tx.new.conn.ghost_name ≡ tx.old.conn.ghost_name }
+    ensures found { IsRead (state S.Store tx.old.conn.now) (state S.Store tx.new.conn.now) result
+        (ShowsWithVotes suggestion) }
+{
+    let number = suggestion.get::<String>(0)?;
+    let votes = votes_on(tx, &number)?;
+    Ok(SuggestionRows { suggestion, votes })
+}
+
+/// The suggestions on a unit, each with the votes on it.
+fn suggestions_with_votes<'a, S: Alter>(
+    tx: &mut Transaction<'_, S>,
+    lang: &'a str,
+    key: &'a str,
+) -> Result<Vec<SuggestionRows>, Error>
+    requires steady { IsSteady (state S.Store tx.old.conn.now) }
+    ensures same_reference { tx.new.conn.ghost_name ≡ tx.old.conn.ghost_name }
+    ensures found { IsRead (state S.Store tx.old.conn.now) (state S.Store tx.new.conn.now) result
+        (λ db rows. ShowsEachWithVotes lang.now key.now db rows.items) }
+{
+    let suggestions = suggestions_of(tx, lang, key)?;
+    let mut all = Vec::new(*suggestions.allocator());
+    for suggestion in suggestions {
+        all.push(with_votes(tx, suggestion)?)?;
+    }
+    Ok(all)
+}
+
+/// The rows of a unit that a look at it takes.
+fn unit_part<'a, S: Alter>(
+    tx: &mut Transaction<'_, S>,
+    lang: &'a str,
+    key: &'a str,
+) -> Result<UnitRows, Error>
+    requires steady { IsSteady (state S.Store tx.old.conn.now) }
+    ensures same_reference { tx.new.conn.ghost_name ≡ tx.old.conn.ghost_name }
+    ensures found { IsRead (state S.Store tx.old.conn.now) (state S.Store tx.new.conn.now) result
+        (ShowsUnitRows lang.now key.now) }
+{
+    let unit = find_unit(tx, lang, key)?;
+    let entry = find_entry(tx, key)?;
+    let suggestions = suggestions_with_votes(tx, lang, key)?;
+    Ok(UnitRows {
+        unit,
+        entry,
+        suggestions,
+    })
+}
+
+/// What a caller sees of a unit: the office's rows, the unit's, and the votes on each of its suggestions.
+pub(crate) fn look_up_view<'a, S: Alter>(
+    connection: &mut Connection<S>,
+    lang: &'a str,
+    key: &'a str,
+    name: &'a str,
+) -> Result<ViewRows, Error>
+    requires autocommit { connection.old.in_transaction ≡ false }
+    requires idle { IsIdle (state S.Store connection.old) }
+    ensures found { IsLookUp (state S.Store connection.old) (state S.Store connection.new) result
+        (ShowsViewRows lang.now key.now name.now) }
+{
+    let mut tx = connection.transaction();
+    let office = office_part(&mut tx, lang, name)?;
+    let unit = unit_part(&mut tx, lang, key)?;
+    tx.commit().and(Ok(ViewRows { office, unit }))
+}
