@@ -13,6 +13,7 @@ pub mod RecordTexts
 pub mod RecordRows
 pub mod WholeBook
 pub mod Looked
+pub mod LookedUp
 pub mod Langs
 pub mod Stand
 pub mod Read
