@@ -17,8 +17,9 @@ pub fn message(alloc: Global, request: &Request) -> Result<Text, Memory>
     let body = request.act.to_json(alloc)?;
     let mut buffer = Uuid::encode_buffer();
     let number: &str = request.number.hyphenated().encode_lower(&mut buffer);
-    let text = message_of(alloc, number, request.caller.as_str(), body.as_str())?;
-    Ok(Text::from_string(text))
+    let text = message_of(alloc, number, request.caller.as_str(), body.as_str());
+    drop(body);
+    Ok(Text::from_string(text?))
 }
 
 fn message_of(alloc: Global, number: &str, caller: &str, body: &str) -> Result<String, AllocError>

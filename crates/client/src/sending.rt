@@ -1,7 +1,6 @@
 //! All requests of a sender over a link.
 
-ghost use Rattle.std.specs.Prelude.{◌≡◌, List, Some, true, false, OnErr, slice_get};
-ghost use Rattle.request_book.specs.declared.act.Request.{Request as RequestValue};
+ghost use Rattle.std.specs.Prelude.{◌≡◌, true, false, OnErr};
 ghost use Rattle.sender.specs.Sending.{is_ready};
 ghost use Rattle.client.specs.Talks.{Talked, IsWithin, requests_of};
 ghost use Rattle.client.specs.Steps.{Exchanged, Sent, Takes, IsPaid};
@@ -65,28 +64,13 @@ fn send_round<L: Link>(
 {
     let mut is_sent = false;
     for (place, request) in requests.iter().enumerate() {
-        is_sent |= takes_turn(alloc, sender, request, link, left, place);
+        if !takes_try(sender, left, place) {
+            continue;
+        }
+        send_one(alloc, sender, request, link);
+        is_sent = true;
     }
     is_sent
-}
-
-/// Sends the request at this place, if it is ready and has a try left. Tells whether it was sent.
-fn takes_turn<L: Link>(
-    alloc: Global,
-    sender: &mut Sender,
-    request: &Request,
-    link: &mut L,
-    left: &mut [u32],
-    place: usize,
-) -> bool
-    ensures { (requests : List RequestValue) → requests_of sender.old ≡ requests → slice_get requests place ≡ Some request.now
-        → Talked (IsPaid left.old left.new) (L.said link.old) (L.said link.new) sender.old sender.new }
-{
-    if !takes_try(sender, left, place) {
-        return false;
-    }
-    send_one(alloc, sender, request, link);
-    true
 }
 
 /// Whether the request at this place is ready and has a try left, which is taken.
@@ -110,6 +94,7 @@ fn send_one<L: Link>(alloc: Global, sender: &mut Sender, request: &Request, link
         return;
     };
     let reply = exchanged(alloc, link, text.as_str().as_bytes());
+    drop(text);
     match reply {
         Some(reply) => sender.on_reply(request.number, reply),
         None => {}

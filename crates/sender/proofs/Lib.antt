@@ -1,4 +1,5 @@
 pub mod Places
+pub mod Copies
 pub mod NumberLemmas
 pub mod PlaceSets
 pub mod WaitingLemmas

@@ -1,6 +1,6 @@
 -- The index from numbers to places: one request more, and what a reply changes.
 use Rattle.std.proofs.Common.{◌≡◌, ℕ, zero, suc, ◌<◌, List, [], ◌∷◌, ◌++◌, length, map, take, set, get_or, Bool, true, false, cond, Option, Some, None, refl, sym, ◌∙◌, ap, subst, arith, inl, inr, add-one, ◌+◌, is_some}
-use Rattle.std.specs.Prelude.{◌⊎◌, ◌↔◌, slice_get, option_map, Result, Ok, Err}
+use Rattle.std.specs.Prelude.{◌⊎◌, ◌↔◌, slice_get, option_map, Result, Ok, Err, IfOk, OnOk}
 use Rattle.std.specs.Map.{lookup}
 use Rattle.std.specs.BTreeMap.{BTreeMap, get, is_at, Updates}
 use Rattle.std.specs.Cmp.Lexicographic.{texts_ties}
@@ -13,6 +13,8 @@ use Rattle.po_read.specs.Texts.{Text, text_cmp, text_eq}
 use Rattle.request_book.specs.declared.act.Request.{Request}
 use Rattle.request_book.specs.Replies.{Reply}
 use Rattle.sender.specs.declared.exchange.Exchange.{Exchange}
+use Rattle.sender.specs.declared.fault.SenderFault.{SenderFault}
+use Rattle.sender.specs.declared.fault.SenderFault.TheVariants.{Twice, Memory}
 use Rattle.sender.specs.Sending.{HasDistinctNumbers, unanswered, is_open, replied, hear}
 use Rattle.sender.specs.NumberIndex.{number_at, IsNumberIndex}
 use Rattle.sender.proofs.Places.{in_front, same, itself, apart}
@@ -133,10 +135,15 @@ stands_twice requests places i place x index at_i found distinct = by_request (s
         let wrong : true ≡ false = sym (itself x.number) ∙ (ap (λ (n : Text). text_eq n x.number) (sym its) ∙ apart requests place i y x distinct b.before b.there at_i) in
         cc
 
--- what a look-up found
-pub some_place : (o g : Option ℕ) (b : Bool) → o ≡ g → b ≡ is_some o → b ≡ true → (p : ℕ) × (g ≡ Some p)
-some_place None g b e is t = cc
-some_place (Some p) g b e is t = (p, sym e)
+-- what the index told of a number before it was put there
+pub new_number : {E : Type 0} (told : Result (Option ℕ) E) (before found : Option ℕ) → IfOk told (λ old. old ≡ before) → told ≡ Ok found → found ≡ None → before ≡ None
+new_number {E} told before found old is none = sym (subst (λ (r : Result (Option ℕ) E). IfOk r (λ old. old ≡ before)) is old) ∙ none
+
+pub known_number : {E : Type 0} (told : Result (Option ℕ) E) (before found : Option ℕ) (place : ℕ) → IfOk told (λ old. old ≡ before) → told ≡ Ok found → found ≡ Some place → is_some before ≡ true
+known_number {E} told before found place old is some = ap is_some (sym (subst (λ (r : Result (Option ℕ) E). IfOk r (λ old. old ≡ before)) is old) ∙ some)
+
+pub where_ok : {T E : Type 0} (told : Result T E) (found : T) (P : Type 0) → OnOk told P → told ≡ Ok found → P
+where_ok {T} {E} told found P holds is = subst (λ (r : Result T E). OnOk r P) is holds
 
 pub known_place : (o : Option ℕ) → is_some o ≡ true → (p : ℕ) × (o ≡ Some p)
 known_place None t = cc
@@ -150,9 +157,9 @@ same_fault {S} {T} {E} e d is = ap recast is
     recast (Ok x) = Err d
     recast (Err f) = Err f
 
-pub none_place : (o g : Option ℕ) (b : Bool) → o ≡ g → b ≡ is_some o → b ≡ false → g ≡ None
-none_place None g b e is t = sym e
-none_place (Some p) g b e is t = cc
+-- want of memory is no number that stands twice
+pub not_twice : {T : Type 0} → ◌≡◌ {A = Result T SenderFault} (Err Memory) (Err Twice) → ⊥
+not_twice wrong = cc
 
 -- ---- a reply
 

@@ -1,6 +1,6 @@
 //! Why there is no sender of some requests.
 
-use std::alloc::{AllocError, AllocFailed};
+use std::alloc::AllocError;
 use thiserror::Error;
 
 /// Why there is no sender of some requests.
@@ -33,17 +33,6 @@ impl From<AllocError> for SenderFault {
     ghost from_gives = { λ _ e. e ≡ Memory };
 
     fn from(_refused: AllocError) -> SenderFault {
-        SenderFault::Memory
-    }
-}
-
-impl<T: Drop> From<AllocFailed<T>> for SenderFault {
-    ghost use Rattle.std.specs.Prelude.{◌≡◌};
-    ghost use Rattle.sender.specs.declared.fault.SenderFault.TheVariants.{Memory};
-
-    ghost from_gives = { λ _ e. e ≡ Memory };
-
-    fn from(_refused: AllocFailed<T>) -> SenderFault {
         SenderFault::Memory
     }
 }

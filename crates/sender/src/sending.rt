@@ -106,7 +106,7 @@ impl Sender {
     pub fn finished(&self) -> bool
         ensures { result ≡ is_finished self.now }
     {
-        self.waiting.is_empty()
+        self.waiting.all.is_empty()
     }
 }
 
@@ -126,8 +126,10 @@ fn take_in<'a>(
     ensures waits { OnOk result (TakesIn waiting.old waiting.new (number_in numbers.old) (number_in numbers.new) place request.now) }
     ensures twice { result ≡ Err Twice → IsSome (get text_cmp places.old request.now.number) }
 {
-    if places.insert(request.number, place)?.is_some() {
-        return Err(SenderFault::Twice);
+    match places.insert(request.number, place) {
+        Ok(None) => {}
+        Ok(Some(_)) => return Err(SenderFault::Twice),
+        Err(_) => return Err(SenderFault::Memory),
     }
     waiting.add(alloc, numbers, place, request)?;
     push_copy(exchanges, request)?;

@@ -1,8 +1,7 @@
 //! Which requests wait for their replies: of all, of the office requests, and of the requests that name each unit. So whether a request
 //! is ready is told by the first places of two sets, and not by a walk over the requests before it.
 
-ghost use Rattle.std.specs.Prelude.{◌≡◌, ◌↔◌, ℕ, Option, None, [], IsTrue, IfOk, OnOk};
-ghost use Rattle.std.specs.BTreeSet.{btree_set_len};
+ghost use Rattle.std.specs.Prelude.{◌≡◌, ℕ, Option, None, [], IfOk, OnOk};
 ghost use Rattle.units.specs.Office.{Place};
 ghost use Rattle.sender.specs.PlaceSets.{has_below as below, HasOneMore, HasOneLess};
 ghost use Rattle.sender.specs.Numbers.{number_in, IsNumberOf};
@@ -18,7 +17,7 @@ pub(crate) type UnitName<'a> = (&'a str, KeyRef<'a>);
 /// The places of the requests that wait for their replies.
 #[derive(Drop)]
 pub(crate) struct Waiting {
-    all: BTreeSet<usize>,
+    pub(crate) all: BTreeSet<usize>,
     office: BTreeSet<usize>,
     /// Of each unit, under its number: how many requests stand before the first that names it.
     units: Vec<BTreeSet<usize>>,
@@ -112,13 +111,6 @@ impl Waiting {
             Some(None) => {}
             None => {}
         }
-    }
-
-    /// Whether no request waits.
-    pub(crate) fn is_empty(&self) -> bool
-        ensures { IsTrue result ↔ (btree_set_len self.now.all ≡ 0) }
-    {
-        self.all.is_empty()
     }
 }
 

@@ -1,5 +1,4 @@
-use Rattle.std.proofs.Common.{rules}
 use Rattle.client.proofs.messages.message_of.Goals as goal
 
 pub returns : goal.returns
-returns c = search rules
+returns c = c.format.ensures.ok
