@@ -13,5 +13,4 @@ mod telling;
 
 pub use lines::send_lines;
 pub use link::{Link, LinkFault};
-pub use messages::message;
 pub use sending::send_all;

@@ -11,7 +11,7 @@ use uuid::Uuid;
 
 /// The message that brings a request to an office over HTTP/1.1 (RFC 9112): `POST /v1/requests/NUMBER`, the caller in
 /// `X-Office-Caller`, the act's JSON as the body. The connection is to be closed behind the answer.
-pub fn message(alloc: Global, request: &Request) -> Result<Text, Memory>
+pub(crate) fn message(alloc: Global, request: &Request) -> Result<Text, Memory>
     ensures { IfOk result (λ text. text ≡ message_text request.now) }
 {
     let body = request.act.to_json(alloc)?;

@@ -30,6 +30,12 @@ pub(crate) fn desk_opened(alloc: Global, who: &str) -> Option<Desk<PlainTables>>
     }
 }
 
+/// Opens a new desk with the demo office, in place of those so far.
+pub(crate) fn open_demo(alloc: Global, desks: &mut Vec<Desk<PlainTables>>) -> Option<()> {
+    desks.clear();
+    desks.push(desk_opened(alloc, "demo")?).ok()
+}
+
 /// A sink that is full after so many bytes.
 pub(crate) fn sink(alloc: Global, most: usize) -> VecSink {
     VecSink {

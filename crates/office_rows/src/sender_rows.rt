@@ -1,25 +1,23 @@
 //! A sender and its requests over links in memory.
 //!
 //!   LIST is REQUEST                      adds a request, a line of JSON, to the list of this name
-//!   fault LIST -> N                      the number of the fault for which there is no sender of the list; 0 where there is one
-//!   ready LIST PLACES -> PLACES          which places (1, 2, ..) are ready, where replies to these are held (`1,3`, or `-` for none)
-//!   message LIST -> TEXT                 the message of the list's first request; `|` stands for each end of a line
-//!   link LIST TRIES SCRIPT -> X; X; ..   sends the list over a link to a desk with the demo office, each message as the script's next
-//!                                        letter says, and tells each request's reply, or `none`
-//!   lines LIST TRIES SCRIPT READ WRITTEN -> X    sends the text that the list's lines are when LF joins them, over such a link; tells the exit
-//!                                        status, what stands on the first output, and behind `told` what stands on the second, `|` for
-//!                                        each LF. The reader fails once it gave READ bytes, and the first output is full after WRITTEN; `-`
-//!                                        stands for no limit
+//!   ready LIST PLACES -> PLACES          which places (1, 2, ..) are ready, where replies to these are held (`1,3`, or `-` for none); or
+//!                                        `fault N`, where there is no sender of the list
+//!   link LIST TRIES SCRIPT -> X; X; ..   sends the list over a link to the office of a desk with the demo office, each message as the
+//!                                        script's next letter says, and tells each request's reply, or `none`; `|` stands for CR LF
+//!   lines LIST TRIES SCRIPT -> X         sends the text that the list's lines are when LF joins them, over such a link; X is told as that
+//!                                        of a command in `stream_rows`. `reader N` may stand behind the script, or `writer N`: the reader
+//!                                        fails once it gave so many bytes, and the first output is full after so many
 //!   unit LANG|ID -> TEXT                 a unit of that desk as callers see it
 //!   schedules LIST COUNT SEED -> X       as many schedules of a network, drawn from the seed: in each the sender sends what is ready, what was
 //!                                        sent arrives or is lost, and what was answered is heard, in any order and often, until all
 //!                                        replies are held. `COUNT alike` where they and the exports are those of the list delivered
 //!                                        once and in order; else what one of them comes to
 //!
-//! Letters of a script: `q` the request is lost, `a` the answer is lost, `w` the answer comes whole; and answers that are no reply: `c` is cut by
-//! a byte, `m` has one more, `s` has another status, `x` gives two lengths, `t` is coded, `n` gives no length, `b` is no text of HTTP. `d`
-//! gives its length twice, and `l` in small letters: they are replies. Behind the script all is lost.
-mod answers;
+//! Letters of a script: `q` the request is lost, `a` the answer is lost, `w` the answer comes whole, `e` the message itself comes back as the
+//! body of a reply; and answers that are no reply: `c` is cut by a byte, `m` has one more, `s` has another status, `x` gives two lengths,
+//! `t` is coded, `n` gives no length, `b` is no text of HTTP. `d` gives its length twice, and `l` in small letters: they are replies. Behind
+//! the script all is lost.
 mod draws;
 mod schedules;
 mod scripted;

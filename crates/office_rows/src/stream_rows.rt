@@ -74,6 +74,8 @@ mod table_rows;
 mod texts;
 mod words;
 
+pub(crate) use command_told::told;
+pub(crate) use connections::connection_served;
 pub(crate) use found::{deed_told, means};
 pub(crate) use stage::Stage;
 pub(crate) use streams::Streams;

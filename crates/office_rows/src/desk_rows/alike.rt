@@ -3,15 +3,9 @@ use crate::desk_rows::asked::Asked;
 use crate::desk_rows::course::{Course, Sent};
 use crate::desk_rows::exports::put_exports;
 use crate::desk_rows::offices::Offices;
+use crate::named::put_request;
 use request_book::Request;
 use std::alloc::Global;
-
-fn put_request(alloc: Global, requests: &mut Vec<Request>, line: &str) -> Option<()> {
-    match Request::from_json(alloc, line) {
-        Ok(request) => requests.push(request).ok(),
-        Err(_) => None,
-    }
-}
 
 /// Adds the requests that weren't lost on their way.
 fn put_requests(alloc: Global, requests: &mut Vec<Request>, sent: &[Sent]) -> Option<()> {

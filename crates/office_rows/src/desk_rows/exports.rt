@@ -3,6 +3,7 @@ use crate::desk_rows::asked::Asked;
 use crate::desk_rows::course::Sent;
 use crate::desk_rows::offices::Offices;
 use crate::desks::sink;
+use crate::words::replaced;
 use office::{Desk, ExportFault, ExportReceipt};
 use std::alloc::Global;
 use tables::Tables;
@@ -52,13 +53,6 @@ fn outcome_told(
     }
 }
 
-fn taken_told(alloc: Global, sink: &VecSink) -> Option<String> {
-    match str::from_utf8(sink.bytes.as_slice()) {
-        Ok(text) => text.replace(alloc, "\n", "¶").ok(),
-        Err(_) => None,
-    }
-}
-
 /// What the export of a language into a sink is told as.
 fn exported_into<T: Tables>(
     alloc: Global,
@@ -68,7 +62,7 @@ fn exported_into<T: Tables>(
 ) -> Option<String> {
     let outcome = desk.export(lang, sink);
     let outcome = outcome_told(alloc, outcome, sink.bytes.len())?;
-    let text = taken_told(alloc, sink)?;
+    let text = replaced(alloc, sink.bytes.as_slice(), "\n", "¶")?;
     format!(in alloc; "{outcome}|{text}").ok()
 }
 

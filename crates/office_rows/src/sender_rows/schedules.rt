@@ -1,5 +1,6 @@
 //! Schedules of a network, drawn from a seed.
-use crate::desks::{desk_opened, sink};
+use crate::desk_rows::{Asked, answer};
+use crate::desks::desk_opened;
 use crate::sender_rows::draws::Draws;
 use office::Desk;
 use po_read::Duplicate;
@@ -7,7 +8,6 @@ use request_book::{Reply, Request};
 use sender::Sender;
 use std::alloc::Global;
 use store::PlainTables;
-use units::Lang;
 
 /// How many events a schedule has at most.
 const EVENTS: u32 = 100_000;
@@ -126,46 +126,15 @@ pub(crate) fn put_held(text: &mut String, sender: &Sender, count: usize) -> Opti
 
 /// Adds the export of the demo office's language.
 fn put_export(alloc: Global, text: &mut String, desk: &mut Desk<PlainTables>) -> Option<()> {
-    let lang = Lang::try_new(alloc, "de").ok()??;
-    let mut sink = sink(alloc, usize::MAX);
-    if desk.export(&lang, &mut sink).is_err() {
-        return None;
-    }
-    text.push_str(str::from_utf8(sink.bytes.as_slice()).ok()?)
-        .ok()
+    let export = answer(alloc, desk, Asked::Export("de", usize::MAX))?;
+    text.push_str(export.as_str()).ok()
 }
 
-/// Delivers a request, and adds the reply.
-fn put_delivered(text: &mut String, desk: &mut Desk<PlainTables>, request: &Request) -> Option<()> {
-    match desk.deliver(request) {
-        Ok(reply) => put_reply(text, Some(&reply)),
-        Err(_) => None,
-    }
-}
-
-/// Delivers requests once and in order, and adds the replies and the export that they leave.
-fn put_all_delivered(
-    alloc: Global,
-    text: &mut String,
-    desk: &mut Desk<PlainTables>,
-    requests: &[Request],
-) -> Option<()> {
-    for request in requests {
-        put_delivered(text, desk, request)?;
-    }
-    put_export(alloc, text, desk)
-}
-
-/// What a list that is delivered once and in order is told, and the export that it leaves.
-fn once(alloc: Global, requests: &[Request]) -> Option<String> {
-    let mut text = String::new(alloc);
-    let mut desk = desk_opened(alloc, "demo")?;
-    let done = put_all_delivered(alloc, &mut text, &mut desk, requests);
-    drop(desk);
-    match done {
-        Some(()) => Some(text),
-        None => None,
-    }
+/// What a list is told that is delivered once and in order, and the export that it leaves.
+fn once(alloc: Global, desk: &mut Desk<PlainTables>, requests: &[Request]) -> Option<String> {
+    let mut text = answer(alloc, desk, Asked::Run(requests))?;
+    put_export(alloc, &mut text, desk)?;
+    Some(text)
 }
 
 /// What a schedule comes to, when all replies are held.
@@ -189,12 +158,12 @@ fn schedule_told(alloc: Global, requests: &[Request], draws: &mut Draws) -> Opti
 pub(crate) fn schedules(
     alloc: Global,
     requests: &[Request],
-    count: u32,
-    seed: u64,
+    count: &str,
+    seed: &str,
 ) -> Option<String> {
-    let wanted = once(alloc, requests)?;
-    let mut draws = Draws::new(seed);
-    for turn in 0..count {
+    let mut draws = Draws::new(seed.parse::<u64>().ok()?);
+    let wanted = once(alloc, &mut desk_opened(alloc, "demo")?, requests)?;
+    for turn in 0..count.parse::<u32>().ok()? {
         let told = schedule_told(alloc, requests, &mut draws)?;
         if told.as_str() != wanted.as_str() {
             return format!(in alloc; "schedule {turn}: {told}, not {wanted}").ok();

@@ -1,10 +1,10 @@
-//! A link in memory to a desk, which does with each message what a script says.
+//! A link in memory to a desk's office, which does with each message what a script says.
 ghost use Rattle.std.specs.Prelude.{None};
 
-use crate::sender_rows::answers::answer_by;
+use crate::stream_rows::{Streams, connection_served};
+use crate::words::replaced;
 use client::{Link, LinkFault};
 use office::Desk;
-use request_book::{Reply, Request};
 use std::alloc::Global;
 use store::PlainTables;
 
@@ -12,40 +12,33 @@ use store::PlainTables;
 #[derive(Drop)]
 pub(crate) struct Scripted<'a> {
     pub(crate) alloc: Global,
-    pub(crate) desk: Desk<PlainTables>,
+    pub(crate) desk: &'a mut Desk<PlainTables>,
     pub(crate) script: &'a [u8],
 }
 
-/// The value of a line of a head.
-fn line_of<'a>(head: &'a str, name: &str) -> Option<&'a str> {
-    let (_, rest) = head.split_once(name)?;
-    let (value, _) = rest.split_once("\r\n")?;
-    Some(value)
+/// What a letter of a script changes in an answer: this part, to that one.
+fn change_by(letter: u8) -> (&'static str, &'static str) {
+    match letter {
+        b'c' => ("\"}", "\""),
+        b'm' => ("\"}", "\"} "),
+        b's' => ("HTTP/1.1 200", "HTTP/1.1 503"),
+        b'x' => ("Content-Type", "Content-Length: 1\r\nContent-Type"),
+        b't' => ("Content-Type", "Transfer-Encoding: chunked\r\nContent-Type"),
+        b'd' => ("Content-Type", "Content-Length: 35\r\nContent-Type"),
+        b'l' => ("Content-Length", "content-length"),
+        b'n' => ("Content-Length", "Length"),
+        b'b' => ("HTTP/1.1 ", ""),
+        _ => ("HTTP", "HTTP"),
+    }
 }
 
-/// The request's line that a message brings: its body, with the number of its path and its caller.
-fn request_line(alloc: Global, message: &str) -> Option<String> {
-    let (head, body) = message.split_once("\r\n\r\n")?;
-    let number = head.strip_prefix("POST /v1/requests/")?.get(..36)?;
-    let caller = line_of(head, "X-Office-Caller: ")?;
-    let (_, length) = head.split_once("Content-Length: ")?;
-    if length.parse::<usize>().ok()? != body.len() {
-        return None;
-    }
-    let members = body.strip_suffix('}')?;
-    format!(in alloc; "{members},\"caller\":\"{caller}\",\"number\":\"{number}\"}}").ok()
+/// An answer with the message as the body of a reply.
+fn echo(alloc: Global, message: &str) -> Option<String> {
+    let length = message.len();
+    format!(in alloc; "HTTP/1.1 200 OK\r\nContent-Length: {length}\r\n\r\n{message}").ok()
 }
 
 impl<'a> Scripted<'a> {
-    /// The desk's reply to the request that a message brings.
-    fn reply_to(&mut self, message: &[u8]) -> Option<Reply> {
-        let line = request_line(self.alloc, str::from_utf8(message).ok()?)?;
-        match Request::from_json(self.alloc, line.as_str()) {
-            Ok(request) => self.desk.deliver(&request).ok(),
-            Err(_) => None,
-        }
-    }
-
     /// The next letter of the script.
     fn next_letter(&mut self) -> Option<u8> {
         let (letter, rest) = self.script.split_first()?;
@@ -53,17 +46,29 @@ impl<'a> Scripted<'a> {
         Some(*letter)
     }
 
+    /// What the office answers to a message, changed as a letter says.
+    fn answered(&mut self, letter: u8, message: &[u8]) -> Option<String> {
+        let mut streams = Streams::new(self.alloc, "", message, usize::MAX);
+        match connection_served(self.alloc, self.desk, &mut streams) {
+            Ok(_) => {
+                let (part, other) = change_by(letter);
+                replaced(self.alloc, streams.output.bytes(), part, other)
+            }
+            Err(_) => None,
+        }
+    }
+
     /// What comes back for a message.
     fn answer_to(&mut self, message: &[u8]) -> Option<String> {
-        let letter = self.next_letter()?;
-        if letter == b'q' {
-            return None;
+        match self.next_letter()? {
+            b'q' => None,
+            b'a' => {
+                drop(self.answered(b'a', message));
+                None
+            }
+            b'e' => echo(self.alloc, str::from_utf8(message).ok()?),
+            letter => self.answered(letter, message),
         }
-        let reply = self.reply_to(message)?;
-        if letter == b'a' {
-            return None;
-        }
-        answer_by(self.alloc, letter, &reply)
     }
 }
 

@@ -1,4 +1,5 @@
 //! What connections over HTTP come to.
+use crate::desks::open_demo;
 use crate::stream_rows::stage::Stage;
 use crate::stream_rows::streams::Streams;
 use crate::stream_rows::words::{has, words_and_text};
@@ -28,7 +29,7 @@ pub(crate) fn with_answers(
 }
 
 /// Serves a connection from a desk.
-fn served(
+pub(crate) fn connection_served(
     alloc: Global,
     desk: &mut Desk<PlainTables>,
     streams: &mut Streams<'_>,
@@ -45,17 +46,17 @@ fn connected(
     piece: usize,
 ) -> Option<String> {
     let mut streams = Streams::new(alloc, words, stream, piece);
-    let outcome = served(alloc, stage.desks.last_mut()?, &mut streams);
+    let outcome = connection_served(alloc, stage.desks.last_mut()?, &mut streams);
     let told = outcome_told(alloc, outcome)?;
     with_answers(alloc, stage, told.as_str(), streams.output.bytes())
 }
 
 /// What comes of a connection at a new desk, by any pieces; where that isn't the same, what came by how many bytes.
 fn connected_anew(alloc: Global, stage: &mut Stage, words: &str, stream: &[u8]) -> Option<String> {
-    stage.open(alloc)?;
+    open_demo(alloc, &mut stage.desks)?;
     let told = connected(alloc, stage, words, stream, 1)?;
     for piece in [100, usize::MAX] {
-        stage.open(alloc)?;
+        open_demo(alloc, &mut stage.desks)?;
         let other = connected(alloc, stage, words, stream, piece)?;
         if other.as_str() != told.as_str() {
             return format!(in alloc; "{told}, by {piece} bytes {other}").ok();

@@ -1,4 +1,5 @@
 //! What goes over real sockets: a client and the office, in one thread.
+use crate::desks::open_demo;
 use crate::stream_rows::command_told::told;
 use crate::stream_rows::connections::{outcome_told, with_answers};
 use crate::stream_rows::stage::Stage;
@@ -30,7 +31,7 @@ fn taken<L: OpenListener<Stream = TcpStream>>(
     stage: &mut Stage,
     listener: &L,
 ) -> Option<String> {
-    stage.open(alloc)?;
+    open_demo(alloc, &mut stage.desks)?;
     let outcome = serve_next(alloc, stage.desks.last_mut()?, listener);
     outcome_told(alloc, outcome)
 }

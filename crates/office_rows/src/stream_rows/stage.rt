@@ -1,5 +1,4 @@
 //! What the rows above set.
-use crate::desks::desk_opened;
 use crate::stream_rows::named::NamedTexts;
 use office::Desk;
 use std::alloc::Global;
@@ -23,11 +22,5 @@ impl Stage {
             desks: Vec::new(alloc),
             file: Vec::new(alloc),
         }
-    }
-
-    /// Opens a new desk with the demo office.
-    pub(crate) fn open(&mut self, alloc: Global) -> Option<()> {
-        self.desks.clear();
-        self.desks.push(desk_opened(alloc, "demo")?).ok()
     }
 }

@@ -130,10 +130,4 @@ impl<'a> Streams<'a> {
             &mut self.faults,
         )
     }
-
-    /// Has the source fail once it gave so many bytes, and the output be full after so many.
-    pub(crate) fn limit(&mut self, read: usize, written: usize) {
-        self.source.before_fault = read;
-        self.output.sink.room = written;
-    }
 }
