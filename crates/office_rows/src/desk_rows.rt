@@ -33,6 +33,6 @@ mod numbers;
 mod offices;
 mod stage;
 
-pub(crate) use asked::{Asked, answer, unit_told};
+pub(crate) use asked::unit_told;
 pub(crate) use offices::{Both, Offices};
 pub(crate) use stage::{Stage, deed_told};

@@ -9,17 +9,11 @@
 //!                                        of a command in `stream_rows`. `reader N` may stand behind the script, or `writer N`: the reader
 //!                                        fails once it gave so many bytes, and the first output is full after so many
 //!   unit LANG|ID -> TEXT                 a unit of that desk as callers see it
-//!   schedules LIST COUNT SEED -> X       as many schedules of a network, drawn from the seed: in each the sender sends what is ready, what was
-//!                                        sent arrives or is lost, and what was answered is heard, in any order and often, until all
-//!                                        replies are held. `COUNT alike` where they and the exports are those of the list delivered
-//!                                        once and in order; else what one of them comes to
 //!
 //! Letters of a script: `q` the request is lost, `a` the answer is lost, `w` the answer comes whole, `e` the message itself comes back as the
 //! body of a reply; and answers that are no reply: `c` is cut by a byte, `m` has one more, `s` has another status, `x` gives two lengths,
 //! `t` is coded, `n` gives no length, `b` is no text of HTTP. `d` gives its length twice, and `l` in small letters: they are replies. Behind
 //! the script all is lost.
-mod draws;
-mod schedules;
 mod scripted;
 mod stage;
 mod texts;

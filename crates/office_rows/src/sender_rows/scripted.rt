@@ -1,8 +1,9 @@
 //! A link in memory to a desk's office, which does with each message what a script says.
 ghost use Rattle.std.specs.Prelude.{None};
 
+use crate::desks::open_demo;
 use crate::stream_rows::{Streams, connection_served};
-use crate::words::replaced;
+use crate::words::{replaced, word};
 use client::{Link, LinkFault};
 use office::Desk;
 use std::alloc::Global;
@@ -11,9 +12,25 @@ use store::PlainTables;
 /// A desk behind a network that follows a script.
 #[derive(Drop)]
 pub(crate) struct Scripted<'a> {
-    pub(crate) alloc: Global,
-    pub(crate) desk: &'a mut Desk<PlainTables>,
-    pub(crate) script: &'a [u8],
+    alloc: Global,
+    desk: &'a mut Desk<PlainTables>,
+    script: &'a [u8],
+}
+
+/// A link to a new desk with the demo office, by a deed's script.
+pub(crate) fn link_to<'a>(
+    alloc: Global,
+    desks: &'a mut Vec<Desk<PlainTables>>,
+    deed: &'a str,
+) -> Option<Scripted<'a>> {
+    open_demo(alloc, desks)?;
+    let desk = desks.last_mut()?;
+    let script = word(deed, 3).as_bytes();
+    Some(Scripted {
+        alloc,
+        desk,
+        script,
+    })
 }
 
 /// What a letter of a script changes in an answer: this part, to that one.

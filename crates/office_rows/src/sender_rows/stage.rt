@@ -1,9 +1,7 @@
 //! What the rows above set, and what a row makes of it.
 use crate::desk_rows::unit_told;
-use crate::desks::open_demo;
 use crate::named::{Named, keep_named, put_request};
-use crate::sender_rows::schedules::{put_held, schedules};
-use crate::sender_rows::scripted::Scripted;
+use crate::sender_rows::scripted::link_to;
 use crate::sender_rows::texts::lines_told;
 use crate::words::{behind, word};
 use client::send_all;
@@ -29,63 +27,58 @@ impl Stage {
         }
     }
 
-    /// What a deed over a link to a new desk comes to, with a sender of a list's requests, or with the list's text.
-    fn over_link(
-        &mut self,
-        alloc: Global,
-        sender: Option<&mut Sender>,
-        requests: &[Request],
-        deed: &str,
-    ) -> Option<String> {
-        let tries = word(deed, 2).parse::<u32>().ok()?;
-        open_demo(alloc, &mut self.desks)?;
-        let mut link = Scripted {
-            alloc,
-            desk: self.desks.last_mut()?,
-            script: word(deed, 3).as_bytes(),
-        };
-        match sender {
-            Some(sender) => {
-                send_all(alloc, sender, requests, &mut link, tries).ok()?;
-                held_told(alloc, sender, requests.len())
-            }
-            None => lines_told(
-                alloc,
-                self.named.as_slice(),
-                word(deed, 1),
-                &mut link,
-                tries,
-                deed,
-            ),
-        }
-    }
-
-    /// What a deed with a new sender of these requests comes to.
-    fn with_sender(&mut self, alloc: Global, requests: &[Request], deed: &str) -> Option<String> {
-        match Sender::new(alloc, requests) {
-            Ok(mut sender) => {
-                let told = match word(deed, 0) {
-                    "ready" => ready_told(alloc, &mut sender, requests, word(deed, 2)),
-                    _ => self.over_link(alloc, Some(&mut sender), requests, deed),
-                };
-                drop(sender);
-                told
-            }
-            Err(fault) => format!(in alloc; "fault {}", fault.number()).ok(),
-        }
+    /// What a list's text comes to over a link to a new desk.
+    fn lines(&mut self, alloc: Global, deed: &str) -> Option<String> {
+        let mut link = link_to(alloc, &mut self.desks, deed)?;
+        lines_told(alloc, self.named.as_slice(), &mut link, deed)
     }
 
     /// What a deed on a list comes to.
     fn on_list(&mut self, alloc: Global, deed: &str) -> Option<String> {
         let mut requests = Vec::new(alloc);
-        put_requests(alloc, &mut requests, self.named.as_slice(), word(deed, 1))?;
-        let told = match word(deed, 0) {
-            "ready" | "link" => self.with_sender(alloc, requests.as_slice(), deed),
-            "schedules" => schedules(alloc, requests.as_slice(), word(deed, 2), word(deed, 3)),
-            _ => None,
+        let told = match put_requests(alloc, &mut requests, self.named.as_slice(), word(deed, 1)) {
+            Some(()) => with_sender(alloc, &mut self.desks, requests.as_slice(), deed),
+            None => None,
         };
         drop(requests);
         told
+    }
+}
+
+/// What a deed with a new sender of these requests comes to.
+fn with_sender(
+    alloc: Global,
+    desks: &mut Vec<Desk<PlainTables>>,
+    requests: &[Request],
+    deed: &str,
+) -> Option<String> {
+    match Sender::new(alloc, requests) {
+        Ok(mut sender) => {
+            let told = match word(deed, 0) {
+                "ready" => ready_told(alloc, &mut sender, requests, word(deed, 2)),
+                "link" => sent_told(alloc, desks, &mut sender, requests, deed),
+                _ => None,
+            };
+            drop(sender);
+            told
+        }
+        Err(fault) => format!(in alloc; "fault {}", fault.number()).ok(),
+    }
+}
+
+/// The replies that a sender holds once all is sent over a link to a new desk.
+fn sent_told(
+    alloc: Global,
+    desks: &mut Vec<Desk<PlainTables>>,
+    sender: &mut Sender,
+    requests: &[Request],
+    deed: &str,
+) -> Option<String> {
+    let tries = word(deed, 2).parse::<u32>().ok()?;
+    let mut link = link_to(alloc, desks, deed)?;
+    match send_all(alloc, sender, requests, &mut link, tries) {
+        Ok(()) => held_told(alloc, sender, requests.len()),
+        Err(_) => None,
     }
 }
 
@@ -104,13 +97,42 @@ fn put_requests(
     Some(())
 }
 
+/// Adds a reply, if there is one.
+fn put_reply(text: &mut String, reply: Option<&Reply>) -> Option<()> {
+    match reply {
+        Some(reply) => write!(text, "{} {}; ", reply.status(), reply.body()).ok(),
+        None => text.push_str("none; ").ok(),
+    }
+}
+
 /// The replies that a sender holds, `|` for each CR LF.
 fn held_told(alloc: Global, sender: &Sender, count: usize) -> Option<String> {
     let mut text = String::new(alloc);
-    put_held(&mut text, sender, count)?;
+    for place in 0..count {
+        put_reply(&mut text, sender.held(place))?;
+    }
     let told = text.as_str();
     let told = told.strip_suffix("; ").unwrap_or(told);
     told.replace(alloc, "\r\n", "|").ok()
+}
+
+/// Has a sender hear a reply to the request at a place, counted from 1.
+fn hear(alloc: Global, sender: &mut Sender, requests: &[Request], place: &str) -> Option<()> {
+    let place = place.parse::<usize>().ok()?.checked_sub(1)?;
+    let number = requests.get(place)?.number;
+    let body = Text::from_text(alloc, "{}").ok()?;
+    sender.on_reply(number, Reply::new(200, body));
+    Some(())
+}
+
+/// Has a sender hear a reply to each of these places.
+fn hear_all(alloc: Global, sender: &mut Sender, requests: &[Request], places: &str) -> Option<()> {
+    for place in places.split(',') {
+        if place != "-" {
+            hear(alloc, sender, requests, place)?;
+        }
+    }
+    Some(())
 }
 
 /// Adds which places are ready.
@@ -122,20 +144,6 @@ fn put_ready(text: &mut String, sender: &Sender, count: usize) -> Option<()> {
             write!(text, "{comma}{number}").ok()?;
             comma = ",";
         }
-    }
-    Some(())
-}
-
-/// Has a sender hear a reply to each of these places.
-fn hear_all(alloc: Global, sender: &mut Sender, requests: &[Request], places: &str) -> Option<()> {
-    if places == "-" {
-        return Some(());
-    }
-    for place in places.split(',') {
-        let place = place.parse::<usize>().ok()?.checked_sub(1)?;
-        let number = requests.get(place)?.number;
-        let body = Text::from_text(alloc, "{}").ok()?;
-        sender.on_reply(number, Reply::new(200, body));
     }
     Some(())
 }
@@ -156,7 +164,7 @@ fn ready_told(
 /// What a deed comes to. None where it can't be read.
 pub(crate) fn deed_told(alloc: Global, stage: &mut Stage, deed: &str) -> Option<String> {
     match word(deed, 0) {
-        "lines" => stage.over_link(alloc, None, &[], deed),
+        "lines" => stage.lines(alloc, deed),
         "unit" => unit_told(alloc, stage.desks.last_mut()?, behind(deed)),
         _ if word(deed, 1) == "is" => keep_named(alloc, &mut stage.named, deed),
         _ => stage.on_list(alloc, deed),
