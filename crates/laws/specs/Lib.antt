@@ -2,3 +2,5 @@ pub mod Acts
 pub mod Cuts
 pub mod LineForms
 pub mod Tokens
+pub mod World
+pub mod Simulation

@@ -1,15 +1,17 @@
-//! What holds of the office's parts, whatever computes them: laws over the definitions that their contracts cite. Each function is a
-//! law: it does nothing, and its contract is what is proved.
+//! What holds of the office's parts, and of one sender over any network, whatever computes them: laws over the definitions that contracts
+//! cite. Each function is a law: it does nothing, and its contract is what is proved.
 #![tactic(auto)]
 
 mod acts;
 mod contents;
 mod directives;
 mod lines;
+mod simulation;
 mod tokens;
 
 pub use acts::{acceptance_takes_one, revisions_of_acts, suggestions_stay};
 pub use contents::one_text_for_one_content;
 pub use directives::directives_cut_the_text;
 pub use lines::line_forms_are_the_table;
+pub use simulation::retry_simulation;
 pub use tokens::tokens_are_longest;

@@ -20,11 +20,11 @@ use Rattle.sender.specs.Sending.{Sending, HasDistinctNumbers, unanswered, is_ope
 use Rattle.deliveries.specs.Step.{step}
 use Rattle.deliveries.specs.Deliveries.{kept, without, first_of, after, left_by, answers_of, reply_from, IsRecordedIn}
 use Rattle.deliveries.proofs.commuting.Told.{has_replies}
-use Rattle.simulation.specs.World.{World, Delivery, Event, Send, Arrive, ArriveLost, Hear, unsent, taken, given, was_sent, is_allowed, arrives, hears, happens, after_events, IsSchedule}
-use Rattle.simulation.specs.Simulation.{replies_in_order, AreNew, IsReached, IsRecorded}
+use Rattle.laws.specs.World.{World, Delivery, Event, Send, Arrive, ArriveLost, Hear, unsent, taken, given, was_sent, is_allowed, arrives, hears, happens, after_events, IsSchedule}
+use Rattle.laws.specs.Simulation.{replies_in_order, AreNew, IsReached, IsRecorded}
 use Rattle.sender.proofs.Places.{at_end_or_before, split_at, in_front, front_has, apart, other_way, same, one_request}
-use Rattle.simulation.proofs.OneDelivery.{one, left_by-cons, left_by-last, unchanged, all_stay, still_new, same_content, answered_all}
-use Rattle.simulation.proofs.Earlier.{IsKnown, still_known, Yields, AllYield, comes_before, all_known}
+use Rattle.laws.proofs.OneDelivery.{one, left_by-cons, left_by-last, unchanged, all_stay, still_new, same_content, answered_all}
+use Rattle.laws.proofs.Earlier.{IsKnown, still_known, Yields, AllYield, comes_before, all_known}
 
 -- ---- what a sender keeps of a request
 

@@ -5,7 +5,7 @@ use Rattle.request_book.specs.declared.act.Request.{Request}
 use Rattle.request_book.specs.Replies.{Reply}
 use Rattle.request_book.specs.Book.{OfficeWithBook}
 use Rattle.sender.specs.Sending.{is_ready, hear}
-use Rattle.simulation.specs.World.{World, Send, Hear, taken, given, is_allowed, hears, happens}
+use Rattle.laws.specs.World.{World, Send, Hear, taken, given, is_allowed, hears, happens}
 
 -- a request may be sent exactly where `ready` answers true
 pub sent_when_ready : (start : OfficeWithBook) (world : World) (place : ℕ) → is_allowed start world (Send place) ≡ is_ready world.sending place

@@ -9,7 +9,7 @@ use Rattle.request_book.specs.Book.{Book, OfficeWithBook}
 use Rattle.sender.specs.Sending.{HasDistinctNumbers}
 use Rattle.deliveries.specs.Step.{step}
 use Rattle.deliveries.specs.Deliveries.{left_by}
-use Rattle.simulation.specs.World.{World, Event, unsent, taken, after_events, IsSchedule}
+use Rattle.laws.specs.World.{World, Event, unsent, taken, after_events, IsSchedule}
 
 -- the replies to requests that come once and in order
 abbrev pub replies_in_order : Office → List Request → List Reply

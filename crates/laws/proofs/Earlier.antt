@@ -12,7 +12,7 @@ use Rattle.deliveries.specs.Step.{step}
 use Rattle.deliveries.specs.Deliveries.{left_by, first_delivered}
 use Rattle.deliveries.proofs.commuting.Swaps.{either}
 use Rattle.sender.proofs.Places.{same, other_way}
-use Rattle.simulation.proofs.OneDelivery.{one, left_by-cons, left_by-append, unchanged, stepped, stays, still_new, get-inserted, answered_one}
+use Rattle.laws.proofs.OneDelivery.{one, left_by-cons, left_by-append, unchanged, stepped, stays, still_new, get-inserted, answered_one}
 
 -- the number of a request is recorded
 pub record IsKnown (m : OfficeWithBook) (x : Request) : Type 0 where

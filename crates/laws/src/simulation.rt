@@ -9,8 +9,8 @@ ghost use Rattle.request_book.specs.Clash.{clash};
 ghost use Rattle.sender.specs.Sending.{held, is_finished};
 ghost use Rattle.deliveries.specs.Deliveries.{after, left_by};
 ghost use Rattle.deliveries.specs.ExportText.{export_text};
-ghost use Rattle.simulation.specs.World.{World, taken};
-ghost use Rattle.simulation.specs.Simulation.{IsReached, IsRecorded, replies_in_order};
+ghost use Rattle.laws.specs.World.{World, taken};
+ghost use Rattle.laws.specs.Simulation.{IsReached, IsRecorded, replies_in_order};
 
 /// Whatever the network does with the requests of one sender, from an office whose book has none of their numbers:
 ///

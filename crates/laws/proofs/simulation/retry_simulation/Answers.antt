@@ -1,8 +1,8 @@
 use Rattle.std.proofs.Common.{ap}
 use Rattle.units.specs.Office.{Office}
 use Rattle.deliveries.specs.ExportText.{export_text}
-use Rattle.simulation.proofs.Reached.{replies_once, office_once, recorded_in_order}
-use Rattle.simulation.proofs.laws.retry_simulation.Goals as goal
+use Rattle.laws.proofs.Reached.{replies_once, office_once, recorded_in_order}
+use Rattle.laws.proofs.simulation.retry_simulation.Goals as goal
 
 pub returns-clause-replies : goal.returns-clause-replies
 returns-clause-replies c = replies_once

@@ -1,4 +1,0 @@
-pub mod OneDelivery
-pub mod Earlier
-pub mod Reached
-pub mod Calls
