@@ -1,4 +1,5 @@
-pub mod Source
 pub mod Directives
 pub mod Findings
+pub mod Members
 pub mod Result
+pub mod Source

@@ -1,13 +1,16 @@
 //! Whether the directives of two texts agree.
 
-ghost use Rattle.std.specs.Prelude.{◌≡◌};
-ghost use Rattle.std.specs.List.{list_any, list_all};
-ghost use Rattle.po_read.specs.Texts.{text_eq};
+ghost use Rattle.std.specs.Prelude.{◌≡◌, IfOk};
+ghost use Rattle.std.specs.List.{list_all};
 ghost use Rattle.checks.specs.Directives.{has_number, is_numbered};
 ghost use Rattle.checks.specs.Findings.{is_subset, are_numbered, agree, is_struck_out, leaves_out};
+ghost use Rattle.checks.specs.Members.{is_member, HasMembers};
 
 use crate::directive::has_number;
 use po_read::Text;
+use std::alloc::Global;
+use std::collections::BTreeSet;
+use units::Memory;
 
 fn is_numbered(directive: &Text) -> bool
     ensures { result ≡ is_numbered directive.now }
@@ -24,16 +27,31 @@ fn all_numbered(directives: &[Text]) -> bool
     directives.iter().all(|directive| is_numbered(directive))
 }
 
-fn contains(directives: &[Text], directive: &Text) -> bool
-    ensures { result ≡ list_any (λ y. text_eq y directive.now) directives.now }
+/// The directives as a set.
+fn set_of(alloc: Global, directives: &[Text]) -> Result<BTreeSet<&str>, Memory>
+    ensures { IfOk result (λ set. HasMembers set directives.now) }
 {
-    directives.contains(directive)
+    let mut set = BTreeSet::new(alloc);
+    for directive in directives {
+        set.insert(directive.as_str())?;
+    }
+    Ok(set)
 }
 
-fn is_subset(some: &[Text], all: &[Text]) -> bool
-    ensures { result ≡ is_subset some.now all.now }
+fn are_members(set: &BTreeSet<&str>, directives: &[Text]) -> bool
+    ensures { result ≡ list_all (is_member set.now) directives.now }
 {
-    some.iter().all(|directive| contains(all, directive))
+    directives
+        .iter()
+        .all(|directive| set.contains(directive.as_str()))
+}
+
+/// Whether each of some directives is one of all.
+fn is_subset(alloc: Global, some: &[Text], all: &[Text]) -> Result<bool, Memory>
+    ensures { IfOk result (λ subset. subset ≡ is_subset some.now all.now) }
+{
+    let set = set_of(alloc, all)?;
+    Ok(are_members(&set, some))
 }
 
 fn are_numbered(found: &[Text], wanted: &[Text]) -> bool
@@ -43,11 +61,15 @@ fn are_numbered(found: &[Text], wanted: &[Text]) -> bool
 }
 
 /// Whether the lists are equal, or every directive of both has a number and the sets are equal.
-pub(crate) fn agree(found: &[Text], wanted: &[Text]) -> bool
-    ensures { result ≡ agree found.now wanted.now }
+pub(crate) fn agree(alloc: Global, found: &[Text], wanted: &[Text]) -> Result<bool, Memory>
+    ensures { IfOk result (λ same. same ≡ agree found.now wanted.now) }
 {
-    found == wanted
-        || (are_numbered(found, wanted) && is_subset(found, wanted) && is_subset(wanted, found))
+    Ok(
+        found == wanted
+            || (are_numbered(found, wanted)
+                && is_subset(alloc, found, wanted)?
+                && is_subset(alloc, wanted, found)?),
+    )
 }
 
 /// Whether what was found is what is wanted with members struck out, the others in their order.
@@ -66,8 +88,11 @@ fn is_struck_out(found: &[Text], wanted: &[Text]) -> bool
 }
 
 /// Whether what was found is what is wanted with directives left out.
-pub(crate) fn leaves_out(found: &[Text], wanted: &[Text]) -> bool
-    ensures { result ≡ leaves_out found.now wanted.now }
+pub(crate) fn leaves_out(alloc: Global, found: &[Text], wanted: &[Text]) -> Result<bool, Memory>
+    ensures { IfOk result (λ left_out. left_out ≡ leaves_out found.now wanted.now) }
 {
-    is_struck_out(found, wanted) || (are_numbered(found, wanted) && is_subset(found, wanted))
+    Ok(
+        is_struck_out(found, wanted)
+            || (are_numbered(found, wanted) && is_subset(alloc, found, wanted)?),
+    )
 }

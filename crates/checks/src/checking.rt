@@ -58,7 +58,7 @@ fn are_fitting(alloc: Global, may: bool, form: &PoString, wanted: &[Text]) -> Re
     ensures { IfOk result (λ fits. fits ≡ are_fitting may (directives form.now) wanted.now) }
 {
     let found = directive_texts(alloc, form.as_str())?;
-    Ok(agree(&found, wanted) || (may && leaves_out(&found, wanted)))
+    Ok(agree(alloc, &found, wanted)? || (may && leaves_out(alloc, &found, wanted)?))
 }
 
 /// The numbers of the forms whose directives fail.

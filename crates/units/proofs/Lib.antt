@@ -3,3 +3,4 @@ pub mod Placing
 pub mod Compared
 pub mod KeyTexts
 pub mod FormLimits
+pub mod Sums

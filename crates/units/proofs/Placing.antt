@@ -1,20 +1,24 @@
 -- Votes in the order of their voters: what the list answers for the map that it is seen as.
-use Rattle.std.proofs.Common.{◌≡◌, ℕ, suc, zero, ◌≤◌, ◌+◌, ◌-◌, Bool, true, false, cond, not, ◌&&◌, List, [], ◌∷◌, ◌++◌, map, take, drop, length, refl, sym, ap, ◌∙◌, Option, Some, None, arith, get_or, pos, ◌-ℤ◌}
+use Rattle.std.proofs.Common.{◌≡◌, ℕ, suc, zero, ◌<◌, ◌≤◌, ◌+◌, ◌-◌, Bool, true, false, cond, not, ◌&&◌, List, [], ◌∷◌, ◌++◌, map, take, drop, length, refl, sym, ap, subst, ◌∙◌, Option, Some, None, Result, Ok, Err, MatchResult, ◌⊎◌, inl, inr, arith, get_or, pos, ◌-ℤ◌}
 use Rattle.std.proofs.Math.Dec.{T}
+use Rattle.std.proofs.lemmas.Bool.{cases_lt}
+use Rattle.std.proofs.lemmas.List.{get_or-take, length-take-le}
 use Rattle.std.proofs.lemmas.List.Elements.{All-head, All-tail}
 use Rattle.std.proofs.lemmas.List.Sums.{sum_by-cons}
+use Rattle.std.proofs.lemmas.Option.{get_or_from_slice_get}
 use Rattle.std.specs.Prelude.{count_by, slice_get, slice_set, IfSome}
-use Rattle.std.specs.Ordering.{is_eq, is_lt, eq_by_cmp}
+use Rattle.std.specs.List.Sorted.{IsSearchInRange, IsBinarySearchResult, IsNonDecreasingBy}
+use Rattle.std.specs.Ordering.{is_eq, is_lt, eq_by_cmp, ordering_index, ordering_reverse}
 use Rattle.std.specs.Cmp.{eq_by_cmp_equiv}
 use Rattle.std.specs.declared.cmp.Ordering.{Ordering}
 use Rattle.std.specs.declared.cmp.Ordering.TheVariants.{Less, Equal, Greater}
-use Rattle.std.specs.FinMap.{FinMap, entries, entries_sorted, empty, find, put, is_sorted, from_sorted, insert, remove, get, len, values, entries-from_sorted, entries-insert, get-entries, get-from_sorted, get-remove, len-remove, contains_key, len-entries, len-empty, same_entries_map, same_map}
+use Rattle.std.specs.FinMap.{FinMap, entries, entries_sorted, empty, find, put, is_sorted, from_sorted, insert, remove, get, len, values, entries-from_sorted, entries-insert, get-entries, get-from_sorted, get-remove, len-entries, len-empty, same_entries_map, same_map}
 use Rattle.std.specs.FinMap.Entries.{below_all, where_key, is_sorted-where_key, find-where_key}
 use Rattle.po_read.specs.Texts.{Text, text_cmp}
 use Rattle.units.specs.declared.votes.VoteValue.{VoteValue}
 use Rattle.units.specs.declared.votes.VoteValue.TheVariants.{Against, For}
 use Rattle.units.specs.Ballots.{StandsAfter, IsPlaceOf, IsNewPlaceOf, is_for, vote_eq}
-use Rattle.units.specs.Units.{vote_sum}
+use Rattle.units.specs.Ballots.{vote_sum}
 use Rattle.units.specs.Orders.{text_total, text_IsAntisymmetric}
 
 is_true : (b : Bool) → b ≡ true → T b
@@ -42,6 +46,12 @@ no_items : {A : Type 0} (xs : List A) → length xs ≡ 0 → xs ≡ []
 no_items [] e = refl
 no_items (x ∷ xs) e = absurd (omega arith)
 
+turned : (a b : Text) → text_cmp a b ≡ Less → text_cmp b a ≡ Greater
+turned a b e = text_total.antisymm b a ∙ ap ordering_reverse e
+
+turned_back : (a b : Text) → text_cmp a b ≡ Greater → text_cmp b a ≡ Less
+turned_back a b e = text_total.antisymm b a ∙ ap ordering_reverse e
+
 module _ {X : Type 0} where
   -- ---- the map that a list in order is seen as
 
@@ -62,6 +72,86 @@ module _ {X : Type 0} where
 
   pub view_by_entries : (m : FinMap text_cmp X) (votes : List (Text × X)) → entries m ≡ votes → from_sorted votes ≡ m
   view_by_entries m votes same = same_entries_map _ _ (entries-view votes (sorted_by_entries m votes same) ∙ sym same)
+
+  -- ---- where a voter stands among votes in order
+
+  below-each : (voter : Text) (votes : List (Text × X)) (j : ℕ) (d : Text × X) → below_all text_cmp voter votes ≡ true → j < length votes → text_cmp voter (get_or votes j d).0 ≡ Less
+  below-each voter [] j d under within = absurd (omega (arith, within))
+  below-each voter (vote ∷ votes) zero d under within = less _ (first _ _ under)
+  below-each voter (vote ∷ votes) (suc j) d under within = below-each voter votes j d (second _ _ under) (omega (arith, within))
+
+  voters-rise : (votes : List (Text × X)) (i j : ℕ) (d : Text × X) → is_sorted text_cmp votes ≡ true → i < j → j < length votes → text_cmp (get_or votes i d).0 (get_or votes j d).0 ≡ Less
+  voters-rise [] i j d sorted before within = absurd (omega (arith, within))
+  voters-rise (vote ∷ votes) i zero d sorted before within = absurd (omega (arith, before))
+  voters-rise (vote ∷ votes) zero (suc j) d sorted before within = below-each vote.0 votes j d (first _ _ sorted) (omega (arith, within))
+  voters-rise (vote ∷ votes) (suc i) (suc j) d sorted before within = voters-rise votes i j d (second _ _ sorted) (omega (arith, before)) (omega (arith, within))
+
+  -- if the voter is after the one at i, or is that one, the voter is after those before i
+  before-place : (voter : Text) (votes : List (Text × X)) (i : ℕ) (d : Text × X) → is_sorted text_cmp votes ≡ true → i < length votes → (text_cmp (get_or votes i d).0 voter ≡ Less) ⊎ (text_cmp (get_or votes i d).0 voter ≡ Equal) →
+      (k : ℕ) → k < i → text_cmp voter (get_or votes k d).0 ≡ Greater
+  before-place voter votes i d sorted within at k before =
+      let a = (get_or votes k d).0 in
+      let b = (get_or votes i d).0 in
+      let rise = voters-rise votes k i d sorted before within in
+      turned a voter (elim at [
+        | inl under ↦ text_total.trans a b voter rise under
+        | inr tie ↦ ap (text_cmp a) (sym (text_IsAntisymmetric b voter tie)) ∙ rise
+      ])
+
+  -- comparisons with a voter rise along votes in order, as a binary search asks
+  places-rise : (voter : Text) (votes : List (Text × X)) → is_sorted text_cmp votes ≡ true → IsNonDecreasingBy (λ vote. ordering_index (text_cmp vote.0 voter)) votes
+  places-rise voter votes sorted i j d before within = elim (cases_lt i j) [
+    | inl under ↦ rises (text_cmp (get_or votes j d).0 voter) refl under
+    | inr over ↦ (let same : i ≡ j = omega (arith, over, before) in subst (λ k. ordering_index (text_cmp (get_or votes i d).0 voter) ≤ ordering_index (text_cmp (get_or votes k d).0 voter)) same (omega arith))
+  ]
+    where
+      rises : (r : Ordering) → text_cmp (get_or votes j d).0 voter ≡ r → i < j → ordering_index (text_cmp (get_or votes i d).0 voter) ≤ ordering_index r
+      rises Less e under = rw (turned_back voter _ (before-place voter votes j d sorted within (inl e) i under)) (omega arith)
+      rises Equal e under = rw (turned_back voter _ (before-place voter votes j d sorted within (inr e) i under)) (omega arith)
+      rises Greater e under = at_most (text_cmp (get_or votes i d).0 voter)
+        where
+          at_most : (r : Ordering) → ordering_index r ≤ 2
+          at_most Less = omega arith
+          at_most Equal = omega arith
+          at_most Greater = omega arith
+
+  stands-before : (voter : Text) (votes : List (Text × X)) (i : ℕ) → i ≤ length votes → ((k : ℕ) (d : Text × X) → k < i → text_cmp voter (get_or votes k d).0 ≡ Greater) → StandsAfter voter votes i
+  stands-before voter votes i within over k d before =
+      let under : k < i = omega (arith, before, length-take-le i votes within) in
+      ap (λ vote. text_cmp voter vote.0) (get_or-take i votes k d under) ∙ over k d under
+
+  at-place : (P : Text × X → Type 0) (votes : List (Text × X)) (i : ℕ) → i ≤ length votes → ((d : Text × X) → i < length votes → P (get_or votes i d)) → IfSome (slice_get votes i) P
+  at-place P [] zero within at = tt
+  at-place P [] (suc i) within at = absurd (omega (arith, within))
+  at-place P (vote ∷ votes) zero within at = at vote (omega arith)
+  at-place P (vote ∷ votes) (suc i) within at = at-place P votes i (omega (arith, within)) (λ d under. at d (omega (arith, under)))
+
+  -- what a binary search finds
+  pub searched : (voter : Text) (votes : List (Text × X)) (r : Result ℕ ℕ) → is_sorted text_cmp votes ≡ true → IsSearchInRange r (length votes) → IsBinarySearchResult (λ vote. text_cmp vote.0 voter) votes r →
+      MatchResult r (IsPlaceOf voter votes) (IsNewPlaceOf voter votes)
+  searched voter votes (Ok i) sorted within same = record {
+    within = within;
+    after = stands-before voter votes i (omega (arith, within)) (λ k d under. before-place voter votes i d sorted within (inr (same d)) k under);
+    same = at-place (λ vote. text_cmp voter vote.0 ≡ Equal) votes i (omega (arith, within)) (λ d under. text_total.antisymm voter _ ∙ ap ordering_reverse (same d));
+  }
+  searched voter votes (Err i) sorted within parted =
+      let parts = parted (places-rise voter votes sorted) in
+      record {
+        within = within;
+        after = stands-before voter votes i within (λ k d under. turned _ voter (parts.0 k d (omega arith) under));
+        before = at-place (λ vote. text_cmp voter vote.0 ≡ Less) votes i within (λ d under. turned_back _ voter (parts.1 i d (omega arith) under));
+      }
+
+  -- a voter after the last one is after all
+  pub after-last : (voter : Text) (votes : List (Text × X)) (last : Text × X) → is_sorted text_cmp votes ≡ true → Some last ≡ slice_get votes (length votes - 1) → is_lt (text_cmp last.0 voter) ≡ true → StandsAfter voter votes (length votes)
+  after-last voter votes last sorted at under = stands-before voter votes (length votes) (omega arith) (λ k d within.
+      let same : get_or votes (length votes - 1) d ≡ last = get_or_from_slice_get votes (length votes - 1) last d (sym at) in
+      let first_under : text_cmp (get_or votes (length votes - 1) d).0 voter ≡ Less = ap (λ vote. text_cmp vote.0 voter) same ∙ less _ under in
+      let last_within : length votes - 1 < length votes = omega (arith, within) in
+      elim (cases_lt k (length votes - 1)) [
+        | inl before ↦ before-place voter votes (length votes - 1) d sorted last_within (inl first_under) k before
+        | inr over ↦ (let here : length votes - 1 ≡ k = omega (arith, over, within) in subst (λ i. text_cmp voter (get_or votes i d).0 ≡ Greater) here (turned _ voter first_under))
+      ])
 
   -- ---- what stands before a voter's place answers nothing for the voter, and stays
 

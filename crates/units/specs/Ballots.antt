@@ -1,5 +1,6 @@
--- Votes: when two are equal, and where a voter's vote stands among those in the order of their voters. (This project's own.)
-use Rattle.std.specs.Prelude.{Bool, true, false, not, ◌≡◌, ◌<◌, ◌≤◌, ℕ, List, take, All, IfSome, slice_get, length}
+-- Votes: when two are equal, what they come to, and where a voter's vote stands among those in the order of their voters. (This project's own.)
+use Rattle.std.specs.Prelude.{Bool, true, false, not, ◌≡◌, ◌<◌, ◌≤◌, ℕ, ◌+◌, ℤ, pos, negsuc, ◌-ℤ◌, List, take, All, IfSome, slice_get, length, count_by}
+use Rattle.std.specs.FinMap as maps
 use Rattle.std.specs.declared.cmp.Ordering.TheVariants.{Less, Equal, Greater}
 use Rattle.po_read.specs.Texts.{Text, text_cmp}
 use Rattle.units.specs.declared.votes.VoteValue.{VoteValue}
@@ -12,6 +13,15 @@ is_for Against = false
 abbrev pub vote_eq : VoteValue → VoteValue → Bool
 vote_eq For b = is_for b
 vote_eq Against b = not (is_for b)
+
+-- a vote for counts 1, one against -1
+abbrev pub vote_weight : VoteValue → ℤ
+vote_weight For = pos 1
+vote_weight Against = negsuc 0
+
+-- 1 plus the votes, of which one for counts 1 and one against -1
+abbrev pub vote_sum : maps.FinMap text_cmp VoteValue → ℤ
+vote_sum votes = pos (1 + count_by is_for (maps.values votes)) -ℤ pos (count_by (λ b. not (is_for b)) (maps.values votes))
 
 -- the first i are those of voters before this one
 abbrev pub StandsAfter : {X : Type 0} → Text → List (Text × X) → ℕ → Type 0

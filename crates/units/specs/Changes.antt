@@ -1,6 +1,6 @@
 -- What a change of the team or of the policy does to an office: this project's own rule, over the roles and reviews of Weblate's
 -- documentation ("Translation workflows").
-use Rattle.std.specs.Prelude.{◌+◌, List, map, if◌then◌else◌}
+use Rattle.std.specs.Prelude.{List, map, if◌then◌else◌}
 use Rattle.std.specs.FinMap as maps
 use Rattle.po_read.specs.Texts.{Text, text_cmp}
 use Rattle.units.specs.Units.{is_approved, in_state, next_revision}

@@ -2,12 +2,11 @@
 -- States, roles, suggestions and votes are those of Weblate's documentation ("Translation workflows", "Translation
 -- states"); keys, forms, flags and previous strings are those of the GNU gettext manual ("The Format of PO Files",
 -- "Plural forms"). The sum of votes and the order of keys are this project's own.
-use Rattle.std.specs.Prelude.{ℕ, ◌+◌, List, ◌∷◌, ◌++◌, Bool, true, false, not, nat_lt, if◌then◌else◌, Option, None, is_some, ℤ, pos, ◌-ℤ◌, count_by, find, filter, codes}
+use Rattle.std.specs.Prelude.{ℕ, ◌+◌, List, ◌∷◌, ◌++◌, Bool, true, false, not, nat_lt, if◌then◌else◌, Option, None, is_some, find, filter, codes}
 use Rattle.std.specs.declared.cmp.Ordering.{Ordering}
 use Rattle.std.specs.Ordering.{on, then_cmp}
 use Rattle.std.specs.Option.{option_map_or, option_cmp}
 use Rattle.std.specs.List.{list_any, list_all}
-use Rattle.std.specs.FinMap as maps
 use Rattle.po_read.specs.declared.entry.Entry.{Entry}
 use Rattle.po_read.specs.declared.entry.Previous.{Previous}
 use Rattle.plural_expr.specs.Values.{Rule}
@@ -20,8 +19,7 @@ use Rattle.units.specs.declared.unit.ShownState.TheVariants as shown
 use Rattle.units.specs.declared.unit.Role.{Role}
 use Rattle.units.specs.declared.unit.Role.TheVariants.{Guest, Translator, Reviewer, Manager}
 use Rattle.units.specs.declared.unit.Suggestion.{Suggestion}
-use Rattle.units.specs.declared.votes.VoteValue.{VoteValue}
-pub use Rattle.units.specs.Ballots.{is_for, vote_eq}
+pub use Rattle.units.specs.Ballots.{is_for, vote_eq, vote_sum}
 use Rattle.po_read.specs.Texts.{Text, text_cmp, text_eq, is_empty}
 
 -- ---- keys
@@ -138,7 +136,3 @@ suggestion_of number unit = find (has_number number) unit.suggestions
 
 abbrev pub without_suggestion : Text → Unit → Unit
 without_suggestion number unit = record unit { suggestions = filter (λ s. not (has_number number s)) unit.suggestions }
-
--- 1 plus the votes, of which one for counts 1 and one against -1
-abbrev pub vote_sum : maps.FinMap text_cmp VoteValue → ℤ
-vote_sum votes = pos (1 + count_by is_for (maps.values votes)) -ℤ pos (count_by (λ b. not (is_for b)) (maps.values votes))

@@ -1,11 +1,12 @@
 //! The votes of a suggestion, which contracts see as the map from each voter to the vote.
-ghost use Rattle.std.specs.Prelude.{◌≡◌, ◌<◌, ◌^◌, ◌+◌, ◌-ℤ◌, pos, IfOk, OnOk, OnErr, MatchResult, count_by};
-ghost use Rattle.units.specs.Ballots.{IsPlaceOf, IsNewPlaceOf, vote_eq};
+ghost use Rattle.std.specs.Prelude.{◌≡◌, ◌<◌, ◌^◌, true, length, IfOk, OnOk, OnErr, IsTrue, MatchResult};
+ghost use Rattle.std.specs.FinMap as map;
+ghost use Rattle.po_read.specs.Texts.{text_cmp};
+ghost use Rattle.units.specs.Ballots.{StandsAfter, IsPlaceOf, IsNewPlaceOf, vote_weight};
 
 use crate::names::Name;
 use po_read::Duplicate;
 use std::alloc::{AllocError, Global};
-use std::cmp::Ordering;
 use std::marker::Model;
 
 /// A vote that counts.
@@ -15,10 +16,12 @@ pub enum VoteValue {
     For,
 }
 
-/// The votes of a suggestion, at most one of each voter.
+/// The votes of a suggestion, at most one of each voter, with the sum that they make.
 #[derive(Debug, Drop)]
 pub struct Votes {
     inner: Vec<(Name, VoteValue)>,
+    /// 1 for the suggestion itself, and its votes: no look adds them up.
+    kept_sum: i64,
 }
 
 impl Model for Votes {
@@ -29,6 +32,7 @@ impl Model for Votes {
     ghost use Rattle.std.specs.Coded.{coded_ℕ, coded_list};
     ghost use Rattle.units.specs.declared.votes.VoteValue.{VoteValue};
     ghost use Rattle.units.specs.Coding.{coded_vote_value};
+    ghost use Rattle.units.specs.Ballots.{vote_sum};
 
     ghost Value = { map.FinMap (slice_cmp nat_cmp) VoteValue };
 
@@ -36,12 +40,11 @@ impl Model for Votes {
 
     ghost view = { λ v. map.from_sorted v.inner.items };
 
-    ghost invariant = { λ v. map.is_sorted (slice_cmp nat_cmp) v.inner.items ≡ true };
+    ghost invariant = { λ v. (map.is_sorted (slice_cmp nat_cmp) v.inner.items ≡ true) × (v.kept_sum ≡ vote_sum (map.from_sorted v.inner.items)) };
 }
 
 impl Votes {
-    ghost use Rattle.std.specs.FinMap as map;
-    ghost use Rattle.units.specs.Units.{vote_sum};
+    ghost use Rattle.units.specs.Ballots.{vote_sum};
 
     /// No votes. It takes no memory.
     pub fn new(alloc: Global) -> Votes
@@ -49,6 +52,7 @@ impl Votes {
     {
         Votes {
             inner: Vec::new(alloc),
+            kept_sum: 1,
         }
     }
 
@@ -83,8 +87,14 @@ impl Votes {
         ensures err { OnErr result (self.new ≡ self.old) }
     {
         match place_of(self.inner.as_slice(), &voter) {
-            Ok(i) => self.inner[i] = (voter, value),
-            Err(i) => self.inner.insert(i, (voter, value))?,
+            Ok(i) => {
+                self.kept_sum += weight(value) - weight(self.inner[i].1);
+                self.inner[i] = (voter, value);
+            }
+            Err(i) => {
+                self.inner.insert(i, (voter, value))?;
+                self.kept_sum += weight(value);
+            }
         }
         Ok(())
     }
@@ -94,7 +104,8 @@ impl Votes {
         ensures { self.new ≡ map.remove self.old voter.now }
     {
         if let Ok(i) = place_of(self.inner.as_slice(), voter) {
-            let _ = self.inner.remove(i);
+            let (_, value) = self.inner.remove(i);
+            self.kept_sum -= weight(value);
         }
     }
 
@@ -103,11 +114,7 @@ impl Votes {
     pub fn sum(&self) -> i64
         ensures { result ≡ vote_sum self.now }
     {
-        let votes = self.inner.as_slice();
-        sum_with_own(
-            count_of(votes, VoteValue::For),
-            count_of(votes, VoteValue::Against),
-        )
+        self.kept_sum
     }
 }
 
@@ -116,37 +123,42 @@ impl Duplicate for Votes {
         let alloc = *self.inner.allocator();
         Ok(Votes {
             inner: copied_votes(alloc, self.inner.as_slice())?,
+            kept_sum: self.kept_sum,
         })
     }
 }
 
-/// Where a voter's vote stands among votes in the order of their voters, or else where it belongs.
+/// Whether the voter stands after all voters of votes in their order: after the last one.
+fn stands_last(votes: &[(Name, VoteValue)], voter: &Name) -> bool
+    requires { map.is_sorted text_cmp votes.now ≡ true }
+    ensures { IsTrue result → StandsAfter voter.now votes.now (length votes.now) }
+{
+    match votes.last() {
+        Some(last) => last.0.as_str() < voter.as_str(),
+        None => true,
+    }
+}
+
+/// Where a voter's vote stands among votes in the order of their voters, or else where it belongs. Votes that come in this order
+/// belong at the end, where it is looked for first.
 fn place_of(votes: &[(Name, VoteValue)], voter: &Name) -> Result<usize, usize>
+    requires { map.is_sorted text_cmp votes.now ≡ true }
     ensures { MatchResult result (IsPlaceOf voter.now votes.now) (IsNewPlaceOf voter.now votes.now) }
 {
-    for (i, vote) in votes.iter().enumerate() {
-        match voter.as_str().cmp(vote.0.as_str()) {
-            Ordering::Less => return Err(i),
-            Ordering::Equal => return Ok(i),
-            Ordering::Greater => {}
-        }
+    if stands_last(votes, voter) {
+        return Err(votes.len());
     }
-    Err(votes.len())
+    votes.binary_search_by(|vote| vote.0.as_str().cmp(voter.as_str()))
 }
 
-/// How many votes have a value.
-fn count_of(votes: &[(Name, VoteValue)], value: VoteValue) -> usize
-    ensures { result ≡ count_by (λ vote. vote_eq value vote.1) votes.now }
+/// What a vote adds to the sum.
+fn weight(value: VoteValue) -> i64
+    ensures { result ≡ vote_weight value }
 {
-    votes.iter().filter(|vote| vote.1 == value).count()
-}
-
-/// 1 and the votes for it, less those against it.
-fn sum_with_own(for_it: usize, against: usize) -> i64
-    requires { (for_it < 2 ^ 62) × (against < 2 ^ 62) }
-    ensures { result ≡ pos (1 + for_it) -ℤ pos against }
-{
-    1 + for_it as i64 - against as i64
+    match value {
+        VoteValue::For => 1,
+        VoteValue::Against => -1,
+    }
 }
 
 /// The same votes, in their order.
