@@ -5,3 +5,6 @@ pub mod OneDelivery
 pub mod Earlier
 pub mod Reached
 pub mod Calls
+pub mod Totals
+pub mod Moves
+pub mod OfficeCounts

@@ -4,3 +4,4 @@ pub mod LineForms
 pub mod Tokens
 pub mod World
 pub mod Simulation
+pub mod Tallies

@@ -4,6 +4,7 @@
 
 mod acts;
 mod contents;
+mod counts;
 mod directives;
 mod lines;
 mod simulation;
@@ -11,6 +12,7 @@ mod tokens;
 
 pub use acts::{acceptance_takes_one, revisions_of_acts, suggestions_stay};
 pub use contents::one_text_for_one_content;
+pub use counts::{counts_follow_a_unit, counts_follow_an_office_act};
 pub use directives::directives_cut_the_text;
 pub use lines::line_forms_are_the_table;
 pub use simulation::retry_simulation;
