@@ -7,6 +7,8 @@ Each schedule begins with the same office in a file of its own, and is drawn fro
 answer, brings the message twice, or late; and between two messages it brings again any that it ever had. `office send` sends until it holds all replies. What
 it then tells, and the language's export, have to be those of the same list delivered once and in order by `office deliver`.
 
+Between rounds that brought nothing `office send` waits, so that many schedules run side by side.
+
 Prints the first schedules that come to something else, and last `N schedules, M otherwise; of K messages L answered`; the status is 1 if any did.
 """
 import json
@@ -19,6 +21,7 @@ import sys
 import tempfile
 import threading
 import time
+from concurrent.futures import ThreadPoolExecutor
 
 TOP = pathlib.Path(__file__).resolve().parent.parent
 PROGRAM = pathlib.Path(sys.argv[1] if len(sys.argv) > 1 else TOP / "crates" / "cli" / "out" / "cli").resolve()
@@ -27,6 +30,8 @@ SEED = int(sys.argv[3]) if len(sys.argv) > 3 else 1
 HOST = "127.0.0.1"
 SECONDS = 120
 TRIES = 10_000
+# How many schedules run at a time: most of their time is waited.
+AT_A_TIME = 24
 
 HEADER = 'msgid ""\nmsgstr ""\n"Content-Type: text/plain; charset=UTF-8\\n"\n"Plural-Forms: nplurals=2; plural=n != 1;\\n"\n'
 TEMPLATE = "\n\n".join(f'msgid "{it}"\nmsgstr ""' for it in ("Hello", "Bye", "Yes")) + "\n"
@@ -86,10 +91,29 @@ def exported(path):
     return run("export", "--store", path, "--lang", "de")[:2]
 
 
-def free_port():
-    with socket.socket() as it:
-        it.bind((HOST, 0))
-        return it.getsockname()[1]
+def office_at(path, turn):
+    """The office in a file, as it serves, and its port: one that no connection is given by itself, unless somebody has it."""
+    for port in range(10_000 + turn % 7_000, 31_000, 7_000):
+        words = [PROGRAM, "serve", "--store", path, "--port", str(port), "--connections", "1000000"]
+        office = subprocess.Popen(words, stdout=subprocess.DEVNULL, stderr=subprocess.PIPE)
+        if listens(port, office):
+            return office, port
+        if (told := office.communicate()[1]) != b"port fault\n":
+            sys.exit(f"the office ended: {told}")
+    sys.exit("no free port")
+
+
+def listens(port, process):
+    """Whether the process listens, in the end; it doesn't where it has ended."""
+    for _ in range(SECONDS * 500):
+        if process.poll() is not None:
+            return False
+        try:
+            socket.create_connection((HOST, port)).close()
+            return process.poll() is None
+        except ConnectionRefusedError:
+            time.sleep(0.002)
+    sys.exit("the office doesn't listen")
 
 
 def read_message(stream):
@@ -168,32 +192,18 @@ class Network:
         self.thread.join()
 
 
-def wait_for(port, process):
-    for _ in range(5000):
-        if process.poll() is not None:
-            sys.exit(f"the office ended: {process.returncode}")
-        try:
-            socket.create_connection((HOST, port)).close()
-            return
-        except ConnectionRefusedError:
-            time.sleep(0.002)
-    sys.exit("the office doesn't listen")
-
-
-def schedule(folder, made, listed, seed):
+def schedule(rooms, made, listed, turn):
     """What `office send` and the export come to, and the network."""
-    path = folder / "office.db"
+    path = rooms / f"{turn}.db"
     shutil.copyfile(made, path)
-    port = free_port()
-    office = subprocess.Popen([PROGRAM, "serve", "--store", path, "--port", str(port), "--connections", "1000000"], stdout=subprocess.DEVNULL, stderr=subprocess.DEVNULL)
-    wait_for(port, office)
-    network = Network(port, random.Random(seed))
+    office, port = office_at(path, turn)
+    network = Network(port, random.Random(SEED * 1_000_000 + turn))
     told = run("send", "--port", network.port, "--file", listed, "--tries", TRIES)
     network.end()
     office.kill()
-    office.wait()
+    office.communicate()
     found = told, exported(path)
-    for it in folder.glob("office.db*"):
+    for it in rooms.glob(f"{turn}.db*"):
         it.unlink()
     return found, network
 
@@ -211,13 +221,13 @@ def main():
         wanted = run("deliver", "--store", once, given=SENT), exported(once)
         if wanted[0][1].count("\n") != SENT.count("\n") or wanted[1][0] != 0:
             sys.exit(f"the list can't be delivered: {wanted}")
-        for turn in range(COUNT):
-            found, network = schedule(rooms, made, listed, SEED * 1_000_000 + turn)
-            messages, answered = messages + network.messages, answered + network.answered
-            if found != wanted:
-                otherwise += 1
-                if otherwise < 4:
-                    print(f"schedule {turn}: {found}, not {wanted}")
+        with ThreadPoolExecutor(AT_A_TIME) as pool:
+            for turn, (found, network) in enumerate(pool.map(lambda turn: schedule(rooms, made, listed, turn), range(COUNT))):
+                messages, answered = messages + network.messages, answered + network.answered
+                if found != wanted:
+                    otherwise += 1
+                    if otherwise < 4:
+                        print(f"schedule {turn}: {found}, not {wanted}")
     print(f"{COUNT} schedules, {otherwise} otherwise; of {messages} messages {answered} answered")
     return 1 if otherwise else 0
 

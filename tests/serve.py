@@ -6,6 +6,7 @@
 The clients are curl, Python's http.client, and sockets by hand: kept connections, posts behind one another, answers that are read slowly, clients
 that go away. What they have to get is written down here, from docs/FORMATS.md and the worked examples. `office send` is run against
 `office serve`, twice, against a port where nobody listens, and against servers that cut their answers, answer otherwise or close without a word.
+Clients and servers that say nothing, or a byte a second, are waited for side by side: the whole takes two minutes.
 Prints what is otherwise than it should be, and last `N looks, M wrong`; the status is 1 if anything was.
 """
 import contextlib
@@ -248,6 +249,7 @@ def routes(folder):
         ("no head", b"a" * 8192, refusal(431, "Request Header Fields Too Large", "head", end=True)),
         ("no HTTP", b"hello\r\n\r\n", refusal(400, "Bad Request", "malformed", end=True)),
         ("33 header lines", get("/v1/stats/de", "A: b\r\n" * 33), refusal(400, "Bad Request", "malformed", end=True)),
+        ("HEAD", b"HEAD /v1/stats/de HTTP/1.1\r\n\r\n" + get("/v1/stats/de"), refusal(405, "Method Not Allowed", "method", end=True)),
         ("HTTP/1.0", b"GET /v1/stats/fr HTTP/1.0\r\n\r\n", refusal(404, "Not Found", "no-language", end=True)),
     ]
     with serving(path, 1 + len(ends)) as port:
@@ -321,6 +323,42 @@ def reset(folder):
         same("behind an answer that nobody took", told(port, post(1)), answer(200, "OK", DONE))
 
 
+def silent(folder):
+    """A client that says nothing more for a minute: its connection is closed, and the next is served."""
+    path = office(folder)
+    with serving(path, 2, ends=(1, "", "serve fault 1\n")) as port:
+        begin = time.monotonic()
+        with connected(port) as quiet:
+            quiet.sendall(post(1)[:150])
+            same("behind a silent client", told(port, post(1)), answer(200, "OK", DONE))
+            same("a minute is waited", 55 < time.monotonic() - begin < 75, True)
+
+
+def deaf(folder):
+    """A client that takes nothing of its answers is given up too, after half a minute or a whole one."""
+    path = office(folder)
+    make_large(path)
+    begin = time.monotonic()
+    with contextlib.ExitStack() as kept_open:
+        with serving(path, 1, ends=(1, "", "serve fault 2\n")) as port:
+            it = kept_open.enter_context(connected(port))
+            it.sendall(get("/v1/export/de") * 50)
+        same("a deaf client is given up", 28 < time.monotonic() - begin < 80, True)
+
+
+def no_descriptors(folder):
+    """Connections that can't be taken, since the program may have no further file open: each is told, a second behind the one before."""
+    path = office(folder)
+    for limit in range(4, 40):
+        words = ["sh", "-c", 'ulimit -n "$0"; exec "$@"', str(limit), PROGRAM, "serve", "--store", path, "--port", str(free_port()), "--connections", "3"]
+        with subprocess.Popen(words, stdin=subprocess.DEVNULL, stdout=subprocess.DEVNULL, stderr=subprocess.PIPE) as process:
+            faults = [(it, time.monotonic()) for it in process.stderr]
+        if faults[0][0] not in (b"store fault 2\n", b"port fault\n"):
+            break
+    same("no descriptors", (process.returncode, [it for it, _ in faults]), (1, [b"serve fault 1\n"] * 3))
+    same("two seconds between the first and the last", 1.9 < faults[-1][1] - faults[0][1] < 20, True)
+
+
 def refused(folder):
     """What keeps `serve` from serving: tables before the port, and words before both."""
     path = office(folder)
@@ -379,8 +417,22 @@ def sends_nothing(folder):
     same("a malformed line", sent(listed(folder, [LIST[0], "{}"]), port), (1, "", "line 2 malformed\n"))
     same("a number twice", sent(listed(folder, [LIST[0], LIST[1], LIST[0]]), port), (1, "", "sender fault 1\n"))
     same("a malformed line before a number twice", sent(listed(folder, [LIST[0], LIST[0], "x"]), port), (1, "", "line 3 malformed\n"))
+    begin = time.monotonic()
+    sent(listed(folder, LIST), port, 4)
+    same("0.1, 0.2 and 0.4 seconds are waited between four rounds", 0.7 <= time.monotonic() - begin < 10, True)
     same("no file", sent(folder / "nothing", port), (1, "", "file fault\n"))
     same("a folder", sent(folder, port), (1, "", "file fault\n"))
+
+
+def sends_through_a_restart(folder):
+    """An office that begins to listen a while later: the list waits for it."""
+    path, file, port, found = office(folder), listed(folder, LIST), free_port(), []
+    sender = threading.Thread(target=lambda: found.append(sent(file, port, 20)))
+    sender.start()
+    time.sleep(2)
+    with serving(path, len(LIST), port=port):
+        sender.join()
+    same("sent through a restart", found, [(0, REPLIES, "")])
 
 
 class Fake:
@@ -418,6 +470,9 @@ def sends_to_others(folder):
         "another status": answer(503, "Service Unavailable", '{"error":"memory"}', end=True),
         "a redirection": answer(301, "Moved Permanently", "{}", end=True),
         "malformed": refusal(400, "Bad Request", "malformed", end=True),
+        "an order to the terminal": answer(200, "OK", '{"revision":2,"state":"\x1b[2Jtranslated"}', end=True),
+        "another": answer(200, "OK", '{"revision":2,"state":"\u009b2Jtranslated"}', end=True),
+        "a line end": answer(200, "OK", '{"revision":2}\n', end=True),
     }
     for what, it in lost.items():
         same(what, sent(file, Fake(it).port), (1, "none\n", ""))
@@ -435,11 +490,65 @@ def sends_to_others(folder):
     same("its body", body.decode(), HALLO)
 
 
+class Slow(threading.Thread):
+    """A server that takes one message and answers it a byte a second, or not at all, until its client goes."""
+
+    def __init__(self, answers):
+        super().__init__(daemon=True)
+        self.answers = answers
+        self.listener = socket.create_server((HOST, 0))
+        self.port = self.listener.getsockname()[1]
+        self.start()
+
+    def run(self):
+        connection, _ = self.listener.accept()
+        with connection, contextlib.suppress(OSError):
+            while True:
+                time.sleep(1)
+                if self.answers:
+                    connection.sendall(b"H")
+                elif not connection.recv(65536):
+                    return
+
+
+def sends_to_slow_ones(folder):
+    """A server that says nothing is waited for a minute, one that says a byte a second for two."""
+    file = listed(folder, LIST[:1])
+    for answers, seconds in ((False, 60), (True, 120)):
+        begin = time.monotonic()
+        same(f"a slow server, {answers}", sent(file, Slow(answers).port), (1, "none\n", ""))
+        same(f"{seconds} seconds", seconds - 1 < time.monotonic() - begin < seconds + 10, True)
+
+
+class Waiting(threading.Thread):
+    """A look that waits long, beside the others. What it raises is wrong."""
+
+    def __init__(self, look, folder):
+        super().__init__()
+        self.look, self.folder, self.error = look, folder, None
+        self.start()
+
+    def run(self):
+        try:
+            self.look(self.folder)
+        except Exception as error:  # (whatever it is, it is told)
+            self.error = error
+
+    def end(self):
+        self.join()
+        same(self.look.__name__, self.error, None)
+
+
 def main():
     with tempfile.TemporaryDirectory(prefix="office-http-") as name:
         folder = pathlib.Path(name)
-        for it in (pipelined, kept_by_curl, kept_by_python, routes, large, gone, reset, refused, sends, sends_nothing, sends_to_others):
+        waiting = [Waiting(it, folder) for it in (silent, deaf, sends_to_slow_ones)]
+        for it in (pipelined, kept_by_curl, kept_by_python, routes, large, gone, reset, no_descriptors, refused):
             it(folder)
+        for it in (sends, sends_nothing, sends_through_a_restart, sends_to_others):
+            it(folder)
+        for it in waiting:
+            it.end()
     print(f"{looks} looks, {wrong} wrong")
     return 1 if wrong else 0
 

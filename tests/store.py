@@ -22,7 +22,7 @@ import time
 
 TOP = pathlib.Path(__file__).resolve().parent.parent
 ROWS = (TOP / "tests" / "store" / "rows.txt").read_text()
-STATEMENTS = [it for folder in ("office_sql", "office_scans", "office_commits", "store_sql") for it in sorted((TOP / "crates" / folder / "src").glob("*.rt"))]
+STATEMENTS = [it for folder in ("office_sql", "office_scans", "office_commits", "sql_exports", "store_sql") for it in sorted((TOP / "crates" / folder / "src").glob("*.rt"))]
 PROGRAM = pathlib.Path(sys.argv[1] if len(sys.argv) > 1 else "/tmp/office-store-program/crates/office_files/out/office_files").resolve()
 
 # A table's columns, each with its type, whether it is NOT NULL, and its place in the primary key; the columns of each further unique
@@ -217,9 +217,12 @@ def plan(db, text):
 
 
 def is_by_key(text, step):
-    """A table that is read as a whole is gone through in the order of a key; else each row is looked for by one. (One that is emptied takes no steps.)"""
+    """A table that is read as a whole is gone through in the order of a key; else each row is looked for by one. (One that is emptied takes no steps.
+    A join has the order of its first table, but SQLite may begin with the other and sort.)"""
     if " WHERE " not in text:
         return step.startswith("SCAN ") and "TEMP B-TREE" not in step
+    if " JOIN " in text and step == "USE TEMP B-TREE FOR ORDER BY":
+        return True
     return bool(re.match(r"SEARCH \w+ USING (COVERING INDEX|INDEX|INTEGER PRIMARY KEY)\b", step))
 
 

@@ -5,12 +5,16 @@
 
 What `office --help` and `office COMMAND --help` list, subcommands, options and arguments, each with its text, has to stand in
 share/man/man1/office.1 and in the completion for zsh, and nothing else; bash has to complete to the same words. `man --warnings` has to find nothing
-in the page. Wrong words have to end with status 2, and help and the version with 0. The last line ends in 'N differences'.
+in the page. Wrong words have to end with status 2, and help and the version with 0. At a terminal a fault has a line behind it that says what it
+means, and nowhere else. The last line ends in 'N differences'.
 """
+import os
 import pathlib
+import pty
 import re
 import subprocess
 import sys
+import tempfile
 
 TOP = pathlib.Path(__file__).resolve().parent.parent
 PROGRAM = TOP / "crates" / "cli" / "out" / "cli"
@@ -44,6 +48,10 @@ WORDS = [
     (["serve", "--store", "/nowhere/office.db", "--port", "8080", "--connections", "0"], 2),
     (["serve", "--store", "/nowhere/office.db", "--port", "8080", "--connections", "4294967296"], 2),
     (["serve", "--store", "/nowhere/office.db", "--port", "65535", "--connections", "4294967295"], 1),
+    (["serve", "--store", "/nowhere/office.db", "--port", "+8080", "--connections", "1"], 2),
+    (["serve", "--store", "/nowhere/office.db", "--port", "08080", "--connections", "1"], 2),
+    (["serve", "--store", "/nowhere/office.db", "--port", "8080", "--connections", "+1"], 2),
+    (["serve", "--store", "/nowhere/office.db", "--port", "8080", "--connections", "01"], 2),
     (["send", "--help"], 0),
     (["send", "--port", "1", "--file", "/nowhere/requests"], 2),
     (["send", "--port", "1", "--tries", "1"], 2),
@@ -52,6 +60,10 @@ WORDS = [
     (["send", "--port", "1", "--file", "/nowhere/requests", "--tries", "0"], 2),
     (["send", "--port", "1", "--file", "/nowhere/requests", "--tries", "4294967296"], 2),
     (["send", "--port", "1", "--file", "/nowhere/requests", "--tries", "4294967295"], 1),
+    (["send", "--port", "+1", "--file", "/nowhere/requests", "--tries", "1"], 2),
+    (["send", "--port", "01", "--file", "/nowhere/requests", "--tries", "1"], 2),
+    (["send", "--port", "1", "--file", "/nowhere/requests", "--tries", "+1"], 2),
+    (["send", "--port", "1", "--file", "/nowhere/requests", "--tries", "01"], 2),
     (["deliver", "--help"], 0),
     (["plural", "-h"], 0),
     (["canon", "-V"], 0),
@@ -70,11 +82,37 @@ WORDS = [
     (["plural", "nplurals=1; plural=0;"], 2),
     (["plural", "nplurals=1; plural=0;", "-1"], 2),
     (["plural", "nplurals=1; plural=0;", "4294967296"], 2),
+    (["plural", "nplurals=1; plural=0;", "+1"], 2),
+    (["plural", "nplurals=1; plural=0;", "1", "01"], 2),
+    (["plural", "nplurals=1; plural=0;", "00"], 2),
+    ([b"\xff"], 2),
+    (["init", "--store", b"/nowhere/\xff.db", "--manager", "root"], 2),
+    (["export", "--store", b"/nowhere/\xff.db", "--lang", "de"], 2),
+    (["plural", b"nplurals=1; plural=\xff;", "1"], 2),
     (["canon", "all"], 2),
     (["deliver", "--manager", "a" * 32], 0),
     (["plural", "nplurals=1; plural=0;", "0", "4294967295"], 0),
     (["plural", "nplurals=1; plural=1;", "0"], 1),
     (["deliver", "--export", "xx"], 1),
+]
+# Words, the line of a fault that they tell, and what the line behind it has to name at a terminal. The files `{made}`, `{empty}` and `{twice}` are
+# an office's, an empty one, and one of requests two of which have one number.
+TOLD = [
+    (["export", "--store", "/nowhere/office.db", "--lang", "de"], "store fault 2", ["in use by another program", "isn't there", "no database"]),
+    (["init", "--store", "{made}", "--manager", "root"], "store: exists", ["an office already"]),
+    (["export", "--store", "{empty}", "--lang", "de"], "store fault 3", ["no office's"]),
+    (["deliver", "--export", "xx"], "export fault 1", ["no such language"]),
+    (["send", "--port", "1", "--file", "/nowhere/requests", "--tries", "1"], "file fault", ["can't be read"]),
+    (["send", "--port", "1", "--file", "{twice}", "--tries", "1"], "sender fault 1", ["twice", "Nothing was sent"]),
+    (["plural", "n", "1"], "plural fault 1", ["grammar"]),
+    (["plural", "nplurals=9; plural=0;", "1"], "plural fault 2", ["1 to 8"]),
+    (["plural", "nplurals=1; plural=" + "(" * 32 + "0" + ")" * 32 + ";", "1"], "plural fault 3", ["512 bytes", "32"]),
+    (["plural", "nplurals=2; plural=1/n;", "1"], "plural fault 4 at 0", ["no value"]),
+    (["plural", "nplurals=2; plural=n;", "1"], "plural fault 5 at 2", ["isn't below nplurals"]),
+    (["plural", "nplurals=2; plural=1/(n != 1000);", "1000"], "index fault 1 at 1000", ["divides by zero"]),
+    (["plural", "nplurals=2; plural=(n<1000) ? 0 : 0-1;", "1000"], "index fault 2 at 1000", ["below zero"]),
+    (["plural", "nplurals=2; plural=(n<1000) ? 0 : 18446744073709551615+1;", "1000"], "index fault 3 at 1000", ["18446744073709551615"]),
+    (["plural", "nplurals=2; plural=(n<1000) ? 0 : 2;", "1000"], "index fault 4 at 1000", ["isn't below nplurals"]),
 ]
 
 
@@ -191,6 +229,53 @@ def page_warnings():
     yield from (f"man: {it}" for it in done.stderr.decode().split("\n") if it)
 
 
+def kinds_differ(program):
+    """The kinds of faults that the help of `canon` lists, beside the page's."""
+    kinds = listed(run(program, ["canon", "--help"])[1]).get("Kinds", {})
+    page = " ".join(PAGE.read_text().split(".It po line L kind K")[1].split(".El")[0].split())
+    if list(kinds) != [str(n) for n in range(1, 11)]:
+        yield f"canon's help lists the kinds {list(kinds)}"
+    yield from (f"the page says else of kind {kind}" for kind, text in kinds.items() if f"{kind} {text.split(';')[0]}" not in page)
+
+
+def told_at_terminal(program, words):
+    """What stands on the second output where it is a terminal, line by line."""
+    ours, theirs = pty.openpty()
+    with subprocess.Popen([program, *words], stdin=subprocess.DEVNULL, stdout=subprocess.DEVNULL, stderr=theirs) as process:
+        os.close(theirs)
+        found = b""
+        try:
+            while piece := os.read(ours, 4096):
+                found += piece
+        except OSError:
+            pass  # Linux says so where the other side is closed.
+        process.wait()
+    os.close(ours)
+    return found.decode().replace("\r\n", "\n").splitlines()
+
+
+def sentences_differ(program):
+    with tempfile.TemporaryDirectory() as name:
+        files = {it: str(pathlib.Path(name) / it) for it in ("made", "empty", "twice")}
+        run(program, ["init", "--store", files["made"], "--manager", "root"])
+        pathlib.Path(files["empty"]).touch()
+        line = '{"act":"team","caller":"root","name":"ann","number":"00000000-0000-4000-8000-000000000001","role":"translator"}\n'
+        pathlib.Path(files["twice"]).write_text(line * 2)
+        for words, fault, named in TOLD:
+            words = [files.get(it[1:-1], it) if it.startswith("{") else it for it in words]
+            if (told := run(program, words)[2]) != fault + "\n":
+                yield f"{words} tell {told!r}, and not {fault}"
+            told = told_at_terminal(program, words)
+            if len(told) != 2 or told[0] != fault or not all(it in told[1] for it in named):
+                yield f"{words} tell {told} at a terminal, of {fault}"
+
+
+def man_page_named(program):
+    """Plain `office` says where more stands."""
+    if "man office" not in run(program, [])[2] + run(program, ["--help"])[1]:
+        yield "office doesn't name its man page"
+
+
 def status_differs(program):
     for words, status in WORDS:
         ended, out, faults = run(program, words)
@@ -202,10 +287,10 @@ def main(words):
     program = pathlib.Path(words[0] if words else PROGRAM).resolve()
     commands, own = words_of(program)
     wrong = [*page_differs(commands, own), *bash_differs(commands, own), *zsh_differs(commands, own)]
-    wrong += [*page_warnings(), *status_differs(program)]
+    wrong += [*page_warnings(), *kinds_differ(program), *man_page_named(program), *sentences_differ(program), *status_differs(program)]
     for it in wrong:
         print(it)
-    print(f"{len(commands)} subcommands, {len(WORDS)} runs: {len(wrong)} differences")
+    print(f"{len(commands)} subcommands, {len(WORDS) + len(TOLD)} runs: {len(wrong)} differences")
     return 1 if wrong else 0
 
 

@@ -1,8 +1,10 @@
 //! The program `office`.
 #![tactic(auto)]
 
+mod faults;
 mod files;
 mod send;
+mod sentences;
 mod serve;
 mod subcommands;
 mod words;
@@ -10,17 +12,19 @@ mod work;
 
 use clap::Error;
 use commands::{FAILED, Input, Output, canon_text, deliver_lines, plural_lines};
+use faults::Faults;
 use file_commands::tell_store_fault;
 use files::in_file;
 use office::Desk;
 use send::send_file;
-use std::io::{self, BufWriter, Stdout};
+use std::env::Args;
+use std::io::{self, BufWriter, ErrorKind, Stdout};
 use std::process::ExitCode;
 use store::PlainTables;
 use store_sql::OpenFault;
 use tables::Start;
 use units::{ByteSink, Lang};
-use words::{Asked, Deliver, Plural, read_words, words_status};
+use words::{Asked, Deliver, Plural, error_code, no_text, read_words};
 use work::Work;
 
 fn main(rt: HostRuntime) -> ExitCode {
@@ -31,8 +35,18 @@ fn main(rt: HostRuntime) -> ExitCode {
 }
 
 fn run(rt: &HostRuntime) -> io::Result<u8> {
+    match std::env::args(rt) {
+        Ok(words) => words_status(rt, words),
+        Err(error) if error.kind() == ErrorKind::InvalidData => {
+            error_status(rt, &no_text(rt.alloc()))
+        }
+        Err(error) => Err(error),
+    }
+}
+
+fn words_status(rt: &HostRuntime, words: Args) -> io::Result<u8> {
     let alloc = rt.alloc();
-    let words: Vec<String> = std::env::args(rt)?.collect(alloc)?;
+    let words: Vec<String> = words.collect(alloc)?;
     let status = match read_words(alloc, words.as_slice()) {
         Ok(asked) => asked_status(rt, &asked),
         Err(error) => error_status(rt, &error),
@@ -59,12 +73,17 @@ const DONE: u8 = 0;
 
 fn error_status(rt: &HostRuntime, error: &Error) -> io::Result<u8> {
     error.print(rt)?;
-    Ok(words_status(error))
+    Ok(error_code(error))
+}
+
+/// The second output, as a sink.
+fn second_output(rt: &HostRuntime) -> Output<Faults> {
+    Output::new(Faults::new(rt))
 }
 
 /// Tells a fault of tables on the second output, and answers the exit status.
 fn store_fault(rt: &HostRuntime, fault: OpenFault) -> u8 {
-    tell_store_fault(&mut Output::new(rt.stderr()), fault)
+    tell_store_fault(&mut second_output(rt), fault)
 }
 
 /// Delivers what the standard input gives, to the office in a file, or to one in memory.
@@ -89,7 +108,7 @@ fn deliver_in_memory(
         Ok(tables) => {
             let mut desk = Desk::new(rt.alloc(), tables);
             let mut source = Input::new(rt.stdin());
-            let mut faults = Output::new(rt.stderr());
+            let mut faults = second_output(rt);
             let status = deliver_lines(
                 rt.alloc(),
                 &mut desk,
@@ -109,7 +128,7 @@ fn deliver_in_memory(
 fn plural_standard(rt: &HostRuntime, options: &Plural<'_>) -> io::Result<u8> {
     let alloc = rt.alloc();
     let mut lines = Output::new(BufWriter::new(alloc, rt.stdout())?);
-    let mut faults = Output::new(rt.stderr());
+    let mut faults = second_output(rt);
     let status = plural_lines(
         alloc,
         options.value,
@@ -127,7 +146,7 @@ fn canon_standard(rt: &HostRuntime) -> io::Result<u8> {
     let alloc = rt.alloc();
     let mut source = Input::new(rt.stdin());
     let mut text = Output::new(BufWriter::new(alloc, rt.stdout())?);
-    let mut faults = Output::new(rt.stderr());
+    let mut faults = second_output(rt);
     let status = canon_text(alloc, &mut source, &mut text, &mut faults);
     match text.flush() {
         Ok(()) => Ok(status),

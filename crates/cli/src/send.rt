@@ -1,15 +1,21 @@
 //! `office send`: the requests of a file, sent to the office that listens on a port of this machine.
 
+use crate::faults::Faults;
+use crate::files::is_file;
+use crate::second_output;
 use crate::words::SendFile;
 use client::send_lines;
 use commands::{FAILED, Input, Output};
 use sockets::SocketLink;
 use std::fs::File;
-use std::io::{self, BufWriter, Stdout};
+use std::io::{self, BufWriter, Stdout, Write};
 use units::{ByteSink, ByteSource};
 
-/// Sends the requests of a file.
+/// Sends the requests of a file, which has to be a regular one.
 pub(crate) fn send_file(rt: &HostRuntime, options: &SendFile<'_>) -> io::Result<u8> {
+    if !is_file(rt, options.file) {
+        return file_fault(rt);
+    }
     let replies = BufWriter::new(rt.alloc(), rt.stdout())?;
     match File::open(rt, options.file) {
         Ok(file) => send_into(rt, options, file, Output::new(replies)),
@@ -29,7 +35,7 @@ fn send_into(
 ) -> io::Result<u8> {
     let mut source = Input::new(file);
     let mut link = SocketLink {
-        net: rt,
+        host: rt,
         port: options.port,
     };
     let status = send_lines(
@@ -38,7 +44,7 @@ fn send_into(
         &mut link,
         options.tries,
         &mut replies,
-        &mut Output::new(rt.stderr()),
+        &mut second_output(rt),
     );
     let flushed = replies.flush();
     drop(replies);
@@ -50,6 +56,7 @@ fn send_into(
 
 /// Tells that the file can't be read.
 fn file_fault(rt: &HostRuntime) -> io::Result<u8> {
-    eprintln!(rt; "file fault")?;
+    let mut faults = Faults::new(rt);
+    writeln!(faults, "file fault")?;
     Ok(FAILED)
 }

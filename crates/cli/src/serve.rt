@@ -1,6 +1,7 @@
 //! `office serve`: an office in a file on a port of this machine.
 ghost use Rattle.std.specs.Prelude.{◌≡◌, false};
 
+use crate::faults::Faults;
 use crate::words::Serve;
 use crate::{DONE, store_fault};
 use commands::FAILED;
@@ -8,6 +9,7 @@ use file_commands::{Closed, Unopened, open_desk};
 use office::Desk;
 use sockets::serve_next;
 use sqlite::{Alter, Connection};
+use std::io::Write;
 use std::net::{Ipv4Addr, TcpListener};
 use tables::Tables;
 
@@ -38,7 +40,8 @@ fn serve_port<T: Tables>(rt: &HostRuntime, desk: &mut Desk<T>, port: u16, connec
         Ok(listener) => serve_connections(rt, desk, &listener, connections),
         Err(_) => {
             // Where it can't be told, the status tells it.
-            let _ = eprintln!(rt; "port fault");
+            let mut faults = Faults::new(rt);
+            let _ = writeln!(faults, "port fault");
             FAILED
         }
     }
@@ -53,10 +56,11 @@ fn serve_connections<T: Tables>(
 ) -> u8 {
     let mut status = DONE;
     for _ in 0..connections {
-        if let Err(fault) = serve_next(rt.alloc(), desk, listener) {
+        if let Err(fault) = serve_next(rt.alloc(), rt, desk, listener) {
             status = FAILED;
             // Where it can't be told, the next is served all the same.
-            let _ = eprintln!(rt; "serve fault {}", fault.number());
+            let mut faults = Faults::new(rt);
+            let _ = writeln!(faults, "serve fault {}", fault.number());
         }
     }
     status

@@ -33,13 +33,32 @@ struct Word {
     help: &'static str,
 }
 
-/// A subcommand: its name, what the help says of it, and its words.
+/// A subcommand: its name, what the help says of it, its words, and what stands behind them in its help.
 #[derive(Clone, Copy)]
 pub(crate) struct Subcommand {
     name: &'static str,
     about: &'static str,
     words: &'static [Word],
+    behind: &'static str,
 }
+
+/// Where more stands.
+const MAN_PAGE: &str = "`man office` has examples, the replies, and what each fault means.";
+
+/// The kinds of faults that `canon` tells, and where more stands.
+const KINDS: &str = "Kinds:
+  1   the text isn't UTF-8
+  2   a line of no form
+  3   a piece that isn't quoted as it has to be
+  4   a backslash without a known letter behind it
+  5   a line that can't stand there
+  6   a form that isn't due
+  7   an entry whose msgctxt and msgid were there before
+  8   a charset other than UTF-8
+  9   past a limit; line 0 stands for the whole text
+  10  out of memory
+
+`man office` has examples, the replies, and what each fault means.";
 
 pub(crate) const INIT: Subcommand = Subcommand {
     name: "init",
@@ -58,11 +77,12 @@ pub(crate) const INIT: Subcommand = Subcommand {
             help: "Who manages the office",
         },
     ],
+    behind: MAN_PAGE,
 };
 
 pub(crate) const DELIVER: Subcommand = Subcommand {
     name: "deliver",
-    about: "Reads a JSON request a line, and prints STATUS BODY for each",
+    about: "Reads a JSON request a line from standard input, and prints STATUS BODY for each",
     words: &[
         Word {
             name: "store",
@@ -89,6 +109,7 @@ pub(crate) const DELIVER: Subcommand = Subcommand {
             help: "Prints the language's PO text behind the replies",
         },
     ],
+    behind: MAN_PAGE,
 };
 
 pub(crate) const EXPORT: Subcommand = Subcommand {
@@ -108,9 +129,10 @@ pub(crate) const EXPORT: Subcommand = Subcommand {
             help: "The language",
         },
     ],
+    behind: MAN_PAGE,
 };
 
-const SERVE: Subcommand = Subcommand {
+pub(crate) const SERVE: Subcommand = Subcommand {
     name: "serve",
     about: "Serves an office over HTTP on 127.0.0.1, one connection after another",
     words: &[
@@ -133,9 +155,10 @@ const SERVE: Subcommand = Subcommand {
             help: "Ends behind so many connections, from 1 to 4294967295",
         },
     ],
+    behind: MAN_PAGE,
 };
 
-const SEND: Subcommand = Subcommand {
+pub(crate) const SEND: Subcommand = Subcommand {
     name: "send",
     about: "Sends a file's requests to an office that serves, and prints STATUS BODY for each, or none",
     words: &[
@@ -158,9 +181,10 @@ const SEND: Subcommand = Subcommand {
             help: "Sends each request so often at most, from 1 to 4294967295",
         },
     ],
+    behind: MAN_PAGE,
 };
 
-const PLURAL: Subcommand = Subcommand {
+pub(crate) const PLURAL: Subcommand = Subcommand {
     name: "plural",
     about: "Prints N INDEX a line: the number of the form that the rule gives at N",
     words: &[
@@ -177,12 +201,14 @@ const PLURAL: Subcommand = Subcommand {
             help: "Numbers from 0 to 4294967295",
         },
     ],
+    behind: MAN_PAGE,
 };
 
 const CANON: Subcommand = Subcommand {
     name: "canon",
-    about: "Reads a PO text, and prints it in canonical form, or only po line L kind K",
+    about: "Reads a PO text from standard input, and prints it in canonical form, or only po line L kind K",
     words: &[],
+    behind: KINDS,
 };
 
 const SUBCOMMANDS: [Subcommand; 7] = [INIT, DELIVER, EXPORT, SERVE, SEND, PLURAL, CANON];
@@ -230,6 +256,7 @@ pub(crate) fn command_of<'a>(
 ) -> Result<Command<'a>, AllocError> {
     let mut command = Command::new(alloc, subcommand.name)
         .about(subcommand.about)
+        .after_help(subcommand.behind)
         .version(VERSION);
     for word in subcommand.words {
         command = command.arg(arg_of(alloc, *word))?;
@@ -257,6 +284,7 @@ fn bare_command<'a>(alloc: Global) -> Result<Command<'a>, AllocError> {
         Command::new(alloc, "office")
             .bin_name("office")?
             .about("A translation office in which a request that comes again acts once")
+            .after_help(MAN_PAGE)
             .version(VERSION)
             .subcommand_required(true)
             .arg_required_else_help(true),

@@ -1,6 +1,6 @@
 //! The words of the command line.
 
-use crate::subcommands::{DELIVER, EXPORT, INIT, command_of, office_command};
+use crate::subcommands::{DELIVER, EXPORT, INIT, PLURAL, SEND, SERVE, command_of, office_command};
 use clap::error::ErrorKind;
 use clap::{ArgMatches, Command, Error};
 use commands::FAILED;
@@ -68,9 +68,10 @@ pub(crate) struct Plural<'a> {
     pub(crate) numbers: Vec<u32>,
 }
 
-fn wanted_subcommand(alloc: Global) -> Result<Error, AllocError> {
+/// What is wrong with words, of whichever subcommand.
+fn wrong_words(alloc: Global, kind: ErrorKind, text: &str) -> Result<Error, AllocError> {
     let mut command = office_command(alloc)?;
-    let error = command.error(ErrorKind::MissingSubcommand, "a subcommand is wanted");
+    let error = command.error(kind, text);
     drop(command);
     error
 }
@@ -88,12 +89,25 @@ fn asked_of<'a>(alloc: Global, matches: &ArgMatches<'a>) -> Result<Asked<'a>, Er
         Some(("init", found)) => init_options(alloc, found),
         Some(("deliver", found)) => deliver_options(alloc, found),
         Some(("export", found)) => export_options(alloc, found),
-        Some(("serve", found)) => Ok(Asked::Serve(serve_options(found))),
-        Some(("send", found)) => Ok(Asked::Send(send_options(found))),
+        Some(("serve", found)) => serve_options(alloc, found),
+        Some(("send", found)) => send_options(alloc, found),
         Some(("plural", found)) => plural_options(alloc, found),
         Some(("canon", _)) => Ok(Asked::Canon),
-        _ => Err(or_memory(wanted_subcommand(alloc))),
+        _ => Err(or_memory(wrong_words(
+            alloc,
+            ErrorKind::MissingSubcommand,
+            "a subcommand is wanted",
+        ))),
     }
+}
+
+/// What to tell of words that aren't UTF-8.
+pub(crate) fn no_text(alloc: Global) -> Error {
+    or_memory(wrong_words(
+        alloc,
+        ErrorKind::ValueValidation,
+        "the words have to be UTF-8",
+    ))
 }
 
 /// What the words ask for; or what to tell of them: help, the version, or what is wrong with them.
@@ -105,49 +119,76 @@ pub(crate) fn read_words<'a>(alloc: Global, words: &'a [String]) -> Result<Asked
 }
 
 /// The exit status where the words ask for nothing to do: 0 for help and the version, 1 where memory ran out, 2 for wrong words.
-pub(crate) fn words_status(error: &Error) -> u8 {
+pub(crate) fn error_code(error: &Error) -> u8 {
     match error.kind() {
         ErrorKind::OutOfMemory => FAILED,
         _ => error.exit_code() as u8,
     }
 }
 
-fn numbers(alloc: Global, found: &ArgMatches<'_>) -> Result<Vec<u32>, AllocError> {
-    let mut numbers = Vec::new(alloc);
-    for text in found.get_strs("n").unwrap_or(&[]) {
-        // clap has read each of them
-        if let Ok(number) = text.parse::<u32>() {
-            numbers.push(number)?;
+/// Whether a number that clap has read is written as this program writes it: in digits, without a sign and without zeros in front.
+fn is_plain(text: &str) -> bool {
+    text.as_bytes().iter().all(|byte| byte.is_ascii_digit())
+        && (text == "0" || !text.starts_with('0'))
+}
+
+/// Whether the numbers of these options are.
+fn are_plain(found: &ArgMatches<'_>, names: &[&str]) -> bool {
+    for name in names {
+        if !is_plain(found.get_str(*name).unwrap_or("")) {
+            return false;
         }
     }
-    Ok(numbers)
+    true
+}
+
+/// The numbers behind `plural`; none where one is written otherwise. clap has read each of them.
+fn numbers(alloc: Global, found: &ArgMatches<'_>) -> Result<Option<Vec<u32>>, AllocError> {
+    let mut numbers = Vec::new(alloc);
+    for text in found.get_strs("n").unwrap_or(&[]) {
+        match text.parse::<u32>() {
+            Ok(number) if is_plain(*text) => numbers.push(number)?,
+            _ => return Ok(None),
+        }
+    }
+    Ok(Some(numbers))
 }
 
 fn plural_options<'a>(alloc: Global, found: &ArgMatches<'a>) -> Result<Asked<'a>, Error> {
-    let numbers = numbers(alloc, found)?;
-    Ok(Asked::Plural(Plural {
-        value: found.get_str("value").unwrap_or(""),
-        numbers,
-    }))
+    match numbers(alloc, found)? {
+        Some(numbers) => Ok(Asked::Plural(Plural {
+            value: found.get_str("value").unwrap_or(""),
+            numbers,
+        })),
+        None => Err(or_memory(wrong_value(command_of(alloc, PLURAL), "office plural", NO_NUMBER))),
+    }
 }
 
 /// The options of `serve`; clap has read each number.
-fn serve_options<'a>(found: &ArgMatches<'a>) -> Serve<'a> {
-    Serve {
+fn serve_options<'a>(alloc: Global, found: &ArgMatches<'a>) -> Result<Asked<'a>, Error> {
+    if !are_plain(found, &["port", "connections"]) {
+        return Err(or_memory(wrong_value(command_of(alloc, SERVE), "office serve", NO_NUMBER)));
+    }
+    Ok(Asked::Serve(Serve {
         store: found.get_str("store").unwrap_or(""),
         port: found.get_one("port").unwrap_or(0),
         connections: found.get_one("connections").unwrap_or(0),
-    }
+    }))
 }
 
 /// The options of `send`; clap has read each number.
-fn send_options<'a>(found: &ArgMatches<'a>) -> SendFile<'a> {
-    SendFile {
+fn send_options<'a>(alloc: Global, found: &ArgMatches<'a>) -> Result<Asked<'a>, Error> {
+    if !are_plain(found, &["port", "tries"]) {
+        return Err(or_memory(wrong_value(command_of(alloc, SEND), "office send", NO_NUMBER)));
+    }
+    Ok(Asked::Send(SendFile {
         port: found.get_one("port").unwrap_or(0),
         file: found.get_str("file").unwrap_or(""),
         tries: found.get_one("tries").unwrap_or(0),
-    }
+    }))
 }
+
+const NO_NUMBER: &str = "a number is written in digits, without a sign and without zeros in front";
 
 const NO_NAME: &str =
     "a NAME is 1 to 32 bytes of a-z, 0-9, `.`, `-` and `_`, the first of them a letter";

@@ -3,8 +3,9 @@ ghost use Rattle.std.specs.Prelude.{◌≡◌, false};
 
 use crate::serve::serve_opened;
 use crate::words::Serve;
+use crate::{DONE, second_output};
 use commands::{FAILED, Input, Output};
-use file_commands::{Closed, deliver_store, export_store, init_store};
+use file_commands::{Closed, deliver_store, export_store, init_store, say_ready};
 use sqlite::{Alter, Connection};
 use std::io::BufWriter;
 use std::rt::HostRuntime;
@@ -31,6 +32,14 @@ impl Work<'_> {
     }
 }
 
+/// Says what is said once the file is closed, behind work that came to this status: of a new office, that it is ready.
+pub(crate) fn told_closed(rt: &HostRuntime, work: Work<'_>, status: u8) -> u8 {
+    match work {
+        Work::Make(_) if status == DONE => say_ready(&mut Output::new(rt.stdout())),
+        _ => status,
+    }
+}
+
 /// Does the work.
 pub(crate) fn done<S: Alter + Drop>(
     rt: &HostRuntime,
@@ -50,13 +59,7 @@ pub(crate) fn done<S: Alter + Drop>(
 fn make<S: Alter + Drop>(rt: &HostRuntime, connection: Connection<S>, start: &Start) -> Closed<S>
     requires { connection.in_transaction ≡ false }
 {
-    init_store(
-        rt.alloc(),
-        connection,
-        start,
-        &mut Output::new(rt.stdout()),
-        &mut Output::new(rt.stderr()),
-    )
+    init_store(rt.alloc(), connection, start, &mut second_output(rt))
 }
 
 fn deliver<S: Alter + Drop>(
@@ -72,7 +75,7 @@ fn deliver<S: Alter + Drop>(
             connection,
             &mut Input::new(rt.stdin()),
             &mut Output::new(buffer),
-            &mut Output::new(rt.stderr()),
+            &mut second_output(rt),
             export,
         ),
         Err(_) => Closed {
@@ -91,7 +94,7 @@ fn export<S: Alter + Drop>(rt: &HostRuntime, connection: Connection<S>, lang: &L
             connection,
             lang,
             &mut Output::new(buffer),
-            &mut Output::new(rt.stderr()),
+            &mut second_output(rt),
         ),
         Err(_) => Closed {
             status: FAILED,

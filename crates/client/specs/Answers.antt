@@ -1,8 +1,10 @@
 -- An answer of HTTP that is a reply: one whole response (RFC 9112), with the status of a reply, whose header says that its body has the length
--- that it has. Anything else says nothing of the request. This project's own rule.
-use Rattle.std.specs.Prelude.{◌≡◌, ◌≤◌, ◌&&◌, ◌||◌, ◌==◌, not, ℕ, Bool, true, List, [], ◌∷◌, length, map, codes, decimal, IsUtf8}
+-- that it has, and whose body has no control character: the JSON of a reply has none. Anything else says nothing of the request. This project's
+-- own rule.
+use Rattle.std.specs.Prelude.{◌≡◌, ◌≤◌, ◌&&◌, ◌||◌, ◌==◌, not, ℕ, Bool, true, false, List, [], ◌∷◌, length, map, codes, decimal, IsUtf8}
 use Rattle.std.specs.List.{list_any}
-use Rattle.std.specs.Char.{to_ascii_lowercase}
+use Rattle.std.specs.Char.{to_ascii_lowercase, is_control}
+use Rattle.std.specs.Str.{chars}
 use Rattle.httparse.specs.Grammar.{ResponseHead, ReadsResponse, status_code}
 use Rattle.httparse.specs.Spans.{name_and_value}
 use Rattle.po_read.specs.Texts.{Text, text_eq}
@@ -33,6 +35,12 @@ lines_say digits lines = list_any is_length lines && not (list_any (is_other dig
 abbrev pub says_length : ℕ → List Line → Bool
 says_length n lines = lines_say (decimal n) lines
 
+-- ---- bodies
+
+-- a character that a terminal may take for an order: U+0000 to U+001F, U+007F to U+009F
+abbrev pub has_control : Text → Bool
+has_control text = list_any is_control (chars text)
+
 -- ---- replies
 
 abbrev pub is_reply_status : ℕ → Bool
@@ -44,6 +52,7 @@ pub record IsReplyBehind (head : ResponseHead) (reply : Reply) : Type 0 where
   pub is_one : is_reply_status (status_code head) ≡ true
   pub length : says_length (length reply.body) (map name_and_value head.fields) ≡ true
   pub text : IsUtf8 reply.body
+  pub plain : has_control reply.body ≡ false
 
 -- a head of at most 32 lines, and the reply's body behind it
 pub record IsReplyIn (answer : List ℕ) (reply : Reply) : Type 0 where

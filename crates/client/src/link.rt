@@ -3,6 +3,7 @@
 ghost use Rattle.std.specs.Prelude.{◌≡◌, ◌∷◌, [], List, Option, Some, None, OnOk, OnErr};
 ghost use Rattle.client.specs.Talks.{Said, said_behind};
 
+use std::time::Duration;
 use thiserror::Error;
 
 /// Why no answer came back.
@@ -39,4 +40,8 @@ pub trait Link {
             ≡ said_behind (said self.old) (record { message = message.now; answer = Some answer.new.items } ∷ [])) }
         ensures lost { OnErr result (said self.new
             ≡ said_behind (said self.old) (record { message = message.now; answer = None } ∷ [])) };
+
+    /// Lets so much time pass, in which nothing is said.
+    fn pause(&mut self, time: Duration)
+        ensures silent { said self.new ≡ said self.old };
 }

@@ -11,11 +11,20 @@ use crate::messages::message;
 use request_book::{Reply, Request};
 use sender::Sender;
 use std::alloc::Global;
+use std::time::Duration;
 use units::Memory;
+
+/// How many milliseconds are waited behind a round in which no reply came; twice as many behind the next such round.
+const FIRST_PAUSE: u64 = 100;
+
+/// How many are waited at most.
+const GREATEST_PAUSE: u64 = 2_000;
 
 /// Sends a sender's requests over a link, each at most so many times, until all replies are held or nothing more may be sent: in rounds through
 /// the list, in its order, each request that is ready when its turn comes. An answer that isn't a reply is lost, and so is a request for which
 /// memory is wanting, or an answer. `requests` are those that the sender was made of.
+///
+/// Between a round in which no reply came and the next, the link pauses: 100 ms at first, twice as long each time, up to 2 s.
 ///
 /// `Memory` where a growth was refused before the first message: nothing was sent then.
 pub fn send_all<L: Link>(
@@ -35,7 +44,7 @@ pub fn send_all<L: Link>(
     Ok(())
 }
 
-/// Rounds, until one sends nothing.
+/// Rounds, until nothing more may be sent, with a pause behind each in which no reply came.
 fn send_rounds<L: Link>(
     alloc: Global,
     sender: &mut Sender,
@@ -45,14 +54,38 @@ fn send_rounds<L: Link>(
 )
     ensures { requests_of sender.old ≡ requests.now → Talked (IsPaid left.old left.new) (L.said link.old) (L.said link.new) sender.old sender.new }
 {
+    let mut pause = FIRST_PAUSE;
     for _round in 0..u64::MAX {
-        if !send_round(alloc, sender, requests, link, left) {
+        let is_answered = send_round(alloc, sender, requests, link, left);
+        if !has_try(sender, left) {
             return;
         }
+        pause = rest(link, is_answered, pause);
     }
 }
 
-/// Sends each request that is ready when its turn comes and has tries left. Tells whether there was one.
+/// Pauses behind a round in which no reply came, so many milliseconds. Answers how many behind the next one.
+fn rest<L: Link>(link: &mut L, is_answered: bool, pause: u64) -> u64
+    ensures silent { L.said link.new ≡ L.said link.old }
+{
+    if is_answered {
+        return FIRST_PAUSE;
+    }
+    link.pause(Duration::from_millis(pause));
+    pause.saturating_mul(2).min(GREATEST_PAUSE)
+}
+
+/// Whether a request is ready and has a try left.
+fn has_try(sender: &Sender, left: &[u32]) -> bool {
+    for (place, tries) in left.iter().enumerate() {
+        if *tries > 0 && sender.ready(place) {
+            return true;
+        }
+    }
+    false
+}
+
+/// Sends each request that is ready when its turn comes and has tries left. Tells whether a reply came.
 fn send_round<L: Link>(
     alloc: Global,
     sender: &mut Sender,
@@ -62,15 +95,14 @@ fn send_round<L: Link>(
 ) -> bool
     ensures { requests_of sender.old ≡ requests.now → Talked (IsPaid left.old left.new) (L.said link.old) (L.said link.new) sender.old sender.new }
 {
-    let mut is_sent = false;
+    let mut is_answered = false;
     for (place, request) in requests.iter().enumerate() {
         if !takes_try(sender, left, place) {
             continue;
         }
-        send_one(alloc, sender, request, link);
-        is_sent = true;
+        is_answered = send_one(alloc, sender, request, link) || is_answered;
     }
-    is_sent
+    is_answered
 }
 
 /// Whether the request at this place is ready and has a try left, which is taken.
@@ -86,18 +118,21 @@ fn takes_try(sender: &Sender, left: &mut [u32], place: usize) -> bool
     true
 }
 
-/// Sends a request once, and has the sender hear the reply, if one comes.
-fn send_one<L: Link>(alloc: Global, sender: &mut Sender, request: &Request, link: &mut L)
+/// Sends a request once, and has the sender hear the reply, if one comes. Tells whether one did.
+fn send_one<L: Link>(alloc: Global, sender: &mut Sender, request: &Request, link: &mut L) -> bool
     ensures { Sent request.now (L.said link.old) (L.said link.new) sender.old sender.new }
 {
     let Ok(text) = message(alloc, request) else {
-        return;
+        return false;
     };
     let reply = exchanged(alloc, link, text.as_str().as_bytes());
     drop(text);
     match reply {
-        Some(reply) => sender.on_reply(request.number, reply),
-        None => {}
+        Some(reply) => {
+            sender.on_reply(request.number, reply);
+            true
+        }
+        None => false,
     }
 }
 

@@ -1,16 +1,18 @@
 -- What an export says of tables that are as they were.
-use Rattle.std.proofs.Common.{◌≡◌, ◌⊎◌, ℕ, List, [], Option, Some, sym, ap, subst, ◌∙◌}
+use Rattle.std.proofs.Common.{◌≡◌, ℕ, List, [], append-nil, Option, sym, subst, ◌∙◌}
 use Rattle.std.specs.Prelude.{IsSomeAnd}
 use Rattle.po_read.specs.Texts.{Text}
 use Rattle.units.specs.Office.{Office}
-use Rattle.units.specs.Streams.{Took}
+use Rattle.units.specs.Streams.{Took, TookBeginning, RoseOrStands}
+use Rattle.units.proofs.Taking.{append_known-nil, took_then_beginning}
+use Rattle.po_write.specs.Sending.{TookAll, TookPart}
 use Rattle.request_book.specs.Book.{OfficeWithBook}
 use Rattle.deliveries.specs.ExportText.{export_text}
 use Rattle.office.specs.declared.export.ExportReceipt.{ExportReceipt}
-use Rattle.office.specs.declared.faults.ExportFault.{ExportFault}
-use Rattle.office.specs.Exports.{WasExported, WasCut}
-use Rattle.commands.specs.Writers.{Writer, TakesAll, TakesPart}
-use Rattle.commands.specs.ExportLines.{EndedWithFault, export_fault_line}
+use Rattle.office.specs.declared.faults.ExportFault.TheVariants.{Device}
+use Rattle.office.specs.Exports.{WasExported, WasCut, Failed}
+use Rattle.commands.specs.Writers.{Writer}
+use Rattle.commands.specs.ExportLines.{Printed, printed, untold, ended, IsToldBehind, whole, broken, held}
 
 -- behind a receipt the tables are whole, so their office is the one that was exported
 pub still_exported : (Honest Whole : Type 0) (before after : OfficeWithBook) (lang : Text) (t0 t1 : Option (List ℕ)) (receipt : ExportReceipt) →
@@ -25,13 +27,36 @@ text_taken text t0 t1 receipt exported =
     let P : Option (List ℕ) → Type 0 = λ t. IsSomeAnd t (Took t0 t1) in
     subst P (sym exported.is) exported.taken
 
-pub fault_told : {Honest Whole : Type 0} {lang : Text} {w0 w1 e0 e1 : Writer} (before after : OfficeWithBook) (fault : ExportFault) →
-    (Honest → Whole → after ≡ before) → (Honest → WasCut (export_text before.office lang) w0.taken w1.taken w0.failed w1.failed fault) →
-    TakesAll e0 e1 (export_fault_line fault) ⊎ TakesPart e0 e1 (export_fault_line fault) → EndedWithFault Honest Whole after.office lang w0 w1 e0 e1
-fault_told before after fault same cut told = record {
-  fault = fault;
-  meant = before.office;
-  same = λ h w. sym (ap (λ (m : OfficeWithBook). m.office) (same h w));
-  cut = cut;
-  told = told;
-}
+-- behind a text that was handed on
+handed_on : (text : Option (List ℕ)) (t0 t1 t2 : Option (List ℕ)) (f1 f2 : ℕ) (receipt : ExportReceipt) → WasExported text t0 t1 receipt → TookAll t1 t2 f1 f2 [] → WasExported text t0 t2 receipt
+handed_on text t0 t1 t2 f1 f2 receipt exported all =
+    let P : Option (List ℕ) → Type 0 = λ t. WasExported text t0 t receipt in
+    subst P (sym (all.taken ∙ append_known-nil t1)) exported
+
+-- behind one that wasn't, or not all of it
+held_back : (text : Option (List ℕ)) (t0 t1 t2 : Option (List ℕ)) (f0 f1 f2 : ℕ) (receipt : ExportReceipt) → WasExported text t0 t1 receipt → f1 ≡ f0 → TookPart t1 t2 f1 f2 [] →
+    WasCut text t0 t2 f0 f2 Device
+held_back text t0 t1 t2 f0 f1 f2 receipt exported same part =
+    let P : Option (List ℕ) → Type 0 = λ t. IsSomeAnd t (Failed t0 t2 f0 f2) in
+    let B : List ℕ → Type 0 = λ whole. TookBeginning t0 t2 whole in
+    let R : ℕ → Type 0 = λ f. RoseOrStands f f2 in
+    subst P (sym exported.is) (record {
+      beginning = subst B (append-nil exported.whole) (took_then_beginning t0 t1 t2 exported.whole [] exported.taken part.beginning);
+      count = subst R same part.count;
+    })
+
+pub receipt_told : {Honest : Type 0} {office : Office} {lang : Text} {w0 w1 w2 e0 e1 : Writer} (receipt : ExportReceipt) (status : ℕ) →
+    (Honest → WasExported (export_text office lang) w0.taken w1.taken receipt) → (Honest → w1.failed ≡ w0.failed) → IsToldBehind w1 w2 e0 e1 receipt status →
+    Printed Honest office lang w0 w2 e0 e1 status
+receipt_told {office = office} {lang = lang} {w0} {w1} {w2} receipt status exported count (whole all told is) =
+    printed receipt (λ h. handed_on (export_text office lang) w0.taken w1.taken w2.taken w1.failed w2.failed receipt (exported h) all) told is
+receipt_told {office = office} {lang = lang} {w0} {w1} {w2} receipt status exported count (broken all told is) =
+    untold receipt (λ h. handed_on (export_text office lang) w0.taken w1.taken w2.taken w1.failed w2.failed receipt (exported h) all) told is
+receipt_told {office = office} {lang = lang} {w0} {w1} {w2} receipt status exported count (held part told is) =
+    ended
+    (record {
+      fault = Device;
+      cut = λ h. held_back (export_text office lang) w0.taken w1.taken w2.taken w0.failed w1.failed w2.failed receipt (exported h) (count h) part;
+      told = told;
+    })
+    is

@@ -49,8 +49,9 @@ pub data Exported (Honest Whole : Type 0) (office : Office) (lang : Option Text)
   written : (named : Text) → lang ≡ Some named → (Honest → IsSomeAnd (export_text office named) (Took out_old.taken out_new.taken))
       → TakesAll faults_old faults_new [] → status ≡ 0
       → Exported Honest Whole office lang out_old out_new faults_old faults_new status
-  -- or there is a fault.
-  faulted : (named : Text) → lang ≡ Some named → EndedWithFault Honest Whole office named out_old out_new faults_old faults_new → status ≡ 1
+  -- or there is a fault, which may have shut the store: then the office is that before.
+  faulted : (named : Text) → lang ≡ Some named → (meant : Office) → (Honest → Whole → meant ≡ office)
+      → EndedWithFault Honest meant named out_old out_new faults_old faults_new → status ≡ 1
       → Exported Honest Whole office lang out_old out_new faults_old faults_new status
 
 -- ---- the whole
@@ -70,18 +71,18 @@ abbrev pub HoldsBack : Writer → Writer → Type 0
 HoldsBack old new = TakesPart old new []
 
 -- What came of a text, at the desk, on the outputs and in the exit status:
-pub data Delivered (Honest Whole : Type 0) (before after : OfficeWithBook) (lang : Option Text) (text : List ℕ) (reads_failed_old reads_failed_new : ℕ)
+pub data Delivered (Honest Whole Gone : Type 0) (before after : OfficeWithBook) (lang : Option Text) (text : List ℕ) (reads_failed_old reads_failed_new : ℕ)
     (replies_old replies_new faults_old faults_new : Writer) (status : ℕ) : Type 0 where
   -- each line was answered, and the language exported behind the answers;
-  done : AllAnswered (HasDelivered Honest Whole before after)
+  done : AllAnswered (HasDelivered Honest Whole Gone before after)
       (TookBehind (λ old new. Exported Honest Whole after.office lang old new faults_old faults_new status) HandsOn replies_old replies_new) text
-      → Delivered Honest Whole before after lang text reads_failed_old reads_failed_new replies_old replies_new faults_old faults_new status
+      → Delivered Honest Whole Gone before after lang text reads_failed_old reads_failed_new replies_old replies_new faults_old faults_new status
   -- or the writer held back some of that;
-  held : (exit : ℕ) → AllAnswered (HasDelivered Honest Whole before after)
+  held : (exit : ℕ) → AllAnswered (HasDelivered Honest Whole Gone before after)
       (TookBehind (λ old new. Exported Honest Whole after.office lang old new faults_old faults_new exit) HoldsBack replies_old replies_new) text
       → status ≡ 1
-      → Delivered Honest Whole before after lang text reads_failed_old reads_failed_new replies_old replies_new faults_old faults_new status
+      → Delivered Honest Whole Gone before after lang text reads_failed_old reads_failed_new replies_old replies_new faults_old faults_new status
   -- or a stream failed behind the first lines.
-  stopped : SomeAnswered (HasDelivered Honest Whole before after) (Stopped text reads_failed_old reads_failed_new replies_old replies_new) text
+  stopped : SomeAnswered (HasDelivered Honest Whole Gone before after) (Stopped text reads_failed_old reads_failed_new replies_old replies_new) text
       → TakesAll faults_old faults_new [] → status ≡ 1
-      → Delivered Honest Whole before after lang text reads_failed_old reads_failed_new replies_old replies_new faults_old faults_new status
+      → Delivered Honest Whole Gone before after lang text reads_failed_old reads_failed_new replies_old replies_new faults_old faults_new status

@@ -1,12 +1,13 @@
 -- What an export writes, and what it tells on the second output. This project's own rule. The text is that of the language's catalogue
 -- in canonical form (GNU gettext manual, "The Format of PO Files").
-use Rattle.std.specs.Prelude.{◌≡◌, ◌⊎◌, ℕ, List, ◌++◌, codes, decimal}
+use Rattle.std.specs.Prelude.{◌≡◌, ◌⊎◌, ℕ, List, [], ◌++◌, codes, decimal}
 use Rattle.hex.specs.Hex.{encode_lower}
 use Rattle.po_read.specs.Texts.{Text}
 use Rattle.units.specs.Office.{Office}
 use Rattle.deliveries.specs.ExportText.{export_text}
 use Rattle.office.specs.declared.export.ExportReceipt.{ExportReceipt}
 use Rattle.office.specs.declared.faults.ExportFault.{ExportFault}
+use Rattle.office.specs.declared.faults.ExportFault.TheVariants.{Device}
 use Rattle.office.specs.Exports.{WasExported, WasCut}
 use Rattle.office.specs.Faults.{export_fault_number}
 use Rattle.commands.specs.Writers.{Writer, TakesAll, TakesPart}
@@ -19,22 +20,29 @@ export_fault_line fault = codes "export fault " ++ (decimal (export_fault_number
 abbrev pub receipt_line : ExportReceipt → List ℕ
 receipt_line receipt = codes "bytes " ++ (decimal receipt.bytes ++ (codes " sha256 " ++ (encode_lower receipt.sha256 ++ codes "\n")))
 
--- The export ended with a fault, which says what was written, of an office that the tables mean while they are whole. The fault is told.
-pub record EndedWithFault (Honest Whole : Type 0) (office : Office) (lang : Text) (out_old out_new faults_old faults_new : Writer) : Type 0 where
+-- The export of an office ended with a fault, which says what was written. The fault is told.
+pub record EndedWithFault (Honest : Type 0) (office : Office) (lang : Text) (out_old out_new faults_old faults_new : Writer) : Type 0 where
   pub fault : ExportFault
-  pub meant : Office
-  pub same : Honest → Whole → meant ≡ office
-  pub cut : Honest → WasCut (export_text meant lang) out_old.taken out_new.taken out_old.failed out_new.failed fault
+  pub cut : Honest → WasCut (export_text office lang) out_old.taken out_new.taken out_old.failed out_new.failed fault
   pub told : TakesAll faults_old faults_new (export_fault_line fault) ⊎ TakesPart faults_old faults_new (export_fault_line fault)
 
--- What came of an export, on the two outputs and in the exit status: the text of the language, and its receipt told, or only a
+-- What came of the export of an office, on the two outputs and in the exit status: the text of the language, and its receipt told, or only a
 -- beginning of that; or a fault.
-pub data Printed (Honest Whole : Type 0) (office : Office) (lang : Text) (out_old out_new faults_old faults_new : Writer) (status : ℕ) : Type 0 where
+pub data Printed (Honest : Type 0) (office : Office) (lang : Text) (out_old out_new faults_old faults_new : Writer) (status : ℕ) : Type 0 where
   printed : (receipt : ExportReceipt) → (Honest → WasExported (export_text office lang) out_old.taken out_new.taken receipt)
       → TakesAll faults_old faults_new (receipt_line receipt) → status ≡ 0
-      → Printed Honest Whole office lang out_old out_new faults_old faults_new status
+      → Printed Honest office lang out_old out_new faults_old faults_new status
   untold : (receipt : ExportReceipt) → (Honest → WasExported (export_text office lang) out_old.taken out_new.taken receipt)
       → TakesPart faults_old faults_new (receipt_line receipt) → status ≡ 1
-      → Printed Honest Whole office lang out_old out_new faults_old faults_new status
-  ended : EndedWithFault Honest Whole office lang out_old out_new faults_old faults_new → status ≡ 1
-      → Printed Honest Whole office lang out_old out_new faults_old faults_new status
+      → Printed Honest office lang out_old out_new faults_old faults_new status
+  ended : EndedWithFault Honest office lang out_old out_new faults_old faults_new → status ≡ 1
+      → Printed Honest office lang out_old out_new faults_old faults_new status
+
+-- What is told behind a text that the writer took: its receipt, where all of it was handed on, or that the writer failed.
+pub data IsToldBehind (out_old out_new faults_old faults_new : Writer) (receipt : ExportReceipt) (status : ℕ) : Type 0 where
+  whole : TakesAll out_old out_new [] → TakesAll faults_old faults_new (receipt_line receipt) → status ≡ 0
+      → IsToldBehind out_old out_new faults_old faults_new receipt status
+  broken : TakesAll out_old out_new [] → TakesPart faults_old faults_new (receipt_line receipt) → status ≡ 1
+      → IsToldBehind out_old out_new faults_old faults_new receipt status
+  held : TakesPart out_old out_new [] → TakesAll faults_old faults_new (export_fault_line Device) ⊎ TakesPart faults_old faults_new (export_fault_line Device) → status ≡ 1
+      → IsToldBehind out_old out_new faults_old faults_new receipt status

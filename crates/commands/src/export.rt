@@ -1,9 +1,9 @@
 //! The PO text of a language, and what is told of it on the second output.
-ghost use Rattle.std.specs.Prelude.{◌≡◌, ◌≤◌, ◌⊎◌, [], option_map};
+ghost use Rattle.std.specs.Prelude.{◌≡◌, ◌≤◌, ◌⊎◌, [], option_map, true};
 ghost use Rattle.hex.specs.Hex.{encode_lower};
 ghost use Rattle.po_write.specs.Sending.{Sends};
 ghost use Rattle.commands.specs.Writers.{writer_at, TakesAll, TakesPart};
-ghost use Rattle.commands.specs.ExportLines.{export_fault_line, receipt_line, Printed};
+ghost use Rattle.commands.specs.ExportLines.{export_fault_line, receipt_line, Printed, IsToldBehind};
 ghost use Rattle.commands.specs.DeliverLines.{Exported};
 
 use crate::numbers::send_number;
@@ -57,6 +57,7 @@ pub(crate) fn export_named<T: Tables, W: ByteSink, E: ByteSink>(
     ensures honest { T.is_honest desk.new → T.is_honest desk.old }
     ensures whole { T.is_honest desk.new → T.is_whole desk.new → T.is_whole desk.old }
     ensures same { T.is_honest desk.new → T.is_whole desk.new → T.means desk.new ≡ T.means desk.old }
+    ensures stopped { T.is_stopped desk.old ≡ true → T.is_stopped desk.new ≡ true }
 {
     match lang {
         None => DONE,
@@ -88,17 +89,32 @@ fn send_receipt<E: ByteSink>(e: &mut E, receipt: ExportReceipt) -> Result<(), Si
     send(e, b"\n")
 }
 
-/// Prints the PO text of a language, and then a line `bytes B sha256 H` on the second output, its length and its SHA-256 digest in
-/// lower case; or, where the export failed, a line `export fault K` there.
+/// Hands on what the writer holds back of a text, and then writes the line of its receipt; or tells that the writer failed.
+fn tell_written<W: ByteSink, E: ByteSink>(w: &mut W, e: &mut E, receipt: ExportReceipt) -> u8
+    ensures told { IsToldBehind (writer_at W.taken W.failed w.old) (writer_at W.taken W.failed w.new)
+        (writer_at E.taken E.failed e.old) (writer_at E.taken E.failed e.new) receipt result }
+    ensures status { result ≤ 1 }
+{
+    match flush(w) {
+        Ok(()) => match send_receipt(e, receipt) {
+            Ok(()) => DONE,
+            Err(_) => FAILED,
+        },
+        Err(_) => tell_fault(e, ExportFault::Device),
+    }
+}
+
+/// Prints the PO text of a language, hands on what the writer holds back, and then prints a line `bytes B sha256 H` on the second output, the
+/// text's length and its SHA-256 digest in lower case; or, where the export failed or the writer did, a line `export fault K` there.
 ///
-/// Answers the exit status: 0, or 1 where the export or a stream failed. What the writer holds back stays with it.
+/// Answers the exit status: 0, or 1 where the export or a stream failed.
 pub fn export_text<T: Tables, W: ByteSink, E: ByteSink>(
     desk: &mut Desk<T>,
     lang: &Lang,
     w: &mut W,
     e: &mut E,
 ) -> u8
-    ensures printed { Printed (T.is_honest desk.new) (T.is_whole desk.new) (T.means desk.new).office lang.now
+    ensures printed { Printed (T.is_honest desk.new) (T.means desk.old).office lang.now
         (writer_at W.taken W.failed w.old) (writer_at W.taken W.failed w.new) (writer_at E.taken E.failed e.old) (writer_at E.taken E.failed e.new) result }
     ensures status { result ≤ 1 }
     // The tables are as they were.
@@ -107,10 +123,7 @@ pub fn export_text<T: Tables, W: ByteSink, E: ByteSink>(
     ensures same { T.is_honest desk.new → T.is_whole desk.new → T.means desk.new ≡ T.means desk.old }
 {
     match desk.export(lang, w) {
-        Ok(receipt) => match send_receipt(e, receipt) {
-            Ok(()) => DONE,
-            Err(_) => FAILED,
-        },
+        Ok(receipt) => tell_written(w, e, receipt),
         Err(fault) => tell_fault(e, fault),
     }
 }

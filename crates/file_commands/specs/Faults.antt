@@ -1,13 +1,13 @@
 -- What is told where an office's tables can't be had. This project's own rule; the faults are numbered as `open_fault_number` says.
 use Rattle.std.specs.Prelude.{◌⊎◌, ℕ, List, codes}
-use Rattle.store_sql.specs.declared.faults.OpenFault.{OpenFault}
-use Rattle.store_sql.specs.declared.faults.OpenFault.TheVariants.{Memory, Disk, Foreign, Exists}
+use Rattle.office_adoption.specs.declared.faults.OpenFault.{OpenFault}
+use Rattle.office_adoption.specs.declared.faults.OpenFault.TheVariants.{Memory, Disk, Foreign, Exists}
 use Rattle.commands.specs.Writers.{Writer, TakesAll, TakesPart}
 
 abbrev pub store_fault_line : OpenFault → List ℕ
 store_fault_line Memory = codes "store fault 1\n"
 store_fault_line Disk = codes "store fault 2\n"
-store_fault_line Foreign = codes "store fault 3\n"
+store_fault_line (Foreign why) = codes "store fault 3\n"
 store_fault_line Exists = codes "store: exists\n"
 
 -- the line was written, or a write failed behind a beginning of it

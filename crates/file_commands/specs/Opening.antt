@@ -7,9 +7,9 @@ use Rattle.sqlite_trees.specs.declared.store.Store as store
 use Rattle.request_book.specs.Book.{OfficeWithBook}
 use Rattle.office_in_rows.specs.Meaning.{meaning_in}
 use Rattle.office_adoption.specs.Adoption.{IsAdopted, Refuses, StaysAsItWas}
-use Rattle.office_adoption.specs.declared.faults.AdoptionFault.{AdoptionFault}
-use Rattle.store_sql.specs.declared.faults.OpenFault.{OpenFault}
-use Rattle.store_sql.specs.Adopting.{opening_fault}
+use Rattle.office_files.specs.Files.{IsOfficeFile, IsLost}
+use Rattle.sqlite.specs.Effect.{IsDatabase}
+use Rattle.office_adoption.specs.declared.faults.OpenFault.{OpenFault}
 
 -- While the disk has returned what was written, no failure has shut the connection, its rows mean this office with its book, and a stop
 -- leaves no other.
@@ -23,9 +23,8 @@ pub record IsOpened {S : Type 0} (g : store.Ghosts S) (old opened : Held S) : Ty
   pub rows : HasCleanDisk (state g opened) → IsAdopted (state g old).now
   pub holds : Holds (state g opened) (meaning_in (state g old).now.trees)
 
--- They weren't, or it couldn't be found out; the rows are as they were.
+-- They weren't, or it couldn't be found out; the rows are as they were. An office's file is refused for want of memory or a failed disk alone.
 pub record IsUnopened {S : Type 0} (g : store.Ghosts S) (old new : Held S) (fault : OpenFault) : Type 0 where
-  pub cause : AdoptionFault
-  pub is : fault ≡ opening_fault cause
-  pub why : HasCleanDisk (state g new) → Refuses (state g old).now cause
+  pub why : HasCleanDisk (state g new) → Refuses (state g old).now fault
+  pub again : HasCleanDisk (state g new) → IsDatabase (state g old).now → IsOfficeFile (state g old).now.trees → IsLost fault
   pub same : StaysAsItWas (state g old) (state g new)

@@ -30,7 +30,7 @@ fn send_store_fault<E: ByteSink>(e: &mut E, fault: OpenFault) -> Result<(), Sink
     match fault {
         OpenFault::Memory => send_line(e, b"store fault 1\n"),
         OpenFault::Disk => send_line(e, b"store fault 2\n"),
-        OpenFault::Foreign => send_line(e, b"store fault 3\n"),
+        OpenFault::Foreign(_) => send_line(e, b"store fault 3\n"),
         OpenFault::Exists => send_line(e, b"store: exists\n"),
     }
 }

@@ -15,9 +15,9 @@ use units::ByteSink;
 /// Exit status of a run that did what it was asked for.
 const DONE: u8 = 0;
 
-/// Says that the office is there, and answers the exit status.
-fn say_ready<W: ByteSink>(w: &mut W) -> u8
-    ensures { Said (writer_at W.taken W.failed w.old) (writer_at W.taken W.failed w.new) result }
+/// Prints `ready`, for an office that was made and whose file is closed. Answers the exit status: 0, or 1 after a failed write.
+pub fn say_ready<W: ByteSink>(w: &mut W) -> u8
+    ensures said { Said (writer_at W.taken W.failed w.old) (writer_at W.taken W.failed w.new) result }
 {
     match send_line(w, b"ready\n") {
         Ok(()) => DONE,
@@ -25,26 +25,24 @@ fn say_ready<W: ByteSink>(w: &mut W) -> u8
     }
 }
 
-/// Makes the office of a start in a database that has nothing in it, and prints `ready`; or, where that fails, a line `store fault K` on
-/// the second output, or `store: exists` where an office is there already. Then no table is made: the rows are as before.
+/// Makes the office of a start in a database that has nothing in it; or, where that fails, writes a line `store fault K` on the second
+/// output, or `store: exists` where an office is there already. Then no table is made: the rows are as before.
 ///
-/// Answers the exit status, 0, or 1 after a fault or a failed write; and the connection.
-pub fn init_store<S: Alter + Drop, W: ByteSink, E: ByteSink>(
+/// Answers the exit status, 0, or 1 after a fault; and the connection, which the caller closes before it says that the office is ready.
+pub fn init_store<S: Alter + Drop, E: ByteSink>(
     alloc: Global,
     connection: Connection<S>,
     start: &Start,
-    w: &mut W,
     e: &mut E,
 ) -> Closed<S>
     requires autocommit { connection.in_transaction ≡ false }
     ensures initialised { Initialised S.Store start.now connection result.connection
-        (writer_at W.taken W.failed w.old) (writer_at W.taken W.failed w.new)
         (writer_at E.taken E.failed e.old) (writer_at E.taken E.failed e.new) result.status }
     ensures between { result.connection.in_transaction ≡ false }
 {
     match SqliteTables::create(connection, alloc, start) {
         Ok(tables) => Closed {
-            status: say_ready(w),
+            status: DONE,
             connection: tables.into_connection(),
         },
         Err((fault, connection)) => Closed {

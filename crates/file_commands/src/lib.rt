@@ -8,6 +8,6 @@ mod opening;
 mod runs;
 
 pub use faults::tell_store_fault;
-pub use init::init_store;
+pub use init::{init_store, say_ready};
 pub use opening::{Closed, Unopened, open_desk};
 pub use runs::{deliver_store, export_store};

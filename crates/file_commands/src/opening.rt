@@ -24,7 +24,7 @@ pub struct Unopened<S: Alter> {
 /// The desk of the office in a database, as its rows stand.
 ///
 /// On a fault the connection is handed back with its rows as before: `Foreign` where they are no office's in the first form of its tables,
-/// with its book, `Memory` where a growth was refused, `Disk` where the disk failed.
+/// with its book, and why; `Memory` where a growth was refused, `Disk` where the disk failed.
 pub fn open_desk<S: Alter + Drop>(
     alloc: Global,
     connection: Connection<S>,
@@ -35,10 +35,7 @@ pub fn open_desk<S: Alter + Drop>(
 {
     match SqliteTables::adopt(connection, alloc) {
         Ok(tables) => Ok(Desk::new(alloc, tables)),
-        Err((fault, connection)) => Err(Unopened {
-            fault: OpenFault::from(fault),
-            connection,
-        }),
+        Err((fault, connection)) => Err(Unopened { fault, connection }),
     }
 }
 

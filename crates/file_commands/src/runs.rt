@@ -1,5 +1,5 @@
 //! `office deliver --store` and `office export --store`: work on the office in a database.
-ghost use Rattle.std.specs.Prelude.{◌≡◌, ◌≤◌, false, List, ℕ, IsTrue, IfSome, option_map};
+ghost use Rattle.std.specs.Prelude.{◌≡◌, ◌≤◌, Bool, false, true, List, ℕ, IsTrue, IfSome, option_map};
 ghost use Rattle.sqlite.specs.Held.{state};
 ghost use Rattle.sqlite.specs.State.{HasCleanDisk};
 ghost use Rattle.office_in_rows.specs.Meaning.{meaning_in};
@@ -31,10 +31,11 @@ pub fn deliver_store<S: Alter + Drop, R: ByteSource, W: ByteSink, E: ByteSink>(
     lang: Option<&Lang>,
 ) -> Closed<S>
     requires autocommit { connection.in_transaction ≡ false }
-    // What the connection's rows mean afterwards is what the lines left, behind the office that was opened.
+    // What the connection's rows mean afterwards is what the lines left, behind the office that was opened. Whether the tables were
+    // stopped isn't seen of a connection.
     ensures delivered { Ran S.Store
-        (λ opened. (text : List ℕ) × IfSome (R.left source.old) (λ all. text ≡ all)
-        × Delivered (HasCleanDisk (state S.Store result.connection)) (IsTrue (state S.Store result.connection).is_open)
+        (λ opened. (text : List ℕ) × IfSome (R.left source.old) (λ all. text ≡ all) × (stopped : Bool)
+        × Delivered (HasCleanDisk (state S.Store result.connection)) (IsTrue (state S.Store result.connection).is_open) (stopped ≡ true)
         (meaning_in (state S.Store opened).now.trees) (meaning_in (state S.Store result.connection).now.trees)
         (option_map (λ named. named.now) lang.entry) text (R.failed source.old) (R.failed source.new)
         (writer_at W.taken W.failed replies.old) (writer_at W.taken W.failed replies.new)
@@ -66,7 +67,7 @@ fn export_whole<T: Tables, W: ByteSink, E: ByteSink>(
     w: &mut W,
     e: &mut E,
 ) -> u8
-    ensures printed { Finished (λ old new exit. Printed (T.is_honest desk.new) (T.is_whole desk.new) (T.means desk.new).office lang.now
+    ensures printed { Finished (λ old new exit. Printed (T.is_honest desk.new) (T.means desk.old).office lang.now
         old new (writer_at E.taken E.failed e.old) (writer_at E.taken E.failed e.new) exit)
         (writer_at W.taken W.failed w.old) (writer_at W.taken W.failed w.new) result }
     ensures status { result ≤ 1 }
@@ -93,8 +94,8 @@ pub fn export_store<S: Alter + Drop, W: ByteSink, E: ByteSink>(
     requires autocommit { connection.in_transaction ≡ false }
     // The rows mean afterwards what they meant when the office was opened, and the text is that office's.
     ensures exported { Ran S.Store
-        (λ opened. Finished (λ old new exit. Printed (HasCleanDisk (state S.Store result.connection)) (IsTrue (state S.Store result.connection).is_open)
-        (meaning_in (state S.Store result.connection).now.trees).office lang.now
+        (λ opened. Finished (λ old new exit. Printed (HasCleanDisk (state S.Store result.connection))
+        (meaning_in (state S.Store opened).now.trees).office lang.now
         old new (writer_at E.taken E.failed e.old) (writer_at E.taken E.failed e.new) exit)
         (writer_at W.taken W.failed w.old) (writer_at W.taken W.failed w.new) result.status
         × (HasCleanDisk (state S.Store result.connection) → IsTrue (state S.Store result.connection).is_open

@@ -1,5 +1,5 @@
 -- What the bytes of a stream ask, message by message, as it is served.
-use Rattle.std.proofs.Common.{◌≡◌, ◌<◌, ◌≤◌, ◌+◌, ℕ, zero, suc, List, [], ◌∷◌, ◌++◌, length, Bool, true, false, Option, refl, sym, ap, ap₂, subst, ◌∙◌, append_assoc, append-nil, arith, length-append}
+use Rattle.std.proofs.Common.{◌≡◌, ◌<◌, ◌≤◌, ◌+◌, ℕ, zero, suc, List, [], ◌∷◌, ◌++◌, length, Bool, true, false, Option, Some, refl, sym, ap, ap₂, subst, ◌∙◌, append_assoc, append-nil, arith, length-append}
 use Rattle.std.specs.Prelude.{◌||◌, ◌==◌, IfSome}
 use Rattle.std.proofs.lemmas.Bool.Decides.{nat_tests}
 use Rattle.std.proofs.lemmas.List.{map-append}
@@ -19,7 +19,8 @@ use Rattle.http_api.specs.Outcomes.{Outcome, IsExported, outcome_answer}
 use Rattle.http_api.specs.Answering.{WroteBeginning}
 use Rattle.http_api.specs.Steps.{IsFirst, whatever_follows, at_the_end, TookOne, Ended}
 use Rattle.http_api.proofs.ItemLemmas.{item_of, none_left, tail_of, items-one, items-none, items-full, items-all, tail-last, tail-more}
-use Rattle.http_api.specs.Connection.{questions, answers_to, EndsInExport, GivenUp, no_source, no_sink, no_room, text_without_memory, text_without_disk}
+use Rattle.http_api.proofs.NoMore.{behind_none, behind_one, ReadSoFar, nothing_so_far, reads_no_more, one_more_read}
+use Rattle.http_api.specs.Connection.{behind, ReadsNoMore, questions, answers_to, EndsInExport, GivenUp, no_source, no_sink, no_room, text_without_memory, text_without_disk}
 
 -- ---- room for one answer more
 
@@ -52,6 +53,8 @@ pub record Along (Served : List Asked → List Outcome → Type 0) (Wrote : List
   pub room : ℕ
   pub within : answered + room ≡ answer_limit
   pub cut : (rest : List ℕ) → items_of (got ++ rest) ≡ items ++ items_within room (held ++ rest)
+  pub stands : (rest : List ℕ) → behind answered (got ++ rest) ≡ Some (held ++ rest)
+  pub wanted : ReadSoFar answered got
   pub served : Served (questions items) outcomes
   pub wrote : Wrote (answers_to items outcomes)
 
@@ -67,6 +70,8 @@ begins left failed held none served wrote = record {
   room = answer_limit;
   within = omega arith;
   cut = λ rest. items-all rest ∙ ap (λ h. items_within answer_limit (h ++ rest)) (sym none);
+  stands = λ rest. behind_none held rest none;
+  wanted = nothing_so_far;
   served = served;
   wrote = wrote;
 }
@@ -113,6 +118,9 @@ module _ {Served : List Asked → List Outcome → Type 0} {Wrote : List ℕ →
       ap items_of (append_assoc so_far.got one.read.piece rest) ∙ so_far.cut (one.read.piece ++ rest) ∙ ap (λ items. so_far.items ++ items) listed
       ∙ sym (append_assoc so_far.items (last_item ∷ []) (tail_of room.left one.asking.ends more))
 
+  wanted_then : ReadSoFar (answered + 1) got_then
+  wanted_then = one_more_read answered so_far.got held one.read.piece one.at_hand so_far.wanted so_far.stands one.read.behind one.some one.wanted
+
   served_then : (ServedThen : List Asked → List Outcome → Type 0) → ((qs : List Asked) (os : List Outcome) → Served qs os → ServedThen (qs ++ one.asking.asked ∷ []) (os ++ one.outcome ∷ []))
       → ServedThen (questions items_then) outcomes_then
   served_then ServedThen more =
@@ -138,7 +146,7 @@ pub goes_along : {Served ServedThen : List Asked → List Outcome → Type 0} {W
     ((qs : List Asked) (os : List Outcome) → Served qs os → ServedThen (qs ++ one.asking.asked ∷ []) (os ++ one.outcome ∷ [])) →
     ((text : List ℕ) → Wrote text → WroteThen (text ++ outcome_answer one.outcome (one.asking.ends || full))) →
     Along ServedThen WroteThen l0 l2 f0 f2 (answered + 1) now
-goes_along {ServedThen = ServedThen} {WroteThen = WroteThen} {full = full} so_far room one more behind served wrote = record {
+goes_along {ServedThen = ServedThen} {WroteThen = WroteThen} {answered = answered} {held = held} {now = now} {full = full} so_far room one more behind served wrote = record {
   got = got_then so_far one;
   read = read_then so_far one;
   count = one.read.count ∙ so_far.count;
@@ -150,6 +158,9 @@ goes_along {ServedThen = ServedThen} {WroteThen = WroteThen} {full = full} so_fa
   within = let is = room.is in let within = so_far.within in omega arith;
   cut = λ rest. cut_then so_far one room rest (one.behind ++ rest) (follows one.first (not_last one.asking.ends full more) rest)
       ∙ ap (λ items. items_then so_far one ++ items) (tail-more room.left one.asking.ends (one.behind ++ rest) (ap (λ last. one.asking.ends || last) (sym room.at_end) ∙ more) ∙ ap (λ h. items_within room.left (h ++ rest)) (sym behind));
+  stands = λ rest. behind_one answered so_far.got held one.read.piece one.at_hand now rest one.asking (so_far.stands (one.read.piece ++ rest)) one.read.behind
+      (follows one.first (not_last one.asking.ends full more) rest ∙ ap (λ bytes. step one.asking (bytes ++ rest)) (sym behind)) (not_last one.asking.ends full more);
+  wanted = wanted_then so_far one;
   served = served_then so_far one ServedThen served;
   wrote = wrote_then so_far one WroteThen wrote;
 }
@@ -236,6 +247,15 @@ lasts {ServedThen = ServedThen} {WroteThen = WroteThen} {l0 = l0} so_far room on
     (cut_then so_far one room c.rest c.more c.first
     ∙ ap (λ xs. items_then so_far one ++ xs) (tail-last room.left one.asking.ends c.more (ap (λ last. one.asking.ends || last) (sym room.at_end) ∙ last)) ∙ append-nil (items_then so_far one))
     (served_then so_far one ServedThen served) (wrote_then so_far one WroteThen wrote) (many_then so_far one)
+
+-- no more was read
+pub lasts_read : {Served : List Asked → List Outcome → Type 0} {Wrote : List ℕ → Type 0} {Came : Asked → Outcome → Type 0} {WroteOne : Outcome → Bool → Type 0}
+    {l0 l1 l2 : Option (List ℕ)} {f0 f1 f2 answered : ℕ} {held : List ℕ} {full : Bool} →
+    (so_far : Along Served Wrote l0 l1 f0 f1 answered held) → (one : TookOne Came WroteOne l1 l2 f1 f2 held full) → ReadsNoMore l0 l2 (answered + 1)
+lasts_read so_far one = reads_no_more (got_then so_far one) (read_then so_far one) (wanted_then so_far one)
+
+pub full_read : {Served : List Asked → List Outcome → Type 0} {Wrote : List ℕ → Type 0} {l0 l1 : Option (List ℕ)} {f0 f1 answered : ℕ} {held : List ℕ} → Along Served Wrote l0 l1 f0 f1 answered held → ReadsNoMore l0 l1 answered
+full_read so_far = reads_no_more so_far.got so_far.read so_far.wanted
 
 -- ---- only some was answered
 

@@ -7,6 +7,7 @@ pub mod ItemLemmas
 pub mod Looping
 pub mod MessageLemmas
 pub mod NameLemmas
+pub mod NoMore
 pub mod NumberLemmas
 pub mod Serving
 pub mod Stepping

@@ -13,29 +13,30 @@ use Rattle.http_api.specs.Answering.{Came}
 
 -- ---- what is said of an outcome holds on
 
-module _ (Honest Whole StillHonest StillWhole : Type 0) (honest : StillHonest → Honest) (whole : StillHonest → StillWhole → Whole) (office : Office) where
-  unit_still : (name : UnitName) (o : Outcome) → UnitShown Honest Whole office name o → UnitShown StillHonest StillWhole office name o
+module _ (Honest Whole Stopped StillHonest StillWhole StillStopped : Type 0) (honest : StillHonest → Honest) (whole : StillHonest → StillWhole → Whole) (still : Stopped → StillStopped) (office : Office) where
+  unit_still : (name : UnitName) (o : Outcome) → UnitShown Honest Whole Stopped office name o → UnitShown StillHonest StillWhole StillStopped office name o
   unit_still name o (unit_shown text is fact) = unit_shown text is (λ h. fact (honest h))
   unit_still name o (unit_without_language is fact) = unit_without_language is (λ h w. fact (honest h) (whole h w))
   unit_still name o (unit_absent is fact) = unit_absent is (λ h w. fact (honest h) (whole h w))
-  unit_still name o (unit_lost lost is) = unit_lost lost is
+  unit_still name o (unit_lost lost is disk) = unit_lost lost is (λ e. still (disk e))
 
-  counts_still : (lang : Text) (o : Outcome) → CountsShown Honest Whole office lang o → CountsShown StillHonest StillWhole office lang o
+  counts_still : (lang : Text) (o : Outcome) → CountsShown Honest Whole Stopped office lang o → CountsShown StillHonest StillWhole StillStopped office lang o
   counts_still lang o (counts_shown text is fact) = counts_shown text is (λ h. fact (honest h))
   counts_still lang o (counts_without_language is fact) = counts_without_language is (λ h w. fact (honest h) (whole h w))
-  counts_still lang o (counts_lost lost is) = counts_lost lost is
+  counts_still lang o (counts_lost lost is disk) = counts_lost lost is (λ e. still (disk e))
 
-  text_still : (lang : Text) (o : Outcome) → TextExported Honest Whole office lang o → TextExported StillHonest StillWhole office lang o
+  text_still : (lang : Text) (o : Outcome) → TextExported Honest Whole Stopped office lang o → TextExported StillHonest StillWhole StillStopped office lang o
   text_still lang o (text_exported text is fact within) = text_exported text is (λ h. fact (honest h)) (λ h. within (honest h))
   text_still lang o (text_without_language is fact) = text_without_language is (λ h w. fact (honest h) (whole h w))
   text_still lang o (text_too_long is fact) = text_too_long is (λ h w. fact (honest h) (whole h w))
-  text_still lang o (text_lost lost is) = text_lost lost is
+  text_still lang o (text_lost lost is disk) = text_lost lost is (λ e. still (disk e))
 
-  is_still : (a : Asked) (o : Outcome) → IsOutcome Honest Whole office a o → IsOutcome StillHonest StillWhole office a o
+  is_still : (a : Asked) (o : Outcome) → IsOutcome Honest Whole Stopped office a o → IsOutcome StillHonest StillWhole StillStopped office a o
   is_still (ask.refused refusal) o is = is
   is_still (ask.request number callers body) o is = is
   is_still (ask.export lang) o is = text_still lang o is
   is_still (ask.unit name) o is = unit_still name o is
+  is_still ask.unnamed o is = is
   is_still (ask.stats lang) o is = counts_still lang o is
 
 -- ---- one message more
@@ -44,31 +45,31 @@ exchanges-more : (os : List Outcome) (o : Outcome) → exchanges_of (os ++ o ∷
 exchanges-more [] o = append-nil (exchange_in o)
 exchanges-more (x ∷ os) o = ap (λ xs. exchange_in x ++ xs) (exchanges-more os o) ∙ sym (append_assoc (exchange_in x) (exchanges_of os) (exchange_in o))
 
-each_more : (Honest Whole StillHonest StillWhole : Type 0) → (StillHonest → Honest) → (StillHonest → StillWhole → Whole) → (start : OfficeWithBook) (before : List Exchange) (questions : List Asked) (os : List Outcome) (a : Asked) (o : Outcome)
-    → AreOutcomes Honest Whole start before questions os → IsOutcome StillHonest StillWhole (office_behind start (before ++ exchanges_of os)) a o → AreOutcomes StillHonest StillWhole start before (questions ++ a ∷ []) (os ++ o ∷ [])
-each_more Honest Whole StillHonest StillWhole honest whole start before [] [] a o each is =
-    let P : List Exchange → Type 0 = λ xs. IsOutcome StillHonest StillWhole (office_behind start xs) a o in (subst P (append-nil before) is, tt)
-each_more Honest Whole StillHonest StillWhole honest whole start before [] (x ∷ os) a o each is = absurd each
-each_more Honest Whole StillHonest StillWhole honest whole start before (b ∷ questions) [] a o each is = absurd each
-each_more Honest Whole StillHonest StillWhole honest whole start before (b ∷ questions) (x ∷ os) a o each is =
-    let P : List Exchange → Type 0 = λ xs. IsOutcome StillHonest StillWhole (office_behind start xs) a o in (
-      is_still Honest Whole StillHonest StillWhole honest whole (office_behind start before) b x each.0,
-      each_more Honest Whole StillHonest StillWhole honest whole start (before ++ exchange_in x) questions os a o each.1 (subst P (sym (append_assoc before (exchange_in x) (exchanges_of os))) is),
+each_more : (Honest Whole Stopped StillHonest StillWhole StillStopped : Type 0) → (StillHonest → Honest) → (StillHonest → StillWhole → Whole) → (Stopped → StillStopped) → (start : OfficeWithBook) (before : List Exchange) (questions : List Asked) (os : List Outcome) (a : Asked) (o : Outcome)
+    → AreOutcomes Honest Whole Stopped start before questions os → IsOutcome StillHonest StillWhole StillStopped (office_behind start (before ++ exchanges_of os)) a o → AreOutcomes StillHonest StillWhole StillStopped start before (questions ++ a ∷ []) (os ++ o ∷ [])
+each_more Honest Whole Stopped StillHonest StillWhole StillStopped honest whole still start before [] [] a o each is =
+    let P : List Exchange → Type 0 = λ xs. IsOutcome StillHonest StillWhole StillStopped (office_behind start xs) a o in (subst P (append-nil before) is, tt)
+each_more Honest Whole Stopped StillHonest StillWhole StillStopped honest whole still start before [] (x ∷ os) a o each is = absurd each
+each_more Honest Whole Stopped StillHonest StillWhole StillStopped honest whole still start before (b ∷ questions) [] a o each is = absurd each
+each_more Honest Whole Stopped StillHonest StillWhole StillStopped honest whole still start before (b ∷ questions) (x ∷ os) a o each is =
+    let P : List Exchange → Type 0 = λ xs. IsOutcome StillHonest StillWhole StillStopped (office_behind start xs) a o in (
+      is_still Honest Whole Stopped StillHonest StillWhole StillStopped honest whole still (office_behind start before) b x each.0,
+      each_more Honest Whole Stopped StillHonest StillWhole StillStopped honest whole still start (before ++ exchange_in x) questions os a o each.1 (subst P (sym (append_assoc before (exchange_in x) (exchanges_of os))) is),
     )
 
-pub serves : (Honest Whole StillHonest StillWhole : Type 0) (start old new : OfficeWithBook) (done : List Asked) (outcomes : List Outcome) (a : Asked) (o : Outcome)
-    → HasServed Honest Whole start old done outcomes → Came Honest Whole StillHonest StillWhole old new a o → HasServed StillHonest StillWhole start new (done ++ a ∷ []) (outcomes ++ o ∷ [])
-serves Honest Whole StillHonest StillWhole start old new done outcomes a o served came =
-    let P : List Exchange → Type 0 = λ xs. HasDelivered StillHonest StillWhole start new xs in
+pub serves : (Honest Whole Stopped StillHonest StillWhole StillStopped : Type 0) (start old new : OfficeWithBook) (done : List Asked) (outcomes : List Outcome) (a : Asked) (o : Outcome)
+    → HasServed Honest Whole Stopped start old done outcomes → Came Honest Whole Stopped StillHonest StillWhole StillStopped old new a o → HasServed StillHonest StillWhole StillStopped start new (done ++ a ∷ []) (outcomes ++ o ∷ [])
+serves Honest Whole Stopped StillHonest StillWhole StillStopped start old new done outcomes a o served came =
+    let P : List Exchange → Type 0 = λ xs. HasDelivered StillHonest StillWhole StillStopped start new xs in
     record {
       delivered = subst P (sym (exchanges-more outcomes o)) (came.did.behind start (exchanges_of outcomes) served.delivered);
-      each = each_more Honest Whole StillHonest StillWhole came.did.honest came.did.whole start [] done outcomes a o served.each
-          (came.is (office_behind start (exchanges_of outcomes)) (λ h w. ap (λ meaning. meaning.office) (served.delivered.left h w)));
+      each = each_more Honest Whole Stopped StillHonest StillWhole StillStopped came.did.honest came.did.whole came.did.stopped start [] done outcomes a o served.each
+          (came.is (office_behind start (exchanges_of outcomes)) (λ h w. ap (λ meaning. meaning.office) (served.delivered.run.left h w)));
     }
 
-pub none_served : (Honest Whole : Type 0) (start : OfficeWithBook) → HasServed Honest Whole start start [] []
-none_served Honest Whole start = record { delivered = record { left = λ h w. refl; answers = λ h. refl }; each = tt }
+pub none_served : (Honest Whole Stopped : Type 0) (start : OfficeWithBook) → HasServed Honest Whole Stopped start start [] []
+none_served Honest Whole Stopped start = record { delivered = record { run = record { left = λ h w. refl; answers = λ h. refl }; disk = tt }; each = tt }
 
 -- what came of a message, said of what it asks in other words
-pub asked_so : (Honest Whole StillHonest StillWhole : Type 0) (old new : OfficeWithBook) (a b : Asked) (o : Outcome) → a ≡ b → Came Honest Whole StillHonest StillWhole old new b o → Came Honest Whole StillHonest StillWhole old new a o
-asked_so Honest Whole StillHonest StillWhole old new a b o is came = let P : Asked → Type 0 = λ x. Came Honest Whole StillHonest StillWhole old new x o in subst P (sym is) came
+pub asked_so : (Honest Whole Stopped StillHonest StillWhole StillStopped : Type 0) (old new : OfficeWithBook) (a b : Asked) (o : Outcome) → a ≡ b → Came Honest Whole Stopped StillHonest StillWhole StillStopped old new b o → Came Honest Whole Stopped StillHonest StillWhole StillStopped old new a o
+asked_so Honest Whole Stopped StillHonest StillWhole StillStopped old new a b o is came = let P : Asked → Type 0 = λ x. Came Honest Whole Stopped StillHonest StillWhole StillStopped old new x o in subst P (sym is) came

@@ -1,5 +1,5 @@
 -- One step of a connection, from what was read and what was answered.
-use Rattle.std.proofs.Common.{◌≡◌, ◌+◌, List, [], ℕ, Bool, true, false, Option, Result, Ok, Err, MatchResult, inl, refl, sym, subst}
+use Rattle.std.proofs.Common.{◌≡◌, ◌+◌, List, [], ℕ, Bool, true, false, Option, Result, Ok, Err, MatchResult, refl, sym, subst}
 use Rattle.std.specs.Prelude.{◌||◌, IfOk, OnOk, IsErrAnd, drop}
 use Rattle.request_book.specs.Book.{OfficeWithBook}
 use Rattle.commands.specs.Writers.{Writer, TakesAll}
@@ -7,7 +7,7 @@ use Rattle.http_messages.specs.declared.refusal.Refusal.{Refusal}
 use Rattle.http_api.specs.Answers.{refusal_text}
 use Rattle.http_messages.specs.Asked.{Asked, Asking, ending}
 use Rattle.http_messages.specs.Asked as ask
-use Rattle.http_messages.specs.Arrivals.{ReadBehind, WasCutOff, RefusedNow, asking_in, Arrives}
+use Rattle.http_messages.specs.Arrivals.{ReadBehind, WasCutOff, WasWanted, RefusedNow, asking_in, Arrives}
 use Rattle.http_messages.specs.Arrivals as arrivals
 use Rattle.http_messages.specs.declared.inbox.ReadFault.{ReadFault}
 use Rattle.http_messages.specs.declared.inbox.Arrival.{Arrival}
@@ -47,15 +47,16 @@ stepped Same {Did = Did} {Wrote = Wrote} {l0 = l0} {l1 = l1} {f0 = f0} {f1 = f1}
     by false e = (one, e, behind)
 
 pub message_step : (Same : Type 0) (Did : Asked → Outcome → Type 0) (Honest Stopped : Type 0) (l0 l1 : Option (List ℕ)) (f0 f1 : ℕ) (old at_hand now : List ℕ) (full : Bool) (w0 w1 : Writer) (what : Arrival) (head body : ℕ) (r : Result Next ServeFault)
-    → what ≡ arrival.Message head body → ReadBehind l0 l1 f0 f1 old at_hand → Arrives l1 at_hand what
+    → what ≡ arrival.Message head body → ReadBehind l0 l1 f0 f1 old at_hand → WasWanted old at_hand → Arrives l1 at_hand what
     → (o : Outcome) → Did (asking_in at_hand head body).asked o → Writes Honest Stopped w0 w1 o ((asking_in at_hand head body).ends || full) r
     → IfOk r (λ next. next ≡ next_of ((asking_in at_hand head body).ends || full)) → OnOk r (now ≡ drop (head + body) at_hand)
     → MatchResult r (Stepped Same Did (λ o last. Honest → TakesAll w0 w1 (outcome_answer o last)) l0 l1 f0 f1 old now full)
     (λ f. SteppedOff Same Did (λ o last. Honest → WroteBeginning Stopped w0 w1 o last f) l0 l1 f0 f1 old full f)
-message_step Same Did Honest Stopped l0 l1 f0 f1 old at_hand now full w0 w1 what head body (Ok x) is read came o did wrote next behind = let arrives = subst (Arrives l1 at_hand) is came in stepped Same x
+message_step Same Did Honest Stopped l0 l1 f0 f1 old at_hand now full w0 w1 what head body (Ok x) is read wanted came o did wrote next behind = let arrives = subst (Arrives l1 at_hand) is came in stepped Same x
     (record {
       at_hand = at_hand;
       read = read;
+      wanted = wanted;
       some = arrives.0;
       asking = asking_in at_hand head body;
       behind = drop (head + body) at_hand;
@@ -65,9 +66,10 @@ message_step Same Did Honest Stopped l0 l1 f0 f1 old at_hand now full w0 w1 what
       wrote = wrote;
     })
     next behind
-message_step Same Did Honest Stopped l0 l1 f0 f1 old at_hand now full w0 w1 what head body (Err f) is read came o did wrote next behind = let arrives = subst (Arrives l1 at_hand) is came in broke_off (record {
+message_step Same Did Honest Stopped l0 l1 f0 f1 old at_hand now full w0 w1 what head body (Err f) is read wanted came o did wrote next behind = let arrives = subst (Arrives l1 at_hand) is came in broke_off (record {
   at_hand = at_hand;
   read = read;
+  wanted = wanted;
   some = arrives.0;
   asking = asking_in at_hand head body;
   behind = drop (head + body) at_hand;
@@ -84,33 +86,35 @@ is_first (arrivals.whatever_follows refused) = whatever_follows refused
 is_first (arrivals.at_the_end end refused) = at_the_end end refused refl
 
 pub refused_step : (Same : Type 0) (Honest Whole : Type 0) (meaning : OfficeWithBook) (Stopped : Type 0) (l0 l1 : Option (List ℕ)) (f0 f1 : ℕ) (old at_hand now : List ℕ) (full : Bool) (w0 w1 : Writer) (what : Arrival) (refusal : Refusal) (r : Result Next ServeFault)
-    → what ≡ arrival.Refused refusal → ReadBehind l0 l1 f0 f1 old at_hand → Arrives l1 at_hand what → Tells w0 w1 (refusal_text refusal true) r → IfOk r (λ next. next ≡ Last)
-    → MatchResult r (Stepped Same (Came Honest Whole Honest Whole meaning meaning) (λ o last. Honest → TakesAll w0 w1 (outcome_answer o last)) l0 l1 f0 f1 old now full)
-    (λ f. SteppedOff Same (Came Honest Whole Honest Whole meaning meaning) (λ o last. Honest → WroteBeginning Stopped w0 w1 o last f) l0 l1 f0 f1 old full f)
-refused_step Same Honest Whole meaning Stopped l0 l1 f0 f1 old at_hand now full w0 w1 what refusal (Ok x) is read came tells next =
+    → what ≡ arrival.Refused refusal → ReadBehind l0 l1 f0 f1 old at_hand → WasWanted old at_hand → Arrives l1 at_hand what → Tells w0 w1 (refusal_text refusal true) r → IfOk r (λ next. next ≡ Last)
+    → MatchResult r (Stepped Same (Came Honest Whole Stopped Honest Whole Stopped meaning meaning) (λ o last. Honest → TakesAll w0 w1 (outcome_answer o last)) l0 l1 f0 f1 old now full)
+    (λ f. SteppedOff Same (Came Honest Whole Stopped Honest Whole Stopped meaning meaning) (λ o last. Honest → WroteBeginning Stopped w0 w1 o last f) l0 l1 f0 f1 old full f)
+refused_step Same Honest Whole meaning Stopped l0 l1 f0 f1 old at_hand now full w0 w1 what refusal (Ok x) is read wanted came tells next =
     let arrives = subst (Arrives l1 at_hand) is came in
-    subst (Stepped Same (Came Honest Whole Honest Whole meaning meaning) (λ o last. Honest → TakesAll w0 w1 (outcome_answer o last)) l0 l1 f0 f1 old now full) (sym next) (
+    subst (Stepped Same (Came Honest Whole Stopped Honest Whole Stopped meaning meaning) (λ o last. Honest → TakesAll w0 w1 (outcome_answer o last)) l0 l1 f0 f1 old now full) (sym next) (
       record {
         at_hand = at_hand;
         read = read;
+        wanted = wanted;
         some = arrives.0;
         asking = ending refusal;
         behind = [];
         first = is_first arrives.1;
         outcome = failed refusal;
-        came = told Honest Whole Honest Whole meaning meaning (ask.refused refusal) (failed refusal) refl (λ h. h) (λ h w. w) (λ h w. refl) (λ office place. inl refl);
+        came = told Honest Whole Stopped Honest Whole Stopped meaning meaning (ask.refused refusal) (failed refusal) refl (λ h. h) (λ h w. w) (λ s. s) (λ h w. refl) (λ office place. refl);
         wrote = λ h. tells;
       },
       refl,
     )
-refused_step Same Honest Whole meaning Stopped l0 l1 f0 f1 old at_hand now full w0 w1 what refusal (Err f) is read came tells next = let arrives = subst (Arrives l1 at_hand) is came in broke_off (record {
+refused_step Same Honest Whole meaning Stopped l0 l1 f0 f1 old at_hand now full w0 w1 what refusal (Err f) is read wanted came tells next = let arrives = subst (Arrives l1 at_hand) is came in broke_off (record {
   at_hand = at_hand;
   read = read;
+  wanted = wanted;
   some = arrives.0;
   asking = ending refusal;
   behind = [];
   first = is_first arrives.1;
   outcome = failed refusal;
-  came = told Honest Whole Honest Whole meaning meaning (ask.refused refusal) (failed refusal) refl (λ h. h) (λ h w. w) (λ h w. refl) (λ office place. inl refl);
+  came = told Honest Whole Stopped Honest Whole Stopped meaning meaning (ask.refused refusal) (failed refusal) refl (λ h. h) (λ h w. w) (λ s. s) (λ h w. refl) (λ office place. refl);
   wrote = tells_writes {T = Next} Honest Stopped w0 w1 (failed refusal) true (Err f) tells;
 })

@@ -13,34 +13,35 @@ use Rattle.http_api.specs.Outcomes.{Outcome, posted, failed, outcome_answer, uni
 use Rattle.http_api.specs.Answering.{Came}
 use Rattle.http_api.proofs.Coming.{told, posts}
 
-pub record ToldOfMemory (Honest Whole : Type 0) (meaning : OfficeWithBook) (asked : Asked) : Type 0 where
+pub record ToldOfMemory (Honest Whole Stopped : Type 0) (meaning : OfficeWithBook) (asked : Asked) : Type 0 where
   pub outcome : Outcome
-  pub came : Came Honest Whole Honest Whole meaning meaning asked outcome
+  pub came : Came Honest Whole Stopped Honest Whole Stopped meaning meaning asked outcome
   pub text : (last : Bool) → outcome_answer outcome last ≡ refusal_text Memory last
 
-pub unread_told : (Honest Whole : Type 0) (meaning : OfficeWithBook) (asked : Asked) → MayTakeMemory asked → ToldOfMemory Honest Whole meaning asked
-unread_told Honest Whole meaning (ask.refused refusal) may = record {
-  outcome = failed Memory;
-  came = told Honest Whole Honest Whole meaning meaning (ask.refused refusal) (failed Memory) refl (λ h. h) (λ h w. w) (λ h w. refl) (λ office place. inr (may, refl));
-  text = λ last. refl;
-}
-unread_told Honest Whole meaning (ask.request number callers body) may = record {
+pub unread_told : (Honest Whole Stopped : Type 0) (meaning : OfficeWithBook) (asked : Asked) → MayTakeMemory asked → ToldOfMemory Honest Whole Stopped meaning asked
+unread_told Honest Whole Stopped meaning (ask.refused refusal) may = absurd may
+unread_told Honest Whole Stopped meaning (ask.request number callers body) may = record {
   outcome = posted unread;
-  came = posts Honest Whole Honest Whole meaning meaning number callers body unread tt (stays Honest Whole meaning _ refl refl);
+  came = posts Honest Whole Stopped Honest Whole Stopped meaning meaning number callers body unread tt (stays Honest Whole Stopped meaning _ refl refl);
   text = λ last. refl;
 }
-unread_told Honest Whole meaning (ask.export lang) may = record {
+unread_told Honest Whole Stopped meaning (ask.export lang) may = record {
   outcome = failed Memory;
-  came = told Honest Whole Honest Whole meaning meaning (ask.export lang) (failed Memory) refl (λ h. h) (λ h w. w) (λ h w. refl) (λ office place. text_lost lost.Memory refl);
+  came = told Honest Whole Stopped Honest Whole Stopped meaning meaning (ask.export lang) (failed Memory) refl (λ h. h) (λ h w. w) (λ s. s) (λ h w. refl) (λ office place. text_lost lost.Memory refl (λ never. absurd (let is : lost.Memory ≡ lost.Disk = never in cc)));
   text = λ last. refl;
 }
-unread_told Honest Whole meaning (ask.unit name) may = record {
+unread_told Honest Whole Stopped meaning (ask.unit name) may = record {
   outcome = failed Memory;
-  came = told Honest Whole Honest Whole meaning meaning (ask.unit name) (failed Memory) refl (λ h. h) (λ h w. w) (λ h w. refl) (λ office place. unit_lost lost.Memory refl);
+  came = told Honest Whole Stopped Honest Whole Stopped meaning meaning (ask.unit name) (failed Memory) refl (λ h. h) (λ h w. w) (λ s. s) (λ h w. refl) (λ office place. unit_lost lost.Memory refl (λ never. absurd (let is : lost.Memory ≡ lost.Disk = never in cc)));
   text = λ last. refl;
 }
-unread_told Honest Whole meaning (ask.stats lang) may = record {
+unread_told Honest Whole Stopped meaning ask.unnamed may = record {
   outcome = failed Memory;
-  came = told Honest Whole Honest Whole meaning meaning (ask.stats lang) (failed Memory) refl (λ h. h) (λ h w. w) (λ h w. refl) (λ office place. counts_lost lost.Memory refl);
+  came = told Honest Whole Stopped Honest Whole Stopped meaning meaning ask.unnamed (failed Memory) refl (λ h. h) (λ h w. w) (λ s. s) (λ h w. refl) (λ office place. inr refl);
+  text = λ last. refl;
+}
+unread_told Honest Whole Stopped meaning (ask.stats lang) may = record {
+  outcome = failed Memory;
+  came = told Honest Whole Stopped Honest Whole Stopped meaning meaning (ask.stats lang) (failed Memory) refl (λ h. h) (λ h w. w) (λ s. s) (λ h w. refl) (λ office place. counts_lost lost.Memory refl (λ never. absurd (let is : lost.Memory ≡ lost.Disk = never in cc)));
   text = λ last. refl;
 }

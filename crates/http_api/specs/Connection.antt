@@ -1,10 +1,12 @@
 -- What comes of a connection: what its bytes ask, message by message, is answered in order, all of it or only the first. This project's own
 -- rule; the stream's messages are those of RFC 9112.
-use Rattle.std.specs.Prelude.{◌≡◌, ℕ, List, [], ◌∷◌, ◌++◌, length, map}
-use Rattle.units.specs.Streams.{TookBeginning, RoseOrStands}
+use Rattle.std.specs.Prelude.{◌≡◌, ◌≤◌, ◌⊎◌, ℕ, zero, suc, List, [], ◌∷◌, ◌++◌, length, map, Option, Some, IsSomeAnd}
+use Rattle.std.specs.Option.{option_and_then}
+use Rattle.units.specs.Streams.{prepend_known, IsAtEnd, TookBeginning, RoseOrStands}
 use Rattle.request_book.specs.Book.{OfficeWithBook}
 use Rattle.http_messages.specs.Asked.{Asked}
-use Rattle.http_messages.specs.Streams.{Item, items_of}
+use Rattle.http_messages.specs.Streams.{Item, first_step, items_of}
+use Rattle.http_messages.specs.Arrivals.{HoldsFirst, piece_limit}
 use Rattle.commands.specs.Writers.{Writer, TakesAll, TakesPart}
 use Rattle.http_api.specs.declared.faults.ServeFault.{ServeFault}
 use Rattle.http_api.specs.declared.faults.ServeFault.TheVariants.{Read, Write, Memory, Disk}
@@ -21,11 +23,34 @@ answers_to (item ∷ items) [] = []
 answers_to (item ∷ items) (outcome ∷ outcomes) = outcome_answer outcome item.last ++ answers_to items outcomes
 
 -- All that the bytes ask was answered; what was written is known while the tables are honest.
-pub record AllServed (Honest Whole : Type 0) (before after : OfficeWithBook) (bytes : List ℕ) (old new : Writer) (answered : ℕ) : Type 0 where
+pub record AllServed (Honest Whole Stopped : Type 0) (before after : OfficeWithBook) (bytes : List ℕ) (old new : Writer) (answered : ℕ) : Type 0 where
   pub outcomes : List Outcome
-  pub served : HasServed Honest Whole before after (questions (items_of bytes)) outcomes
+  pub served : HasServed Honest Whole Stopped before after (questions (items_of bytes)) outcomes
   pub wrote : Honest → TakesAll old new (answers_to (items_of bytes) outcomes)
   pub count : answered ≡ length (items_of bytes)
+
+-- ---- what was read
+
+-- what stands behind so many messages, which are whole and don't end the connection
+abbrev pub behind : ℕ → List ℕ → Option (List ℕ)
+behind zero bytes = Some bytes
+behind (suc n) bytes = option_and_then (behind n) (first_step bytes).more
+
+-- so many messages stand there, and one more
+abbrev pub HoldsNext : ℕ → List ℕ → Type 0
+HoldsNext n bytes = IsSomeAnd (behind n bytes) HoldsFirst
+
+-- No more was read than the messages want that were answered: without the last piece the last of them isn't there.
+pub record ReadsNoMore (left_old left_new : Option (List ℕ)) (answered : ℕ) : Type 0 where
+  pub before : List ℕ
+  pub last : List ℕ
+  pub read : left_old ≡ prepend_known (before ++ last) left_new
+  pub piece : length last ≤ piece_limit
+  pub wanted : (n : ℕ) → answered ≡ suc n → HoldsNext n before → ⊥
+
+-- the stream has ended, or no more was read
+abbrev pub ReadsOn : Option (List ℕ) → Option (List ℕ) → ℕ → Type 0
+ReadsOn left_old left_new answered = IsAtEnd left_new ⊎ ReadsNoMore left_old left_new answered
 
 -- ---- a connection that was given up
 
@@ -60,5 +85,5 @@ pub record SomeServed (Honest Whole Stopped : Type 0) (before after : OfficeWith
   pub back : List Item
   pub cut : items_of bytes ≡ front ++ back
   pub outcomes : List Outcome
-  pub served : HasServed Honest Whole before after (questions front) outcomes
+  pub served : HasServed Honest Whole Stopped before after (questions front) outcomes
   pub given_up : Honest → GivenUp Stopped reads_failed_old reads_failed_new old new outcomes (answers_to front outcomes) fault

@@ -61,7 +61,8 @@ outcome_answer (shown text) last = answer_text 200 Json text last
 outcome_answer (exported text) last = answer_text 200 (PoText (sha256 text)) text last
 outcome_answer (failed refusal) last = refusal_text refusal last
 
--- ---- what came of a message, over tables of which something is said only while they are honest and whole
+-- ---- what came of a message, over tables of which something is said only while they are honest and whole; that the disk failed is told
+-- only where they are stopped afterwards
 
 -- what came of a message that brings a request: it reached the desk, or there is none, or there was no memory to read it
 abbrev pub IsPost : List ℕ → List (List ℕ) → List ℕ → Exchange → Type 0
@@ -70,36 +71,37 @@ IsPost number callers body malformed = (request : Request) → IsPosted number c
 IsPost number callers body unread = ⊤
 
 -- a unit's view
-pub data UnitShown (Honest Whole : Type 0) (office : Office) (name : UnitName) (o : Outcome) : Type 0 where
-  unit_shown : (text : Text) → o ≡ shown text → (Honest → unit_text_at office name.0 name.1 ≡ Some text) → UnitShown Honest Whole office name o
-  unit_without_language : o ≡ failed NoLanguage → (Honest → Whole → maps.get office.headers name.0 ≡ None) → UnitShown Honest Whole office name o
+pub data UnitShown (Honest Whole Stopped : Type 0) (office : Office) (name : UnitName) (o : Outcome) : Type 0 where
+  unit_shown : (text : Text) → o ≡ shown text → (Honest → unit_text_at office name.0 name.1 ≡ Some text) → UnitShown Honest Whole Stopped office name o
+  unit_without_language : o ≡ failed NoLanguage → (Honest → Whole → maps.get office.headers name.0 ≡ None) → UnitShown Honest Whole Stopped office name o
   unit_absent : o ≡ failed NoUnit
       → (Honest → Whole → IsSome (maps.get office.headers name.0) × (maps.get office.units (name.0, name.1) ≡ None))
-      → UnitShown Honest Whole office name o
-  unit_lost : (lost : Lost) → o ≡ failed (lost_refusal lost) → UnitShown Honest Whole office name o
+      → UnitShown Honest Whole Stopped office name o
+  unit_lost : (why : Lost) → o ≡ failed (lost_refusal why) → (why ≡ lost.Disk → Stopped) → UnitShown Honest Whole Stopped office name o
 
 -- a language's counts
-pub data CountsShown (Honest Whole : Type 0) (office : Office) (lang : Text) (o : Outcome) : Type 0 where
-  counts_shown : (text : Text) → o ≡ shown text → (Honest → counts_text_at office lang ≡ Some text) → CountsShown Honest Whole office lang o
-  counts_without_language : o ≡ failed NoLanguage → (Honest → Whole → maps.get office.headers lang ≡ None) → CountsShown Honest Whole office lang o
-  counts_lost : (lost : Lost) → o ≡ failed (lost_refusal lost) → CountsShown Honest Whole office lang o
+pub data CountsShown (Honest Whole Stopped : Type 0) (office : Office) (lang : Text) (o : Outcome) : Type 0 where
+  counts_shown : (text : Text) → o ≡ shown text → (Honest → counts_text_at office lang ≡ Some text) → CountsShown Honest Whole Stopped office lang o
+  counts_without_language : o ≡ failed NoLanguage → (Honest → Whole → maps.get office.headers lang ≡ None) → CountsShown Honest Whole Stopped office lang o
+  counts_lost : (why : Lost) → o ≡ failed (lost_refusal why) → (why ≡ lost.Disk → Stopped) → CountsShown Honest Whole Stopped office lang o
 
 -- a language's text
-pub data TextExported (Honest Whole : Type 0) (office : Office) (lang : Text) (o : Outcome) : Type 0 where
+pub data TextExported (Honest Whole Stopped : Type 0) (office : Office) (lang : Text) (o : Outcome) : Type 0 where
   text_exported : (text : List ℕ) → o ≡ exported text → (Honest → export_text office lang ≡ Some text) → (Honest → length text ≤ export_limit)
-      → TextExported Honest Whole office lang o
-  text_without_language : o ≡ failed NoLanguage → (Honest → Whole → export_text office lang ≡ None) → TextExported Honest Whole office lang o
+      → TextExported Honest Whole Stopped office lang o
+  text_without_language : o ≡ failed NoLanguage → (Honest → Whole → export_text office lang ≡ None) → TextExported Honest Whole Stopped office lang o
   text_too_long : o ≡ failed LongExport → (Honest → Whole → IsSomeAnd (export_text office lang) (λ text. export_limit < length text))
-      → TextExported Honest Whole office lang o
-  text_lost : (lost : Lost) → o ≡ failed (lost_refusal lost) → TextExported Honest Whole office lang o
+      → TextExported Honest Whole Stopped office lang o
+  text_lost : (why : Lost) → o ≡ failed (lost_refusal why) → (why ≡ lost.Disk → Stopped) → TextExported Honest Whole Stopped office lang o
 
--- a message fails a test; where a part of it is malformed, there may be no memory to find that out
-abbrev pub TestFailed : Refusal → Outcome → Type 0
-TestFailed refusal o = (o ≡ failed refusal) ⊎ ((refusal ≡ Malformed) × (o ≡ failed Memory))
+-- a query names no unit, or there was no memory to read it
+abbrev pub IsUnnamed : Outcome → Type 0
+IsUnnamed o = (o ≡ failed Malformed) ⊎ (o ≡ failed Memory)
 
-abbrev pub IsOutcome : (Honest Whole : Type 0) → Office → Asked → Outcome → Type 0
-IsOutcome Honest Whole office (ask.refused refusal) o = TestFailed refusal o
-IsOutcome Honest Whole office (ask.request number callers body) o = (x : Exchange) × (o ≡ posted x) × IsPost number callers body x
-IsOutcome Honest Whole office (ask.export lang) o = TextExported Honest Whole office lang o
-IsOutcome Honest Whole office (ask.unit name) o = UnitShown Honest Whole office name o
-IsOutcome Honest Whole office (ask.stats lang) o = CountsShown Honest Whole office lang o
+abbrev pub IsOutcome : (Honest Whole Stopped : Type 0) → Office → Asked → Outcome → Type 0
+IsOutcome Honest Whole Stopped office (ask.refused refusal) o = o ≡ failed refusal
+IsOutcome Honest Whole Stopped office (ask.request number callers body) o = (x : Exchange) × (o ≡ posted x) × IsPost number callers body x
+IsOutcome Honest Whole Stopped office (ask.export lang) o = TextExported Honest Whole Stopped office lang o
+IsOutcome Honest Whole Stopped office (ask.unit name) o = UnitShown Honest Whole Stopped office name o
+IsOutcome Honest Whole Stopped office ask.unnamed o = IsUnnamed o
+IsOutcome Honest Whole Stopped office (ask.stats lang) o = CountsShown Honest Whole Stopped office lang o

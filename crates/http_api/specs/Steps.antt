@@ -3,7 +3,7 @@ use Rattle.std.specs.Prelude.{◌≡◌, ◌<◌, ◌||◌, ℕ, List, [], ◌++
 use Rattle.units.specs.Streams.{IsAtEnd}
 use Rattle.http_messages.specs.Asked.{Asked, Asking}
 use Rattle.http_messages.specs.Streams.{step, first_step}
-use Rattle.http_messages.specs.Arrivals.{ReadBehind, WasCutOff}
+use Rattle.http_messages.specs.Arrivals.{ReadBehind, WasCutOff, WasWanted}
 use Rattle.http_messages.specs.declared.inbox.ReadFault.{ReadFault}
 use Rattle.http_api.specs.declared.faults.ServeFault.{ServeFault}
 use Rattle.http_api.specs.declared.connection.Next.{Next}
@@ -25,6 +25,7 @@ pub data IsFirst (left : Option (List ℕ)) (bytes : List ℕ) (asking : Asking)
 pub record TookOne (Came : Asked → Outcome → Type 0) (Wrote : Outcome → Bool → Type 0) (left_old left_new : Option (List ℕ)) (failed_old failed_new : ℕ) (old : List ℕ) (full : Bool) : Type 0 where
   pub at_hand : List ℕ
   pub read : ReadBehind left_old left_new failed_old failed_new old at_hand
+  pub wanted : WasWanted old at_hand
   pub some : 0 < length at_hand
   pub asking : Asking
   pub behind : List ℕ

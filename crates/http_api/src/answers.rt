@@ -74,7 +74,7 @@ fn answer_request<T: Tables, W: ByteSink>(
     w: &mut W,
 ) -> Result<(), ServeFault>
     ensures { (told : Result Reply Lost)
-        × Delivers T.is_honest T.is_whole T.means desk.old desk.new (asked request.now told ∷ [])
+        × Delivers T.is_honest T.is_whole T.is_stopped T.means desk.old desk.new (asked request.now told ∷ [])
         × Tells (writer_at W.taken W.failed w.old) (writer_at W.taken W.failed w.new) (result_answer told last) result }
 {
     match desk.deliver(request) {
@@ -92,7 +92,7 @@ pub(crate) fn answer_post<T: Tables, W: ByteSink>(
     w: &mut W,
 ) -> Result<(), ServeFault>
     ensures { (callers : List (List ℕ)) → AreValues parts.entry.callers callers → (x : Exchange)
-        × ComesTo T.is_honest T.is_whole T.means desk.old desk.new (request parts.entry.number.now callers parts.entry.body.now) (posted x)
+        × ComesTo T.is_honest T.is_whole T.is_stopped T.means desk.old desk.new (request parts.entry.number.now callers parts.entry.body.now) (posted x)
         × Tells (writer_at W.taken W.failed w.old) (writer_at W.taken W.failed w.new) (exchange_answer x last) result }
 {
     match request_of(alloc, parts) {
@@ -110,7 +110,7 @@ pub(crate) fn answer_unit<T: Tables, W: ByteSink>(
     w: &mut W,
 ) -> Result<(), ServeFault>
     ensures { (o : Outcome)
-        × ComesTo T.is_honest T.is_whole T.means desk.old desk.new (unit (name_of name.now)) o
+        × ComesTo T.is_honest T.is_whole T.is_stopped T.means desk.old desk.new (unit (name_of name.now)) o
         × Tells (writer_at W.taken W.failed w.old) (writer_at W.taken W.failed w.new) (outcome_answer o last) result }
 {
     match desk.unit(&name.lang, &name.key) {
@@ -127,7 +127,7 @@ pub(crate) fn answer_stats<T: Tables, W: ByteSink>(
     w: &mut W,
 ) -> Result<(), ServeFault>
     ensures { (o : Outcome)
-        × ComesTo T.is_honest T.is_whole T.means desk.old desk.new (stats lang.now) o
+        × ComesTo T.is_honest T.is_whole T.is_stopped T.means desk.old desk.new (stats lang.now) o
         × Tells (writer_at W.taken W.failed w.old) (writer_at W.taken W.failed w.new) (outcome_answer o last) result }
 {
     match desk.stats(lang) {
@@ -149,7 +149,7 @@ pub(crate) fn answer<T: Tables, W: ByteSink>(
     w: &mut W,
 ) -> Result<(), ServeFault>
     ensures { (question : AskedValue) → IsAsked asked.entry question → (o : Outcome)
-        × ComesTo T.is_honest T.is_whole T.means desk.old desk.new question o
+        × ComesTo T.is_honest T.is_whole T.is_stopped T.means desk.old desk.new question o
         × Writes (T.is_honest desk.new) (T.is_stopped desk.new ≡ true)
         (writer_at W.taken W.failed w.old) (writer_at W.taken W.failed w.new) o last result }
 {
@@ -158,6 +158,7 @@ pub(crate) fn answer<T: Tables, W: ByteSink>(
         Asked::Request(parts) => answer_post(alloc, desk, parts, last, w),
         Asked::Export(lang) => answer_export(desk, &lang, last, w),
         Asked::Unit(name) => answer_unit(desk, &name, last, w),
+        Asked::Unnamed => send_refusal(w, Refusal::Malformed, last),
         Asked::Stats(lang) => answer_stats(desk, &lang, last, w),
     }
 }

@@ -7,7 +7,7 @@ ghost use Rattle.http_api.specs.declared.connection.Next.TheVariants.{Last};
 ghost use Rattle.http_api.specs.Outcomes.{Outcome, outcome_answer};
 ghost use Rattle.http_api.specs.Answering.{ComesTo, Tells, Writes, WroteBeginning};
 ghost use Rattle.http_api.specs.Steps.{next_of, Stepped, SteppedOff};
-ghost use Rattle.http_api.specs.Connection.{AllServed, SomeServed};
+ghost use Rattle.http_api.specs.Connection.{AllServed, SomeServed, ReadsOn};
 
 use crate::answers::{answer, send_refusal};
 use crate::faults::ServeFault;
@@ -82,7 +82,7 @@ fn answer_front<T: Tables, W: ByteSink>(
 ) -> Result<bool, ServeFault>
     requires within { head + body ≤ length inbox.now }
     ensures answered { (o : Outcome)
-        × ComesTo T.is_honest T.is_whole T.means desk.old desk.new (asking_in inbox.now head body).asked o
+        × ComesTo T.is_honest T.is_whole T.is_stopped T.means desk.old desk.new (asking_in inbox.now head body).asked o
         × Writes (T.is_honest desk.new) (T.is_stopped desk.new ≡ true)
         (writer_at W.taken W.failed w.old) (writer_at W.taken W.failed w.new) o ((asking_in inbox.now head body).ends || full) result }
     ensures last { IfOk result (λ last. last ≡ ((asking_in inbox.now head body).ends || full)) }
@@ -111,7 +111,7 @@ fn serve_message<T: Tables, W: ByteSink>(
 ) -> Result<Next, ServeFault>
     requires within { head + body ≤ length inbox.old }
     ensures answered { (o : Outcome)
-        × ComesTo T.is_honest T.is_whole T.means desk.old desk.new (asking_in inbox.old head body).asked o
+        × ComesTo T.is_honest T.is_whole T.is_stopped T.means desk.old desk.new (asking_in inbox.old head body).asked o
         × Writes (T.is_honest desk.new) (T.is_stopped desk.new ≡ true)
         (writer_at W.taken W.failed w.old) (writer_at W.taken W.failed w.new) o ((asking_in inbox.old head body).ends || full) result }
     ensures next { IfOk result (λ next. next ≡ next_of ((asking_in inbox.old head body).ends || full)) }
@@ -134,11 +134,11 @@ fn serve_one<T: Tables, R: ByteSource, W: ByteSink>(
 ) -> Result<Next, ServeFault>
     ensures { MatchResult result
         (Stepped ((desk.new ≡ desk.old) × (w.new ≡ w.old))
-        (ComesTo T.is_honest T.is_whole T.means desk.old desk.new)
+        (ComesTo T.is_honest T.is_whole T.is_stopped T.means desk.old desk.new)
         (λ o last. T.is_honest desk.new → TakesAll (writer_at W.taken W.failed w.old) (writer_at W.taken W.failed w.new) (outcome_answer o last))
         (R.left source.old) (R.left source.new) (R.failed source.old) (R.failed source.new) inbox.old inbox.new full)
         (λ fault. SteppedOff ((desk.new ≡ desk.old) × (w.new ≡ w.old))
-        (ComesTo T.is_honest T.is_whole T.means desk.old desk.new)
+        (ComesTo T.is_honest T.is_whole T.is_stopped T.means desk.old desk.new)
         (λ o last. T.is_honest desk.new
         → WroteBeginning (T.is_stopped desk.new ≡ true) (writer_at W.taken W.failed w.old) (writer_at W.taken W.failed w.new) o last fault)
         (R.left source.old) (R.left source.new) (R.failed source.old) (R.failed source.new) inbox.old full fault) }
@@ -168,12 +168,16 @@ pub fn serve<T: Tables, R: ByteSource, W: ByteSink>(
 ) -> Result<Served, ServeFault>
     // What comes of the bytes that the source gives.
     ensures served { (bytes : List ℕ) × IfSome (R.left source.old) (λ all. bytes ≡ all) × MatchResult result
-        (λ served. AllServed (T.is_honest desk.new) (T.is_whole desk.new) (T.means desk.old) (T.means desk.new) bytes
+        (λ served. AllServed (T.is_honest desk.new) (T.is_whole desk.new) (T.is_stopped desk.new ≡ true) (T.means desk.old) (T.means desk.new) bytes
         (writer_at W.taken W.failed w.old) (writer_at W.taken W.failed w.new) served.answered)
         (SomeServed (T.is_honest desk.new) (T.is_whole desk.new) (T.is_stopped desk.new ≡ true) (T.means desk.old) (T.means desk.new) bytes
         (R.failed source.old) (R.failed source.new) (writer_at W.taken W.failed w.old) (writer_at W.taken W.failed w.new)) }
+    // Behind the last answer nothing more is read.
+    ensures reads { IfOk result (λ served. ReadsOn (R.left source.old) (R.left source.new) served.answered) }
+    // What several calls promise can be put together: none of these comes back once it is lost, and stopped tables stay so.
     ensures honest { T.is_honest desk.new → T.is_honest desk.old }
     ensures whole { T.is_honest desk.new → T.is_whole desk.new → T.is_whole desk.old }
+    ensures stopped { T.is_stopped desk.old ≡ true → T.is_stopped desk.new ≡ true }
 {
     let mut inbox = Inbox::new(alloc);
     for answered in 0..ANSWER_LIMIT {

@@ -101,7 +101,7 @@ front_of_longer zero xs ys = ([], refl)
 front_of_longer (suc n) [] ys = (take (suc n) ys, refl)
 front_of_longer (suc n) (x ∷ xs) ys = let later = front_of_longer n xs ys in (later.0, ap (λ l. x ∷ l) later.1)
 
-head_stays : (bytes rest front : List ℕ) → first_head bytes ≡ Some front → first_head (bytes ++ rest) ≡ Some front
+pub head_stays : (bytes rest front : List ℕ) → first_head bytes ≡ Some front → first_head (bytes ++ rest) ≡ Some front
 head_stays bytes rest front is =
     let longer = front_of_longer head_limit bytes rest in
     ap head_cut longer.1 ∙ cut_longer (take head_limit bytes) longer.0 front is
@@ -109,7 +109,7 @@ head_stays bytes rest front is =
 no_head_stays : (bytes rest : List ℕ) → head_limit ≤ length bytes → first_head bytes ≡ None → first_head (bytes ++ rest) ≡ None
 no_head_stays bytes rest full none = ap head_cut (take-append-le head_limit bytes rest full) ∙ none
 
-no_bytes : first_head [] ≡ None
+pub no_bytes : first_head [] ≡ None
 unfolding head_cut
 no_bytes = refl
 

@@ -1,11 +1,11 @@
 -- What arrives of a stream, message by message. RFC 9112, section 2.1; the limits are this project's own.
-use Rattle.std.specs.Prelude.{◌≡◌, ◌<◌, ◌≤◌, ◌+◌, ℕ, List, [], ◌++◌, length, take, drop, Option, Some, None}
+use Rattle.std.specs.Prelude.{◌≡◌, ◌<◌, ◌≤◌, ◌+◌, ℕ, List, [], ◌++◌, length, take, drop, Option, Some, None, ⊤}
 use Rattle.units.specs.Streams.{prepend_known, IsAtEnd, RoseOrStands}
 use Rattle.http_messages.specs.Heads.{Head, head_of}
 use Rattle.http_messages.specs.declared.refusal.Refusal.{Refusal}
 use Rattle.http_messages.specs.declared.refusal.Refusal.TheVariants.{Malformed}
-use Rattle.http_messages.specs.Asked.{Asking, ending, asking_of}
-use Rattle.http_messages.specs.Streams.{with_head, step, first_step}
+use Rattle.http_messages.specs.Asked.{Asking, ending, asking_of, first_failed, head_tests, body_size}
+use Rattle.http_messages.specs.Streams.{head_limit, first_head, with_head, step, first_step}
 use Rattle.http_messages.specs.declared.inbox.ReadFault.{ReadFault}
 use Rattle.http_messages.specs.declared.inbox.ReadFault.TheVariants.{Source, Memory}
 use Rattle.http_messages.specs.declared.inbox.Arrival.{Arrival}
@@ -32,6 +32,28 @@ pub record WasCutOff (left_old left_new : Option (List ℕ)) (failed_old failed_
   pub cause : CauseOf fault failed_old failed_new
 
 -- ---- what stands at the front
+
+-- behind a head that no test refuses stands the body that it wants
+abbrev pub HasBody : Option Head → List ℕ → Type 0
+HasBody None behind = ⊤
+HasBody (Some head) behind = first_failed (head_tests head) ≡ None → body_size head ≤ length behind
+
+abbrev pub HoldsBehind : Option (List ℕ) → List ℕ → Type 0
+HoldsBehind None bytes = head_limit ≤ length bytes
+HoldsBehind (Some front) bytes = HasBody (head_of front) (drop (length front) bytes)
+
+-- The bytes hold their first message whole, or a head that is refused, or too many bytes for one: to find that, nothing more is read.
+abbrev pub HoldsFirst : List ℕ → Type 0
+HoldsFirst bytes = HoldsBehind (first_head bytes) bytes
+
+-- a read brings so many bytes at most
+abbrev pub piece_limit : ℕ
+piece_limit = 16384
+
+-- No more was read than is wanted: nothing; or without the last piece the first message isn't there.
+pub data WasWanted (old new : List ℕ) : Type 0 where
+  nothing_read : new ≡ old → WasWanted old new
+  last_piece : (first last : List ℕ) → new ≡ old ++ (first ++ last) → length last ≤ piece_limit → (HoldsFirst (old ++ first) → ⊥) → WasWanted old new
 
 -- what a message asks whose head these bytes are
 abbrev pub asking_with : Option Head → List ℕ → Asking

@@ -93,25 +93,32 @@ pub data Asked : Type 0 where
   request : List ℕ → List (List ℕ) → List ℕ → Asked
   export : Text → Asked
   unit : UnitName → Asked
+  -- a unit, by a query that names none
+  unnamed : Asked
   stats : Text → Asked
 
--- what is asked of a language or a unit, where there is one
-abbrev pub asked_of : {A : Type 0} → (A → Asked) → Option A → Asked
+-- what is asked of a language, where there is one
+abbrev pub asked_of : (Text → Asked) → Option Text → Asked
 asked_of ask None = refused Malformed
 asked_of ask (Some x) = ask x
 
 abbrev pub lang_in : List ℕ → Option Text
 lang_in part = if is_lang part then Some part else None
 
-abbrev pub unit_in_query : Option (List ℕ) → Option UnitName
-unit_in_query None = None
-unit_in_query (Some query) = unit_of query
+abbrev pub named : Option UnitName → Asked
+named None = unnamed
+named (Some name) = unit name
+
+-- without a query there is nothing to read
+abbrev pub unit_in_query : Option (List ℕ) → Asked
+unit_in_query None = refused Malformed
+unit_in_query (Some query) = named (unit_of query)
 
 abbrev pub question : Option RoutePart → Head → List ℕ → Asked
 question None head body = refused NoRoute
 question (Some (Requests, part)) head body = request part (values_of (codes "X-Office-Caller") head.fields) body
 question (Some (Export, part)) head body = asked_of export (lang_in part)
-question (Some (Unit, part)) head body = asked_of unit (unit_in_query (query_of head.target))
+question (Some (Unit, part)) head body = unit_in_query (query_of head.target)
 question (Some (Stats, part)) head body = asked_of stats (lang_in part)
 
 -- ---- a message

@@ -1,14 +1,13 @@
 -- What a message asks, as the code says it. This project's own words, for the code's own types.
 use Rattle.std.specs.Prelude.{◌≡◌, ℕ, List, ⊤}
 use Rattle.http_messages.specs.Values.{AreValues}
-use Rattle.http_messages.specs.declared.refusal.Refusal.TheVariants.{Malformed}
 use Rattle.http_messages.specs.declared.route.Route.{Route}
 use Rattle.http_messages.specs.declared.message.Asked.{Asked as AskedValue}
 use Rattle.http_messages.specs.declared.message.Asked.TheVariants as told
 use Rattle.http_messages.specs.declared.message.Asking.{Asking as AskingValue}
 use Rattle.http_messages.specs.Routes.{RoutePart}
 use Rattle.http_messages.specs.Pairs.{name_of}
-use Rattle.http_messages.specs.Asked.{Asked, refused, request, export, unit, stats, Asking}
+use Rattle.http_messages.specs.Asked.{Asked, refused, request, export, unit, unnamed, stats, Asking}
 
 abbrev pub route_at : Route → RoutePart
 route_at route = (route.kind, route.part.now)
@@ -18,16 +17,18 @@ IsAsked (told.Refused refusal) asked = asked ≡ refused refusal
 IsAsked (told.Request parts) asked = (values : List (List ℕ)) × AreValues parts.callers values × (asked ≡ request parts.number.now values parts.body.now)
 IsAsked (told.Export lang) asked = asked ≡ export lang
 IsAsked (told.Unit name) asked = asked ≡ unit (name_of name)
+IsAsked told.Unnamed asked = asked ≡ unnamed
 IsAsked (told.Stats lang) asked = asked ≡ stats lang
 
 pub record IsAsking (asking : AskingValue) (is : Asking) : Type 0 where
   pub asked : IsAsked asking.asked is.asked
   pub ends : asking.ends ≡ is.ends
 
--- what takes memory to be read: a message that passes all tests but the last
+-- what takes memory to be read: a message that passes all tests; of its question only a unit's query isn't tested before
 abbrev pub MayTakeMemory : Asked → Type 0
-MayTakeMemory (refused refusal) = refusal ≡ Malformed
+MayTakeMemory (refused refusal) = ⊥
 MayTakeMemory (request number callers body) = ⊤
 MayTakeMemory (export lang) = ⊤
 MayTakeMemory (unit name) = ⊤
+MayTakeMemory unnamed = ⊤
 MayTakeMemory (stats lang) = ⊤

@@ -1,11 +1,11 @@
 -- What the field lines of a head say of its body and of the connection. A name counts in any case of its letters (RFC 9110, section
 -- 5.1). A body has the length that `Content-Length` gives (RFC 9112, section 6.2); this project takes no `Transfer-Encoding`
--- (section 6.1), no second `Content-Length`, and at most 9 digits. After a request of HTTP/1.0, and after one with
--- `Connection: close`, the connection ends (section 9.6; persistence in HTTP/1.0 is not taken up).
+-- (section 6.1), no second `Content-Length`, and at most 9 digits. After a request of HTTP/1.0, after one by HEAD, and after one
+-- with `Connection: close`, the connection ends (section 9.6; persistence in HTTP/1.0 is not taken up).
 use Rattle.std.specs.Prelude.{ℕ, ◌==◌, ◌&&◌, ◌||◌, nat_le, List, [], ◌∷◌, length, map, filter, codes, Bool, true, false, if◌then◌else◌}
 use Rattle.std.specs.List.{list_all, list_any}
 use Rattle.std.specs.Char.{is_ascii_digit}
-use Rattle.std.specs.Str.{str_eq_ignore_ascii_case}
+use Rattle.std.specs.Str.{bytes_eq, str_eq_ignore_ascii_case}
 use Rattle.std.specs.Str.Parse.{digits_value}
 use Rattle.http_messages.specs.declared.head.BodyLength.{BodyLength}
 use Rattle.http_messages.specs.declared.head.BodyLength.TheVariants.{Absent, Bad, Given}
@@ -43,6 +43,10 @@ body_length head =
 abbrev pub is_close : List ℕ → Bool
 is_close value = str_eq_ignore_ascii_case value (codes "close")
 
+-- Whoever asks by HEAD takes no body from the answer (RFC 9110, 9.3.2), and would take that of a refusal for the next answer.
+abbrev pub asks_head : Head → Bool
+asks_head head = bytes_eq head.method (codes "HEAD")
+
 -- nothing is read after this request
 abbrev pub closes : Head → Bool
-closes head = head.minor == 0 || list_any is_close (values_of (codes "Connection") head.fields)
+closes head = head.minor == 0 || asks_head head || list_any is_close (values_of (codes "Connection") head.fields)

@@ -1,10 +1,12 @@
 -- The unit that a query names. The query's pairs are those of a form (URL Standard, "application/x-www-form-urlencoded"), in any order:
--- `lang` and `id` once each, `ctx` where the unit has a context, and no others. This project's own rule.
+-- `lang` and `id` once each, `ctx` where the unit has a context, and no others; and the query is UTF-8 once its escapes are read. This
+-- project's own rule.
 use Rattle.std.specs.Prelude.{ℕ, ◌||◌, List, [], ◌∷◌, map, filter, codes, Option, Some, None, Bool, if◌then◌else◌}
 use Rattle.std.specs.List.{list_all}
-use Rattle.std.specs.Str.{bytes_eq}
+use Rattle.std.specs.Str.{bytes_eq, is_utf8}
 use Rattle.std.specs.Str.Lossy.{utf8_lossy}
 use Rattle.form_urlencoded.specs.Form.{raw_pairs, decode}
+use Rattle.percent_encoding.specs.Percent.{percent_decode}
 use Rattle.po_read.specs.Texts.{Text}
 use Rattle.po_read.specs.Strings.{is_string}
 use Rattle.units.specs.Limits.{is_lang}
@@ -13,7 +15,7 @@ use Rattle.units.specs.declared.unit.Key.{Key}
 abbrev pub Pairs : Type 0
 Pairs = List (Text × Text)
 
--- the text that bytes of a form stand for; what isn't UTF-8 in them stands as U+FFFD
+-- the text that bytes of a form stand for
 abbrev pub text_of : List ℕ → Text
 text_of bytes = utf8_lossy (decode bytes)
 
@@ -54,4 +56,4 @@ unit_in pairs =
     else None
 
 abbrev pub unit_of : List ℕ → Option UnitName
-unit_of query = unit_in (pairs_of query)
+unit_of query = if is_utf8 (percent_decode query) then unit_in (pairs_of query) else None

@@ -114,11 +114,12 @@ impl<'b> Head<'b> {
         }
     }
 
-    /// Whether the connection ends after this request.
+    /// Whether the connection ends after this request: that of HTTP/1.0, one by HEAD, whose answer's body nobody takes, and one that says so.
     pub(crate) fn closes(&self) -> bool
         ensures { result ≡ closes self.now }
     {
         self.spans.version == 0
+            || self.method() == b"HEAD".as_slice()
             || has_value(
                 self.bytes,
                 &self.lines[..self.spans.headers],

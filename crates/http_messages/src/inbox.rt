@@ -1,12 +1,12 @@
 //! What was read of a stream, and the messages in it.
-ghost use Rattle.std.specs.Prelude.{◌≡◌, ◌+◌, ◌<◌, ◌≤◌, nat_le, nat_lt, [], length, take, drop, true, false, None, IfSome, IfOk, OnOk, IfErr, OnErr, option_map, if◌then◌else◌};
+ghost use Rattle.std.specs.Prelude.{◌≡◌, ◌+◌, ◌<◌, ◌≤◌, ℕ, List, nat_le, nat_lt, [], ◌++◌, length, take, drop, true, false, None, IfSome, IfOk, OnOk, IfErr, OnErr, option_map, if◌then◌else◌};
 ghost use Rattle.units.specs.Streams.{IsAtEnd};
 ghost use Rattle.http_messages.specs.Heads.{head_of};
 ghost use Rattle.http_messages.specs.declared.refusal.Refusal.TheVariants.{LongHead, Malformed};
 ghost use Rattle.http_messages.specs.Asked.{body_limit};
 ghost use Rattle.http_messages.specs.Askings.{IsAsking, MayTakeMemory};
 ghost use Rattle.http_messages.specs.Streams.{head_limit, first_head};
-ghost use Rattle.http_messages.specs.Arrivals.{ReadBehind, WasCutOff, asking_in, WantsBody, RefusesHead, Arrives};
+ghost use Rattle.http_messages.specs.Arrivals.{ReadBehind, WasCutOff, asking_in, HasBody, HoldsFirst, WasWanted, WantsBody, RefusesHead, Arrives, piece_limit};
 ghost use Rattle.http_messages.specs.declared.inbox.Arrival.TheVariants.{Refused, End};
 
 use crate::body::body_size;
@@ -111,6 +111,7 @@ impl Inbox {
     fn read_some<R: ByteSource>(&mut self, source: &mut R) -> Result<bool, ReadFault>
         ensures read { OnOk result (ReadBehind (R.left source.old) (R.left source.new) (R.failed source.old) (R.failed source.new) self.old self.new) }
         ensures some { IfOk result (λ more. more ≡ true → length self.old < length self.new) }
+        ensures most { OnOk result (length self.new ≤ length self.old + piece_limit) }
         ensures none { IfOk result (λ more. more ≡ false → self.new ≡ self.old) }
         ensures end { IfOk result (λ more. more ≡ false → IsAtEnd (R.left source.new)) }
         ensures fault { IfErr result (WasCutOff (R.left source.old) (R.left source.new) (R.failed source.old) (R.failed source.new)) }
@@ -135,6 +136,8 @@ impl Inbox {
     fn read_head<R: ByteSource>(&mut self, source: &mut R) -> Result<bool, ReadFault>
         ensures read { OnOk result (ReadBehind (R.left source.old) (R.left source.new) (R.failed source.old) (R.failed source.new) self.old self.new) }
         ensures whole { IfOk result (λ more. more ≡ true → first_head self.new ≡ None → head_limit ≤ length self.new) }
+        ensures at_hand { (first_head self.old ≡ None → head_limit ≤ length self.old) → (source.new ≡ source.old) × (self.new ≡ self.old) }
+        ensures wanted { OnOk result (WasWanted self.old self.new) }
         ensures end { IfOk result (λ more. more ≡ false → IsAtEnd (R.left source.new)) }
         ensures fault { IfErr result (WasCutOff (R.left source.old) (R.left source.new) (R.failed source.old) (R.failed source.new)) }
     {
@@ -151,6 +154,9 @@ impl Inbox {
         ensures read { OnOk result (ReadBehind (R.left source.old) (R.left source.new) (R.failed source.old) (R.failed source.new) self.old self.new) }
         ensures whole { IfOk result (λ more. more ≡ true → most ≤ length self.new) }
         ensures short { IfOk result (λ more. more ≡ false → length self.new < most) }
+        ensures at_hand { most ≤ length self.old → (source.new ≡ source.old) × (self.new ≡ self.old) }
+        ensures wanted { ((more : List ℕ) → length (self.old ++ more) < most → HoldsFirst (self.old ++ more) → ⊥)
+            → OnOk result (WasWanted self.old self.new) }
         ensures end { IfOk result (λ more. more ≡ false → IsAtEnd (R.left source.new)) }
         ensures fault { IfErr result (WasCutOff (R.left source.old) (R.left source.new) (R.failed source.old) (R.failed source.new)) }
     {
@@ -168,6 +174,7 @@ impl Inbox {
         ensures ok { IfOk result (WantsBody (head_of (take head self.now))) }
         ensures err { IfErr result (RefusesHead (head_of (take head self.now))) }
         ensures most { IfOk result (λ size. size ≤ body_limit) }
+        ensures least { IfOk result (λ size. (behind : List ℕ) → HasBody (head_of (take head self.now)) behind → size ≤ length behind) }
     {
         match Head::read(&self.bytes[..head]) {
             Some(head) => body_size(&head),
@@ -188,12 +195,15 @@ impl Inbox {
         }
     }
 
-    /// Reads until a message stands at the front, whole or refused, or the source ends. What was read behind it stays.
+    /// Reads until a message stands at the front, whole or refused, or the source ends. What was read behind it stays, and where it
+    /// stands there already nothing is read.
     ///
     /// An error where a read failed, or where a growth was refused: then bytes may be lost, and nothing more should be read.
     pub fn read_message<R: ByteSource>(&mut self, source: &mut R) -> Result<Arrival, ReadFault>
         ensures read { OnOk result (ReadBehind (R.left source.old) (R.left source.new) (R.failed source.old) (R.failed source.new) self.old self.new) }
         ensures arrives { IfOk result (Arrives (R.left source.new) self.new) }
+        ensures at_hand { HoldsFirst self.old → (source.new ≡ source.old) × (self.new ≡ self.old) }
+        ensures wanted { OnOk result (WasWanted self.old self.new) }
         ensures fault { IfErr result (WasCutOff (R.left source.old) (R.left source.new) (R.failed source.old) (R.failed source.new)) }
     {
         let _more = self.read_head(source)?;
@@ -212,7 +222,7 @@ impl Inbox {
 
     /// What the message asks that stands at the front with so many bytes of its head and its body.
     ///
-    /// An error where a growth was refused: then the message fails no test but the last, by which a part of it may be malformed.
+    /// An error where a growth was refused: then the message fails no test, but that its query may name no unit.
     pub fn asking(&self, alloc: Global, head: usize, body: usize) -> Result<Asking<'_>, Unread>
         requires within { head + body ≤ length self.now }
         ensures asking { IfOk result (λ asking. IsAsking asking (asking_in self.now head body)) }

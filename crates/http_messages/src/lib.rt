@@ -6,6 +6,7 @@ mod body;
 mod cut;
 mod head;
 mod inbox;
+mod lang;
 mod lines;
 mod message;
 mod query;

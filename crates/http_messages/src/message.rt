@@ -1,10 +1,13 @@
 //! What a message asks: the tests that it has to pass, in their order, and its question.
-ghost use Rattle.std.specs.Prelude.{◌≡◌, ◌&&◌, Some, option_map, IfOk, IfErr, OnErr};
+ghost use Rattle.std.specs.Prelude.{◌≡◌, ◌&&◌, Some, true, option_map, IfOk, IfErr, OnErr};
+ghost use Rattle.units.specs.Limits.{is_lang};
+ghost use Rattle.http_messages.specs.Pairs.{name_of};
 ghost use Rattle.http_messages.specs.Framing.{body_length};
-ghost use Rattle.http_messages.specs.Asked.{target_route, wants_length, is_absent, asked_of, lang_in, unit_in_query, export, unit, stats, question, asking_of};
+ghost use Rattle.http_messages.specs.Asked.{target_route, wants_length, is_absent, asked_of, lang_in, named, unit_in_query, export, stats, question, asking_of};
 ghost use Rattle.http_messages.specs.Askings.{IsAsked, IsAsking, MayTakeMemory, route_at};
 
 use crate::head::{BodyLength, Head};
+use crate::lang::is_lang;
 use crate::lines::Values;
 use crate::query::{UnitName, unit_of};
 use crate::refusal::Refusal;
@@ -35,6 +38,8 @@ pub enum Asked<'b> {
     Export(Lang),
     /// A unit's view.
     Unit(UnitName),
+    /// A unit's view, by a query that names no unit.
+    Unnamed,
     /// The counts of a language.
     Stats(Lang),
 }
@@ -87,11 +92,15 @@ fn lacks_length(route: Route<'_>, head: &Head<'_>) -> bool
     }
 }
 
-/// The language that a part names.
+/// The language that a part names. Where it names none, no memory is taken.
 #[tactic(auto, using(crate::proofs::LangLemmas::no_lang))]
 fn lang_in(alloc: Global, part: &[u8]) -> Result<Option<Lang>, AllocError>
-    ensures { IfOk result (λ lang. lang ≡ lang_in part.now) }
+    ensures named { IfOk result (λ lang. lang ≡ lang_in part.now) }
+    ensures memory { OnErr result (is_lang part.now ≡ true) }
 {
+    if !is_lang(part) {
+        return Ok(None);
+    }
     match str::from_utf8(part) {
         Ok(text) => Lang::try_new(alloc, text),
         Err(_) => Ok(None),
@@ -116,18 +125,24 @@ fn stats_of<'b>(lang: Option<Lang>) -> Asked<'b>
     }
 }
 
-/// The unit that a target's query names.
+fn named<'b>(unit: Option<UnitName>) -> Asked<'b>
+    ensures { IsAsked result (named (option_map name_of unit)) }
+{
+    match unit {
+        Some(name) => Asked::Unit(name),
+        None => Asked::Unnamed,
+    }
+}
+
+/// The unit that a target's query names. Without a query no memory is taken.
 fn unit_asked<'b>(alloc: Global, target: &Target<'_>) -> Result<Asked<'b>, AllocError>
-    ensures { IfOk result
-        (λ asked. IsAsked asked (asked_of unit (unit_in_query (option_map (λ query. query.now) target.now.query)))) }
+    ensures asked { IfOk result (λ asked. IsAsked asked (unit_in_query (option_map (λ query. query.now) target.now.query))) }
+    ensures memory { OnErr result (MayTakeMemory (unit_in_query (option_map (λ query. query.now) target.now.query))) }
 {
     let Some(query) = target.query else {
         return Ok(Asked::Refused(Refusal::Malformed));
     };
-    match unit_of(alloc, query)? {
-        Some(name) => Ok(Asked::Unit(name)),
-        None => Ok(Asked::Refused(Refusal::Malformed)),
-    }
+    Ok(named(unit_of(alloc, query)?))
 }
 
 /// The question of a message whose route and method are right.
@@ -154,7 +169,7 @@ fn question<'b>(
 
 /// What a message asks that has this head and this body, of the size that the head gives.
 ///
-/// An error where a growth was refused: then the message fails no test but the last, by which a part of it may be malformed.
+/// An error where a growth was refused: then the message fails no test, but that its query may name no unit.
 pub(crate) fn asking_of<'b>(
     alloc: Global,
     head: &Head<'b>,

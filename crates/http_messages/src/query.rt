@@ -2,15 +2,19 @@
 ghost use Rattle.std.specs.Prelude.{◌≡◌, ◌≤◌, ◌<◌, length, map, option_map, codes, IfOk, Some, None};
 ghost use Rattle.std.specs.List.{list_all};
 ghost use Rattle.std.specs.Cow.{cow_str_bytes};
+ghost use Rattle.std.specs.Str.{is_utf8};
+ghost use Rattle.percent_encoding.specs.Percent.{percent_decode};
 ghost use Rattle.po_read.specs.Strings.{is_string};
 ghost use Rattle.units.specs.Limits.{is_lang};
 ghost use Rattle.http_messages.specs.Queries.{pairs_of, is_known, values_named, only_one, at_most_one, unit_with, unit_in, unit_of};
 ghost use Rattle.http_messages.specs.Pairs.{pairs_at, AreNamed, name_of};
 
 use form_urlencoded::parse;
+use percent_encoding::percent_decode;
 use po_read::PoString;
 use std::alloc::{AllocError, Global};
 use std::borrow::CowStr;
+use std::str;
 use units::{Key, Lang};
 
 /// A unit by its language and its key.
@@ -122,11 +126,31 @@ fn unit_with(
     }
 }
 
+fn is_utf8(bytes: &[u8]) -> bool
+    ensures { result ≡ is_utf8 bytes.now }
+{
+    match str::from_utf8(bytes) {
+        Ok(_) => true,
+        Err(_) => false,
+    }
+}
+
+/// Whether a query is UTF-8 once its escapes are read.
+fn is_text(alloc: Global, query: &[u8]) -> Result<bool, AllocError>
+    ensures { IfOk result (λ is. is ≡ is_utf8 (percent_decode query.now)) }
+{
+    let bytes = percent_decode(query).into_cow(alloc)?;
+    Ok(is_utf8(bytes.as_slice()))
+}
+
 /// The unit that a query names: `lang` and `id` once each, `ctx` at most once, no other name, in any order and decoded as forms
-/// are. `None` where it names none; an error where a growth was refused.
+/// are. `None` where it names none, or isn't UTF-8 once it is decoded; an error where a growth was refused.
 pub(crate) fn unit_of(alloc: Global, query: &[u8]) -> Result<Option<UnitName>, AllocError>
     ensures { IfOk result (λ name. option_map name_of name ≡ unit_of query.now) }
 {
+    if !is_text(alloc, query)? {
+        return Ok(None);
+    }
     let pairs = pairs_of(alloc, query)?;
     let pairs = pairs.as_slice();
     if !all_known(pairs) {

@@ -8,10 +8,12 @@ ghost use Rattle.request_book.specs.Book.{with_record};
 ghost use Rattle.request_book.specs.Clash.{is_office_act};
 ghost use Rattle.request_book.specs.declared.act.Act.TheVariants.{OnUnit};
 ghost use Rattle.deliveries.specs.Deliveries.{reply_from, first_delivered};
+ghost use Rattle.deliveries.specs.Step.{step};
 ghost use Rattle.deliveries.specs.UnitAccess.{found_of, with_view};
 ghost use Rattle.deliveries.specs.UnitOutcomes.{outcome_of};
 ghost use Rattle.deliveries.specs.OfficeChanges.{changed_by, IsPossibleChange};
 ghost use Rattle.deliveries.specs.OfficeRules.{KeepsRules};
+ghost use Rattle.office_acts.specs.Settled.{IsSettled};
 ghost use Rattle.tables.specs.Stops.{Nothing};
 ghost use Rattle.tables.specs.Kept.{IsKept};
 ghost use Rattle.tables.specs.declared.faults.Lost.TheVariants.{Disk};
@@ -22,7 +24,7 @@ use po_read::{Duplicate, Text};
 use request_book::{Act, Class, Record, Reply, Request, classify};
 use std::alloc::{AllocError, Global};
 use tables::{Lost, Tables};
-use units::{Key, Lang, UnitAct, UnitView};
+use units::{Key, Lang, Refusal, Role, UnitAct, UnitView};
 
 /// The reply to a request with this content, by what is recorded under its number, if anything is.
 fn reply_by(
@@ -148,6 +150,43 @@ fn deliver_unit_act<T: Tables>(
     commit_unit_act(tables, row, lang, key, view, reply)
 }
 
+/// What an act on the office comes to, over the office that is read for it.
+fn read_office_and_decide<T: Tables>(
+    alloc: Global,
+    tables: &mut T,
+    request: &Request,
+) -> Result<OfficeOutcome, Lost>
+    requires act { is_office_act request.now.act ≡ true }
+    ensures answer { T.is_honest tables.new → IfOk result
+        (λ outcome. IsSettled (T.means tables.old).office outcome (step (T.means tables.old).office request.now)) }
+    ensures same { T.is_honest tables.new → T.is_whole tables.new → T.means tables.new ≡ T.means tables.old }
+    ensures kept { IsKept T.is_honest T.is_whole T.means T.may_leave T.is_stopped tables.old tables.new result Disk Nothing }
+{
+    tables.office_rows()?;
+    let outcome = office_outcome(alloc, tables.office(), request);
+    Ok(outcome?)
+}
+
+/// What an act on the office comes to. The caller's role is looked up first: whom it refuses costs no reading of the office.
+fn ask_role_and_decide<T: Tables>(
+    alloc: Global,
+    tables: &mut T,
+    request: &Request,
+) -> Result<OfficeOutcome, Lost>
+    requires act { is_office_act request.now.act ≡ true }
+    ensures answer { T.is_honest tables.new → IfOk result
+        (λ outcome. IsSettled (T.means tables.old).office outcome (step (T.means tables.old).office request.now)) }
+    ensures same { T.is_honest tables.new → T.is_whole tables.new → T.means tables.new ≡ T.means tables.old }
+    ensures kept { IsKept T.is_honest T.is_whole T.means T.may_leave T.is_stopped tables.old tables.new result Disk Nothing }
+{
+    let role = tables.role_of(&request.caller)?;
+    if role.is_below(Role::Manager) {
+        let outcome = OfficeOutcome::refused(alloc, Refusal::BelowRole);
+        return Ok(outcome?);
+    }
+    read_office_and_decide(alloc, tables, request)
+}
+
 /// Commits an act on the office, and hands on its reply, which is made: nothing here takes memory.
 fn commit_office_act<T: Tables>(
     tables: &mut T,
@@ -187,8 +226,7 @@ fn deliver_office_act<T: Tables>(
     ensures kept { IsKept T.is_honest T.is_whole T.means T.may_leave T.is_stopped tables.old tables.new result Disk
         (λ m. m ≡ (first_delivered (T.means tables.old) request.now).0) }
 {
-    tables.office_rows()?;
-    let OfficeOutcome { change, reply } = office_outcome(alloc, tables.office(), request)?;
+    let OfficeOutcome { change, reply } = ask_role_and_decide(alloc, tables, request)?;
     let row = match record_with(request, content, &reply) {
         Some(row) => row,
         None => {

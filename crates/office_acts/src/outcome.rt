@@ -22,7 +22,9 @@ impl OfficeOutcome {
     ghost use Rattle.office_acts.specs.Settled.{without_change};
 
     /// Nothing changes.
-    pub(crate) fn refused(alloc: Global, refusal: Refusal) -> Result<OfficeOutcome, Memory>
+    ///
+    /// `Memory` where a growth was refused.
+    pub fn refused(alloc: Global, refusal: Refusal) -> Result<OfficeOutcome, Memory>
         ensures { IfOk result (λ outcome. outcome ≡ without_change (refused refusal)) }
     {
         let reply = refused(alloc, refusal)?;

@@ -8,7 +8,7 @@ use Rattle.office_maps.specs.declared.office_maps.OfficeMaps.{OfficeMaps}
 use Rattle.office_sql.specs.Whole.{IsIdle, IsLookUp}
 use Rattle.office_found.specs.Found.{HoldsOffice}
 use Rattle.office_found.specs.Looks.{IsTested}
-use Rattle.office_adoption.specs.declared.faults.AdoptionFault.{AdoptionFault}
+use Rattle.office_adoption.specs.declared.faults.OpenFault.{OpenFault}
 use Rattle.office_adoption.specs.Adoption.{IsAdoptedAs, IsAdoptedIn, StaysAsItWas, Refuses}
 use Rattle.office_adoption.proofs.Looked.{idle_still}
 
@@ -45,7 +45,7 @@ module _ (old mid : State) (it : IsTested old mid (Ok true)) where
     settled = λ clean is_open. (it.ready clean refl).settled clean is_open;
   }
 
-  module _ (new : State) (r : Result OfficeMaps AdoptionFault) (looked : IsLookUp mid new r IsAdoptedAs) where
+  module _ (new : State) (r : Result OfficeMaps OpenFault) (looked : IsLookUp mid new r IsAdoptedAs) where
     early : HasCleanDisk new → HasCleanDisk mid
     early clean = omega (arith, clean, looked.survives.clean)
 
@@ -70,12 +70,12 @@ module _ (old mid : State) (it : IsTested old mid (Ok true)) where
     pub adopted_refused : IfErr r (λ fault. HasCleanDisk new → Refuses mid.now fault) → IfErr r (λ fault. HasCleanDisk new → Refuses old.now fault)
     adopted_refused = by r
       where
-        by : (s : Result OfficeMaps AdoptionFault) → IfErr s (λ fault. HasCleanDisk new → Refuses mid.now fault) → IfErr s (λ fault. HasCleanDisk new → Refuses old.now fault)
+        by : (s : Result OfficeMaps OpenFault) → IfErr s (λ fault. HasCleanDisk new → Refuses mid.now fault) → IfErr s (λ fault. HasCleanDisk new → Refuses old.now fault)
         by (Ok maps) h = tt
         by (Err fault) h = λ clean. subst (λ db. Refuses db fault) (it.same (early clean)).now (h clean)
 
 -- what was adopted
-pub is_adopted_in : (mid new : State) (r : Result OfficeMaps AdoptionFault) → IsIdle mid → IsLookUp mid new r IsAdoptedAs → IfOk r (IsAdoptedIn new)
+pub is_adopted_in : (mid new : State) (r : Result OfficeMaps OpenFault) → IsIdle mid → IsLookUp mid new r IsAdoptedAs → IfOk r (IsAdoptedIn new)
 is_adopted_in mid new (Ok maps) idle looked = record {
   is_open = looked.is_open;
   idle = idle_still mid new (Ok maps) IsAdoptedAs idle looked;

@@ -23,8 +23,9 @@ use Rattle.shown_rows.specs.RowTests.{AreOfficeRows}
 use Rattle.office_adoption.specs.Given.{AreAll, AreStatusesOf}
 use Rattle.office_adoption.specs.BookShown.{book_shown, IsRecordRow}
 use Rattle.office_adoption.proofs.WholeBook.{all_numbered, whole_book}
-use Rattle.office_adoption.specs.declared.faults.AdoptionFault.{AdoptionFault}
-use Rattle.office_adoption.specs.declared.faults.AdoptionFault.TheVariants.{Memory, Disk, OtherTables, OtherForm, UnreadRow, BrokenRules}
+use Rattle.office_adoption.specs.declared.faults.OpenFault.{OpenFault}
+use Rattle.office_adoption.specs.declared.faults.OpenFault.TheVariants.{Memory, Disk, Foreign, Exists}
+use Rattle.office_adoption.specs.declared.faults.Mismatch.TheVariants.{OtherTables, OtherForm, UnreadRow, BrokenRules}
 use Rattle.office_adoption.specs.declared.office_read.ReadOffice.{ReadOffice}
 use Rattle.office_adoption.specs.Adoption.{HasFirstForm, Refuses}
 use Rattle.office_adoption.specs.Reading.{unread, ShowsFirstForm, IsOfRows, HasLangs, RefusesRows, RefusesBook, IsReadOf, AreStatusesIn}
@@ -58,16 +59,17 @@ module _ (db : Database) (office : AreOfficeTables db) (rows : WholeOffice) (sho
     office = it.office ∙ whole_office db office rows shows;
   }
 
-  pub rows_refused : (fault : AdoptionFault) → RefusesRows rows fault → Refuses db fault
-  rows_refused UnreadRow h = λ stand. h (rows_stand db office rows shows stand.0)
-  rows_refused OtherForm h = λ first. h (first_form_shown db rows.office.policy shows.office.policy office first)
-  rows_refused BrokenRules h = absurd h
-  rows_refused OtherTables h = absurd h
+  pub rows_refused : (fault : OpenFault) → RefusesRows rows fault → Refuses db fault
+  rows_refused (Foreign UnreadRow) h = λ stand. h (rows_stand db office rows shows stand.0)
+  rows_refused (Foreign OtherForm) h = λ first. h (first_form_shown db rows.office.policy shows.office.policy office first)
+  rows_refused (Foreign BrokenRules) h = absurd h
+  rows_refused (Foreign OtherTables) h = absurd h
+  rows_refused Exists h = absurd h
   rows_refused Memory h = tt
   rows_refused Disk h = tt
 
 -- rows that weren't read
-pub rows_unread : (rows : WholeOffice) (failure : Failure) (fault : AdoptionFault) → fault ≡ unread failure.lost → (failure.lost ≡ lost.Disk → ¬ AreOfficeRows rows) → RefusesRows rows fault
+pub rows_unread : (rows : WholeOffice) (failure : Failure) (fault : OpenFault) → fault ≡ unread failure.lost → (failure.lost ≡ lost.Disk → ¬ AreOfficeRows rows) → RefusesRows rows fault
 rows_unread rows failure fault is unread_rows = subst (RefusesRows rows) (sym is) (by failure.lost refl)
   where
     by : (l : Lost) → failure.lost ≡ l → RefusesRows rows (unread l)
@@ -86,7 +88,7 @@ module _ (db : Database) (rows : List Row) (shows : ShowsRecords db rows) (stand
   }
 
 -- records that weren't read
-pub book_unread : {C : Type 0} (db : Database) (rows : List Row) (failure : Failure) (fault : AdoptionFault) → (C → ShowsRecords db rows) → fault ≡ unread failure.lost → (failure.lost ≡ lost.Disk → ¬ All IsRecordRow rows)
+pub book_unread : {C : Type 0} (db : Database) (rows : List Row) (failure : Failure) (fault : OpenFault) → (C → ShowsRecords db rows) → fault ≡ unread failure.lost → (failure.lost ≡ lost.Disk → ¬ All IsRecordRow rows)
     → C → RefusesBook db fault
 book_unread {C} db rows failure fault shows is unread_rows clean = subst (RefusesBook db) (sym is) (by failure.lost refl)
   where
@@ -96,16 +98,16 @@ book_unread {C} db rows failure fault shows is unread_rows clean = subst (Refuse
 
 -- ---- the office, or why not
 
-pub offices_read : (db : Database) → AreOfficeTables db → (rows : WholeOffice) → ShowsWholeOffice db rows → (r : Result ReadOffice AdoptionFault) → IfOk r (IsOfRows rows)
+pub offices_read : (db : Database) → AreOfficeTables db → (rows : WholeOffice) → ShowsWholeOffice db rows → (r : Result ReadOffice OpenFault) → IfOk r (IsOfRows rows)
     → OnOk r (ShowsFirstForm rows.office.policy) → IfOk r (IsReadOf db)
 offices_read db office rows shows (Ok read) it first = office_is_read db office rows shows read it first
 offices_read db office rows shows (Err fault) it first = tt
 
-pub langs_read : (rows : WholeOffice) (r : Result ReadOffice AdoptionFault) → IfOk r (IsOfRows rows) → IfOk r HasLangs
+pub langs_read : (rows : WholeOffice) (r : Result ReadOffice OpenFault) → IfOk r (IsOfRows rows) → IfOk r HasLangs
 langs_read rows (Ok read) it = subst (λ m. AreAll m read.langs.items) (sym (ap (λ (o : Office). o.headers) it.office)) it.langs
 langs_read rows (Err fault) it = tt
 
-pub rows_all_refused : {C : Type 0} (db : Database) (rows : WholeOffice) (r : Result ReadOffice AdoptionFault) → (C → AreOfficeTables db) → (C → ShowsWholeOffice db rows)
+pub rows_all_refused : {C : Type 0} (db : Database) (rows : WholeOffice) (r : Result ReadOffice OpenFault) → (C → AreOfficeTables db) → (C → ShowsWholeOffice db rows)
     → IfErr r (RefusesRows rows) → IfErr r (λ fault. C → Refuses db fault)
 rows_all_refused db rows (Ok read) office shows h = tt
 rows_all_refused db rows (Err fault) office shows h = λ clean. rows_refused db (office clean) rows (shows clean) fault h

@@ -17,8 +17,9 @@ use Rattle.office_found.specs.Found.{HoldsOffice}
 use Rattle.office_in_rows.specs.Meaning.{template_in, meaning_in, office_of_rows, AreNumbered}
 use Rattle.shown_rows.specs.RowTests.{is_member_row, is_policy_row, is_entry_row, is_language_row, is_unit_row, is_suggestion_row, is_vote_row, is_record_row}
 use Rattle.office_adoption.specs.Contents.{IsContent}
-use Rattle.office_adoption.specs.declared.faults.AdoptionFault.{AdoptionFault}
-use Rattle.office_adoption.specs.declared.faults.AdoptionFault.TheVariants.{OtherTables, OtherForm, UnreadRow, BrokenRules}
+use Rattle.office_adoption.specs.declared.faults.OpenFault.{OpenFault}
+use Rattle.office_adoption.specs.declared.faults.OpenFault.TheVariants.{Foreign, Exists}
+use Rattle.office_adoption.specs.declared.faults.Mismatch.TheVariants.{OtherTables, OtherForm, UnreadRow, BrokenRules}
 
 -- The tables have their first form: the policy's row says so.
 abbrev pub HasFirstForm : Database → Type 0
@@ -87,10 +88,11 @@ pub record StaysAsItWas (old new : State) : Type 0 where
   pub stops : HasCleanDisk new → (db : Trees) → new.may_leave db → old.may_leave db ⊎ (db ≡ old.now.trees)
   pub limit : new.step_limit ≡ old.step_limit
 
--- What is true of rows that are refused so. Of want of memory and of a failed disk nothing is said.
-abbrev pub Refuses : Database → AdoptionFault → Type 0
-Refuses db OtherTables = ¬ HoldsOffice db
-Refuses db OtherForm = ¬ HasFirstForm db
-Refuses db UnreadRow = ¬ (StandForOffice db.trees × StandForBook db.trees)
-Refuses db BrokenRules = ¬ KeepsRules (meaning_in db.trees)
+-- What is true of rows that are refused so. Of want of memory and of a failed disk nothing is said; that an office is there refuses nothing.
+abbrev pub Refuses : Database → OpenFault → Type 0
+Refuses db (Foreign OtherTables) = ¬ HoldsOffice db
+Refuses db (Foreign OtherForm) = ¬ HasFirstForm db
+Refuses db (Foreign UnreadRow) = ¬ (StandForOffice db.trees × StandForBook db.trees)
+Refuses db (Foreign BrokenRules) = ¬ KeepsRules (meaning_in db.trees)
+Refuses db Exists = ⊥
 Refuses db _ = ⊤

@@ -1,12 +1,16 @@
--- The numbers of faults: this project's own rule.
+-- The numbers of faults, and what comes of a call that was lost: this project's own rules.
 use Rattle.std.specs.Prelude.{ℕ}
-use Rattle.office_adoption.specs.declared.faults.AdoptionFault.{AdoptionFault}
-use Rattle.office_adoption.specs.declared.faults.AdoptionFault.TheVariants.{Memory, Disk, OtherTables, OtherForm, UnreadRow, BrokenRules}
+use Rattle.tables.specs.declared.faults.Lost.{Lost}
+use Rattle.tables.specs.declared.faults.Lost.TheVariants as lost
+use Rattle.office_adoption.specs.declared.faults.OpenFault.{OpenFault}
+use Rattle.office_adoption.specs.declared.faults.OpenFault.TheVariants.{Memory, Disk, Foreign, Exists}
 
-abbrev pub adoption_fault_number : AdoptionFault → ℕ
-adoption_fault_number Memory = 1
-adoption_fault_number Disk = 2
-adoption_fault_number OtherTables = 3
-adoption_fault_number OtherForm = 4
-adoption_fault_number UnreadRow = 5
-adoption_fault_number BrokenRules = 6
+abbrev pub open_fault_number : OpenFault → ℕ
+open_fault_number Memory = 1
+open_fault_number Disk = 2
+open_fault_number (Foreign why) = 3
+open_fault_number Exists = 4
+
+abbrev pub fault_of : Lost → OpenFault
+fault_of lost.Memory = Memory
+fault_of lost.Disk = Disk

@@ -19,22 +19,23 @@ use Rattle.office_scans.specs.declared.look_ups.WholeOffice.{WholeOffice}
 use Rattle.office_at_hand.specs.OfficeShown.{headers_shown, office_shown}
 use Rattle.shown_rows.specs.RowTests.{AreOfficeRows}
 use Rattle.office_adoption.specs.Given.{AreAll, AreStatusesOf}
-use Rattle.office_adoption.specs.declared.faults.AdoptionFault.{AdoptionFault}
-use Rattle.office_adoption.specs.declared.faults.AdoptionFault.TheVariants.{Memory, Disk, OtherTables, OtherForm, UnreadRow, BrokenRules}
+use Rattle.office_adoption.specs.declared.faults.OpenFault.{OpenFault}
+use Rattle.office_adoption.specs.declared.faults.OpenFault.TheVariants.{Memory, Disk, Foreign, Exists}
+use Rattle.office_adoption.specs.declared.faults.Mismatch.TheVariants.{OtherTables, OtherForm, UnreadRow, BrokenRules}
 use Rattle.office_adoption.specs.declared.office_read.ReadOffice.{ReadOffice}
 use Rattle.office_adoption.specs.Adoption.{HasFirstForm, AreContents, StandForOffice, StandForBook}
 
 -- ---- faults
 
 -- why a statement gives nothing
-pub record IsOfStatement (error : Error) (fault : AdoptionFault) : Type 0 where
+pub record IsOfStatement (error : Error) (fault : OpenFault) : Type 0 where
   pub memory : (fault ≡ Memory) ↔ (error ≡ SqliteFailure OutOfMemory)
   pub others : (fault ≡ Memory) ⊎ (fault ≡ Disk)
 
 -- why rows at hand are not read
-abbrev pub unread : Lost → AdoptionFault
+abbrev pub unread : Lost → OpenFault
 unread lost.Memory = Memory
-unread lost.Disk = UnreadRow
+unread lost.Disk = Foreign UnreadRow
 
 -- ---- the office
 
@@ -48,11 +49,12 @@ pub record IsOfRows (rows : WholeOffice) (read : ReadOffice) : Type 0 where
   pub langs : AreAll (headers_shown rows.office.languages.items) read.langs.items
   pub stand : AreOfficeRows rows
 
-abbrev pub RefusesRows : WholeOffice → AdoptionFault → Type 0
-RefusesRows rows OtherForm = ¬ ShowsFirstForm rows.office.policy
-RefusesRows rows UnreadRow = ¬ AreOfficeRows rows
-RefusesRows rows BrokenRules = ⊥
-RefusesRows rows OtherTables = ⊥
+abbrev pub RefusesRows : WholeOffice → OpenFault → Type 0
+RefusesRows rows (Foreign OtherForm) = ¬ ShowsFirstForm rows.office.policy
+RefusesRows rows (Foreign UnreadRow) = ¬ AreOfficeRows rows
+RefusesRows rows (Foreign BrokenRules) = ⊥
+RefusesRows rows (Foreign OtherTables) = ⊥
+RefusesRows rows Exists = ⊥
 RefusesRows rows _ = ⊤
 
 -- its languages are all here
@@ -82,22 +84,24 @@ pub record KeepsBook (office : Office) (db : Database) : Type 0 where
   pub rules : KeepsRules (record { office = office; book = book_in db.trees })
 
 -- what is true of an office with its book that is refused so
-abbrev pub RefusesWith : OfficeWithBook → AdoptionFault → Type 0
-RefusesWith with_book BrokenRules = ¬ KeepsRules with_book
-RefusesWith with_book UnreadRow = ⊥
-RefusesWith with_book OtherForm = ⊥
-RefusesWith with_book OtherTables = ⊥
+abbrev pub RefusesWith : OfficeWithBook → OpenFault → Type 0
+RefusesWith with_book (Foreign BrokenRules) = ¬ KeepsRules with_book
+RefusesWith with_book (Foreign UnreadRow) = ⊥
+RefusesWith with_book (Foreign OtherForm) = ⊥
+RefusesWith with_book (Foreign OtherTables) = ⊥
+RefusesWith with_book Exists = ⊥
 RefusesWith with_book _ = ⊤
 
 -- what is true of a book's rows that are refused so
-abbrev pub RefusesBook : Database → AdoptionFault → Type 0
-RefusesBook db UnreadRow = ¬ StandForBook db.trees
-RefusesBook db BrokenRules = ⊥
-RefusesBook db OtherForm = ⊥
-RefusesBook db OtherTables = ⊥
+abbrev pub RefusesBook : Database → OpenFault → Type 0
+RefusesBook db (Foreign UnreadRow) = ¬ StandForBook db.trees
+RefusesBook db (Foreign BrokenRules) = ⊥
+RefusesBook db (Foreign OtherForm) = ⊥
+RefusesBook db (Foreign OtherTables) = ⊥
+RefusesBook db Exists = ⊥
 RefusesBook db _ = ⊤
 
 -- what is true of an office and of a book's rows that are refused so together
-abbrev pub RefusesKept : Office → Database → AdoptionFault → Type 0
-RefusesKept office db UnreadRow = ¬ StandForBook db.trees
+abbrev pub RefusesKept : Office → Database → OpenFault → Type 0
+RefusesKept office db (Foreign UnreadRow) = ¬ StandForBook db.trees
 RefusesKept office db fault = RefusesWith (record { office = office; book = book_in db.trees }) fault

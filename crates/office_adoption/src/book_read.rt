@@ -10,7 +10,7 @@ ghost use Rattle.office_adoption.specs.Given.{AreStatusesOf};
 ghost use Rattle.office_adoption.specs.Reading.{AreStatusesIn, HasLangs, KeepsBook, RefusesWith, RefusesBook, RefusesKept};
 
 use crate::book_rules::keeps_rules;
-use crate::faults::AdoptionFault;
+use crate::faults::{Mismatch, OpenFault};
 use crate::look_ups::look_up_records;
 use crate::office_read::ReadOffice;
 use crate::statuses::statuses_in;
@@ -23,7 +23,7 @@ use uuid::Uuid;
 fn read_statuses<S: Alter>(
     connection: &mut Connection<S>,
     alloc: Global,
-) -> Result<BTreeMap<Uuid, u16>, AdoptionFault>
+) -> Result<BTreeMap<Uuid, u16>, OpenFault>
     requires autocommit { connection.old.in_transaction ≡ false }
     requires idle { IsIdle (state S.Store connection.old) }
     ensures found { IsLookUp (state S.Store connection.old) (state S.Store connection.new) result AreStatusesIn }
@@ -32,7 +32,7 @@ fn read_statuses<S: Alter>(
     let rows = look_up_records(connection)?;
     match statuses_in(alloc, rows.as_slice()) {
         Ok(statuses) => Ok(statuses),
-        Err(failure) => Err(AdoptionFault::unread(failure)),
+        Err(failure) => Err(OpenFault::unread(failure)),
     }
 }
 
@@ -41,7 +41,7 @@ fn keep_rules(
     alloc: Global,
     read: &ReadOffice,
     statuses: &BTreeMap<Uuid, u16>,
-) -> Result<(), AdoptionFault>
+) -> Result<(), OpenFault>
     requires langs { HasLangs read.now }
     ensures kept { (book : Book) → AreStatusesOf book statuses.now → OnOk result (KeepsRules (record { office = office_in read.now.maps; book = book })) }
     ensures refused { (book : Book) → AreStatusesOf book statuses.now → IfErr result (RefusesWith (record { office = office_in read.now.maps; book = book })) }
@@ -49,7 +49,7 @@ fn keep_rules(
     if keeps_rules(alloc, &read.maps, read.langs.as_slice(), statuses)? {
         Ok(())
     } else {
-        Err(AdoptionFault::BrokenRules)
+        Err(OpenFault::Foreign(Mismatch::BrokenRules))
     }
 }
 
@@ -58,7 +58,7 @@ pub fn keep_book<S: Alter>(
     connection: &mut Connection<S>,
     alloc: Global,
     read: &ReadOffice,
-) -> Result<(), AdoptionFault>
+) -> Result<(), OpenFault>
     requires autocommit { connection.old.in_transaction ≡ false }
     requires idle { IsIdle (state S.Store connection.old) }
     requires langs { HasLangs read.now }

@@ -18,5 +18,5 @@ mod template_rules;
 mod tested;
 mod unit_rules;
 
-pub use faults::AdoptionFault;
+pub use faults::{Mismatch, OpenFault};
 pub use tested::adopted_office;

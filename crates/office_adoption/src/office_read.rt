@@ -14,7 +14,7 @@ ghost use Rattle.office_adoption.specs.Given.{AreAll};
 ghost use Rattle.office_adoption.specs.Adoption.{Refuses};
 ghost use Rattle.office_adoption.specs.Reading.{ShowsFirstForm, IsOfRows, IsReadOf, HasLangs, RefusesRows};
 
-use crate::faults::AdoptionFault;
+use crate::faults::{Mismatch, OpenFault};
 use office_maps::OfficeMaps;
 use office_scans::look_ups::{WholeOffice, look_up_office};
 use row_values::lang_from;
@@ -88,17 +88,17 @@ fn office_with_langs(alloc: Global, rows: &WholeOffice) -> Result<ReadOffice, Fa
 }
 
 /// The office of all rows, where the tables have their first form.
-fn first_office(alloc: Global, rows: &WholeOffice) -> Result<ReadOffice, AdoptionFault>
+fn first_office(alloc: Global, rows: &WholeOffice) -> Result<ReadOffice, OpenFault>
     ensures read { IfOk result (IsOfRows rows.now) }
     ensures form { OnOk result (ShowsFirstForm rows.now.office.policy) }
     ensures refused { IfErr result (RefusesRows rows.now) }
 {
     if !has_first_form(&rows.office.policy) {
-        return Err(AdoptionFault::OtherForm);
+        return Err(OpenFault::Foreign(Mismatch::OtherForm));
     }
     match office_with_langs(alloc, rows) {
         Ok(read) => Ok(read),
-        Err(failure) => Err(AdoptionFault::unread(failure)),
+        Err(failure) => Err(OpenFault::unread(failure)),
     }
 }
 
@@ -106,7 +106,7 @@ fn first_office(alloc: Global, rows: &WholeOffice) -> Result<ReadOffice, Adoptio
 pub fn read_office<S: Alter>(
     connection: &mut Connection<S>,
     alloc: Global,
-) -> Result<ReadOffice, AdoptionFault>
+) -> Result<ReadOffice, OpenFault>
     requires autocommit { connection.old.in_transaction ≡ false }
     requires idle { IsIdle (state S.Store connection.old) }
     ensures found { IsLookUp (state S.Store connection.old) (state S.Store connection.new) result IsReadOf }

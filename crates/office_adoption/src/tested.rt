@@ -6,7 +6,7 @@ ghost use Rattle.office_sql.specs.Whole.{IsIdle, IsLookUp};
 ghost use Rattle.office_adoption.specs.Adoption.{IsAdoptedAs, IsAdoptedIn, StaysAsItWas, Refuses};
 
 use crate::book_read::keep_book;
-use crate::faults::AdoptionFault;
+use crate::faults::{Mismatch, OpenFault};
 use crate::office_read::{ReadOffice, read_office};
 use office_found::offices::is_office;
 use office_maps::OfficeMaps;
@@ -14,10 +14,7 @@ use sqlite::{Alter, Connection};
 use std::alloc::Global;
 
 /// The office alone, where its book keeps the rules.
-fn where_kept(
-    read: ReadOffice,
-    kept: Result<(), AdoptionFault>,
-) -> Result<OfficeMaps, AdoptionFault>
+fn where_kept(read: ReadOffice, kept: Result<(), OpenFault>) -> Result<OfficeMaps, OpenFault>
     ensures { MatchResult kept (λ _. result ≡ Ok read.maps) (λ fault. result ≡ Err fault) }
 {
     let ReadOffice { maps, langs } = read;
@@ -35,7 +32,7 @@ fn where_kept(
 fn tested_tables<S: Alter>(
     connection: &mut Connection<S>,
     alloc: Global,
-) -> Result<OfficeMaps, AdoptionFault>
+) -> Result<OfficeMaps, OpenFault>
     requires autocommit { connection.old.in_transaction ≡ false }
     requires idle { IsIdle (state S.Store connection.old) }
     ensures adopted { IsLookUp (state S.Store connection.old) (state S.Store connection.new) result IsAdoptedAs }
@@ -49,13 +46,13 @@ fn tested_tables<S: Alter>(
 /// The office of a connection's tables, if they are an office's in their first form: each row stands for a value, the template's for a
 /// valid catalogue, each record's content is a request's, and the rules of an office with its book hold. Nothing is changed.
 ///
-/// `OtherTables` only where the tables aren't an office's, `OtherForm` only where they have another form, `UnreadRow` only where a row
-/// stands for no value, the template for no valid catalogue, or a record's content is no request's, `BrokenRules` only where the rules
-/// don't hold, `Memory` where a growth was refused, `Disk` where the disk failed.
+/// `Foreign` tells why not: `OtherTables` only where the tables aren't an office's, `OtherForm` only where they have another form,
+/// `UnreadRow` only where a row stands for no value, the template for no valid catalogue, or a record's content is no request's,
+/// `BrokenRules` only where the rules don't hold. `Memory` where a growth was refused, `Disk` where the disk failed.
 pub fn adopted_office<S: Alter>(
     connection: &mut Connection<S>,
     alloc: Global,
-) -> Result<OfficeMaps, AdoptionFault>
+) -> Result<OfficeMaps, OpenFault>
     requires autocommit { connection.old.in_transaction ≡ false }
     ensures adopted { IfOk result (IsAdoptedIn (state S.Store connection.new)) }
     ensures unchanged { StaysAsItWas (state S.Store connection.old) (state S.Store connection.new) }
@@ -65,6 +62,6 @@ pub fn adopted_office<S: Alter>(
     if is_office(connection)? {
         tested_tables(connection, alloc)
     } else {
-        Err(AdoptionFault::OtherTables)
+        Err(OpenFault::Foreign(Mismatch::OtherTables))
     }
 }

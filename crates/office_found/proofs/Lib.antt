@@ -1,10 +1,5 @@
-pub mod NamesAndTrees
-pub mod OfficeLists
-pub mod ListedOnce
-pub mod ListingQuery
+pub mod Parts
 pub mod Looks
-pub mod RowTests
-pub mod LabelTests
 pub mod RowidTests
 pub mod RowidQueries
 pub mod WholeTest

@@ -31,9 +31,12 @@ use Rattle.office_sql.proofs.Queries.{own_table, shows_columns}
 use Rattle.office_found.specs.Looks.{IsOver, IsLook, HasSchema}
 use Rattle.office_found.specs.RisingRows.{ShowsRowids, are_rising}
 use Rattle.office_found.specs.RowidQueries.{IsRowidQuery}
-use Rattle.office_found.proofs.ListingQuery.{all_pass}
 use Rattle.office_found.proofs.Looks.{looks_inside, look_mapped, over_next}
 use Rattle.office_found.proofs.RowidTests.{rowids_told}
+
+all_pass : (rows : List Row) → filter (passes [] []) rows ≡ rows
+all_pass [] = refl
+all_pass (row ∷ rows) = ap (λ more. row ∷ more) (all_pass rows)
 
 module _ (text : List ℕ) (tree : ℕ) (query : IsRowidQuery text tree) (old new : State) (rows : List Row) where
   shows_rowids : HasSchema old.now → Shown text [] old new rows → ShowsRowids tree old.now rows

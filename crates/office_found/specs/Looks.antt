@@ -6,19 +6,14 @@ use Rattle.office_sql.specs.Schema.{office_schema}
 use Rattle.sqlite.specs.declared.error.Error.{Error}
 use Rattle.office_sql.specs.Inside.{StaysInside}
 use Rattle.office_sql.specs.Whole.{IsIdle, StaysIdle}
-use Rattle.office_found.specs.Found.{IsLabelled, HoldsOffice}
+use Rattle.office_found.specs.Found.{HoldsOffice}
 
 -- A transaction is open, over such a database unless the connection is shut.
 pub record IsOver (Holds : Database → Type 0) (s : State) : Type 0 where
   pub inside : HasCleanDisk s → IsTrue s.in_transaction
   pub holds : HasCleanDisk s → IsTrue s.is_open → Holds s.now
 
--- the names and the places are those of an office's tables
-pub record HasLabels (db : Database) : Type 0 where
-  pub sound : IsDatabase db
-  pub labelled : IsLabelled db.schema
-
--- the tables are an office's
+-- the tables are an office's, whatever their rowids are
 pub record HasSchema (db : Database) : Type 0 where
   pub sound : IsDatabase db
   pub schema : db.schema ≡ office_schema

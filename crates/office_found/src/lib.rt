@@ -3,7 +3,8 @@
 //! What is said of values is said while the disk returns what was written.
 #![tactic(auto)]
 
-mod labels;
-mod objects;
+mod checks;
+mod office_tables;
 pub mod offices;
 mod rowids;
+mod shapes;

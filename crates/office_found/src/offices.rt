@@ -1,35 +1,31 @@
 //! A whole transaction that tells whether a connection's tables are an office's. It ends by a commit, since only that tells that the
 //! connection is still open.
-ghost use Rattle.std.specs.Prelude.{◌≡◌, ◌↔◌, true, false};
+ghost use Rattle.std.specs.Prelude.{◌≡◌, ◌≢◌, ◌↔◌, true, false};
 ghost use Rattle.sqlite.specs.Held.{state};
 ghost use Rattle.sqlite.specs.State.{IsLive};
-ghost use Rattle.office_found.specs.Found.{IsLabelled, HoldsOffice};
-ghost use Rattle.office_found.specs.Looks.{IsOver, IsLook, HasLabels, IsTested};
+ghost use Rattle.office_sql.specs.Schema.{office_schema};
+ghost use Rattle.office_found.specs.Found.{HoldsOffice};
+ghost use Rattle.office_found.specs.Looks.{IsOver, IsLook, HasSchema, IsTested};
 
-use crate::labels::is_labelled;
-use crate::objects::has_office_objects;
+use crate::office_tables::is_office_schema;
 use crate::rowids::are_tables_apart;
 use sqlite::{Alter, Connection, Error, Transaction};
 
-/// Whether tables that have the names and the places of an office's are an office's.
+/// Whether tables with the schema of an office are an office's.
 fn holds_office<S: Alter>(tx: &mut Transaction<'_, S>) -> Result<bool, Error>
-    requires over { IsOver HasLabels (state S.Store tx.old.conn.now) }
+    requires over { IsOver HasSchema (state S.Store tx.old.conn.now) }
     ensures same_reference { tx.new.conn.ghost_name ≡ tx.old.conn.ghost_name }
     ensures found { IsLook (state S.Store tx.old.conn.now) (state S.Store tx.new.conn.now) result
         (λ db holds. (holds ≡ true) ↔ HoldsOffice db) }
 {
-    if has_office_objects(tx)? {
-        are_tables_apart(tx)
-    } else {
-        Ok(false)
-    }
+    are_tables_apart(tx)
 }
 
-/// The test of tables that have the names and the places of an office's.
-fn is_office_by_name<S: Alter>(connection: &mut Connection<S>) -> Result<bool, Error>
+/// The test of tables with the schema of an office.
+fn is_office_by_rows<S: Alter>(connection: &mut Connection<S>) -> Result<bool, Error>
     requires autocommit { connection.old.in_transaction ≡ false }
     requires live { IsLive (state S.Store connection.old) }
-    requires labelled { IsLabelled (state S.Store connection.old).now.schema }
+    requires schema { (state S.Store connection.old).now.schema ≡ office_schema }
     ensures tested { IsTested (state S.Store connection.old) (state S.Store connection.new) result }
 {
     let mut tx = connection.transaction();
@@ -38,11 +34,11 @@ fn is_office_by_name<S: Alter>(connection: &mut Connection<S>) -> Result<bool, E
     Ok(holds)
 }
 
-/// The test of tables that have other names or places.
-fn is_none_by_name<S: Alter>(connection: &mut Connection<S>) -> Result<bool, Error>
+/// The test of tables with another schema.
+fn is_no_office<S: Alter>(connection: &mut Connection<S>) -> Result<bool, Error>
     requires autocommit { connection.old.in_transaction ≡ false }
     requires live { IsLive (state S.Store connection.old) }
-    requires other { IsLabelled (state S.Store connection.old).now.schema → ⊥ }
+    requires other { (state S.Store connection.old).now.schema ≢ office_schema }
     ensures tested { IsTested (state S.Store connection.old) (state S.Store connection.new) result }
 {
     let tx = connection.transaction();
@@ -50,16 +46,16 @@ fn is_none_by_name<S: Alter>(connection: &mut Connection<S>) -> Result<bool, Err
     Ok(false)
 }
 
-/// Whether the tables of a connection are those of an office: made from its eight texts in their order, with nothing else beside them, and
-/// with rowids that are integers, no two of a table the same. It changes nothing. On an error the connection shows what was last
-/// committed, or is shut.
+/// Whether the tables of a connection are those of an office: what its eight texts define, in their order, with nothing else beside them,
+/// and with rowids that are integers, no two of a table the same. How the texts are spelled is not asked. It changes nothing. On an error
+/// the connection shows what was last committed, or is shut.
 pub fn is_office<S: Alter>(connection: &mut Connection<S>) -> Result<bool, Error>
     requires autocommit { connection.old.in_transaction ≡ false }
     ensures tested { IsTested (state S.Store connection.old) (state S.Store connection.new) result }
 {
-    if is_labelled(connection.schema()) {
-        is_office_by_name(connection)
+    if is_office_schema(connection.schema()) {
+        is_office_by_rows(connection)
     } else {
-        is_none_by_name(connection)
+        is_no_office(connection)
     }
 }

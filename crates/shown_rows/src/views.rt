@@ -22,7 +22,7 @@ use tables::Lost;
 use units::{Key, Policy, Role, UnitView};
 
 /// The header of a language.
-pub(crate) fn header_in(alloc: Global, row: &Row) -> Result<Entry, Failure>
+pub fn header_in(alloc: Global, row: &Row) -> Result<Entry, Failure>
     ensures shown { IfOk result (λ v. v ≡ shown_header row.now) }
     ensures stands { OnOk result (holds_text is_header 0 row.now ≡ true) }
     ensures unread { IfErr result (IsUnread (holds_text is_header 0 row.now)) }
@@ -101,7 +101,9 @@ pub(crate) fn policy_in(row: &Row) -> Result<Policy, Failure>
 }
 
 /// The role of a caller, who without a row is a guest.
-fn role_in(row: &Option<Row>) -> Result<Role, Failure>
+///
+/// `Disk` exactly where the row stands for no role.
+pub fn role_in(row: &Option<Row>) -> Result<Role, Failure>
     ensures shown { IfOk result (λ v. v ≡ shown_role row.now) }
     ensures stands { OnOk result (option_map_or (holds_integer is_role 0) row.now true ≡ true) }
     ensures unread { IfErr result (IsUnread (option_map_or (holds_integer is_role 0) row.now true)) }

@@ -16,9 +16,9 @@ use Rattle.sockets.specs.Connections.{ServedSome}
 module _ (Honest Whole Stopped : Type 0) (before after : OfficeWithBook) (left : Option (List ℕ)) (failed_old failed_new : ℕ) (old new : Writer) where
   abbrev Comes : Result Served ServeFault → Type 0
   Comes r = (bytes : List ℕ) × IfSome left (λ all. bytes ≡ all)
-      × MatchResult r (λ served. AllServed Honest Whole before after bytes old new served.answered) (SomeServed Honest Whole Stopped before after bytes failed_old failed_new old new)
+      × MatchResult r (λ served. AllServed Honest Whole Stopped before after bytes old new served.answered) (SomeServed Honest Whole Stopped before after bytes failed_old failed_new old new)
 
-  pub serves_some : (r : Result Served ServeFault) → Comes r → ServedSome Honest Whole before after (λ count. IfOk r (λ served. served.answered ≡ count))
+  pub serves_some : (r : Result Served ServeFault) → Comes r → ServedSome Honest Whole Stopped before after (λ count. IfOk r (λ served. served.answered ≡ count))
   serves_some (Ok served) comes = record {
     asked = questions (items_of comes.0);
     outcomes = comes.2.outcomes;
@@ -44,5 +44,5 @@ module _ (Honest Whole Stopped : Type 0) (before after : OfficeWithBook) (left :
   disk_stops (Err fault) comes honest = of_the_disk comes.2.outcomes _ fault (comes.2.given_up honest)
 
 -- nothing was served
-pub serves_none : (Honest Whole : Type 0) (start : OfficeWithBook) (IsCount : ℕ → Type 0) → IsCount 0 → ServedSome Honest Whole start start IsCount
-serves_none Honest Whole start IsCount none = record { asked = []; outcomes = []; served = none_served Honest Whole start; count = none }
+pub serves_none : (Honest Whole Stopped : Type 0) (start : OfficeWithBook) (IsCount : ℕ → Type 0) → IsCount 0 → ServedSome Honest Whole Stopped start start IsCount
+serves_none Honest Whole Stopped start IsCount none = record { asked = []; outcomes = []; served = none_served Honest Whole Stopped start; count = none }

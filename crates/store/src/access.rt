@@ -8,7 +8,7 @@ use office_entries::{counts, hand_entries};
 use office_maps::OfficeMaps;
 use request_book::Record;
 use tables::{Counts, EachFault, EntrySink, Lost, Tables};
-use units::{Key, Lang, Name, UnitView};
+use units::{Key, Lang, Name, Role, UnitView};
 use uuid::Uuid;
 
 impl Tables for PlainTables {
@@ -28,12 +28,18 @@ impl Tables for PlainTables {
 
     ghost rules = { λ t honest whole. t.kept };
 
+    ghost settled = { λ t honest whole other left. left };
+
     fn stopped(&self) -> bool {
         false
     }
 
     fn record_of(&mut self, number: &Uuid) -> Result<Option<Record>, Lost> {
         self.maps.record_of(number)
+    }
+
+    fn role_of(&mut self, name: &Name) -> Result<Role, Lost> {
+        Ok(self.maps.office.role_of(name))
     }
 
     fn view_of(&mut self, lang: &Lang, key: &Key, name: &Name) -> Result<Option<Found>, Lost> {

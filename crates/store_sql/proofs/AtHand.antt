@@ -1,19 +1,12 @@
 -- The office at hand, and what calls keep that answer from it.
 use Rattle.std.specs.Prelude.{is_some}
-use Rattle.std.proofs.Common.{◌≡◌, List, [], inl, Bool, true, false, Option, Some, None, Result, Ok, Err, IfErr, OnOk, IsTrue, refl, sym, subst, ap, ◌∙◌, arith}
-use Rattle.std.specs.Prelude.{◌≢◌}
+use Rattle.std.proofs.Common.{◌≡◌, inl, Bool, true, false, Option, Some, None, Ok, IsTrue, sym, subst, ap, ◌∙◌, arith}
 use Rattle.sqlite.specs.Effect.{Database}
 use Rattle.sqlite.specs.Held.{Held, state}
 use Rattle.sqlite.specs.State.{State, HasCleanDisk}
 use Rattle.sqlite_trees.specs.declared.store.Store as store
 use Rattle.office_maps.specs.declared.office_maps.OfficeMaps.{OfficeMaps}
-use Rattle.request_book.specs.Book.{OfficeWithBook}
-use Rattle.po_read.specs.declared.entry.Entry.{Entry}
 use Rattle.tables.specs.Kept.{IsKept}
-use Rattle.tables.specs.Sinks.{TookSome, WasCutShort}
-use Rattle.tables.specs.declared.faults.EachFault.{EachFault}
-use Rattle.tables.specs.declared.faults.EachFault.TheVariants.{NoTables}
-use Rattle.office_entries.specs.Handing.{Hands}
 use Rattle.tables.specs.Stops.{Nothing}
 use Rattle.tables.specs.declared.faults.Lost.{Lost}
 use Rattle.tables.specs.declared.faults.Lost.TheVariants.{Disk}
@@ -67,58 +60,5 @@ module _ {S : Type 0} (g : store.Ghosts S) where
         left.2 ∙ ap meaning_in (settled tables.0 left.0 (whole clean) left.1 ∙ sym (ap (λ (d : Database). d.trees) (keeps.idle.settled clean (whole clean))));
     disk = tt;
     still = λ stopped. absurd (let no = ran in let yes = stopped in cc);
+    runs = λ stopped. absurd (let no = ran in let yes = stopped in cc);
   }
-
--- a call that first reads, and then answers without asking for anything that may fail on a disk
-pub kept_then : {T A B E F : Type 0} (h w : T → Type 0) (m : T → OfficeWithBook) (l : T → OfficeWithBook → Type 0) (st : T → Bool) (old new : T) (x : A) (gone : E) (s : Result B F) (fault : F)
-    → IsKept h w m l st old new (Ok x) gone Nothing → IfErr s (λ e. e ≢ fault) → IsKept h w m l st old new s fault Nothing
-kept_then {B = B} {F = F} h w m l st old new x gone s fault kept others = record {
-  honest = kept.honest;
-  whole = kept.whole;
-  open_still = λ clean. on s (kept.open_still clean);
-  stops = kept.stops;
-  only = λ clean. on s (kept.only clean);
-  disk = no_disk s others;
-  still = λ stopped. absurd (let is = (kept.still stopped).0 in cc);
-}
-  where
-    on : {C : Type 0} (r : Result B F) → C → OnOk r C
-    on (Ok y) it = it
-    on (Err e) it = tt
-
-    no_disk : (r : Result B F) → IfErr r (λ e. e ≢ fault) → IfErr r (λ e. e ≡ fault → st new ≡ true)
-    no_disk (Ok y) it = tt
-    no_disk (Err e) it = λ same. absurd (it same)
-
--- what was lost before an entry was handed on
-pub kept_no_entries : {T A R : Type 0} (h w : T → Type 0) (m : T → OfficeWithBook) (l : T → OfficeWithBook → Type 0) (st : T → Bool) (old new : T) (lost : Lost)
-    → IsKept {A = A} h w m l st old new (Err lost) Disk Nothing → IsKept {A = A} {E = EachFault R} h w m l st old new (Err (NoTables lost)) (NoTables Disk) Nothing
-kept_no_entries {A = A} {R = R} h w m l st old new lost kept = record {
-  honest = kept.honest;
-  whole = kept.whole;
-  open_still = λ clean. tt;
-  stops = kept.stops;
-  only = λ clean. tt;
-  disk = λ same. kept.disk (let is : ◌≡◌ {A = EachFault R} (NoTables lost) (NoTables Disk) = same in cc);
-  still = λ stopped.
-      let was : ◌≡◌ {A = Result A Lost} (Err lost) (Err Disk) = (kept.still stopped).0 in
-      let is : lost ≡ Disk = cc in
-      (ap (λ e. Err (NoTables e)) is, (kept.still stopped).1);
-}
-
-pub took_none : {S : Type 0} (Took : S → List Entry → S → Type 0) → ((s : S) → Took s [] s) → (sink : S) (entries : List Entry) → TookSome Took sink sink entries
-took_none Took none sink entries = record { front = []; rest = entries; whole = refl; took = none sink }
-
--- what a walk over the entries handed on, where they are those of the office
-module _ {S R T : Type 0} (Took : S → List Entry → S → Type 0) (Refuses : S → Entry → R → S → Type 0) (old new : S) (xs ys : List Entry) (same : xs ≡ ys) where
-  pub all_handed : (r : Result T (EachFault R)) → Hands Took Refuses old new xs r → OnOk r (Took old ys new)
-  all_handed (Ok y) hands = subst (λ es. Took old es new) same hands
-  all_handed (Err e) hands = tt
-
-  pub cut_short : (r : Result T (EachFault R)) → Hands Took Refuses old new xs r → IfErr r (WasCutShort Took Refuses old new ys)
-  cut_short (Ok y) hands = tt
-  cut_short (Err e) hands = subst (λ es. WasCutShort Took Refuses old new es e) same hands.cut
-
-  pub no_disk_handed : (r : Result T (EachFault R)) → Hands Took Refuses old new xs r → IfErr r (λ e. e ≢ NoTables Disk)
-  no_disk_handed (Ok y) hands = tt
-  no_disk_handed (Err e) hands = hands.no_disk

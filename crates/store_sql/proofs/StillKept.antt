@@ -14,7 +14,7 @@ use Rattle.tables.specs.declared.faults.Lost.TheVariants.{Disk}
 use Rattle.office_sql.specs.Inside.{AreOfficeTables}
 use Rattle.office_sql.specs.Whole.{StaysIdle, IsLookUp, IsCommit}
 use Rattle.office_in_rows.specs.Meaning.{meaning_in, AreNumbered}
-use Rattle.store_sql.specs.Kept.{KeepsOffice, is_honest, is_whole, means, may_leave, is_stopped}
+use Rattle.store_sql.specs.Kept.{KeepsOffice, LeavesItsOwn, is_honest, is_whole, means, may_leave, is_stopped}
 
 module _ {S : Type 0} (g : store.Ghosts S) where
   -- an open store leaves its last commit, and nothing else
@@ -23,6 +23,11 @@ module _ {S : Type 0} (g : store.Ghosts S) where
 
   abbrev pub IsLeft : Type 0
   IsLeft = (h : Held S) → IsTrue (state g h).is_open → (state g h).may_leave (state g h).committed.trees
+
+  -- tables that aren't shut leave what they mean
+  pub leaves_own : (tables : Held S × (Bool × Bool)) → IsSettled → KeepsOffice (state g tables.0) → LeavesItsOwn g tables
+  leaves_own tables settled keeps = λ clean is_open other left.
+      left.2 ∙ ap meaning_in (settled tables.0 left.0 is_open left.1 ∙ sym (ap (λ (d : Database). d.trees) (keeps.idle.settled clean is_open)))
 
   -- stopped tables answer Disk, and nothing is asked of them
   pub kept_stopped : {A : Type 0} (tables : Held S × (Bool × Bool)) → IsSettled → is_stopped g tables ≡ true
@@ -35,6 +40,7 @@ module _ {S : Type 0} (g : store.Ghosts S) where
     only = λ clean. tt;
     disk = λ same. stopped;
     still = λ _. (refl, stopped);
+    runs = λ _. refl;
   }
 
   module _ {A E : Type 0} (old new : Held S) (r : Result A E) (P : Database → A → Type 0) (keeps : KeepsOffice (state g old)) (looked : IsLookUp (state g old) (state g new) r P) where
@@ -64,11 +70,11 @@ module _ {S : Type 0} (g : store.Ghosts S) where
     on_ok (Ok x) f h = f h
     on_ok (Err e) f h = h
 
-    -- the result of the call is that of the look-up, or says less
-    pub kept_looked_up : {B : Type 0} (s : Result B Lost) (before after : Bool × Bool) → IsSettled → IsLeft → before.0 ≡ false → (OnOk r (IsTrue (state g new).is_open) → OnOk s (IsTrue (state g new).is_open))
-        → IfErr s (λ e. e ≡ Disk → after.0 ≡ true)
-        → IsKept (is_honest g) (is_whole g) (means g) (may_leave g) (is_stopped g) (old, before) (new, after) s Disk Nothing
-    kept_looked_up s before after settled left ran passes disk = record {
+    -- the result of the call is that of the look-up, or says less; `gone` is its fault where the disk failed
+    pub kept_looked_up_or : {B F : Type 0} (gone : F) (s : Result B F) (before after : Bool × Bool) → IsSettled → IsLeft → before.0 ≡ false
+        → (OnOk r (IsTrue (state g new).is_open) → OnOk s (IsTrue (state g new).is_open)) → IfErr s (λ e. e ≡ gone → after.0 ≡ true) → (after.0 ≡ true → s ≡ Err gone)
+        → IsKept (is_honest g) (is_whole g) (means g) (may_leave g) (is_stopped g) (old, before) (new, after) s gone Nothing
+    kept_looked_up_or gone s before after settled left ran passes disk runs = record {
       honest = early;
       whole = λ clean is_open. (looked.same clean is_open).was_open;
       open_still = λ clean. passes (looked.is_open clean);
@@ -81,7 +87,13 @@ module _ {S : Type 0} (g : store.Ghosts S) where
           it.2 ∙ ap meaning_in (committed ∙ sym (ap (λ (d : Database). d.trees) (keeps_still.idle.settled clean is_open)))) (passes (looked.is_open clean));
       disk = disk;
       still = λ stopped. absurd (let no = ran in let yes = stopped in cc);
+      runs = runs;
     }
+
+    pub kept_looked_up : {B : Type 0} (s : Result B Lost) (before after : Bool × Bool) → IsSettled → IsLeft → before.0 ≡ false → (OnOk r (IsTrue (state g new).is_open) → OnOk s (IsTrue (state g new).is_open))
+        → IfErr s (λ e. e ≡ Disk → after.0 ≡ true) → (after.0 ≡ true → s ≡ Err Disk)
+        → IsKept (is_honest g) (is_whole g) (means g) (may_leave g) (is_stopped g) (old, before) (new, after) s Disk Nothing
+    kept_looked_up s before after = kept_looked_up_or Disk s before after
 
   -- ---- a transaction that writes
 
@@ -132,18 +144,19 @@ module _ {S : Type 0} (g : store.Ghosts S) where
     }
 
     pub kept_committed : {B : Type 0} (s : Result B Lost) (before after : Bool × Bool) → IsSettled → before.0 ≡ false → (OnOk r (IsTrue (state g new).is_open) → OnOk s (IsTrue (state g new).is_open))
-        → IfErr s (λ e. e ≡ Disk → after.0 ≡ true)
+        → IfErr s (λ e. e ≡ Disk → after.0 ≡ true) → (after.0 ≡ true → s ≡ Err Disk)
         → IsKept (is_honest g) (is_whole g) (means g) (may_leave g) (is_stopped g) (old, before) (new, after) s Disk (λ m. m ≡ meaning)
-    kept_committed s before after settled ran passes disk = record {
+    kept_committed s before after settled ran passes disk runs = record {
       honest = clean_before;
       whole = commits.was_open;
       open_still = λ clean. passes (commits.is_open clean);
       stops = λ clean m it. elim (commits.survives.crash clean it.0 it.1) [
         | inl was ↦ inl (it.0, was, it.2)
-        | inr made ↦ inr (it.2 ∙ ap meaning_in made.4 ∙ (makes made.1 (clean_before clean) made.0 made.3 made.2).0)
+        | inr made ↦ inr (made.0, it.2 ∙ ap meaning_in made.4 ∙ (makes made.1 (clean_before clean) made.0 made.3 made.2).0)
       ];
       only = λ clean. on_ok_of s (λ is_open other it.
           it.2 ∙ ap meaning_in (settled new it.0 is_open it.1 ∙ sym (ap (λ (d : Database). d.trees) (keeps_committed.idle.settled clean is_open)))) (passes (commits.is_open clean));
       disk = disk;
       still = λ stopped. absurd (let no = ran in let yes = stopped in cc);
+      runs = runs;
     }

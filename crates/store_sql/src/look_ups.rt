@@ -1,16 +1,17 @@
 //! Whole transactions that read. Each ends by a commit, since only that tells that the connection is still open.
 ghost use Rattle.std.specs.Prelude.{◌≡◌, false};
 ghost use Rattle.sqlite.specs.Held.{state};
-ghost use Rattle.office_sql.specs.Answers.{ShowsRecord};
+ghost use Rattle.office_sql.specs.Answers.{ShowsMember, ShowsRecord};
 ghost use Rattle.office_sql.specs.Inside.{IsSteady, IsRead};
 ghost use Rattle.office_sql.specs.UnitRows.{ShowsOfficeRows, ShowsUnitRows, ShowsViewRows, ShowsWithVotes, ShowsEachWithVotes};
 ghost use Rattle.office_sql.specs.Whole.{IsIdle, IsLookUp};
 
-use crate::office_reads::{find_language, find_member};
+use crate::office_reads::find_member;
 use crate::record_reads::find_record;
 use crate::unit_reads::{find_entry, find_unit, suggestions_of, votes_on};
 use office_sql::look_ups::{OfficeRows, SuggestionRows, UnitRows, ViewRows};
 use office_sql::office_reads::find_policy;
+use sql_exports::find_language;
 use sqlite::{Alter, Connection, Error, Row, Transaction};
 
 /// The record of a request. None, where no record has the number.
@@ -25,6 +26,21 @@ pub(crate) fn look_up_record<S: Alter>(
 {
     let mut tx = connection.transaction();
     let found = find_record(&mut tx, number)?;
+    tx.commit().and(Ok(found))
+}
+
+/// The role of a member of the team. None, where the team has nobody of that name.
+pub(crate) fn look_up_member<S: Alter>(
+    connection: &mut Connection<S>,
+    name: &str,
+) -> Result<Option<Row>, Error>
+    requires autocommit { connection.old.in_transaction ≡ false }
+    requires idle { IsIdle (state S.Store connection.old) }
+    ensures found { IsLookUp (state S.Store connection.old) (state S.Store connection.new) result
+        (ShowsMember name.now) }
+{
+    let mut tx = connection.transaction();
+    let found = find_member(&mut tx, name)?;
     tx.commit().and(Ok(found))
 }
 

@@ -13,35 +13,38 @@ ghost use Rattle.tables.specs.Sinks.{WasCutShort};
 ghost use Rattle.tables.specs.Entries.{entries_of};
 ghost use Rattle.tables.specs.Counts.{counts_of};
 ghost use Rattle.tables.specs.declared.faults.EachFault.TheVariants.{NoTables};
+ghost use Rattle.units.specs.Office.{role_of as role_in};
 ghost use Rattle.units.specs.Offices.{IsOffice};
 ghost use Rattle.office_maps.specs.OfficeIn.{office_in};
 ghost use Rattle.tables.specs.declared.faults.Lost.TheVariants.{Disk};
 ghost use Rattle.sqlite.specs.State.{HasCleanDisk};
 ghost use Rattle.office_sql.specs.Schema.{no_schema};
 ghost use Rattle.office_adoption.specs.Adoption.{Refuses, StaysAsItWas};
+ghost use Rattle.office_files.specs.Files.{IsOfficeFile, IsLost};
+ghost use Rattle.sqlite.specs.Effect.{IsDatabase};
 ghost use Rattle.store_sql.specs.Adopting.{AreAdopted};
 ghost use Rattle.store_sql.specs.Faults.{RefusesIn};
-ghost use Rattle.store_sql.specs.Kept.{KeepsOffice, KeepsOwnRules, IsAtHand, is_honest, is_whole, means, may_leave, is_stopped, is_loaded};
+ghost use Rattle.store_sql.specs.Kept.{KeepsOffice, KeepsOwnRules, LeavesItsOwn, IsAtHand, is_honest, is_whole, means, may_leave, is_stopped, is_loaded};
 ghost use Rattle.store_sql.specs.Making.{AreMade, IsHandedBack};
 
-use crate::faults::OpenFault;
 use crate::making::make;
 use crate::records::read_record;
 use crate::strings::{key_fits, view_fits};
-use crate::views::read_view;
+use crate::views::{read_role, read_view};
 use crate::whole_office::{forget, keep, read_office};
 use deliveries::{Change, Found};
-use office_adoption::{AdoptionFault, adopted_office};
+use office_adoption::{OpenFault, adopted_office};
 use office_commits::{commit_act, commit_change};
-use office_entries::{counts, hand_entries};
+use office_entries::counts;
 use office_maps::OfficeMaps;
 use request_book::Record;
 use shown_rows::{Failure, KeptRule};
+use sql_exports::export_entries;
 use sqlite::{Alter, Connection};
 use std::alloc::Global;
 use std::marker::Model;
 use tables::{Counts, EachFault, EntrySink, Lost, Start};
-use units::{Key, Lang, Name, UnitView};
+use units::{Key, Lang, Name, Role, UnitView};
 use uuid::Uuid;
 
 /// A connection to the eight tables of a file, between transactions, and what was read of them.
@@ -113,25 +116,29 @@ impl<S: Alter> Rows<S> {
         }
     }
 
-    /// Takes the tables of a connection over as they stand, with their office at hand, if they keep the rules.
+    /// Takes the tables of a connection over as they stand, if they keep the rules. What was read of them into maps is let go.
     pub(crate) fn adopt(
         connection: Connection<S>,
         alloc: Global,
-    ) -> Result<Rows<S>, (AdoptionFault, Connection<S>)>
+    ) -> Result<Rows<S>, (OpenFault, Connection<S>)>
         requires autocommit { connection.in_transaction ≡ false }
         ensures adopted { IfOk result (AreAdopted S.Store connection) }
         ensures refused { IfErr result (λ refusal. HasCleanDisk (state S.Store refusal.1) → Refuses (state S.Store connection).now refusal.0) }
+        ensures again { IfErr result (λ refusal. HasCleanDisk (state S.Store refusal.1) → IsDatabase (state S.Store connection).now → IsOfficeFile (state S.Store connection).now.trees → IsLost refusal.0) }
         ensures handed_back { IfErr result (λ refusal. StaysAsItWas (state S.Store connection) (state S.Store refusal.1)) }
     {
         let mut connection = connection;
         match adopted_office(&mut connection, alloc) {
-            Ok(maps) => Ok(Rows {
-                connection,
-                stopped: false,
-                alloc,
-                kept_rule: None,
-                office: Some(maps),
-            }),
+            Ok(maps) => {
+                drop(maps);
+                Ok(Rows {
+                    connection,
+                    stopped: false,
+                    alloc,
+                    kept_rule: None,
+                    office: None,
+                })
+            }
             Err(fault) => Err((fault, connection)),
         }
     }
@@ -153,9 +160,11 @@ impl<S: Alter> Rows<S> {
         connection
     }
 
-    /// The rules of an office with its book hold. (A law: what it reads says so, and is compiled away.)
+    /// The rules of an office with its book hold, and a stop leaves what the tables mean. (A law: what it reads says so, and is
+    /// compiled away.)
     pub(crate) fn rules(&self)
-        ensures { KeepsOwnRules S.Store self.now }
+        ensures rules { KeepsOwnRules S.Store self.now }
+        ensures settled { LeavesItsOwn S.Store self.now }
     {
         let _read = self.stopped;
     }
@@ -178,6 +187,24 @@ impl<S: Alter> Rows<S> {
         }
         match read_record(&mut self.connection, self.alloc, *number) {
             Ok(record) => Ok(record),
+            Err(failure) => {
+                forget(&mut self.office);
+                Err(self.lost(failure))
+            }
+        }
+    }
+
+    /// A caller's role: who isn't in the team is a guest.
+    pub(crate) fn role_of(&mut self, name: &Name) -> Result<Role, Lost>
+        ensures answer { is_honest S.Store self.new → IfOk result (λ role. role ≡ role_in (means S.Store self.old).office name.now) }
+        ensures same { is_honest S.Store self.new → is_whole S.Store self.new → means S.Store self.new ≡ means S.Store self.old }
+        ensures kept { IsKept (is_honest S.Store) (is_whole S.Store) (means S.Store) (may_leave S.Store) (is_stopped S.Store) self.old self.new result Disk Nothing }
+    {
+        if self.stopped {
+            return Err(Lost::Disk);
+        }
+        match read_role(&mut self.connection, name) {
+            Ok(role) => Ok(role),
             Err(failure) => {
                 forget(&mut self.office);
                 Err(self.lost(failure))
@@ -252,7 +279,7 @@ impl<S: Alter> Rows<S> {
 
     /// Hands the entries of a language to a sink: its header, the template's entries in order, each with its unit, and the obsolete
     /// units that have a translation, in the order of their keys. None where the language isn't there. After a fault the sink has
-    /// taken a beginning of them.
+    /// taken a beginning of them. They are read row by row; the office need not be at hand, and isn't read.
     pub(crate) fn each_entry<K: EntrySink>(
         &mut self,
         lang: &Lang,
@@ -263,9 +290,15 @@ impl<S: Alter> Rows<S> {
         ensures same { is_honest S.Store self.new → is_whole S.Store self.new → means S.Store self.new ≡ means S.Store self.old }
         ensures kept { IsKept (is_honest S.Store) (is_whole S.Store) (means S.Store) (may_leave S.Store) (is_stopped S.Store) self.old self.new result (NoTables Disk) Nothing }
     {
-        match self.office_rows() {
-            Ok(()) => hand_entries(self.alloc, self.at_hand(), lang, sink),
-            Err(lost) => Err(EachFault::NoTables(lost)),
+        if self.stopped {
+            return Err(EachFault::NoTables(Lost::Disk));
+        }
+        match export_entries(&mut self.connection, self.alloc, lang, sink) {
+            Ok(()) => Ok(()),
+            Err(fault) => {
+                forget(&mut self.office);
+                Err(self.cut_off(fault))
+            }
         }
     }
 
@@ -336,10 +369,24 @@ impl<S: Alter> Rows<S> {
         ensures result { result ≡ failure.lost }
         ensures connection { self.new.0 ≡ self.old.0 }
         ensures stops { result ≡ Disk → self.new.1.0 ≡ true }
+        ensures runs { self.old.1.0 ≡ false → self.new.1.0 ≡ true → result ≡ Disk }
     {
         if let Lost::Disk = failure.lost {
             self.stopped = true;
         }
         failure.lost
+    }
+
+    /// The same where entries were handed out.
+    fn cut_off<R: Drop>(&mut self, fault: EachFault<R>) -> EachFault<R>
+        ensures result { result ≡ fault }
+        ensures connection { self.new.0 ≡ self.old.0 }
+        ensures stops { result ≡ NoTables Disk → self.new.1.0 ≡ true }
+        ensures runs { self.old.1.0 ≡ false → self.new.1.0 ≡ true → result ≡ NoTables Disk }
+    {
+        if let EachFault::NoTables(Lost::Disk) = &fault {
+            self.stopped = true;
+        }
+        fault
     }
 }

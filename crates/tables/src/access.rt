@@ -1,11 +1,12 @@
 //! Tables of an office with its book.
 ghost use Rattle.std.specs.Prelude.{◌≡◌, Bool, IfOk, OnOk, OnErr, IfErr, IsTrue, option_map, is_none};
 ghost use Rattle.std.specs.FinMap as maps;
+ghost use Rattle.units.specs.Office.{role_of as role_in};
 ghost use Rattle.request_book.specs.Book.{OfficeWithBook, row_of, with_record};
 ghost use Rattle.deliveries.specs.UnitAccess.{found_of, with_view};
 ghost use Rattle.deliveries.specs.OfficeChanges.{changed_by, IsPossibleChange};
 ghost use Rattle.deliveries.specs.OfficeRules.{KeepsRules};
-ghost use Rattle.tables.specs.Stops.{Nothing};
+ghost use Rattle.tables.specs.Stops.{Nothing, LeavesOnly};
 ghost use Rattle.tables.specs.Kept.{IsKept};
 ghost use Rattle.tables.specs.Sinks.{WasCutShort};
 ghost use Rattle.tables.specs.Entries.{entries_of};
@@ -20,15 +21,15 @@ use crate::sink::EntrySink;
 use deliveries::{Change, Found};
 use office_maps::OfficeMaps;
 use request_book::Record;
-use units::{Key, Lang, Name, UnitView};
+use units::{Key, Lang, Name, Role, UnitView};
 use uuid::Uuid;
 
 /// Tables of an office with its book.
 ///
 /// Each call says what it answers or writes, what the tables mean then, and by `IsKept` what it keeps, whatever it answers. What it
 /// answers holds while the disk returns what was written; what the tables mean then, while no failure has shut the store. An error
-/// is `Memory` where a growth was refused, and `Disk` where the disk failed: then the tables are stopped, and answer `Disk` to each
-/// further call.
+/// is `Memory` where a growth was refused, and the tables run on; and `Disk` where the disk failed: then the tables are stopped, and
+/// answer `Disk` to each further call.
 pub trait Tables: Drop {
     /// So far the disk has returned what was written.
     ghost is_honest: { Self → Type 0 };
@@ -55,6 +56,12 @@ pub trait Tables: Drop {
     /// What is recorded under a request's number: its content and its first reply.
     fn record_of(&mut self, number: &Uuid) -> Result<Option<Record>, Lost>
         ensures answer { is_honest self.new → IfOk result (λ r. r ≡ option_map (row_of number.now) (maps.get (means self.old).book number.now)) }
+        ensures same { is_honest self.new → is_whole self.new → means self.new ≡ means self.old }
+        ensures kept { IsKept is_honest is_whole means may_leave is_stopped self.old self.new result Disk Nothing };
+
+    /// A caller's role: who isn't in the team is a guest.
+    fn role_of(&mut self, name: &Name) -> Result<Role, Lost>
+        ensures answer { is_honest self.new → IfOk result (λ role. role ≡ role_in (means self.old).office name.now) }
         ensures same { is_honest self.new → is_whole self.new → means self.new ≡ means self.old }
         ensures kept { IsKept is_honest is_whole means may_leave is_stopped self.old self.new result Disk Nothing };
 
@@ -124,4 +131,7 @@ pub trait Tables: Drop {
 
     /// The rules of an office with its book hold.
     ghost rules: { (t : Self) → is_honest t → is_whole t → KeepsRules (means t) };
+
+    /// While no failure has shut the store, a stop leaves what the tables mean, and nothing else.
+    ghost settled: { (t : Self) → is_honest t → is_whole t → LeavesOnly (may_leave t) (means t) };
 }

@@ -3,16 +3,17 @@ ghost use Rattle.std.specs.Prelude.{◌≡◌, false};
 
 use sqlite::{Alter, Connection};
 use std::alloc::Global;
-use store_sql::{AdoptionFault, SqliteTables, Start};
+use store_sql::{Mismatch, OpenFault, SqliteTables, Start};
 
-fn fault_told(fault: AdoptionFault) -> &'static str {
+fn fault_told(fault: OpenFault) -> &'static str {
     match fault {
-        AdoptionFault::Memory => "out of memory",
-        AdoptionFault::Disk => "the disk failed",
-        AdoptionFault::OtherTables => "other tables",
-        AdoptionFault::OtherForm => "another form",
-        AdoptionFault::UnreadRow => "an unread row",
-        AdoptionFault::BrokenRules => "broken rules",
+        OpenFault::Memory => "out of memory",
+        OpenFault::Disk => "the disk failed",
+        OpenFault::Foreign(Mismatch::OtherTables) => "other tables",
+        OpenFault::Foreign(Mismatch::OtherForm) => "another form",
+        OpenFault::Foreign(Mismatch::UnreadRow) => "an unread row",
+        OpenFault::Foreign(Mismatch::BrokenRules) => "broken rules",
+        OpenFault::Exists => "an office",
     }
 }
 

@@ -7,6 +7,7 @@ use crate::words::{replaced, word};
 use client::{Link, LinkFault};
 use office::Desk;
 use std::alloc::Global;
+use std::time::Duration;
 use store::PlainTables;
 
 /// A desk behind a network that follows a script.
@@ -15,6 +16,8 @@ pub(crate) struct Scripted<'a> {
     alloc: Global,
     desk: &'a mut Desk<PlainTables>,
     script: &'a [u8],
+    /// How many milliseconds each pause has.
+    pub(crate) pauses: Vec<u128>,
 }
 
 /// A link to a new desk with the demo office, by a deed's script.
@@ -30,6 +33,7 @@ pub(crate) fn link_to<'a>(
         alloc,
         desk,
         script,
+        pauses: Vec::new(alloc),
     })
 }
 
@@ -45,14 +49,17 @@ fn change_by(letter: u8) -> (&'static str, &'static str) {
         b'l' => ("Content-Length", "content-length"),
         b'n' => ("Content-Length", "Length"),
         b'b' => ("HTTP/1.1 ", ""),
+        b'r' => ("revision", "revisio\r"),
+        b'p' => ("revision", "revisi\u{9b}"),
         _ => ("HTTP", "HTTP"),
     }
 }
 
-/// An answer with the message as the body of a reply.
+/// An answer with the message as the body of a reply, `|` for each CR LF.
 fn echo(alloc: Global, message: &str) -> Option<String> {
-    let length = message.len();
-    format!(in alloc; "HTTP/1.1 200 OK\r\nContent-Length: {length}\r\n\r\n{message}").ok()
+    let body = message.replace(alloc, "\r\n", "|").ok()?;
+    let length = body.len();
+    format!(in alloc; "HTTP/1.1 200 OK\r\nContent-Length: {length}\r\n\r\n{body}").ok()
 }
 
 impl<'a> Scripted<'a> {
@@ -100,5 +107,10 @@ impl<'a> Link for Scripted<'a> {
             Ok(()) => Ok(()),
             Err(_) => Err(LinkFault::Memory),
         }
+    }
+
+    fn pause(&mut self, time: Duration) {
+        // Where there is no memory for it, the row doesn't tell it.
+        let _ = self.pauses.push(time.as_millis());
     }
 }

@@ -57,6 +57,7 @@ fn with_sender(
             let told = match word(deed, 0) {
                 "ready" => ready_told(alloc, &mut sender, requests, word(deed, 2)),
                 "link" => sent_told(alloc, desks, &mut sender, requests, deed),
+                "pauses" => pauses_told(alloc, desks, &mut sender, requests, deed),
                 _ => None,
             };
             drop(sender);
@@ -82,6 +83,26 @@ fn sent_told(
     }
 }
 
+/// The pauses between the rounds in which all is sent over a link to a new desk, in milliseconds.
+fn pauses_told(
+    alloc: Global,
+    desks: &mut Vec<Desk<PlainTables>>,
+    sender: &mut Sender,
+    requests: &[Request],
+    deed: &str,
+) -> Option<String> {
+    let tries = word(deed, 2).parse::<u32>().ok()?;
+    let mut link = link_to(alloc, desks, deed)?;
+    send_all(alloc, sender, requests, &mut link, tries).ok()?;
+    let mut text = String::new(alloc);
+    let mut blank = "";
+    for pause in link.pauses.as_slice() {
+        write!(text, "{blank}{pause}").ok()?;
+        blank = " ";
+    }
+    Some(text)
+}
+
 /// Adds the requests of a list.
 fn put_requests(
     alloc: Global,
@@ -105,15 +126,14 @@ fn put_reply(text: &mut String, reply: Option<&Reply>) -> Option<()> {
     }
 }
 
-/// The replies that a sender holds, `|` for each CR LF.
+/// The replies that a sender holds.
 fn held_told(alloc: Global, sender: &Sender, count: usize) -> Option<String> {
     let mut text = String::new(alloc);
     for place in 0..count {
         put_reply(&mut text, sender.held(place))?;
     }
     let told = text.as_str();
-    let told = told.strip_suffix("; ").unwrap_or(told);
-    told.replace(alloc, "\r\n", "|").ok()
+    String::from_str(alloc, told.strip_suffix("; ").unwrap_or(told)).ok()
 }
 
 /// Has a sender hear a reply to the request at a place, counted from 1.

@@ -3,7 +3,7 @@ ghost use Rattle.std.specs.Prelude.{◌≡◌, false};
 
 use crate::stream_rows::streams::{Kept, Streams};
 use crate::stream_rows::table_rows::push_rows;
-use file_commands::{Closed, deliver_store, export_store, init_store};
+use file_commands::{Closed, deliver_store, export_store, init_store, say_ready};
 use sqlite::{Alter, Connection};
 use std::alloc::Global;
 use tables::Start;
@@ -24,6 +24,14 @@ pub(crate) enum Deed<'a> {
     Rows,
 }
 
+/// The status of a deed that came to this one, once the file is closed; an office that was made is said to be ready then.
+pub(crate) fn closed(deed: Deed<'_>, status: u8, streams: &mut Streams<'_>) -> u8 {
+    match deed {
+        Deed::Make(_) if status == 0 => say_ready(&mut streams.output),
+        _ => status,
+    }
+}
+
 /// Does a deed.
 pub(crate) fn done<S: Alter + Drop>(
     alloc: Global,
@@ -34,29 +42,12 @@ pub(crate) fn done<S: Alter + Drop>(
     requires { connection.in_transaction ≡ false }
 {
     match deed {
-        Deed::Make(start) => make(alloc, connection, streams, start),
+        Deed::Make(start) => init_store(alloc, connection, start, &mut streams.faults),
         Deed::Deliver(lang) => deliver(alloc, connection, streams, lang),
         Deed::Export(lang) => export(alloc, connection, streams, lang),
         Deed::Sql(statements) => executed(connection, statements),
         Deed::Rows => read(alloc, connection, streams),
     }
-}
-
-fn make<S: Alter + Drop>(
-    alloc: Global,
-    connection: Connection<S>,
-    streams: &mut Streams<'_>,
-    start: &Start,
-) -> Closed<S>
-    requires { connection.in_transaction ≡ false }
-{
-    init_store(
-        alloc,
-        connection,
-        start,
-        &mut streams.output,
-        &mut streams.faults,
-    )
 }
 
 fn deliver<S: Alter + Drop>(

@@ -1,7 +1,7 @@
 //! A file in memory that is opened, worked on, and closed.
 
 use crate::stream_rows::command_told::told;
-use crate::stream_rows::deeds::{Deed, done};
+use crate::stream_rows::deeds::{Deed, closed, done};
 use crate::stream_rows::streams::Streams;
 use file_commands::Closed;
 use sqlite::{Connection, Files, Options};
@@ -34,7 +34,7 @@ fn in_files(
         Ok(connection) => {
             let Closed { status, connection } = done(alloc, connection, deed, streams);
             match connection.close_files() {
-                Ok(files) => Some((status, files)),
+                Ok(files) => Some((closed(deed, status, streams), files)),
                 Err((_, store)) => {
                     drop(store);
                     None

@@ -27,12 +27,13 @@ impl OpenListener for Deaf {
 
 /// What comes of the next connection of a listener at a new desk.
 fn taken<L: OpenListener<Stream = TcpStream>>(
+    rt: &HostRuntime,
     alloc: Global,
     stage: &mut Stage,
     listener: &L,
 ) -> Option<String> {
     open_demo(alloc, &mut stage.desks)?;
-    let outcome = serve_next(alloc, stage.desks.last_mut()?, listener);
+    let outcome = serve_next(alloc, rt, stage.desks.last_mut()?, listener);
     outcome_told(alloc, outcome)
 }
 
@@ -41,7 +42,7 @@ fn served(rt: &HostRuntime, alloc: Global, stage: &mut Stage, stream: &[u8]) -> 
     let listener = TcpListener::bind(rt, (Ipv4Addr::LOCALHOST, 0)).ok()?;
     let mut client = TcpStream::connect(rt, listener.local_addr().ok()?).ok()?;
     client.write_all(stream).ok()?;
-    let told = taken(alloc, stage, &listener)?;
+    let told = taken(rt, alloc, stage, &listener)?;
     let answers = io::read_to_string(alloc, client).ok()?;
     with_answers(alloc, stage, told.as_str(), answers.as_bytes())
 }
@@ -56,7 +57,7 @@ fn silent_port(rt: &HostRuntime) -> Option<u16> {
 fn sent(rt: &HostRuntime, alloc: Global, lines: &[u8]) -> Option<String> {
     let port = silent_port(rt)?;
     let mut streams = Streams::new(alloc, "", lines, usize::MAX);
-    let status = streams.send(alloc, &mut SocketLink { net: rt, port }, TRIES);
+    let status = streams.send(alloc, &mut SocketLink { host: rt, port }, TRIES);
     told(alloc, status, &streams, false)
 }
 
@@ -71,7 +72,7 @@ pub(crate) fn socket_told(
     let bytes = stage.texts.bytes_of(text.unwrap_or(""))?;
     match words {
         "new" => served(rt, alloc, stage, bytes.as_slice()),
-        "deaf" => taken(alloc, stage, &Deaf),
+        "deaf" => taken(rt, alloc, stage, &Deaf),
         "send" => sent(rt, alloc, bytes.as_slice()),
         _ => None,
     }

@@ -1,8 +1,8 @@
-use Rattle.std.proofs.Common.{◌≡◌, refl, ap}
+use Rattle.std.proofs.Common.{◌≡◌, refl, sym, ap}
 use Rattle.std.specs.Prelude.{option_map}
 use Rattle.commands.specs.DeliverLines.{unnamed, written, faulted}
 use Rattle.commands.proofs.Streaming.{took_none}
-use Rattle.commands.proofs.Exporting.{still_exported, text_taken, fault_told}
+use Rattle.commands.proofs.Exporting.{still_exported, text_taken}
 use Rattle.commands.proofs.export.export_named.Goals as goal
 
 pub returns-in-None-clause-exported : goal.returns-in-None-clause-exported
@@ -19,5 +19,6 @@ pub returns-in-Err-clause-exported : goal.returns-in-Err-clause-exported
 returns-in-Err-clause-exported g c =
     let cut = c.in-Err.ensures in
     faulted c.in-Some.lang.now (ap (option_map _) c.in-Some.is)
-    (fault_told (g.T.Tables.means c.args.desk.now) (g.T.Tables.means c.export.new.self) c.in-Err.fault cut.same cut.err c.tell_fault.ensures.told)
+    (g.T.Tables.means c.args.desk.now).office (λ h w. sym (ap (λ m. m.office) (cut.same h w)))
+    (record { fault = c.in-Err.fault; cut = cut.err; told = c.tell_fault.ensures.told })
     c.tell_fault.ensures.status

@@ -1,7 +1,8 @@
-use Rattle.std.proofs.Common.{sym, subst}
+use Rattle.std.proofs.Common.{refl, sym, subst}
 use Rattle.sqlite.specs.Held.{state}
 use Rattle.tables.specs.Starts.{started}
 use Rattle.commands.proofs.Streaming.{took_none}
+use Rattle.office_files.specs.Files.{KeepsFile, LeavesFiles}
 use Rattle.file_commands.specs.Opening.{Holds}
 use Rattle.file_commands.specs.Init.{made, refused}
 use Rattle.file_commands.proofs.Tables.{holds_made}
@@ -12,15 +13,17 @@ returns-in-Ok-clause-initialised g c =
     made
     (record {
       was_empty = c.in-Ok.ensures.allowed;
+      file = subst (λ held. KeepsFile (state g.S.Store held)) (sym c.into_connection.ensures.held) c.in-Ok.ensures.made.file;
+      leaves = subst (λ held. LeavesFiles (state g.S.Store held)) (sym c.into_connection.ensures.held) c.in-Ok.ensures.made.leaves;
       holds = subst (λ held. Holds (state g.S.Store held) (started c.args.start.now)) (sym c.into_connection.ensures.held) (holds_made g.S.Store c.in-Ok.tables.rows c.args.start.now c.in-Ok.ensures.made);
     })
-    c.say_ready.ensures (took_none _ _)
+    (took_none _ _) refl
 
 pub returns-in-Err-clause-initialised : goal.returns-in-Err-clause-initialised
 returns-in-Err-clause-initialised g c =
     refused c.in-Err.fault
     (record { why = c.in-Err.ensures.refused; untouched = c.in-Err.ensures.untouched; same = c.in-Err.ensures.handed_back })
-    (took_none _ _) c.tell_store_fault.ensures.told c.tell_store_fault.ensures.status
+    c.tell_store_fault.ensures.told c.tell_store_fault.ensures.status
 
 pub returns-in-Err-clause-between : goal.returns-in-Err-clause-between
 returns-in-Err-clause-between g c = c.in-Err.ensures.handed_back.ended

@@ -6,8 +6,7 @@ returns-in-Ok-clause-opened g c = rw c.new.ensures (is_opened g.S.Store c.in-Ok.
 
 pub returns-in-Err-clause-refused : goal.returns-in-Err-clause-refused
 returns-in-Err-clause-refused g c = record {
-  cause = c.in-Err.fault;
-  is = c.from.ensures;
   why = c.in-Err.ensures.refused;
+  again = c.in-Err.ensures.again;
   same = c.in-Err.ensures.handed_back;
 }

@@ -1,5 +1,6 @@
 use Rattle.std.proofs.Common.{inl, refl, subst}
 use Rattle.commands.specs.Writers.{writer_at}
+use Rattle.http_messages.specs.declared.refusal.Refusal.TheVariants.{Malformed}
 use Rattle.http_messages.specs.declared.message.Asked.{Asked as AskedValue}
 use Rattle.http_messages.specs.Asked as ask
 use Rattle.http_messages.specs.Askings.{IsAsked}
@@ -14,8 +15,8 @@ pub returns-in-Refused : goal.returns-in-Refused
 returns-in-Refused g c = λ question is.
     let P : AskedValue → Type 0 = λ asked. IsAsked asked question in (
       failed c.in-Refused.refusal,
-      asked_so _ _ _ _ _ _ question (ask.refused c.in-Refused.refusal) (failed c.in-Refused.refusal) (subst P c.in-Refused.is is)
-          (told _ _ _ _ _ _ (ask.refused c.in-Refused.refusal) (failed c.in-Refused.refusal) refl (λ h. h) (λ h w. w) (λ h w. refl) (λ office place. inl refl)),
+      asked_so _ _ _ _ _ _ _ _ question (ask.refused c.in-Refused.refusal) (failed c.in-Refused.refusal) (subst P c.in-Refused.is is)
+          (told _ _ _ _ _ _ _ _ (ask.refused c.in-Refused.refusal) (failed c.in-Refused.refusal) refl (λ h. h) (λ h w. w) (λ s. s) (λ h w. refl) (λ office place. refl)),
       tells_writes _ _ (writer_at g.W.ByteSink.taken g.W.ByteSink.failed c.args.w.now) (writer_at g.W.ByteSink.taken g.W.ByteSink.failed c.send_refusal.new.w) (failed c.in-Refused.refusal) c.args.last c.send_refusal.result c.send_refusal.ensures,
     )
 
@@ -25,7 +26,7 @@ returns-in-Request g c = λ question is.
     let parts = subst P c.in-Request.is is in
     let came = c.answer_post.ensures parts.0 parts.1 in (
       posted came.0,
-      asked_so _ _ _ _ _ _ question (ask.request c.in-Request.parts.number.now parts.0 c.in-Request.parts.body.now) (posted came.0) parts.2 came.1,
+      asked_so _ _ _ _ _ _ _ _ question (ask.request c.in-Request.parts.number.now parts.0 c.in-Request.parts.body.now) (posted came.0) parts.2 came.1,
       tells_writes _ _ (writer_at g.W.ByteSink.taken g.W.ByteSink.failed c.args.w.now) (writer_at g.W.ByteSink.taken g.W.ByteSink.failed c.answer_post.new.w) (posted came.0) c.args.last c.answer_post.result came.2,
     )
 
@@ -33,15 +34,24 @@ pub returns-in-Export : goal.returns-in-Export
 returns-in-Export g c = λ question is.
     let P : AskedValue → Type 0 = λ asked. IsAsked asked question in
     let came = c.answer_export.ensures in
-    (came.0, asked_so _ _ _ _ _ _ question (ask.export c.in-Export.lang) came.0 (subst P c.in-Export.is is) came.1, came.2)
+    (came.0, asked_so _ _ _ _ _ _ _ _ question (ask.export c.in-Export.lang) came.0 (subst P c.in-Export.is is) came.1, came.2)
 
 pub returns-in-Unit : goal.returns-in-Unit
 returns-in-Unit g c = λ question is.
     let P : AskedValue → Type 0 = λ asked. IsAsked asked question in
     let came = c.answer_unit.ensures in (
       came.0,
-      asked_so _ _ _ _ _ _ question (ask.unit (name_of c.in-Unit.name)) came.0 (subst P c.in-Unit.is is) came.1,
+      asked_so _ _ _ _ _ _ _ _ question (ask.unit (name_of c.in-Unit.name)) came.0 (subst P c.in-Unit.is is) came.1,
       tells_writes _ _ (writer_at g.W.ByteSink.taken g.W.ByteSink.failed c.args.w.now) (writer_at g.W.ByteSink.taken g.W.ByteSink.failed c.answer_unit.new.w) came.0 c.args.last c.answer_unit.result came.2,
+    )
+
+pub returns-in-Unnamed : goal.returns-in-Unnamed
+returns-in-Unnamed g c = λ question is.
+    let P : AskedValue → Type 0 = λ asked. IsAsked asked question in (
+      failed Malformed,
+      asked_so _ _ _ _ _ _ _ _ question ask.unnamed (failed Malformed) (subst P c.in-Unnamed.is is)
+          (told _ _ _ _ _ _ _ _ ask.unnamed (failed Malformed) refl (λ h. h) (λ h w. w) (λ s. s) (λ h w. refl) (λ office place. inl refl)),
+      tells_writes _ _ (writer_at g.W.ByteSink.taken g.W.ByteSink.failed c.args.w.now) (writer_at g.W.ByteSink.taken g.W.ByteSink.failed c.send_refusal-in-Unnamed.new.w) (failed Malformed) c.args.last c.send_refusal-in-Unnamed.result c.send_refusal-in-Unnamed.ensures,
     )
 
 pub returns-in-Stats : goal.returns-in-Stats
@@ -49,6 +59,6 @@ returns-in-Stats g c = λ question is.
     let P : AskedValue → Type 0 = λ asked. IsAsked asked question in
     let came = c.answer_stats.ensures in (
       came.0,
-      asked_so _ _ _ _ _ _ question (ask.stats c.in-Stats.lang) came.0 (subst P c.in-Stats.is is) came.1,
+      asked_so _ _ _ _ _ _ _ _ question (ask.stats c.in-Stats.lang) came.0 (subst P c.in-Stats.is is) came.1,
       tells_writes _ _ (writer_at g.W.ByteSink.taken g.W.ByteSink.failed c.args.w.now) (writer_at g.W.ByteSink.taken g.W.ByteSink.failed c.answer_stats.new.w) came.0 c.args.last c.answer_stats.result came.2,
     )

@@ -2,7 +2,7 @@ use Rattle.std.proofs.lemmas.Result.{IfErr-weaker, err_from_is_err_and}
 use Rattle.sqlite.specs.Held.{state}
 use Rattle.office_maps.specs.OfficeIn.{office_in}
 use Rattle.office_in_rows.specs.Meaning.{book_in}
-use Rattle.office_adoption.specs.declared.faults.AdoptionFault.{AdoptionFault}
+use Rattle.office_adoption.specs.declared.faults.OpenFault.{OpenFault}
 use Rattle.office_adoption.specs.Reading.{AreStatusesIn, KeepsBook, RefusesKept}
 use Rattle.office_adoption.proofs.Looked.{looked_on, if_err_under}
 use Rattle.office_adoption.proofs.Kept.{book_is_kept, book_refused, rules_refused}
@@ -12,7 +12,7 @@ pub returns-clause-found : goal.returns-clause-found
 returns-clause-found g c =
     let old = state g.S.Store c.args.connection.now in
     let office = office_in c.args.read.now.maps in
-    looked_on old (state g.S.Store c.read_statuses.new.connection) {E = AdoptionFault} c.in_ok-statuses.statuses c.keep_rules.result AreStatusesIn (λ db _. KeepsBook office db) c.in_ok-statuses.ensures.found
+    looked_on old (state g.S.Store c.read_statuses.new.connection) {E = OpenFault} c.in_ok-statuses.statuses c.keep_rules.result AreStatusesIn (λ db _. KeepsBook office db) c.in_ok-statuses.ensures.found
     (λ early is_open are. book_is_kept c.keep_rules.result office old.now are.stand are.numbered are.contents (c.keep_rules.ensures.kept (book_in old.now.trees) are.statuses_are))
 
 pub returns-clause-refused : goal.returns-clause-refused

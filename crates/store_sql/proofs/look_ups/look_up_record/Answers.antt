@@ -1,6 +1,6 @@
 use Rattle.std.proofs.Common.{rules}
 use Rattle.office_sql.specs.Answers.{ShowsRecord}
-use Rattle.store_sql.proofs.LookedUp.{look_up_undone, look_up_ended}
+use Rattle.sql_exports.proofs.LookedUp.{look_up_undone, look_up_ended}
 use Rattle.store_sql.proofs.look_ups.look_up_record.Goals as goal
 
 pub returns-in_err-found : goal.returns-in_err-found

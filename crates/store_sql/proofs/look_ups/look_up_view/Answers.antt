@@ -4,7 +4,7 @@ use Rattle.sqlite.specs.Held.{state}
 use Rattle.office_sql.specs.UnitRows.{ShowsViewRows}
 use Rattle.office_sql.specs.declared.look_ups.ViewRows.{ViewRows}
 use Rattle.office_sql.proofs.Sequences.{reads_both, read_mapped, read_failed, steady_read, fails_after}
-use Rattle.store_sql.proofs.LookedUp.{look_up_undone, look_up_ended}
+use Rattle.sql_exports.proofs.LookedUp.{look_up_undone, look_up_ended}
 use Rattle.store_sql.proofs.look_ups.look_up_view.Goals as goal
 
 pub unit_part-requires : goal.unit_part-requires

@@ -5,7 +5,7 @@ use Rattle.sqlite.specs.declared.error.Error.{Error}
 use Rattle.request_book.specs.Book.{row_of}
 use Rattle.office_sql.specs.Answers.{ShowsRecord}
 use Rattle.office_in_rows.specs.Meaning.{book_in}
-use Rattle.store_sql.proofs.Results.{look_up_mapped}
+use Rattle.sql_exports.proofs.Results.{look_up_mapped}
 use Rattle.store_sql.proofs.RecordsRead.{reads_record}
 use Rattle.store_sql.proofs.records.read_record.Goals as goal
 

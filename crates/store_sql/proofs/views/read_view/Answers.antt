@@ -5,7 +5,7 @@ use Rattle.deliveries.specs.UnitAccess.{found_of}
 use Rattle.office_sql.specs.UnitRows.{ShowsViewRows}
 use Rattle.office_in_rows.specs.Meaning.{office_of_rows}
 use Rattle.shown_rows.specs.ShownFound.{IsShownFound}
-use Rattle.store_sql.proofs.Results.{look_up_answered}
+use Rattle.sql_exports.proofs.Results.{look_up_answered}
 use Rattle.store_sql.proofs.ViewsRead.{reads_view}
 use Rattle.store_sql.proofs.views.read_view.Goals as goal
 

@@ -5,7 +5,7 @@ use Rattle.office_maps.specs.OfficeIn.{office_in}
 use Rattle.office_scans.specs.WholeOffice.{ShowsWholeOffice}
 use Rattle.office_in_rows.specs.Meaning.{office_of_rows}
 use Rattle.office_at_hand.proofs.WholeOffice.{whole_office}
-use Rattle.store_sql.proofs.Results.{look_up_answered}
+use Rattle.sql_exports.proofs.Results.{look_up_answered}
 use Rattle.store_sql.proofs.whole_office.read_office.Goals as goal
 
 pub returns : goal.returns

@@ -1,0 +1,21 @@
+-- Whom the role refuses is refused by the step.
+use Rattle.std.proofs.Common.{◌≡◌, true, sym, ◌∙◌, ap, subst}
+use Rattle.units.specs.Office.{Office, role_of}
+use Rattle.units.specs.Units.{is_below}
+use Rattle.units.specs.declared.unit.Role.{Role}
+use Rattle.units.specs.declared.unit.Role.TheVariants.{Manager}
+use Rattle.units.specs.declared.unit.Refusal.TheVariants.{BelowRole}
+use Rattle.request_book.specs.Clash.{is_office_act}
+use Rattle.request_book.specs.declared.act.Request.{Request}
+use Rattle.replies.specs.Bodies.{refused}
+use Rattle.deliveries.specs.Step.{step}
+use Rattle.office_acts.specs.declared.outcome.OfficeOutcome.{OfficeOutcome}
+use Rattle.office_acts.specs.Settled.{IsSettled, without_change}
+use Rattle.office_acts.proofs.Settling.{refused_request}
+
+pub refused_by_role : (office : Office) (request : Request) (outcome : OfficeOutcome) (role : Role) → is_office_act request.act ≡ true → role ≡ role_of office request.caller
+    → is_below role Manager ≡ true → outcome ≡ without_change (refused BelowRole) → IsSettled office outcome (step office request)
+refused_by_role office request outcome role own is below made =
+    let settled : IsSettled office (without_change (refused BelowRole)) (step office request) =
+    record { is = refused_request office request own (ap (λ r. is_below r Manager) (sym is) ∙ below); possible = tt } in
+    subst (λ (o : OfficeOutcome). IsSettled office o (step office request)) (sym made) settled

@@ -1,0 +1,10 @@
+pub mod Listed
+pub mod Refused
+pub mod Puts
+pub mod RecordKept
+pub mod Stops
+pub mod Opened
+pub mod UnitKept
+pub mod ActKept
+pub mod RoleKept
+pub mod Demo

@@ -1,0 +1,11 @@
+//! When a file is an office's: which files are adopted, and what keeps a file one. Each function is a law: it does nothing, and its
+//! contract is what is proved.
+#![tactic(auto)]
+
+mod laws;
+
+pub use laws::{
+    acts_keep_files, adopted_unless_lost, commits_keep_files, demos_are_rows,
+    listed_schemas_are_read, openings_are_rows, records_keep_files, roles_keep_files,
+    units_keep_rows, whatever_is_adopted,
+};

@@ -1,0 +1,15 @@
+pub mod OnePassing
+pub mod MessageQuery
+pub mod ObsoleteQuery
+pub mod Idle
+pub mod Handed
+pub mod LookedUp
+pub mod HeaderRead
+pub mod Messages
+pub mod ObsoleteUnits
+pub mod OneOrder
+pub mod Pieces
+pub mod Results
+pub mod RowsInTurn
+pub mod UnitsThere
+pub mod Whole

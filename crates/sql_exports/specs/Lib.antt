@@ -1,0 +1,5 @@
+pub mod Queries
+pub mod RowEntries
+pub mod Sinks
+pub mod Handing
+pub mod Entries

@@ -1,0 +1,89 @@
+//! The template's entries, each with its unit, and the obsolete units' entries, each when the next was read.
+
+ghost use Rattle.std.specs.Prelude.{◌≡◌, ◌↔◌, ◌∷◌, ⊤, false, IsTrue, List};
+ghost use Rattle.std.specs.List.{filter_map};
+ghost use Rattle.sqlite.specs.Held.{state};
+ghost use Rattle.sqlite.specs.Order.{Row as RowValue};
+ghost use Rattle.sqlite.specs.State.{HasCleanDisk};
+ghost use Rattle.po_read.specs.declared.entry.Entry.{Entry as EntryValue};
+ghost use Rattle.sqlite.specs.declared.error.Error.TheVariants.{SqliteFailure};
+ghost use Rattle.sqlite.specs.declared.error.ErrorCode.TheVariants.{OutOfMemory};
+ghost use Rattle.tables.specs.declared.faults.Lost.TheVariants.{Memory};
+ghost use Rattle.office_sql.specs.Whole.{IsIdle, IsLookUp};
+ghost use Rattle.sql_exports.specs.Queries.{AreUnits, ShowsMessages, ShowsObsolete};
+ghost use Rattle.sql_exports.specs.Handing.{GivesAllBut, IsTold};
+
+use crate::entry_rows::{EntryReader, EntryRows};
+use crate::queries::{walk_messages, walk_obsolete};
+use po_read::Entry;
+use sql_streams::WalkFault;
+use sqlite::{Alter, Connection, Error, ErrorCode};
+use tables::{EachFault, EntrySink, Lost};
+
+/// What a failed query comes to: want of memory is `Memory`, and anything else is `Disk`.
+fn lost_by(error: Error) -> Lost
+    ensures { (result ≡ Memory) ↔ (error ≡ SqliteFailure OutOfMemory) }
+{
+    match error {
+        Error::SqliteFailure(ErrorCode::OutOfMemory) => Lost::Memory,
+        _ => Lost::Disk,
+    }
+}
+
+/// What a walk that was cut short comes to: the query's failure, or what was told of a row.
+fn told<R: Drop>(fault: WalkFault<EachFault<R>>) -> EachFault<R>
+    ensures { IsTold fault result }
+{
+    match fault {
+        WalkFault::NoRows(error) => EachFault::NoTables(lost_by(error)),
+        WalkFault::NoSink(fault) => fault,
+    }
+}
+
+/// Hands an entry and then those of the template in order, each with its unit in a language, to a sink, of a connection that is open.
+/// The last is held back instead.
+pub(crate) fn hand_messages<S: Alter, R: EntryReader, K: EntrySink>(
+    connection: &mut Connection<S>,
+    lang: &str,
+    reader: &R,
+    held: &mut Entry,
+    sink: &mut K,
+) -> Result<(), EachFault<K::Refusal>>
+    requires autocommit { connection.old.in_transaction ≡ false }
+    requires idle { IsIdle (state S.Store connection.old) }
+    requires is_open { HasCleanDisk (state S.Store connection.old) → IsTrue (state S.Store connection.old).is_open }
+    ensures handed { (unit_of : RowValue → RowValue) (entries : List EntryValue) → AreUnits lang.now (state S.Store connection.old).now.trees unit_of
+        → ((rows : List RowValue) → ShowsMessages unit_of (state S.Store connection.old).now rows → filter_map R.entry rows ≡ entries)
+        → HasCleanDisk (state S.Store connection.new) → GivesAllBut K.Took K.Refuses sink.old sink.new (held.old ∷ entries) held.new result }
+    ensures looked { IsLookUp (state S.Store connection.old) (state S.Store connection.new) result (λ _ _. ⊤) }
+{
+    let mut rows = EntryRows::new(reader, held, sink);
+    match walk_messages(connection, lang, &mut rows) {
+        Ok(()) => Ok(()),
+        Err(fault) => Err(told(fault)),
+    }
+}
+
+/// Hands an entry and then those of a language's obsolete units, in the order of their keys, to a sink, of a connection that is open.
+/// Rows that stand for no entry are passed over. The last entry is held back instead.
+pub(crate) fn hand_obsolete<S: Alter, R: EntryReader, K: EntrySink>(
+    connection: &mut Connection<S>,
+    lang: &str,
+    reader: &R,
+    held: &mut Entry,
+    sink: &mut K,
+) -> Result<(), EachFault<K::Refusal>>
+    requires autocommit { connection.old.in_transaction ≡ false }
+    requires idle { IsIdle (state S.Store connection.old) }
+    requires is_open { HasCleanDisk (state S.Store connection.old) → IsTrue (state S.Store connection.old).is_open }
+    ensures handed { (entries : List EntryValue)
+        → ((rows : List RowValue) → ShowsObsolete lang.now (state S.Store connection.old).now rows → filter_map R.entry rows ≡ entries)
+        → HasCleanDisk (state S.Store connection.new) → GivesAllBut K.Took K.Refuses sink.old sink.new (held.old ∷ entries) held.new result }
+    ensures looked { IsLookUp (state S.Store connection.old) (state S.Store connection.new) result (λ _ _. ⊤) }
+{
+    let mut rows = EntryRows::new(reader, held, sink);
+    match walk_obsolete(connection, lang, &mut rows) {
+        Ok(()) => Ok(()),
+        Err(fault) => Err(told(fault)),
+    }
+}

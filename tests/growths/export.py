@@ -1,0 +1,150 @@
+#!/usr/bin/env python3
+"""Exports offices in files with growths refused, and looks at what was written by then.
+
+A small office, each growth of the program's in turn: either all is as with ample memory; or the export ends in fault 3 behind a beginning of
+its text, and never behind all of it; or the office can't be opened, or the words can't be read. Of the growths of an export some have to be
+met, also between two entries.
+
+A language of 5,000 obsolete entries over an empty template: among the first 5,000 growths of the export there is one whose refusal gives fault 3
+with the whole header and the first entry written, since entries are handed on before all rows are read. Which growth is the
+export's first is found by halving: the refusal of an earlier one leaves the office unopened. Every 50th growth from there on is
+refused, and the last hundred, as above.
+
+Usage: tests/growths/export.py [PROGRAM]   (from the top of the repository, after ./office --version has built the program; wants cc)
+"""
+import collections
+import json
+import os
+import subprocess
+import sys
+import tempfile
+
+PROGRAM = sys.argv[1] if len(sys.argv) > 1 else os.path.join("crates", "cli", "out", "cli")
+HEADER = 'msgid ""\nmsgstr "Plural-Forms: nplurals=2; plural=n!=1;\\n"\n'
+OBSOLETE, FIRST = 5_000, 5_000
+AMPLE, CUT, UNOPENED = "as with ample memory", "export fault 3", "not begun"
+
+
+def entry(i, mark=""):
+    return '\n%smsgid "Message %05d"\n%smsgstr "Text %05d"\n' % (mark, i, mark, i)
+
+
+def source(i):
+    return '\nmsgid "Message %05d"\nmsgstr ""\n' % i
+
+
+def made(path, requests):
+    """An office in a file, to which these were delivered."""
+    subprocess.run([PROGRAM, "init", "--store", path, "--manager", "root"], check=True, stdout=subprocess.DEVNULL)
+    lines = "".join(
+        json.dumps({**it, "caller": "root", "number": "00000000-0000-4000-8000-%012d" % n}) + "\n" for n, it in enumerate(requests, 1)
+    )
+    done = subprocess.run([PROGRAM, "deliver", "--store", path], input=lines.encode(), check=True, stdout=subprocess.PIPE)
+    if [line[:4] for line in done.stdout.splitlines()] != [b"200 "] * len(requests):
+        raise SystemExit("answered %r" % done.stdout)
+    return path
+
+
+class Export:
+    """The export of a language of an office in a file, with one growth refused."""
+
+    def __init__(self, library, path, text):
+        self.library, self.path, self.text = library, path, text
+        self.found = collections.Counter()
+
+    def run(self, number):
+        environment = dict(os.environ, LD_PRELOAD=self.library, FAIL_N=str(number))
+        words = [PROGRAM, "export", "--store", self.path, "--lang", "de"]
+        done = subprocess.run(words, capture_output=True, env=environment)
+        return done.returncode, done.stdout.decode(), done.stderr.decode()
+
+    def judged(self, number):
+        """What came of it, and what was written."""
+        status, out, faults = self.run(number)
+        kind = None
+        if status == 0 and out == self.text and faults.startswith("bytes %d sha256 " % len(self.text.encode())):
+            kind = AMPLE
+        elif status == 1 and faults == "export fault 3\n" and self.text.startswith(out) and out != self.text:
+            kind = CUT
+        elif status == 1 and out == "" and faults in ("", "error: out of memory\n", "store fault 1\n"):
+            kind = UNOPENED
+        if kind is None:
+            print("growth %d refused: %r" % (number, (status, out[-200:], faults)))
+        self.found[kind] += 1
+        return kind, out
+
+    def border(self, low, kinds):
+        """The first growth behind `low` whose refusal comes to one of these, where all behind it do."""
+        high = low + 1
+        while self.judged(high)[0] not in kinds:
+            high *= 2
+        while low + 1 < high:
+            middle = (low + high) // 2
+            if self.judged(middle)[0] in kinds:
+                high = middle
+            else:
+                low = middle
+        return high
+
+    def first(self):
+        """The export's first growth: none of those behind it leaves the office unopened."""
+        low = 0
+        while True:
+            high = self.border(low, {AMPLE, CUT})
+            near = [*range(high, high + 20), *range(high + 20, high + 2_000, 99)]
+            earlier = [number for number in near if self.judged(number)[0] == UNOPENED]
+            if not earlier:
+                return high
+            low = earlier[-1]
+
+    def told(self, name):
+        print("%s: %s" % (name, ", ".join("%d %s" % (n, kind) for kind, n in sorted(self.found.items(), key=str))))
+        return self.found[None]
+
+
+def small(library, folder):
+    requests = [{"act": "template", "po": (source(0) + source(1))[1:]}]
+    requests += [{"act": "language", "lang": "de", "po": HEADER + entry(0) + entry(1) + entry(2, "#~ ") + entry(3, "#~ ")}]
+    text = HEADER + entry(0) + entry(1) + entry(2, "#~ ") + entry(3, "#~ ")
+    export = Export(library, made(os.path.join(folder, "small.db"), requests), text)
+    number, quiet, fronts = 0, 0, set()
+    # Behind the last growth nothing is refused: fifty runs in a row are as with ample memory.
+    while quiet < 50:
+        number += 1
+        kind, out = export.judged(number)
+        quiet = quiet + 1 if kind == AMPLE else 0
+        if kind == CUT:
+            fronts.add(out)
+    wrong = export.told("small office")
+    between = {HEADER + "".join(entry(i, "#~ " if i > 1 else "") for i in range(n)) for n in range(4)}
+    if not fronts & between:
+        print("no growth was refused between two entries")
+        wrong += 1
+    return wrong
+
+
+def large(library, folder):
+    text = HEADER + "".join(entry(i, "#~ ") for i in range(OBSOLETE))
+    export = Export(library, made(os.path.join(folder, "large.db"), [{"act": "language", "lang": "de", "po": text}]), text)
+    first = export.first()
+    behind = export.border(first, {AMPLE})
+    front = HEADER + entry(0, "#~ ")
+    met = None
+    for number in [*range(first, min(first + FIRST, behind), 50), *range(behind - 100, behind)]:
+        kind, out = export.judged(number)
+        if met is None and kind == CUT and out.startswith(front) and number < first + FIRST:
+            met = number - first
+    wrong = export.told("%d obsolete entries, of which the export takes %d growths" % (OBSOLETE, behind - first))
+    if met is None:
+        print("none of the first %d growths is refused behind the first entry" % FIRST)
+        return wrong + 1
+    print("growth %d of the export is refused behind the header and the first entry" % met)
+    return wrong
+
+
+with tempfile.TemporaryDirectory() as folder:
+    library = os.path.join(folder, "refuse.so")
+    source_of = os.path.join("tests", "growths", "refuse.c")
+    subprocess.run(["cc", "-O1", "-shared", "-fPIC", "-o", library, source_of, "-ldl"], check=True)
+    wrong = small(library, folder) + large(library, folder)
+raise SystemExit(1 if wrong else 0)
