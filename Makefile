@@ -1,25 +1,50 @@
 # make            proves and builds the program
-# make install PREFIX=/usr/local      the program, its man page, and completion for bash and zsh
+# make install PREFIX=/usr/local      the program, its tools, man pages, completion for bash and zsh, page, front, units of systemd, schemas, docs
 # make uninstall PREFIX=/usr/local    takes them out again
+# make dist       out/office-VERSION.tar.gz, which has all that install puts under PREFIX
+# make deb        out/office_VERSION_ARCHITECTURE.deb, the same as a package of Debian
 # make test       the gate
+# With PROGRAM=FILE a program that is built already is taken, and nothing is proved.
 PREFIX ?= /usr/local
-PROGRAM = crates/cli/out/cli
+BUILT = crates/cli/out/cli
+PROGRAM = $(BUILT)
+# The one place of the version.
+VERSION := $(shell sed -n 's/^const VERSION: &str = "\(.*\)";$$/\1/p' crates/cli/src/subcommands.rt)
 TO = $(DESTDIR)$(PREFIX)
-MAN = share/man/man1/office.1
-BASH_COMPLETION = share/bash-completion/completions/office
-ZSH_COMPLETION = share/zsh/site-functions/_office
+TOOLS = office-import office-log office-memory office-upload
+COMPLETION = share/bash-completion/completions/office share/zsh/site-functions/_office
+MAN = $(wildcard share/man/man1/*.1)
+OWN = share/office
+DOC = share/doc/office
+UNITS = lib/systemd/system
+# Folders of share/ that lie under $(OWN) as they are, where they are there.
+WHOLE = tools web front schema openapi
 
-.PHONY: all install uninstall test
+.PHONY: all install uninstall dist deb test
 
 all:
 	./office --version
 
-install: all
-	install -D -m 755 $(PROGRAM) "$(TO)/bin/office"
-	for it in $(MAN) $(BASH_COMPLETION) $(ZSH_COMPLETION); do install -D -m 644 $$it "$(TO)/$$it" || exit 1; done
+install: $(if $(filter $(BUILT),$(PROGRAM)),all)
+	install -D -m 755 "$(PROGRAM)" "$(TO)/bin/office"
+	for it in $(MAN) $(COMPLETION); do install -D -m 644 $$it "$(TO)/$$it" || exit 1; done
+	for it in $(WHOLE); do tools/install_folder share/$$it "$(TO)/$(OWN)/$$it" || exit 1; done
+	if [ -d "$(TO)/$(OWN)/front" ]; then grep -rlZ '/usr/local/$(OWN)' "$(TO)/$(OWN)/front" | xargs -0 -r sed -i 's|/usr/local/$(OWN)|$(PREFIX)/$(OWN)|g'; fi
+	for it in $(TOOLS); do ln -sf ../$(OWN)/tools/$$it "$(TO)/bin/$$it" || exit 1; done
+	tools/install_folder share/systemd "$(TO)/$(UNITS)"
+	tools/install_folder docs "$(TO)/$(DOC)/docs"
+	for it in $(wildcard README.md CHANGELOG.md LICENSE); do install -m 644 $$it "$(TO)/$(DOC)/$$it" || exit 1; done
 
 uninstall:
-	for it in bin/office $(MAN) $(BASH_COMPLETION) $(ZSH_COMPLETION); do rm -f "$(TO)/$$it"; done
+	for it in bin/office $(TOOLS:%=bin/%) $(MAN) $(COMPLETION); do rm -f "$(TO)/$$it" || exit 1; done
+	rm -rf "$(TO)/$(OWN)" "$(TO)/$(DOC)"
+	for it in $(notdir $(wildcard share/systemd/*)); do rm -rf "$(TO)/$(UNITS)/$$it" || exit 1; done
+
+dist: $(if $(filter $(BUILT),$(PROGRAM)),all)
+	tools/package dist "$(PROGRAM)" $(VERSION)
+
+deb: $(if $(filter $(BUILT),$(PROGRAM)),all)
+	tools/package deb "$(PROGRAM)" $(VERSION)
 
 test:
 	rt ci
