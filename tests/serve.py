@@ -335,7 +335,7 @@ def silent(folder):
 
 
 def deaf(folder):
-    """A client that takes nothing of its answers is given up too, after half a minute or a whole one."""
+    """A client that takes nothing of its answers is given up too, within two minutes (a few writes of 30 seconds)."""
     path = office(folder)
     make_large(path)
     begin = time.monotonic()
@@ -343,7 +343,7 @@ def deaf(folder):
         with serving(path, 1, ends=(1, "", "serve fault 2\n")) as port:
             it = kept_open.enter_context(connected(port))
             it.sendall(get("/v1/export/de") * 50)
-        same("a deaf client is given up", 28 < time.monotonic() - begin < 80, True)
+        same("a deaf client is given up", 28 < time.monotonic() - begin < 120, True)
 
 
 def no_descriptors(folder):
