@@ -335,7 +335,7 @@ def silent(folder):
 
 
 def deaf(folder):
-    """A client that takes nothing of its answers is given up too, within two minutes (a few writes of 30 seconds)."""
+    """A client that takes nothing of its answers is given up too; some more of them still goes into the system's buffers."""
     path = office(folder)
     make_large(path)
     begin = time.monotonic()
