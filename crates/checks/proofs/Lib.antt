@@ -1,3 +1,5 @@
+pub mod FormatScans
+pub mod Fronts
 pub mod Members
 pub mod Parts
 pub mod Rows

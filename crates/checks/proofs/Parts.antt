@@ -42,7 +42,7 @@ part-Passes (c ∷ part) (b ∷ text) s e =
     let same = and_parts (c == b) (begins_with text part) e in
     past (omega (arith, ltb-true c 128 small.0, eqb-true c b same.0)) (part-Passes part text small.1 same.1)
 
-all-Passes : (test : ℕ → Bool) → ((b : ℕ) → test b ≡ true → b < 128) → (text : Text) → Passes text (after_all test text)
+pub all-Passes : (test : ℕ → Bool) → ((b : ℕ) → test b ≡ true → b < 128) → (text : Text) → Passes text (after_all test text)
 all-Passes test small [] = here
 all-Passes test small (b ∷ text) =
     elim (cases_Bool (test b)) [
@@ -100,7 +100,7 @@ conversion-Passes (b ∷ text) =
       | inr e ↦ rw e tt
     ]
 
-further : {a b : Text} → Passes a b → (o : Option Text) → IfSome o (Passes b) → IfSome o (Passes a)
+pub further : {a b : Text} → Passes a b → (o : Option Text) → IfSome o (Passes b) → IfSome o (Passes a)
 further p None q = tt
 further p (Some rest) q = joined p q
 
@@ -130,7 +130,7 @@ pub length-Passes_le : {text rest : Text} → Passes text rest → length rest �
 length-Passes_le here = omega arith
 length-Passes_le (past small p) = omega (arith, length-Passes_le p)
 
-front-IsAscii : {text rest : Text} → Passes text rest → IsAscii (take (length text - length rest) text)
+pub front-IsAscii : {text rest : Text} → Passes text rest → IsAscii (take (length text - length rest) text)
 front-IsAscii {text} here =
     let none : 0 ≡ length text - length text = omega arith in
     subst (λ n. IsAscii (take n text)) none IsAscii-nil
@@ -154,9 +154,3 @@ shorter (b ∷ text) =
 
 pub after_directive_lt : (text rest : Text) → after_directive text ≡ Some rest → length rest < length text
 after_directive_lt text rest e = rw e at (shorter text)
-
--- the bytes of a directive are below 128
-pub directive-IsAscii : (text rest : Text) → after_directive text ≡ Some rest → IsAscii (take (length text - length rest) text)
-directive-IsAscii text rest e =
-    let passes : Passes text rest = rw e at (directive-Passes text) in
-    front-IsAscii passes

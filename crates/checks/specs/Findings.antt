@@ -1,27 +1,35 @@
 -- What the checks find in a translation: the numbers of the forms that fail, rising.
--- The flag `c-format` is that of the GNU gettext manual, "The Format of PO Files". Like its tool `msgfmt --check`, the checks
--- hold forms against msgid and msgid_plural; what exactly has to agree is this project's own rule, given here.
-use Rattle.std.specs.Prelude.{ℕ, List, [], ◌∷◌, ◌++◌, map, filter, Bool, not, ◌&&◌, ◌||◌, if◌then◌else◌, nat_eq, unwrap_or, is_some, codes}
+-- The flags `c-format` and `python-brace-format` are those of the GNU gettext manual, "The Format of PO Files". Like its tool
+-- `msgfmt --check`, the checks hold forms against msgid and msgid_plural; what exactly has to agree is this project's own rule,
+-- given here.
+use Rattle.std.specs.Prelude.{ℕ, List, [], ◌∷◌, ◌++◌, map, filter, Bool, true, not, ◌&&◌, ◌||◌, if◌then◌else◌, nat_eq, Option, Some, None, unwrap_or, is_some, codes}
 use Rattle.std.specs.Bool.{beq}
 use Rattle.std.specs.List.{starts_with, ends_with, list_any, list_all, enumerate_from}
 use Rattle.plural_expr.specs.Values.{Rule, serves_one}
 use Rattle.po_read.specs.Texts.{Text, text_eq, texts_eq, is_empty}
 use Rattle.checks.specs.declared.source.Findings.{Findings}
+use Rattle.checks.specs.declared.format.Format.{Format}
+use Rattle.checks.specs.declared.format.Format.TheVariants.{C, Brace}
 use Rattle.checks.specs.Source.{Source}
-use Rattle.checks.specs.Directives.{directives, is_numbered}
+use Rattle.checks.specs.Directives.{is_numbered}
+use Rattle.checks.specs.Formats.{flag_of, placeholders_of}
 
--- ---- placeholders, for the flag `c-format`
+-- ---- placeholders, for the flags `c-format` and `python-brace-format`
 
 -- each member of xs is one of ys
 abbrev pub is_subset : List Text → List Text → Bool
 is_subset xs ys = list_all (λ x. list_any (λ y. text_eq y x) ys) xs
+
+-- the sets are equal
+abbrev pub are_same_set : List Text → List Text → Bool
+are_same_set xs ys = is_subset xs ys && is_subset ys xs
 
 abbrev pub are_numbered : List Text → List Text → Bool
 are_numbered xs ys = list_all is_numbered xs && list_all is_numbered ys
 
 -- the lists are equal, or every directive of both has a number and the sets are equal
 abbrev pub agree : List Text → List Text → Bool
-agree xs ys = texts_eq xs ys || (are_numbered xs ys && is_subset xs ys && is_subset ys xs)
+agree xs ys = texts_eq xs ys || (are_numbered xs ys && are_same_set xs ys)
 
 -- what striking members out of a list can leave: the others, in their order
 abbrev pub struck_out_of : List Text → List (List Text)
@@ -36,20 +44,35 @@ is_struck_out xs ys = list_any (texts_eq xs) (struck_out_of ys)
 abbrev pub leaves_out : List Text → List Text → Bool
 leaves_out xs ys = is_struck_out xs ys || (are_numbered xs ys && is_subset xs ys)
 
--- what a form's directives have to agree with: those of msgid_plural, or of msgid where there is none
-abbrev pub wanted_of : Source → List Text
-wanted_of source = directives (unwrap_or source.plural source.id)
+-- a form's placeholders agree with the source's or, where some may be left out, are the source's without some; of brace
+-- placeholders the sets alone count
+abbrev pub are_fitting : Format → Bool → List Text → List Text → Bool
+are_fitting C may found wanted = agree found wanted || (may && leaves_out found wanted)
+are_fitting Brace may found wanted = are_same_set found wanted || (may && is_subset found wanted)
 
--- a form that serves exactly one number may leave directives out, in a unit with a msgid_plural
+-- a form that serves exactly one number may leave placeholders out, in a unit with a msgid_plural
 abbrev pub may_leave_out : Source → Rule → ℕ → Bool
 may_leave_out source rule number = is_some source.plural && serves_one rule number
 
--- they agree or, where some may be left out, they are left out
-abbrev pub are_fitting : Bool → List Text → List Text → Bool
-are_fitting may found wanted = agree found wanted || (may && leaves_out found wanted)
+abbrev pub has_flag : List Text → Text → Bool
+has_flag flags name = list_any (λ flag. text_eq flag name) flags
 
+-- what a form's placeholders are held against, where the source has the format's flag: those of msgid_plural, or of msgid where
+-- there is none
+abbrev pub wanted_of : Format → Source → Option (List Text)
+wanted_of format source = if has_flag source.flags (flag_of format) then Some (placeholders_of format (unwrap_or source.plural source.id)) else None
+
+-- where something is wanted, it has to fit
+abbrev pub fit_wanted : Option (List Text) → (List Text → Bool) → Bool
+fit_wanted None fits = true
+fit_wanted (Some wanted) fits = fits wanted
+
+abbrev pub fit_under : Format → Source → Rule → ℕ × Text → Bool
+fit_under format source rule form = fit_wanted (wanted_of format source) (are_fitting format (may_leave_out source rule form.0) (placeholders_of format form.1))
+
+-- a form is found if either rule finds it
 abbrev pub placeholders_fit : Source → Rule → ℕ × Text → Bool
-placeholders_fit source rule form = are_fitting (may_leave_out source rule form.0) (directives form.1) (wanted_of source)
+placeholders_fit source rule form = fit_under C source rule form && fit_under Brace source rule form
 
 -- ---- line ends
 
@@ -69,11 +92,8 @@ line_ends_fit id form = beq (begins_with_LF form) (begins_with_LF id) && beq (en
 abbrev pub failing_from : (ℕ × Text → Bool) → ℕ → List Text → List ℕ
 failing_from fits n forms = map (λ form. form.0) (filter (λ form. not (is_empty form.1) && not (fits form)) (enumerate_from n forms))
 
-abbrev pub has_c_format : List Text → Bool
-has_c_format flags = list_any (λ flag. text_eq flag (codes "c-format")) flags
-
 abbrev pub unfit_placeholders : Source → List Text → Rule → List ℕ
-unfit_placeholders source forms rule = if has_c_format source.flags then failing_from (placeholders_fit source rule) 0 forms else []
+unfit_placeholders source forms rule = failing_from (placeholders_fit source rule) 0 forms
 
 abbrev pub unfit_line_ends : Source → List Text → List ℕ
 unfit_line_ends source forms = failing_from (λ form. line_ends_fit source.id form.1) 0 forms

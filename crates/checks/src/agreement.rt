@@ -1,9 +1,9 @@
-//! Whether the directives of two texts agree.
+//! Whether the placeholders of two texts agree.
 
 ghost use Rattle.std.specs.Prelude.{◌≡◌, IfOk};
 ghost use Rattle.std.specs.List.{list_all};
 ghost use Rattle.checks.specs.Directives.{has_number, is_numbered};
-ghost use Rattle.checks.specs.Findings.{is_subset, are_numbered, agree, is_struck_out, leaves_out};
+ghost use Rattle.checks.specs.Findings.{is_subset, are_same_set, are_numbered, agree, is_struck_out, leaves_out};
 ghost use Rattle.checks.specs.Members.{is_member, HasMembers};
 
 use crate::directive::has_number;
@@ -27,31 +27,38 @@ fn all_numbered(directives: &[Text]) -> bool
     directives.iter().all(|directive| is_numbered(directive))
 }
 
-/// The directives as a set.
-fn set_of(alloc: Global, directives: &[Text]) -> Result<BTreeSet<&str>, Memory>
-    ensures { IfOk result (λ set. HasMembers set directives.now) }
+/// The placeholders as a set.
+fn set_of(alloc: Global, placeholders: &[Text]) -> Result<BTreeSet<&str>, Memory>
+    ensures { IfOk result (λ set. HasMembers set placeholders.now) }
 {
     let mut set = BTreeSet::new(alloc);
-    for directive in directives {
-        set.insert(directive.as_str())?;
+    for placeholder in placeholders {
+        set.insert(placeholder.as_str())?;
     }
     Ok(set)
 }
 
-fn are_members(set: &BTreeSet<&str>, directives: &[Text]) -> bool
-    ensures { result ≡ list_all (is_member set.now) directives.now }
+fn are_members(set: &BTreeSet<&str>, placeholders: &[Text]) -> bool
+    ensures { result ≡ list_all (is_member set.now) placeholders.now }
 {
-    directives
+    placeholders
         .iter()
-        .all(|directive| set.contains(directive.as_str()))
+        .all(|placeholder| set.contains(placeholder.as_str()))
 }
 
-/// Whether each of some directives is one of all.
-fn is_subset(alloc: Global, some: &[Text], all: &[Text]) -> Result<bool, Memory>
+/// Whether each of some placeholders is one of all.
+pub(crate) fn is_subset(alloc: Global, some: &[Text], all: &[Text]) -> Result<bool, Memory>
     ensures { IfOk result (λ subset. subset ≡ is_subset some.now all.now) }
 {
     let set = set_of(alloc, all)?;
     Ok(are_members(&set, some))
+}
+
+/// Whether the sets are equal.
+pub(crate) fn are_same_set(alloc: Global, found: &[Text], wanted: &[Text]) -> Result<bool, Memory>
+    ensures { IfOk result (λ same. same ≡ are_same_set found.now wanted.now) }
+{
+    Ok(is_subset(alloc, found, wanted)? && is_subset(alloc, wanted, found)?)
 }
 
 fn are_numbered(found: &[Text], wanted: &[Text]) -> bool
@@ -64,12 +71,7 @@ fn are_numbered(found: &[Text], wanted: &[Text]) -> bool
 pub(crate) fn agree(alloc: Global, found: &[Text], wanted: &[Text]) -> Result<bool, Memory>
     ensures { IfOk result (λ same. same ≡ agree found.now wanted.now) }
 {
-    Ok(
-        found == wanted
-            || (are_numbered(found, wanted)
-                && is_subset(alloc, found, wanted)?
-                && is_subset(alloc, wanted, found)?),
-    )
+    Ok(found == wanted || (are_numbered(found, wanted) && are_same_set(alloc, found, wanted)?))
 }
 
 /// Whether what was found is what is wanted with members struck out, the others in their order.

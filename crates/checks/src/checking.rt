@@ -1,13 +1,13 @@
 //! The checks of a translation's forms, and the state that they give a unit.
 
-ghost use Rattle.std.specs.Prelude.{◌≡◌, ◌<◌, ◌^◌, IfOk, length};
+ghost use Rattle.std.specs.Prelude.{◌≡◌, ◌<◌, ◌^◌, IfOk, length, option_map};
 ghost use Rattle.po_read.specs.Texts.{is_empty};
-ghost use Rattle.checks.specs.Directives.{directives};
-ghost use Rattle.checks.specs.Findings.{wanted_of, may_leave_out, are_fitting, line_ends_fit, has_c_format, unfit_placeholders, unfit_line_ends, findings};
+ghost use Rattle.checks.specs.Findings.{wanted_of, may_leave_out, are_fitting, fit_under, line_ends_fit, has_flag, unfit_placeholders, unfit_line_ends, findings};
 ghost use Rattle.checks.specs.Result.{is_found, result_state};
 
-use crate::agreement::{agree, leaves_out};
-use crate::scan::directive_texts;
+use crate::agreement::{agree, are_same_set, is_subset, leaves_out};
+use crate::format::Format;
+use crate::scan::placeholder_texts;
 use crate::source::{Findings, Source};
 use plural_expr::PluralForms;
 use po_read::{Items, PoString, Text};
@@ -20,10 +20,10 @@ fn is_empty(form: &PoString) -> bool
     form.as_str().is_empty()
 }
 
-fn has_c_format(flags: &[Text]) -> bool
-    ensures { result ≡ has_c_format flags.now }
+fn has_flag(flags: &[Text], name: &str) -> bool
+    ensures { result ≡ has_flag flags.now name.now }
 {
-    flags.iter().any(|flag| flag.as_str() == "c-format")
+    flags.iter().any(|flag| flag.as_str() == name)
 }
 
 /// Whether the form begins with LF exactly if msgid does, and ends with LF exactly if msgid does.
@@ -35,33 +35,69 @@ fn line_ends_fit(id: &PoString, form: &PoString) -> bool
     form.starts_with(b"\n") == id.starts_with(b"\n") && form.ends_with(b"\n") == id.ends_with(b"\n")
 }
 
-/// The directives that each form has to agree with.
-fn wanted(alloc: Global, source: &Source<'_>) -> Result<Vec<Text>, Memory>
-    ensures { IfOk result (λ wanted. wanted.items ≡ wanted_of source.now) }
+/// What the placeholders of forms are held against, where the source has the format's flag.
+fn wanted(alloc: Global, format: Format, source: &Source<'_>) -> Result<Option<Vec<Text>>, Memory>
+    ensures { IfOk result (λ wanted. option_map (λ texts. texts.items) wanted ≡ wanted_of format source.now) }
 {
+    if !has_flag(source.flags, format.flag()) {
+        return Ok(None);
+    }
     let text = match source.plural {
         Some(plural) => plural,
         None => source.id,
     };
-    directive_texts(alloc, text.as_str())
+    Ok(Some(placeholder_texts(alloc, format, text.as_str())?))
 }
 
-/// Whether a form may leave directives out: it serves exactly one number, in a unit with a msgid_plural.
+/// Whether a form may leave placeholders out: it serves exactly one number, in a unit with a msgid_plural.
 fn may_leave_out(source: &Source<'_>, rule: &PluralForms, number: u32) -> bool
     ensures { result ≡ may_leave_out source.now rule.now number }
 {
     source.plural.is_some() && rule.serves_one(number)
 }
 
-/// Whether the form's directives agree with those that are wanted or, where it may, leave some out.
-fn are_fitting(alloc: Global, may: bool, form: &PoString, wanted: &[Text]) -> Result<bool, Memory>
-    ensures { IfOk result (λ fits. fits ≡ are_fitting may (directives form.now) wanted.now) }
+/// Whether the placeholders that were found agree with those that are wanted or, where they may, leave some out.
+fn are_fitting(
+    alloc: Global,
+    format: Format,
+    may: bool,
+    found: &[Text],
+    wanted: &[Text],
+) -> Result<bool, Memory>
+    ensures { IfOk result (λ fits. fits ≡ are_fitting format may found.now wanted.now) }
 {
-    let found = directive_texts(alloc, form.as_str())?;
-    Ok(agree(alloc, &found, wanted)? || (may && leaves_out(alloc, &found, wanted)?))
+    match format {
+        Format::C => Ok(agree(alloc, found, wanted)? || (may && leaves_out(alloc, found, wanted)?)),
+        Format::Brace => {
+            Ok(are_same_set(alloc, found, wanted)? || (may && is_subset(alloc, found, wanted)?))
+        }
+    }
 }
 
-/// The numbers of the forms whose directives fail.
+/// Whether a form's placeholders fit under a format: they do where none are wanted.
+fn fit_under(
+    alloc: Global,
+    format: Format,
+    source: &Source<'_>,
+    rule: &PluralForms,
+    number: u32,
+    form: &PoString,
+    wanted: &Option<Vec<Text>>,
+) -> Result<bool, Memory>
+    requires { option_map (λ texts. texts.items) wanted.now ≡ wanted_of format source.now }
+    ensures { IfOk result (λ fits. fits ≡ fit_under format source.now rule.now (number, form.now)) }
+{
+    match wanted {
+        Some(wanted) => {
+            let may = may_leave_out(source, rule, number);
+            let found = placeholder_texts(alloc, format, form.as_str())?;
+            are_fitting(alloc, format, may, &found, wanted)
+        }
+        None => Ok(true),
+    }
+}
+
+/// The numbers of the forms whose placeholders fail under a flag that the source has.
 fn unfit_placeholders(
     alloc: Global,
     source: &Source<'_>,
@@ -72,14 +108,14 @@ fn unfit_placeholders(
     ensures { IfOk result (λ found. found ≡ unfit_placeholders source.now forms.now rule.now) }
 {
     let mut found = Items::new(alloc);
-    if !has_c_format(source.flags) {
-        return Ok(found);
-    }
-    let wanted = wanted(alloc, source)?;
+    let directives = wanted(alloc, Format::C, source)?;
+    let braces = wanted(alloc, Format::Brace, source)?;
     for (number, form) in forms.iter().enumerate() {
         let number = number as u32;
-        let may = may_leave_out(source, rule, number);
-        if !is_empty(form) && !are_fitting(alloc, may, form, &wanted)? {
+        if !is_empty(form)
+            && !(fit_under(alloc, Format::C, source, rule, number, form, &directives)?
+                && fit_under(alloc, Format::Brace, source, rule, number, form, &braces)?)
+        {
             found.push(number)?;
         }
     }
@@ -104,9 +140,9 @@ fn unfit_line_ends(
     Ok(found)
 }
 
-/// What the checks find in a translation's forms, enforced or not. Placeholders are checked under the flag `c-format` (GNU gettext
-/// manual, "The Format of PO Files"); empty forms are skipped. Forms have `u32` numbers, which their count has to allow: those of a
-/// unit are 1 to 8.
+/// What the checks find in a translation's forms, enforced or not. Placeholders are checked under the flags `c-format` and
+/// `python-brace-format` (GNU gettext manual, "The Format of PO Files"), under both by both rules: a form is found if either
+/// finds it. Empty forms are skipped. Forms have `u32` numbers, which their count has to allow: those of a unit are 1 to 8.
 ///
 /// `Memory` where a growth was refused.
 #[tactic(auto, unfolding(crate::specs::Findings::findings))]

@@ -1,10 +1,9 @@
 //! One directive at the front of a text. Each function takes one part of it, as much as there is.
 
-ghost use Rattle.std.specs.Prelude.{◌≡◌, ◌<◌, ◌≤◌, IfSome, length, take};
+ghost use Rattle.std.specs.Prelude.{◌≡◌};
 ghost use Rattle.std.specs.Option.{option_copied};
-ghost use Rattle.std.specs.Str.{IsAscii};
 ghost use Rattle.std.specs.Char.{is_ascii_digit};
-ghost use Rattle.checks.specs.Directives.{after_all, after_part, has_number, after_number, is_flag, after_flags, after_width, after_precision, after_length, is_conversion, after_conversion, after_percent, after_directive, directive_len};
+ghost use Rattle.checks.specs.Directives.{after_all, after_part, has_number, after_number, is_flag, after_flags, after_width, after_precision, after_length, is_conversion, after_conversion, after_percent, after_directive};
 
 fn is_digit(byte: u8) -> bool
     ensures { result ≡ is_ascii_digit byte }
@@ -128,22 +127,11 @@ fn after_percent(text: &[u8]) -> Option<&[u8]>
     after_conversion(after_length(after_precision(rest)))
 }
 
-fn after_directive(text: &[u8]) -> Option<&[u8]>
+pub(crate) fn after_directive(text: &[u8]) -> Option<&[u8]>
     ensures { option_copied result ≡ after_directive text.now }
 {
     match text {
         [b'%', rest @ ..] => after_percent(rest),
         _ => None,
     }
-}
-
-/// How many bytes the directive at the front has.
-pub(crate) fn directive_len(text: &[u8]) -> Option<usize>
-    ensures value { result ≡ directive_len text.now }
-    ensures some { IfSome result (λ n. 0 < n) }
-    ensures within { IfSome result (λ n. n ≤ length text.now) }
-    ensures ascii { IfSome result (λ n. IsAscii (take n text.now)) }
-{
-    let rest = after_directive(text)?;
-    Some(text.len() - rest.len())
 }

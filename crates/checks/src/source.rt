@@ -23,7 +23,8 @@ impl<'a> Model for Source<'a> {
 /// The numbers of the forms that each check finds, from 0 and rising.
 #[derive(Debug, Drop)]
 pub struct Findings {
-    /// Forms whose directives don't agree with those of the source.
+    /// Forms whose placeholders don't agree with those of the source, under a flag that it has: directives under `c-format`,
+    /// brace placeholders under `python-brace-format`.
     pub placeholders: Items<u32>,
     /// Forms that begin or end with LF where msgid doesn't, or don't where it does.
     pub line_ends: Items<u32>,

@@ -46,7 +46,7 @@ held_back text t0 t1 t2 f0 f1 f2 receipt exported same part =
     })
 
 pub receipt_told : {Honest : Type 0} {office : Office} {lang : Text} {w0 w1 w2 e0 e1 : Writer} (receipt : ExportReceipt) (status : ℕ) →
-    (Honest → WasExported (export_text office lang) w0.taken w1.taken receipt) → (Honest → w1.failed ≡ w0.failed) → IsToldBehind w1 w2 e0 e1 receipt status →
+    (Honest → WasExported (export_text office lang) w0.taken w1.taken receipt) → w1.failed ≡ w0.failed → IsToldBehind w1 w2 e0 e1 receipt status →
     Printed Honest office lang w0 w2 e0 e1 status
 receipt_told {office = office} {lang = lang} {w0} {w1} {w2} receipt status exported count (whole all told is) =
     printed receipt (λ h. handed_on (export_text office lang) w0.taken w1.taken w2.taken w1.failed w2.failed receipt (exported h) all) told is
@@ -56,7 +56,8 @@ receipt_told {office = office} {lang = lang} {w0} {w1} {w2} receipt status expor
     ended
     (record {
       fault = Device;
-      cut = λ h. held_back (export_text office lang) w0.taken w1.taken w2.taken w0.failed w1.failed w2.failed receipt (exported h) (count h) part;
+      cut = λ h. held_back (export_text office lang) w0.taken w1.taken w2.taken w0.failed w1.failed w2.failed receipt (exported h) count part;
+      device = λ _. let R : ℕ → Type 0 = λ f. RoseOrStands f w2.failed in subst R count part.count;
       told = told;
     })
     is

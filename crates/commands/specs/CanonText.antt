@@ -13,7 +13,7 @@ pub use Rattle.commands.specs.Writers.{Writer, writer_at, TakesAll, TakesPart}
 
 -- the most bytes that are read: one more than a PO text may have
 abbrev pub read_limit : ℕ
-read_limit = 4194305
+read_limit = 16777217
 
 -- these bytes, and no more than may be, were read from the front of what was there
 pub record WasRead (old new : Option (List ℕ)) (bytes : List ℕ) : Type 0 where

@@ -6,6 +6,7 @@ use Rattle.units.specs.Office.{Office}
 use Rattle.units.specs.Streams.{Took, RoseOrStands}
 use Rattle.request_book.specs.Book.{OfficeWithBook}
 use Rattle.deliveries.specs.ExportText.{export_text}
+use Rattle.office.specs.declared.faults.ExportFault.TheVariants.{NoLanguage}
 use Rattle.commands.specs.Writers.{Writer, TakesAll, TakesPart}
 use Rattle.commands.specs.TextLines.{AreLinesOf}
 use Rattle.commands.specs.Exchanges.{Exchange, HasDelivered, Answered}
@@ -45,13 +46,14 @@ pub data Exported (Honest Whole : Type 0) (office : Office) (lang : Option Text)
   -- no language is named;
   unnamed : lang ≡ None → TakesAll out_old out_new [] → TakesAll faults_old faults_new [] → status ≡ 0
       → Exported Honest Whole office lang out_old out_new faults_old faults_new status
-  -- or its text was written;
-  written : (named : Text) → lang ≡ Some named → (Honest → IsSomeAnd (export_text office named) (Took out_old.taken out_new.taken))
+  -- or its text was written, of tables that aren't shut;
+  written : (named : Text) → lang ≡ Some named → (Honest → Whole) → (Honest → IsSomeAnd (export_text office named) (Took out_old.taken out_new.taken))
       → TakesAll faults_old faults_new [] → status ≡ 0
       → Exported Honest Whole office lang out_old out_new faults_old faults_new status
-  -- or there is a fault, which may have shut the store: then the office is that before.
+  -- or there is a fault. Where it shut the store, it isn't said which office was exported; that the language isn't there is told by tables
+  -- that aren't shut.
   faulted : (named : Text) → lang ≡ Some named → (meant : Office) → (Honest → Whole → meant ≡ office)
-      → EndedWithFault Honest meant named out_old out_new faults_old faults_new → status ≡ 1
+      → (ended : EndedWithFault Honest meant named out_old out_new faults_old faults_new) → (Honest → ended.fault ≡ NoLanguage → Whole) → status ≡ 1
       → Exported Honest Whole office lang out_old out_new faults_old faults_new status
 
 -- ---- the whole

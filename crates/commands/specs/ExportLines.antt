@@ -4,6 +4,7 @@ use Rattle.std.specs.Prelude.{◌≡◌, ◌⊎◌, ℕ, List, [], ◌++◌, cod
 use Rattle.hex.specs.Hex.{encode_lower}
 use Rattle.po_read.specs.Texts.{Text}
 use Rattle.units.specs.Office.{Office}
+use Rattle.units.specs.Streams.{RoseOrStands}
 use Rattle.deliveries.specs.ExportText.{export_text}
 use Rattle.office.specs.declared.export.ExportReceipt.{ExportReceipt}
 use Rattle.office.specs.declared.faults.ExportFault.{ExportFault}
@@ -24,6 +25,8 @@ receipt_line receipt = codes "bytes " ++ (decimal receipt.bytes ++ (codes " sha2
 pub record EndedWithFault (Honest : Type 0) (office : Office) (lang : Text) (out_old out_new faults_old faults_new : Writer) : Type 0 where
   pub fault : ExportFault
   pub cut : Honest → WasCut (export_text office lang) out_old.taken out_new.taken out_old.failed out_new.failed fault
+  -- only a writer that failed is told as one
+  pub device : fault ≡ Device → RoseOrStands out_old.failed out_new.failed
   pub told : TakesAll faults_old faults_new (export_fault_line fault) ⊎ TakesPart faults_old faults_new (export_fault_line fault)
 
 -- What came of the export of an office, on the two outputs and in the exit status: the text of the language, and its receipt told, or only a

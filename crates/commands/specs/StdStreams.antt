@@ -1,5 +1,5 @@
 -- What a source reads from and a sink writes to: a reader and a writer of std, whose own traits say which of their bytes are known.
-use Rattle.std.specs.Prelude.{ℕ}
+use Rattle.std.specs.Prelude.{ℕ, Bool}
 use Rattle.commands.specs.declared.streams.Input.{Input}
 use Rattle.commands.specs.declared.streams.Output.{Output}
 
@@ -14,3 +14,7 @@ reads_failed input = input.failures
 
 abbrev pub writes_failed : {W : Type 0} → Output W → ℕ
 writes_failed output = output.failures
+
+-- whether bytes were written behind the last flush that succeeded
+abbrev pub writes_held_back : {W : Type 0} → Output W → Bool
+writes_held_back output = output.holds_back

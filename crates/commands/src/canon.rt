@@ -13,7 +13,7 @@ use std::alloc::Global;
 use units::{ByteSink, ByteSource, SinkFault, SourceFault};
 
 /// The most bytes that are read: one more than a PO text may have.
-const MOST: usize = 4_194_305;
+const MOST: usize = 16_777_217;
 
 const ROOM: usize = 16_384;
 
@@ -96,7 +96,7 @@ fn canon_bytes<W: ByteSink, E: ByteSink>(alloc: Global, bytes: &[u8], w: &mut W,
     }
 }
 
-/// Reads a PO text, at most 4,194,305 bytes and no further, and prints its canonical text; or only a line `po line L kind K` on
+/// Reads a PO text, at most 16,777,217 bytes and no further, and prints its canonical text; or only a line `po line L kind K` on
 /// the second output, where the text spells no catalogue within the limits (the kinds are numbered as `PoFault::number` says;
 /// line 0 stands for the whole text). Where memory runs out the kind is 10.
 ///

@@ -1,5 +1,5 @@
 //! The PO text of a language, and what is told of it on the second output.
-ghost use Rattle.std.specs.Prelude.{◌≡◌, ◌≤◌, ◌⊎◌, [], option_map, true};
+ghost use Rattle.std.specs.Prelude.{◌≡◌, ◌≤◌, ◌⊎◌, [], option_map, true, false, OnOk};
 ghost use Rattle.hex.specs.Hex.{encode_lower};
 ghost use Rattle.po_write.specs.Sending.{Sends};
 ghost use Rattle.commands.specs.Writers.{writer_at, TakesAll, TakesPart};
@@ -20,7 +20,8 @@ pub const FAILED: u8 = 1;
 
 /// Hands on what the writer holds back: a client that waits for it gets it.
 pub(crate) fn flush<W: ByteSink>(w: &mut W) -> Result<(), SinkFault>
-    ensures { Sends W.taken W.failed w.old w.new [] result }
+    ensures sent { Sends W.taken W.failed w.old w.new [] result }
+    ensures handed_on { OnOk result (W.holds_back w.new ≡ false) }
 {
     w.flush()
 }
@@ -94,6 +95,7 @@ fn tell_written<W: ByteSink, E: ByteSink>(w: &mut W, e: &mut E, receipt: ExportR
     ensures told { IsToldBehind (writer_at W.taken W.failed w.old) (writer_at W.taken W.failed w.new)
         (writer_at E.taken E.failed e.old) (writer_at E.taken E.failed e.new) receipt result }
     ensures status { result ≤ 1 }
+    ensures handed_on { result ≡ 0 → W.holds_back w.new ≡ false }
 {
     match flush(w) {
         Ok(()) => match send_receipt(e, receipt) {
@@ -117,6 +119,8 @@ pub fn export_text<T: Tables, W: ByteSink, E: ByteSink>(
     ensures printed { Printed (T.is_honest desk.new) (T.means desk.old).office lang.now
         (writer_at W.taken W.failed w.old) (writer_at W.taken W.failed w.new) (writer_at E.taken E.failed e.old) (writer_at E.taken E.failed e.new) result }
     ensures status { result ≤ 1 }
+    // Nothing of the text is held back.
+    ensures handed_on { result ≡ 0 → W.holds_back w.new ≡ false }
     // The tables are as they were.
     ensures honest { T.is_honest desk.new → T.is_honest desk.old }
     ensures whole { T.is_honest desk.new → T.is_whole desk.new → T.is_whole desk.old }

@@ -4,7 +4,7 @@ ghost use Rattle.std.specs.Prelude.{◌≤◌, vec_len};
 use std::alloc::Global;
 
 /// How many bytes a line has at most, its line end aside.
-const LINE_LIMIT: usize = 5_500_000;
+const LINE_LIMIT: usize = 22_000_000;
 
 /// What became of the bytes of a line.
 #[derive(Clone, Copy)]
@@ -24,7 +24,7 @@ pub(crate) struct Line {
     /// How many bytes came, as long as they are within the limit.
     count: usize,
     gathered: Gathered,
-    ghost bounded: { count ≤ 5500000 },
+    ghost bounded: { count ≤ 22000000 },
     ghost kept: { vec_len bytes ≤ count },
 }
 
@@ -72,7 +72,7 @@ impl Line {
     /// The bytes that are kept.
     pub(crate) fn bytes(&self) -> &[u8]
         ensures value { result.now ≡ self.now.bytes.items }
-        ensures within { length result.now ≤ 5500000 }
+        ensures within { length result.now ≤ 22000000 }
     {
         self.bytes.as_slice()
     }

@@ -1,6 +1,7 @@
 //! An office's desk over a database, and its connection handed back.
 ghost use Rattle.std.specs.Prelude.{◌≡◌, false, IfOk, IfErr};
 ghost use Rattle.file_commands.specs.Opening.{IsOpened, IsUnopened};
+ghost use Rattle.store_sql.specs.Tables.{connection_of};
 
 use office::Desk;
 use sqlite::{Alter, Connection};
@@ -30,7 +31,7 @@ pub fn open_desk<S: Alter + Drop>(
     connection: Connection<S>,
 ) -> Result<Desk<SqliteTables<S>>, Unopened<S>>
     requires autocommit { connection.in_transaction ≡ false }
-    ensures opened { IfOk result (λ desk. IsOpened S.Store connection desk.rows.0) }
+    ensures opened { IfOk result (λ desk. IsOpened S.Store connection (connection_of S.Store desk)) }
     ensures refused { IfErr result (λ refusal. IsUnopened S.Store connection refusal.connection refusal.fault) }
 {
     match SqliteTables::adopt(connection, alloc) {
@@ -41,7 +42,7 @@ pub fn open_desk<S: Alter + Drop>(
 
 /// The connection of a desk that is closed.
 pub(crate) fn close_desk<S: Alter + Drop>(desk: Desk<SqliteTables<S>>) -> Connection<S>
-    ensures held { result ≡ desk.rows.0 }
+    ensures held { result ≡ connection_of S.Store desk }
     ensures between { result.in_transaction ≡ false }
 {
     desk.into_tables().into_connection()

@@ -1,5 +1,5 @@
 -- Texts of an answer, one behind another.
-use Rattle.std.proofs.Common.{◌≡◌, ◌<◌, ◌+◌, ℕ, suc, List, ◌++◌, length, drop, get_or, ap, sym, ◌∙◌, append_assoc, arith}
+use Rattle.std.proofs.Common.{◌≡◌, ◌<◌, ◌+◌, ℕ, suc, List, ◌++◌, length, drop, get_or, ap, append_assoc, arith}
 use denote.Ref.{Bor}
 use Rattle.std.specs.Prelude.{codes, decimal, flat_map}
 use Rattle.std.proofs.Math.Seq.{drop-cons}

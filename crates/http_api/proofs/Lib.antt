@@ -1,6 +1,7 @@
 pub mod AnswerLemmas
 pub mod Coming
 pub mod Connecting
+pub mod Counting
 pub mod Exporting
 pub mod Handing
 pub mod ItemLemmas

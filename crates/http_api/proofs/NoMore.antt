@@ -7,10 +7,9 @@ use Rattle.std.proofs.lemmas.List.{append_cancel_left}
 use Rattle.units.specs.Streams.{prepend_known}
 use Rattle.http_messages.specs.Heads.{Head, head_of}
 use Rattle.http_messages.specs.declared.refusal.Refusal.TheVariants.{Malformed}
-use Rattle.http_messages.specs.Asked.{Asking, first_failed, head_tests, body_size, ending, asking_of}
-use Rattle.http_messages.specs.Streams.{head_limit, first_head, step, with_body, with_tests, with_head, with_front, first_step}
+use Rattle.http_messages.specs.Asked.{Asking, body_size, ending, asking_of}
+use Rattle.http_messages.specs.Streams.{first_head, step, with_body, with_tests, with_head, with_front, first_step}
 use Rattle.http_messages.specs.Arrivals.{HasBody, HoldsBehind, HoldsFirst, WasWanted, nothing_read, last_piece, piece_limit}
-use Rattle.http_messages.proofs.FrontLemmas.{no_bytes}
 use Rattle.http_api.specs.Connection.{behind, HoldsNext, ReadsNoMore}
 
 -- ---- a message that others follow is there

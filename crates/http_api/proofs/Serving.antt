@@ -16,18 +16,18 @@ use Rattle.http_api.specs.Answering.{Came}
 module _ (Honest Whole Stopped StillHonest StillWhole StillStopped : Type 0) (honest : StillHonest → Honest) (whole : StillHonest → StillWhole → Whole) (still : Stopped → StillStopped) (office : Office) where
   unit_still : (name : UnitName) (o : Outcome) → UnitShown Honest Whole Stopped office name o → UnitShown StillHonest StillWhole StillStopped office name o
   unit_still name o (unit_shown text is fact) = unit_shown text is (λ h. fact (honest h))
-  unit_still name o (unit_without_language is fact) = unit_without_language is (λ h w. fact (honest h) (whole h w))
-  unit_still name o (unit_absent is fact) = unit_absent is (λ h w. fact (honest h) (whole h w))
+  unit_still name o (unit_without_language is fact) = unit_without_language is (λ h. fact (honest h))
+  unit_still name o (unit_absent is fact) = unit_absent is (λ h. fact (honest h))
   unit_still name o (unit_lost lost is disk) = unit_lost lost is (λ e. still (disk e))
 
   counts_still : (lang : Text) (o : Outcome) → CountsShown Honest Whole Stopped office lang o → CountsShown StillHonest StillWhole StillStopped office lang o
   counts_still lang o (counts_shown text is fact) = counts_shown text is (λ h. fact (honest h))
-  counts_still lang o (counts_without_language is fact) = counts_without_language is (λ h w. fact (honest h) (whole h w))
+  counts_still lang o (counts_without_language is fact) = counts_without_language is (λ h. fact (honest h))
   counts_still lang o (counts_lost lost is disk) = counts_lost lost is (λ e. still (disk e))
 
   text_still : (lang : Text) (o : Outcome) → TextExported Honest Whole Stopped office lang o → TextExported StillHonest StillWhole StillStopped office lang o
   text_still lang o (text_exported text is fact within) = text_exported text is (λ h. fact (honest h)) (λ h. within (honest h))
-  text_still lang o (text_without_language is fact) = text_without_language is (λ h w. fact (honest h) (whole h w))
+  text_still lang o (text_without_language is fact) = text_without_language is (λ h. fact (honest h))
   text_still lang o (text_too_long is fact) = text_too_long is (λ h w. fact (honest h) (whole h w))
   text_still lang o (text_lost lost is disk) = text_lost lost is (λ e. still (disk e))
 

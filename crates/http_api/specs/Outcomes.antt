@@ -73,23 +73,23 @@ IsPost number callers body unread = ⊤
 -- a unit's view
 pub data UnitShown (Honest Whole Stopped : Type 0) (office : Office) (name : UnitName) (o : Outcome) : Type 0 where
   unit_shown : (text : Text) → o ≡ shown text → (Honest → unit_text_at office name.0 name.1 ≡ Some text) → UnitShown Honest Whole Stopped office name o
-  unit_without_language : o ≡ failed NoLanguage → (Honest → Whole → maps.get office.headers name.0 ≡ None) → UnitShown Honest Whole Stopped office name o
+  unit_without_language : o ≡ failed NoLanguage → (Honest → maps.get office.headers name.0 ≡ None) → UnitShown Honest Whole Stopped office name o
   unit_absent : o ≡ failed NoUnit
-      → (Honest → Whole → IsSome (maps.get office.headers name.0) × (maps.get office.units (name.0, name.1) ≡ None))
+      → (Honest → IsSome (maps.get office.headers name.0) × (maps.get office.units (name.0, name.1) ≡ None))
       → UnitShown Honest Whole Stopped office name o
   unit_lost : (why : Lost) → o ≡ failed (lost_refusal why) → (why ≡ lost.Disk → Stopped) → UnitShown Honest Whole Stopped office name o
 
 -- a language's counts
 pub data CountsShown (Honest Whole Stopped : Type 0) (office : Office) (lang : Text) (o : Outcome) : Type 0 where
   counts_shown : (text : Text) → o ≡ shown text → (Honest → counts_text_at office lang ≡ Some text) → CountsShown Honest Whole Stopped office lang o
-  counts_without_language : o ≡ failed NoLanguage → (Honest → Whole → maps.get office.headers lang ≡ None) → CountsShown Honest Whole Stopped office lang o
+  counts_without_language : o ≡ failed NoLanguage → (Honest → maps.get office.headers lang ≡ None) → CountsShown Honest Whole Stopped office lang o
   counts_lost : (why : Lost) → o ≡ failed (lost_refusal why) → (why ≡ lost.Disk → Stopped) → CountsShown Honest Whole Stopped office lang o
 
 -- a language's text
 pub data TextExported (Honest Whole Stopped : Type 0) (office : Office) (lang : Text) (o : Outcome) : Type 0 where
   text_exported : (text : List ℕ) → o ≡ exported text → (Honest → export_text office lang ≡ Some text) → (Honest → length text ≤ export_limit)
       → TextExported Honest Whole Stopped office lang o
-  text_without_language : o ≡ failed NoLanguage → (Honest → Whole → export_text office lang ≡ None) → TextExported Honest Whole Stopped office lang o
+  text_without_language : o ≡ failed NoLanguage → (Honest → export_text office lang ≡ None) → TextExported Honest Whole Stopped office lang o
   text_too_long : o ≡ failed LongExport → (Honest → Whole → IsSomeAnd (export_text office lang) (λ text. export_limit < length text))
       → TextExported Honest Whole Stopped office lang o
   text_lost : (why : Lost) → o ≡ failed (lost_refusal why) → (why ≡ lost.Disk → Stopped) → TextExported Honest Whole Stopped office lang o

@@ -1,11 +1,12 @@
 -- What one step of a connection does: a message is read, and answered. This project's own words, for the code's own steps.
-use Rattle.std.specs.Prelude.{◌≡◌, ◌<◌, ◌||◌, ℕ, List, [], ◌++◌, length, Bool, true, false, Option, if◌then◌else◌}
-use Rattle.units.specs.Streams.{IsAtEnd}
+use Rattle.std.specs.Prelude.{◌≡◌, ◌<◌, ◌||◌, ℕ, List, [], ◌++◌, length, Bool, true, false, Option, Result, MatchResult, if◌then◌else◌, ⊤}
+use Rattle.units.specs.Streams.{IsAtEnd, RoseOrStands}
 use Rattle.http_messages.specs.Asked.{Asked, Asking}
 use Rattle.http_messages.specs.Streams.{step, first_step}
 use Rattle.http_messages.specs.Arrivals.{ReadBehind, WasCutOff, WasWanted}
 use Rattle.http_messages.specs.declared.inbox.ReadFault.{ReadFault}
 use Rattle.http_api.specs.declared.faults.ServeFault.{ServeFault}
+use Rattle.http_api.specs.declared.faults.ServeFault.TheVariants as fault
 use Rattle.http_api.specs.declared.connection.Next.{Next}
 use Rattle.http_api.specs.declared.connection.Next.TheVariants.{End, Last, More}
 use Rattle.http_api.specs.Faults.{fault_of}
@@ -54,3 +55,16 @@ pub data SteppedOff (Same : Type 0) (Came : Asked → Outcome → Type 0) (Wrote
       → SteppedOff Same Came Wrote left_old left_new failed_old failed_new old full fault
   broke_off : TookOne Came Wrote left_old left_new failed_old failed_new old full
       → SteppedOff Same Came Wrote left_old left_new failed_old failed_new old full fault
+
+-- ---- whatever the disk gives
+
+-- Nothing more is held back behind a step, nor where a read failed.
+abbrev pub HandsOn : {T : Type 0} → Bool → Bool → Result T ServeFault → Type 0
+HandsOn old new result = MatchResult result (λ _. old ≡ false → new ≡ false) (λ f. f ≡ fault.Read → old ≡ false → new ≡ false)
+
+-- what the fault of a step says of the source, of the writer and of the tables
+abbrev pub StepFailed : (Stopped : Type 0) → ℕ → ℕ → ℕ → ℕ → ServeFault → Type 0
+StepFailed Stopped reads_old reads_new writes_old writes_new fault.Read = RoseOrStands reads_old reads_new
+StepFailed Stopped reads_old reads_new writes_old writes_new fault.Write = RoseOrStands writes_old writes_new
+StepFailed Stopped reads_old reads_new writes_old writes_new fault.Memory = ⊤
+StepFailed Stopped reads_old reads_new writes_old writes_new fault.Disk = Stopped

@@ -11,7 +11,7 @@ ghost use Rattle.http_messages.specs.Pairs.{name_of};
 ghost use Rattle.commands.specs.Exchanges.{Exchange, asked, Delivers};
 ghost use Rattle.commands.specs.Writers.{writer_at};
 ghost use Rattle.http_api.specs.Outcomes.{Outcome, posted, lost_refusal, result_answer, exchange_answer, outcome_answer};
-ghost use Rattle.http_api.specs.Answering.{ComesTo, Tells, Writes, query_refusal};
+ghost use Rattle.http_api.specs.Answering.{ComesTo, Tells, Writes, TellsFailures, query_refusal};
 
 use crate::answer_bytes::write_json;
 use crate::exports::answer_export;
@@ -91,9 +91,10 @@ pub(crate) fn answer_post<T: Tables, W: ByteSink>(
     last: bool,
     w: &mut W,
 ) -> Result<(), ServeFault>
-    ensures { (callers : List (List ℕ)) → AreValues parts.entry.callers callers → (x : Exchange)
+    ensures answered { (callers : List (List ℕ)) → AreValues parts.entry.callers callers → (x : Exchange)
         × ComesTo T.is_honest T.is_whole T.is_stopped T.means desk.old desk.new (request parts.entry.number.now callers parts.entry.body.now) (posted x)
         × Tells (writer_at W.taken W.failed w.old) (writer_at W.taken W.failed w.new) (exchange_answer x last) result }
+    ensures failures { TellsFailures (T.is_stopped desk.new ≡ true) (W.failed w.old) (W.failed w.new) result }
 {
     match request_of(alloc, parts) {
         Ok(request) => answer_request(desk, &request, last, w),
@@ -148,10 +149,11 @@ pub(crate) fn answer<T: Tables, W: ByteSink>(
     last: bool,
     w: &mut W,
 ) -> Result<(), ServeFault>
-    ensures { (question : AskedValue) → IsAsked asked.entry question → (o : Outcome)
+    ensures answered { (question : AskedValue) → IsAsked asked.entry question → (o : Outcome)
         × ComesTo T.is_honest T.is_whole T.is_stopped T.means desk.old desk.new question o
         × Writes (T.is_honest desk.new) (T.is_stopped desk.new ≡ true)
         (writer_at W.taken W.failed w.old) (writer_at W.taken W.failed w.new) o last result }
+    ensures failures { TellsFailures (T.is_stopped desk.new ≡ true) (W.failed w.old) (W.failed w.new) result }
 {
     match asked {
         Asked::Refused(refusal) => send_refusal(w, refusal, last),

@@ -1,12 +1,14 @@
 //! One connection.
-ghost use Rattle.std.specs.Prelude.{◌≡◌, ◌≤◌, ◌+◌, ◌||◌, [], length, drop, true, List, ℕ, IfOk, IfSome, OnOk, MatchResult, if◌then◌else◌};
+ghost use Rattle.std.specs.Prelude.{◌≡◌, ◌≤◌, ◌+◌, ◌||◌, [], length, drop, true, false, List, ℕ, IfOk, IfErr, IfSome, OnOk, MatchResult, if◌then◌else◌};
+ghost use Rattle.units.specs.Streams.{RoseOrStands};
 ghost use Rattle.http_api.specs.Answers.{refusal_text};
 ghost use Rattle.http_messages.specs.Arrivals.{asking_in};
 ghost use Rattle.commands.specs.Writers.{writer_at, TakesAll};
 ghost use Rattle.http_api.specs.declared.connection.Next.TheVariants.{Last};
 ghost use Rattle.http_api.specs.Outcomes.{Outcome, outcome_answer};
-ghost use Rattle.http_api.specs.Answering.{ComesTo, Tells, Writes, WroteBeginning};
-ghost use Rattle.http_api.specs.Steps.{next_of, Stepped, SteppedOff};
+ghost use Rattle.http_api.specs.Answering.{ComesTo, Tells, Writes, WroteBeginning, TellsFailures};
+ghost use Rattle.http_api.specs.declared.faults.ServeFault.TheVariants.{Read, Write, Disk};
+ghost use Rattle.http_api.specs.Steps.{next_of, Stepped, SteppedOff, StepFailed, HandsOn};
 ghost use Rattle.http_api.specs.Connection.{AllServed, SomeServed, ReadsOn};
 
 use crate::answers::{answer, send_refusal};
@@ -52,7 +54,8 @@ fn is_last(ends: bool, full: bool) -> bool
 
 /// Hands on what the writer holds back: a client that waits for the answer gets it.
 fn hand_on<W: ByteSink>(w: &mut W) -> Result<(), ServeFault>
-    ensures { Tells (writer_at W.taken W.failed w.old) (writer_at W.taken W.failed w.new) [] result }
+    ensures told { Tells (writer_at W.taken W.failed w.old) (writer_at W.taken W.failed w.new) [] result }
+    ensures handed_on { OnOk result (W.holds_back w.new ≡ false) }
 {
     match w.flush() {
         Ok(()) => Ok(()),
@@ -64,6 +67,7 @@ fn hand_on<W: ByteSink>(w: &mut W) -> Result<(), ServeFault>
 fn refuse<W: ByteSink>(refusal: Refusal, w: &mut W) -> Result<Next, ServeFault>
     ensures told { Tells (writer_at W.taken W.failed w.old) (writer_at W.taken W.failed w.new) (refusal_text refusal true) result }
     ensures next { IfOk result (λ next. next ≡ Last) }
+    ensures handed_on { OnOk result (W.holds_back w.new ≡ false) }
 {
     send_refusal(w, refusal, true)?;
     hand_on(w).and(Ok(Next::Last))
@@ -86,6 +90,7 @@ fn answer_front<T: Tables, W: ByteSink>(
         × Writes (T.is_honest desk.new) (T.is_stopped desk.new ≡ true)
         (writer_at W.taken W.failed w.old) (writer_at W.taken W.failed w.new) o ((asking_in inbox.now head body).ends || full) result }
     ensures last { IfOk result (λ last. last ≡ ((asking_in inbox.now head body).ends || full)) }
+    ensures failures { TellsFailures (T.is_stopped desk.new ≡ true) (W.failed w.old) (W.failed w.new) result }
 {
     match inbox.asking(alloc, head, body) {
         Ok(asking) => {
@@ -99,7 +104,7 @@ fn answer_front<T: Tables, W: ByteSink>(
     }
 }
 
-/// Answers the message at the front, and takes it off.
+/// Answers the message at the front, takes it off, and hands the answer on.
 fn serve_message<T: Tables, W: ByteSink>(
     alloc: Global,
     desk: &mut Desk<T>,
@@ -116,6 +121,8 @@ fn serve_message<T: Tables, W: ByteSink>(
         (writer_at W.taken W.failed w.old) (writer_at W.taken W.failed w.new) o ((asking_in inbox.old head body).ends || full) result }
     ensures next { IfOk result (λ next. next ≡ next_of ((asking_in inbox.old head body).ends || full)) }
     ensures behind { OnOk result (inbox.new ≡ drop (head + body) inbox.old) }
+    ensures handed_on { OnOk result (W.holds_back w.new ≡ false) }
+    ensures failures { TellsFailures (T.is_stopped desk.new ≡ true) (W.failed w.old) (W.failed w.new) result }
 {
     let last = answer_front(alloc, desk, inbox, head, body, full, w)?;
     inbox.take_off(head);
@@ -123,7 +130,7 @@ fn serve_message<T: Tables, W: ByteSink>(
     hand_on(w).and(Ok(next_of(last)))
 }
 
-/// Reads a message and answers it.
+/// Reads a message and answers it. Nothing is held back of what it wrote.
 fn serve_one<T: Tables, R: ByteSource, W: ByteSink>(
     alloc: Global,
     desk: &mut Desk<T>,
@@ -132,7 +139,7 @@ fn serve_one<T: Tables, R: ByteSource, W: ByteSink>(
     full: bool,
     w: &mut W,
 ) -> Result<Next, ServeFault>
-    ensures { MatchResult result
+    ensures stepped { MatchResult result
         (Stepped ((desk.new ≡ desk.old) × (w.new ≡ w.old))
         (ComesTo T.is_honest T.is_whole T.is_stopped T.means desk.old desk.new)
         (λ o last. T.is_honest desk.new → TakesAll (writer_at W.taken W.failed w.old) (writer_at W.taken W.failed w.new) (outcome_answer o last))
@@ -142,6 +149,9 @@ fn serve_one<T: Tables, R: ByteSource, W: ByteSink>(
         (λ o last. T.is_honest desk.new
         → WroteBeginning (T.is_stopped desk.new ≡ true) (writer_at W.taken W.failed w.old) (writer_at W.taken W.failed w.new) o last fault)
         (R.left source.old) (R.left source.new) (R.failed source.old) (R.failed source.new) inbox.old full fault) }
+    ensures handed_on { HandsOn (W.holds_back w.old) (W.holds_back w.new) result }
+    ensures failures { MatchResult result (λ _. W.failed w.new ≡ W.failed w.old)
+        (StepFailed (T.is_stopped desk.new ≡ true) (R.failed source.old) (R.failed source.new) (W.failed w.old) (W.failed w.new)) }
 {
     match inbox.read_message(source)? {
         Arrival::End => Ok(Next::End),
@@ -174,6 +184,13 @@ pub fn serve<T: Tables, R: ByteSource, W: ByteSink>(
         (R.failed source.old) (R.failed source.new) (writer_at W.taken W.failed w.old) (writer_at W.taken W.failed w.new)) }
     // Behind the last answer nothing more is read.
     ensures reads { IfOk result (λ served. ReadsOn (R.left source.old) (R.left source.new) served.answered) }
+    // Each answer was handed on, and before more was read: also where a read failed behind it.
+    ensures handed_on { OnOk result (W.holds_back w.old ≡ false → W.holds_back w.new ≡ false) }
+    ensures handed_on_first { IfErr result (λ fault. fault ≡ Read → W.holds_back w.old ≡ false → W.holds_back w.new ≡ false) }
+    // Whatever the disk gave: a read failed, a write failed, the tables are stopped.
+    ensures read { IfErr result (λ fault. fault ≡ Read → RoseOrStands (R.failed source.old) (R.failed source.new)) }
+    ensures write { IfErr result (λ fault. fault ≡ Write → RoseOrStands (W.failed w.old) (W.failed w.new)) }
+    ensures disk { IfErr result (λ fault. fault ≡ Disk → T.is_stopped desk.new ≡ true) }
     // What several calls promise can be put together: none of these comes back once it is lost, and stopped tables stay so.
     ensures honest { T.is_honest desk.new → T.is_honest desk.old }
     ensures whole { T.is_honest desk.new → T.is_whole desk.new → T.is_whole desk.old }

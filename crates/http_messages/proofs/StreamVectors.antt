@@ -106,7 +106,7 @@ one_and_more : items_within 4 (post ++ take 179 post) ≡ item posted ∷ last_i
 unfolding items_within head_cut head_of httparse_on_literals is_utf8 chars encode
 one_and_more = refl
 
-too_large : items_within 4 (codes "POST /v1/requests/1 HTTP/1.1\r\nContent-Length: 5242881\r\n\r\n") ≡ last_item (refused TooLarge) ∷ []
+too_large : items_within 4 (codes "POST /v1/requests/1 HTTP/1.1\r\nContent-Length: 20971521\r\n\r\n") ≡ last_item (refused TooLarge) ∷ []
 unfolding items_within head_cut head_of httparse_on_literals is_utf8 chars encode
 too_large = refl
 

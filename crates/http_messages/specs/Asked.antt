@@ -50,7 +50,7 @@ size Bad = 0
 size (Given n) = n
 
 abbrev pub body_limit : ℕ
-body_limit = 5242880
+body_limit = 20971520
 
 abbrev pub body_size : Head → ℕ
 body_size head = size (body_length head)

@@ -6,7 +6,7 @@ use crate::head::{BodyLength, Head};
 use crate::refusal::Refusal;
 
 /// How many bytes a body has at most.
-const BODY_LIMIT: u32 = 5_242_880;
+const BODY_LIMIT: u32 = 20_971_520;
 
 /// How many bytes the body behind a head has. A refusal where the head alone fails a test; then the connection ends.
 pub(crate) fn body_size(head: &Head<'_>) -> Result<usize, Refusal>

@@ -7,7 +7,7 @@ pub enum Refusal {
     LongHead,
     /// 400 `malformed`: the head, the body or a part of the target isn't as it has to be.
     Malformed,
-    /// 413 `too-large`: the body is longer than 5,242,880 bytes.
+    /// 413 `too-large`: the body is longer than 20,971,520 bytes.
     TooLarge,
     /// 404 `no-route`.
     NoRoute,

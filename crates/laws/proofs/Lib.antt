@@ -4,6 +4,7 @@ mod Pieces
 pub mod OneDelivery
 pub mod Earlier
 pub mod Reached
+pub mod AlongHistories
 pub mod Calls
 pub mod Totals
 pub mod Moves

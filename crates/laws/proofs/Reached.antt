@@ -28,16 +28,16 @@ use Rattle.laws.proofs.Earlier.{IsKnown, still_known, Yields, AllYield, comes_be
 
 -- ---- what a sender keeps of a request
 
-record IsHeld (sending : Sending) (j : ℕ) : Type 0 where
-  reply : Reply
-  is : held sending j ≡ Some reply
+pub record IsHeld (sending : Sending) (j : ℕ) : Type 0 where
+  pub reply : Reply
+  pub is : held sending j ≡ Some reply
 
 record HasExchange (sending : Sending) (j : ℕ) (x : Request) : Type 0 where
   exchange : Exchange
   there : slice_get sending j ≡ Some exchange
   its : exchange.request ≡ x
 
-abbrev requests_of : Sending → List Request
+abbrev pub requests_of : Sending → List Request
 requests_of sending = map (λ exchange. exchange.request) sending
 
 exchange_at : (sending : Sending) (r : List Request) (j : ℕ) (x : Request) → requests_of sending ≡ r → slice_get r j ≡ Some x → HasExchange sending j x
@@ -156,18 +156,18 @@ same_requests number reply (e ∷ es) = λ i. its (text_eq number e.request.numb
 -- ---- the invariant
 
 -- a request of the list that was sent
-record IsSent (r : List Request) (sent : List ℕ) (x : Request) : Type 0 where
-  place : ℕ
-  was : was_sent sent place ≡ true
-  there : slice_get r place ≡ Some x
+pub record IsSent (r : List Request) (sent : List ℕ) (x : Request) : Type 0 where
+  pub place : ℕ
+  pub was : was_sent sent place ≡ true
+  pub there : slice_get r place ≡ Some x
 
-record Keeps (start : OfficeWithBook) (r : List Request) (sending : Sending) (sent : List ℕ) (xs : List Request) : Type 0 where
-  list : requests_of sending ≡ r
-  members : (p : ℕ) (x : Request) → slice_get xs p ≡ Some x → IsSent r sent x
-  ordered : (j k : ℕ) (x y : Request) → was_sent sent k ≡ true → j < k → slice_get r j ≡ Some x → slice_get r k ≡ Some y → clash x y ≡ true → IsHeld sending j
-  known : (j : ℕ) (x : Request) → slice_get r j ≡ Some x → IsHeld sending j → IsKnown (left_by start xs) x
-  right : (j : ℕ) (reply : Reply) → held sending j ≡ Some reply → slice_get (replies_in_order start.office r) j ≡ Some reply
-  rest : left_by (left_by start xs) r ≡ left_by start r
+pub record Keeps (start : OfficeWithBook) (r : List Request) (sending : Sending) (sent : List ℕ) (xs : List Request) : Type 0 where
+  pub list : requests_of sending ≡ r
+  pub members : (p : ℕ) (x : Request) → slice_get xs p ≡ Some x → IsSent r sent x
+  pub ordered : (j k : ℕ) (x y : Request) → was_sent sent k ≡ true → j < k → slice_get r j ≡ Some x → slice_get r k ≡ Some y → clash x y ≡ true → IsHeld sending j
+  pub known : (j : ℕ) (x : Request) → slice_get r j ≡ Some x → IsHeld sending j → IsKnown (left_by start xs) x
+  pub right : (j : ℕ) (reply : Reply) → held sending j ≡ Some reply → slice_get (replies_in_order start.office r) j ≡ Some reply
+  pub rest : left_by (left_by start xs) r ≡ left_by start r
 
 -- nothing sent yet
 
@@ -180,7 +180,7 @@ never_held [] j q e = cc
 never_held (x ∷ xs) zero q e = cc
 never_held (x ∷ xs) (suc j) q e = never_held xs j q e
 
-at_first : (start : OfficeWithBook) (r : List Request) → Keeps start r (unanswered r) [] []
+pub at_first : (start : OfficeWithBook) (r : List Request) → Keeps start r (unanswered r) [] []
 at_first start r = record {
   list = requests_of-unanswered r;
   members = λ p x e. cc;
@@ -192,9 +192,9 @@ at_first start r = record {
 
 -- a request is sent
 
-sends : (start : OfficeWithBook) (r : List Request) (sending : Sending) (sent : List ℕ) (xs : List Request) (k : ℕ) → Keeps start r sending sent xs → IsTrue (is_ready sending k) →
+pub keeps_sent : (start : OfficeWithBook) (r : List Request) (sending : Sending) (sent : List ℕ) (xs : List Request) (k : ℕ) → Keeps start r sending sent xs → IsTrue (is_ready sending k) →
     Keeps start r sending (sent ++ k ∷ []) xs
-sends start r sending sent xs k keeps ready = record {
+keeps_sent start r sending sent xs k keeps ready = record {
   list = keeps.list;
   members = λ p x e. let s = keeps.members p x e in record { place = s.place; was = still_sent sent k s.place s.was; there = s.there };
   ordered = λ j place x y was lt ex ey c. by_place j place x y lt ex ey c (sent_or_now sent k place was);
@@ -222,7 +222,7 @@ front_yields start r sending sent xs k x distinct keeps was e = record {
     by_clash j y lt here true c = inl (keeps.known j y here (keeps.ordered j k y x was lt here e c))
     by_clash j y lt here false c = inr c
 
-arrives_there : (start : OfficeWithBook) (r : List Request) (sending : Sending) (sent : List ℕ) (xs : List Request) (k : ℕ) (x : Request) → HasDistinctNumbers r →
+pub arrives_there : (start : OfficeWithBook) (r : List Request) (sending : Sending) (sent : List ℕ) (xs : List Request) (k : ℕ) (x : Request) → HasDistinctNumbers r →
     Keeps start r sending sent xs → was_sent sent k ≡ true → slice_get r k ≡ Some x → Keeps start r sending sent (xs ++ x ∷ [])
 arrives_there start r sending sent xs k x distinct keeps was e = record {
   list = keeps.list;
@@ -303,7 +303,7 @@ heard_known start r sending sent xs p j x y reply keeps ex er heard ey =
     let number : x.number ≡ y.number = same x.number heard.exchange.request.number heard.its ∙ (ap (λ (e : Exchange). e.request.number) its ∙ ap (λ (z : Request). z.number) at_j.its) in
     record { record_of = a.record_of; recorded = ap (maps.get (left_by start xs).book) (sym number) ∙ a.recorded }
 
-heard : (start : OfficeWithBook) (r : List Request) (sending : Sending) (sent : List ℕ) (xs : List Request) (p : ℕ) (x : Request) (reply : Reply) → HasDistinctNumbers r → AreNew start.book r →
+pub heard : (start : OfficeWithBook) (r : List Request) (sending : Sending) (sent : List ℕ) (xs : List Request) (p : ℕ) (x : Request) (reply : Reply) → HasDistinctNumbers r → AreNew start.book r →
     Keeps start r sending sent xs → slice_get xs p ≡ Some x → slice_get (answers_of start xs) p ≡ Some reply → Keeps start r (hear x.number reply sending) sent xs
 heard start r sending sent xs p x reply distinct new keeps ex er = record {
   list = same_requests x.number reply sending ∙ keeps.list;
@@ -353,9 +353,9 @@ taken-lost (d ∷ ds) x =
       | false ↦ ap (λ ys. d.request ∷ ys) (taken-lost ds x)
     ]
 
-request_there : (start : OfficeWithBook) (r : List Request) (world : World) (place : ℕ) (exchange : Exchange) → KeepsIn start r world → slice_get world.sending place ≡ Some exchange → slice_get r place ≡ Some exchange.request
-request_there start r world place exchange keeps is =
-    ap (λ (rs : List Request). slice_get rs place) (sym keeps.list) ∙ (slice_get-map (λ (e : Exchange). e.request) world.sending place ∙ ap (option_map (λ (e : Exchange). e.request)) is)
+pub request_at : (sending : Sending) (r : List Request) (place : ℕ) (exchange : Exchange) → requests_of sending ≡ r → slice_get sending place ≡ Some exchange → slice_get r place ≡ Some exchange.request
+request_at sending r place exchange list is =
+    ap (λ (rs : List Request). slice_get rs place) (sym list) ∙ (slice_get-map (λ (e : Exchange). e.request) sending place ∙ ap (option_map (λ (e : Exchange). e.request)) is)
 
 arrival_kept : (start : OfficeWithBook) (r : List Request) (world : World) (place : ℕ) → HasDistinctNumbers r → KeepsIn start r world → was_sent world.sent place ≡ true → KeepsIn start r (arrives world place false)
 arrival_kept start r world place distinct keeps was = by_exchange (slice_get world.sending place) refl
@@ -364,7 +364,7 @@ arrival_kept start r world place distinct keeps was = by_exchange (slice_get wor
     by_exchange None is = keeps
     by_exchange (Some exchange) is =
         subst (Keeps start r world.sending world.sent) (sym (taken-arrived world.deliveries exchange.request))
-        (arrives_there start r world.sending world.sent (taken world) place exchange.request distinct keeps was (request_there start r world place exchange keeps is))
+        (arrives_there start r world.sending world.sent (taken world) place exchange.request distinct keeps was (request_at world.sending r place exchange (Keeps.list keeps) is))
 
 loss_kept : (start : OfficeWithBook) (r : List Request) (world : World) (place : ℕ) → KeepsIn start r world → KeepsIn start r (arrives world place true)
 loss_kept start r world place keeps = by_exchange (slice_get world.sending place)
@@ -384,7 +384,7 @@ hearing_kept start r world which distinct new keeps = by_both (slice_get (taken 
 
 step_kept : (start : OfficeWithBook) (r : List Request) (world : World) (event : Event) → HasDistinctNumbers r → AreNew start.book r → KeepsIn start r world → IsTrue (is_allowed start world event) →
     KeepsIn start r (happens start world event)
-step_kept start r world (Send place) distinct new keeps allowed = sends start r world.sending world.sent (taken world) place keeps allowed
+step_kept start r world (Send place) distinct new keeps allowed = keeps_sent start r world.sending world.sent (taken world) place keeps allowed
 step_kept start r world (Arrive place) distinct new keeps allowed = arrival_kept start r world place distinct keeps allowed
 step_kept start r world (ArriveLost place) distinct new keeps allowed = loss_kept start r world place keeps
 step_kept start r world (Hear which) distinct new keeps allowed = hearing_kept start r world which distinct new keeps
@@ -404,21 +404,26 @@ pub replies_once : (start : OfficeWithBook) (r : List Request) (world : World) �
     slice_get (replies_in_order start.office r) place ≡ Some reply
 replies_once start r world is place reply e = Keeps.right (reached start r world is) place reply e
 
+pub all_held : (exchange : Exchange) (es : Sending) → IsTrue (is_finished (exchange ∷ es)) → IsTrue (is_some exchange.reply) × IsTrue (is_finished es)
+all_held exchange es all = (and_left (is_some exchange.reply) _ all, and_right (is_some exchange.reply) _ all)
+
 held_of_finished : (sending : Sending) (j : ℕ) (x : Request) → IsTrue (is_finished sending) → slice_get (requests_of sending) j ≡ Some x → IsHeld sending j
 held_of_finished [] j x all e = cc
 held_of_finished (exchange ∷ es) zero x all e = by_reply exchange.reply refl
   where
     by_reply : (o : Option Reply) → exchange.reply ≡ o → IsHeld (exchange ∷ es) zero
     by_reply (Some reply) is = record { reply = reply; is = is }
-    by_reply None is = let wrong : false ≡ true = ap is_some (sym is) ∙ and_left (is_some exchange.reply) _ all in cc
-held_of_finished (exchange ∷ es) (suc j) x all e = let rest = held_of_finished es j x (and_right (is_some exchange.reply) _ all) e in record { reply = rest.reply; is = rest.is }
+    by_reply None is = let wrong : false ≡ true = ap is_some (sym is) ∙ (all_held exchange es all).0 in cc
+held_of_finished (exchange ∷ es) (suc j) x all e = let rest = held_of_finished es j x (all_held exchange es all).1 e in record { reply = rest.reply; is = rest.is }
+
+pub office_of_finished : (start : OfficeWithBook) (r : List Request) (sending : Sending) (sent : List ℕ) (xs : List Request) → HasDistinctNumbers r → AreNew start.book r →
+    Keeps start r sending sent xs → IsTrue (is_finished sending) → (left_by start xs).office ≡ after start.office r
+office_of_finished start r sending sent xs distinct new keeps finished =
+    let known = λ (j : ℕ) (x : Request) (e : slice_get r j ≡ Some x). Keeps.known keeps j x e (held_of_finished sending j x finished (ap (λ (rs : List Request). slice_get rs j) (Keeps.list keeps) ∙ e)) in
+    ap (λ (l : OfficeWithBook). l.office) (sym (all_known (left_by start xs) r known) ∙ Keeps.rest keeps) ∙ ap (after start.office) (all_first start.book r distinct new)
 
 pub office_once : (start : OfficeWithBook) (r : List Request) (world : World) → IsReached start r world → IsTrue (is_finished world.sending) → (left_by start (taken world)).office ≡ after start.office r
-office_once start r world is finished =
-    let keeps = reached start r world is in
-    let m = left_by start (taken world) in
-    let known = λ (j : ℕ) (x : Request) (e : slice_get r j ≡ Some x). Keeps.known keeps j x e (held_of_finished world.sending j x finished (ap (λ (rs : List Request). slice_get rs j) (Keeps.list keeps) ∙ e)) in
-    ap (λ (l : OfficeWithBook). l.office) (sym (all_known m r known) ∙ Keeps.rest keeps) ∙ ap (after start.office) (all_first start.book r is.distinct is.new)
+office_once start r world is finished = office_of_finished start r world.sending world.sent (taken world) is.distinct is.new (reached start r world is) finished
 
 -- a request that came to be recorded was delivered
 record IsDelivered (xs : List Request) (n : Text) : Type 0 where
@@ -445,13 +450,17 @@ new_at b (y ∷ ys) zero x new e = subst (λ (z : Request). maps.get b z.number 
     absent (Some s) h = cc
 new_at b (y ∷ ys) (suc j) x new e = new_at b ys j x (and_right (not (maps.contains_key b y.number)) _ new) e
 
-pub recorded_in_order : (start : OfficeWithBook) (r : List Request) (world : World) → IsReached start r world → (earlier later : ℕ) (x y : Request) → earlier < later →
-    slice_get r earlier ≡ Some x → slice_get r later ≡ Some y → IsTrue (clash x y) → IsRecorded start world y → IsRecorded start world x
-recorded_in_order start r world is earlier later x y lt ex ey c recorded =
-    let keeps = reached start r world is in
-    let d = came_by_delivery start (taken world) y.number (new_at start.book r later y is.new ey) recorded in
+pub in_order : (start : OfficeWithBook) (r : List Request) (sending : Sending) (sent : List ℕ) (xs : List Request) → HasDistinctNumbers r → AreNew start.book r → Keeps start r sending sent xs →
+    (earlier later : ℕ) (x y : Request) → earlier < later → slice_get r earlier ≡ Some x → slice_get r later ≡ Some y → IsTrue (clash x y) →
+    IsTrue (maps.contains_key (left_by start xs).book y.number) → IsTrue (maps.contains_key (left_by start xs).book x.number)
+in_order start r sending sent xs distinct new keeps earlier later x y lt ex ey c recorded =
+    let d = came_by_delivery start xs y.number (new_at start.book r later y new ey) recorded in
     let s = Keeps.members keeps d.place d.request d.there in
-    let place : later ≡ s.place = one_request r later s.place y d.request is.distinct ey s.there d.its in
-    let was : was_sent world.sent later ≡ true = subst (λ (k : ℕ). was_sent world.sent k ≡ true) (sym place) s.was in
+    let place : later ≡ s.place = one_request r later s.place y d.request distinct ey s.there d.its in
+    let was : was_sent sent later ≡ true = subst (λ (k : ℕ). was_sent sent k ≡ true) (sym place) s.was in
     let known = Keeps.known keeps earlier x ex (Keeps.ordered keeps earlier later x y was lt ex ey c) in
     ap is_some known.recorded
+
+pub recorded_in_order : (start : OfficeWithBook) (r : List Request) (world : World) → IsReached start r world → (earlier later : ℕ) (x y : Request) → earlier < later →
+    slice_get r earlier ≡ Some x → slice_get r later ≡ Some y → IsTrue (clash x y) → IsRecorded start world y → IsRecorded start world x
+recorded_in_order start r world is = in_order start r world.sending world.sent (taken world) is.distinct is.new (reached start r world is)

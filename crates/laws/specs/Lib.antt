@@ -4,4 +4,5 @@ pub mod LineForms
 pub mod Tokens
 pub mod World
 pub mod Simulation
+pub mod Histories
 pub mod Tallies

@@ -30,6 +30,7 @@
 //!   copy              the rule of the rows below is a copy
 //!
 //!   directives TEXT   those of a text, each with a bar behind it
+//!   braces TEXT       the placeholders in braces of a text, likewise; brackets stand for braces, in TEXT and in WANTED
 //!   findings          the forms of the last entry whose placeholders, and whose line ends, are found
 //!   state CHECK..     the state that its forms give, under the enforced checks: placeholders, line-ends
 mod checked;

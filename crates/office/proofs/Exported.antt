@@ -1,13 +1,13 @@
 -- What an export says of a language's text, by the entries that its sink took.
-use Rattle.std.proofs.Common.{◌≡◌, ℕ, List, [], ◌∷◌, ◌++◌, Bool, true, false, Option, Some, None, option_map, refl, sym, ap, subst, ◌∙◌, Result, Ok, Err, IsErrAnd}
-use Rattle.std.specs.Prelude.{flat_map, unwrap_or, IfErr}
+use Rattle.std.proofs.Common.{◌≡◌, ◌≢◌, ℕ, List, [], ◌∷◌, ◌++◌, Bool, true, false, Option, Some, None, option_map, refl, sym, ap, subst, ◌∙◌}
+use Rattle.std.specs.Prelude.{flat_map, unwrap_or}
 use Rattle.std.specs.Option.{option_map_or}
 use Rattle.std.proofs.lemmas.Bool.{false≢true}
 use Rattle.std.specs.FinMap as maps
 use Rattle.sha2.specs.Hashers.{Holds256}
 use Rattle.sha2.specs.Sha256.{sha256}
 use Rattle.units.specs.Office.{Office}
-use Rattle.units.specs.Streams.{TookBeginning}
+use Rattle.units.specs.Streams.{TookBeginning, RoseOrStands}
 use Rattle.units.proofs.Taking.{append_known-nil}
 use Rattle.po_read.specs.declared.entry.Entry.{Entry}
 use Rattle.po_read.specs.Texts.{Text}
@@ -112,9 +112,21 @@ sink_cut name taken failed sum begun old new es (NoSink e) first empty cut =
     entry_refused es cut.front cut.rest cut.entry e empty cut.whole
     (subst (λ b. TookEntries (taken old) (taken cut.mid) (failed old) (failed cut.mid) (sum old) (sum cut.mid) b (begun cut.mid) cut.front) first cut.took.1) cut.refused.1
 
--- what the fault that `?` passes on says, of a writer that is where the sink's was
-pub passed_on : {A : Type 0} (t0 : Option (List ℕ)) {t1 t2 : Option (List ℕ)} (f0 : ℕ) {f1 f2 : ℕ} (text : Option (List ℕ)) (r : Result A ExportFault) (e : ExportFault) → t1 ≡ t2 → f1 ≡ f2 → IsErrAnd r (λ x. x ≡ e) → WasCut text t0 t1 f0 f1 e
-    → IfErr r (WasCut text t0 t2 f0 f2)
-passed_on t0 f0 text (Ok a) e same count is cut = absurd is
-passed_on t0 {t1 = t1} f0 {f1 = f1} {f2 = f2} text (Err x) e same count is cut =
-    subst (λ t. WasCut text t0 t f0 f2 x) same (subst (λ f. WasCut text t0 t1 f0 f x) count (subst (λ fault. WasCut text t0 t1 f0 f1 fault) (sym is) cut))
+-- ---- what is told of a fault, by the writer's failures
+
+told_is : (text : Option (List ℕ)) (t0 t1 : Option (List ℕ)) (f0 f1 : ℕ) (e told : ExportFault) → WasCut text t0 t1 f0 f1 e → (RoseOrStands f0 f1 → told ≡ e) → (e ≢ fault.Device → told ≡ e) → told ≡ e
+told_is None t0 t1 f0 f1 fault.Device told cut failed other = absurd cut
+told_is (Some text) t0 t1 f0 f1 fault.Device told cut failed other = failed cut.count
+told_is text t0 t1 f0 f1 fault.NoLanguage told cut failed other = other (λ is. cc)
+told_is text t0 t1 f0 f1 fault.Memory told cut failed other = other (λ is. cc)
+told_is text t0 t1 f0 f1 fault.Disk told cut failed other = other (λ is. cc)
+told_is text t0 t1 f0 f1 fault.Long told cut failed other = other (λ is. cc)
+
+-- what the tables say of a fault is told, of a writer that is where the sink's was
+pub told_on : (text t0 : Option (List ℕ)) {t1 t2 : Option (List ℕ)} (f0 : ℕ) {f1 f2 before after : ℕ} (e from told : ExportFault) → t1 ≡ t2 → f1 ≡ f2 → before ≡ f0 → after ≡ f2 → from ≡ e → WasCut text t0 t1 f0 f1 e
+    → (RoseOrStands before after → told ≡ from) → (from ≢ fault.Device → told ≡ from) → WasCut text t0 t2 f0 f2 told
+told_on text t0 {t1} {t2} f0 {f1} {f2} {before} {after} e from told same count first last is cut failed other =
+    let now : WasCut text t0 t2 f0 f2 from =
+    subst (λ t. WasCut text t0 t f0 f2 from) same (subst (λ f. WasCut text t0 t1 f0 f from) count (subst (λ x. WasCut text t0 t1 f0 f1 x) (sym is) cut)) in
+    let rose : RoseOrStands f0 f2 → told ≡ from = subst (λ f. RoseOrStands f f2 → told ≡ from) first (subst (λ f. RoseOrStands before f → told ≡ from) last failed) in
+    subst (λ x. WasCut text t0 t2 f0 f2 x) (sym (told_is text t0 t2 f0 f2 from told now rose other)) now

@@ -1,12 +1,13 @@
 //! A language's text, entry by entry.
 
-ghost use Rattle.std.specs.Prelude.{◌≡◌, IfOk, IfErr, OnOk};
+ghost use Rattle.std.specs.Prelude.{◌≡◌, ◌≢◌, ◌⊎◌, Err, IfOk, IfErr, OnOk};
 ghost use Rattle.deliveries.specs.AnyOrder.{ExportsTheSame};
 ghost use Rattle.deliveries.specs.ExportSpelled.{TookCatalogue};
 ghost use Rattle.deliveries.specs.ExportText.{export_text};
 ghost use Rattle.tables.specs.Kept.{IsKept};
 ghost use Rattle.tables.specs.Stops.{Nothing};
-ghost use Rattle.office.specs.declared.faults.ExportFault.TheVariants.{Disk};
+ghost use Rattle.units.specs.Streams.{RoseOrStands};
+ghost use Rattle.office.specs.declared.faults.ExportFault.TheVariants.{NoLanguage, Device, Memory, Disk};
 ghost use Rattle.office.specs.Exports.{WasExported, WasCut};
 
 use crate::checksum::Checksum;
@@ -22,6 +23,20 @@ use units::{ByteSink, Lang};
 pub struct ExportReceipt {
     pub bytes: u64,
     pub sha256: [u8; 32],
+}
+
+/// The fault that is told, by the writer's count of failures before the export and after it: it failed where that rose, or stands at
+/// its end. Tables that claim another failure of it run on, and are told as want of memory.
+fn told(fault: ExportFault, before: u64, after: u64) -> ExportFault
+    ensures device { result ≡ Device → RoseOrStands before after }
+    ensures failed { RoseOrStands before after → result ≡ fault }
+    ensures others { fault ≢ Device → result ≡ fault }
+    ensures only { (result ≡ fault) ⊎ (result ≡ Memory) }
+{
+    match fault {
+        ExportFault::Device if after <= before && after < u64::MAX => ExportFault::Memory,
+        _ => fault,
+    }
 }
 
 /// Writes a language's text. One entry is in memory at a time.
@@ -44,20 +59,33 @@ pub(crate) fn export<T: Tables, W: ByteSink>(
         (ExportsTheSame (T.means tables.old).office lang.now (W.taken w.old) (W.taken w.new)) }
     // No write failed.
     ensures count { T.is_honest tables.new → OnOk result (W.failed w.new ≡ W.failed w.old) }
+    // The same of any tables; and only a writer that failed is told as one.
+    ensures unfailed { OnOk result (W.failed w.new ≡ W.failed w.old) }
+    ensures device { IfErr result (λ e. e ≡ Device → RoseOrStands (W.failed w.old) (W.failed w.new)) }
+    // That the language isn't there is told by tables that aren't shut.
+    ensures open_still { T.is_honest tables.new → result ≡ Err NoLanguage → T.is_whole tables.new }
     ensures kept { IsKept T.is_honest T.is_whole T.means T.may_leave T.is_stopped tables.old tables.new result Disk Nothing }
 {
+    let before = w.failures();
     let mut sink = ExportSink {
-        w,
+        w: &mut *w,
         alloc,
         begun: false,
         checksum: Checksum::new(),
     };
-    tables.each_entry(lang, &mut sink)?;
+    let sent = tables.each_entry(lang, &mut sink);
     let ExportSink {
         begun,
         checksum,
         ..
     } = sink;
+    let after = w.failures();
+    if let Err(fault) = sent {
+        return Err(told(ExportFault::from(fault), before, after));
+    }
+    if after != before {
+        return Err(told(ExportFault::Device, before, after));
+    }
     // A language that is there has a header.
     if !begun {
         return Err(ExportFault::NoLanguage);

@@ -14,12 +14,17 @@ use std::alloc::Global;
 use tables::EntrySink;
 use units::{ByteSink, SinkFault, VecSink};
 
+/// How many bytes are asked for at once for the text of an entry: most have room in them.
+const ENTRY_ROOM: usize = 1_024;
+
 /// The text of an entry, behind a blank line where an entry came before it.
 fn text_behind(alloc: Global, begun: bool, entry: &Entry) -> Result<Vec<u8>, SendFault>
     ensures ok { IfOk result (λ text. text.items ≡ separated begun (entry_text entry.now)) }
     ensures err { IfErr result (λ e. e ≡ Memory) }
 {
-    let mut bytes = Vec::new(alloc);
+    let Ok(mut bytes) = Vec::with_capacity(alloc, ENTRY_ROOM) else {
+        return Err(SendFault::Memory);
+    };
     if begun {
         bytes.push(b'\n')?;
     }

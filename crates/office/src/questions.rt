@@ -1,5 +1,5 @@
 //! What callers ask about the office, answered as JSON texts.
-ghost use Rattle.std.specs.Prelude.{◌≡◌, ◌≢◌, Err, Some, None, IfOk, IfErr, IsSome, option_map, string_bytes};
+ghost use Rattle.std.specs.Prelude.{◌≡◌, ◌≢◌, ◌⊎◌, Err, Some, None, IfOk, IfErr, IsSome, option_map, string_bytes};
 ghost use Rattle.std.specs.FinMap as maps;
 ghost use Rattle.views.specs.UnitTexts.{unit_text_of, unit_text_at};
 ghost use Rattle.views.specs.CountsTexts.{counts_text_at};
@@ -50,6 +50,8 @@ fn unit_of<T: Tables>(
     ensures no_language { T.is_honest tables.new → result ≡ Err NoLanguage → maps.get (T.means tables.old).office.headers lang.now ≡ None }
     ensures no_unit { T.is_honest tables.new → result ≡ Err NoUnit
         → IsSome (maps.get (T.means tables.old).office.headers lang.now) × (maps.get (T.means tables.old).office.units (lang.now, key.now) ≡ None) }
+    // What isn't there is told by tables that aren't shut.
+    ensures open_still { T.is_honest tables.new → (result ≡ Err NoLanguage) ⊎ (result ≡ Err NoUnit) → T.is_whole tables.new }
     ensures same { T.is_honest tables.new → T.is_whole tables.new → T.means tables.new ≡ T.means tables.old }
     ensures kept { IsKept T.is_honest T.is_whole T.means T.may_leave T.is_stopped tables.old tables.new result Disk Nothing }
 {
@@ -73,6 +75,8 @@ fn counts_of<T: Tables>(alloc: Global, tables: &mut T, lang: &Lang) -> Result<St
         (λ text. counts_text_at (T.means tables.old).office lang.now ≡ Some (string_bytes text)) }
     ensures no_language { T.is_honest tables.new → result ≡ Err NoLanguage → maps.get (T.means tables.old).office.headers lang.now ≡ None }
     ensures no_unit { result ≢ Err NoUnit }
+    // What isn't there is told by tables that aren't shut.
+    ensures open_still { T.is_honest tables.new → result ≡ Err NoLanguage → T.is_whole tables.new }
     ensures same { T.is_honest tables.new → T.is_whole tables.new → T.means tables.new ≡ T.means tables.old }
     ensures kept { IsKept T.is_honest T.is_whole T.means T.may_leave T.is_stopped tables.old tables.new result Disk Nothing }
 {
@@ -94,6 +98,8 @@ impl<T: Tables> Desk<T> {
         ensures no_language { T.is_honest self.new → result ≡ Err NoLanguage → maps.get (T.means self.old).office.headers lang.now ≡ None }
         ensures no_unit { T.is_honest self.new → result ≡ Err NoUnit
             → IsSome (maps.get (T.means self.old).office.headers lang.now) × (maps.get (T.means self.old).office.units (lang.now, key.now) ≡ None) }
+        // What isn't there is told by tables that aren't shut.
+        ensures open_still { T.is_honest self.new → (result ≡ Err NoLanguage) ⊎ (result ≡ Err NoUnit) → T.is_whole self.new }
         ensures same { T.is_honest self.new → T.is_whole self.new → T.means self.new ≡ T.means self.old }
         // Nothing is written, and only a failed disk answers `Disk`.
         ensures kept { IsKept T.is_honest T.is_whole T.means T.may_leave T.is_stopped self.old self.new result Disk Nothing }
@@ -111,6 +117,8 @@ impl<T: Tables> Desk<T> {
             (λ text. counts_text_at (T.means self.old).office lang.now ≡ Some (string_bytes text)) }
         ensures no_language { T.is_honest self.new → result ≡ Err NoLanguage → maps.get (T.means self.old).office.headers lang.now ≡ None }
         ensures no_unit { result ≢ Err NoUnit }
+        // What isn't there is told by tables that aren't shut.
+        ensures open_still { T.is_honest self.new → result ≡ Err NoLanguage → T.is_whole self.new }
         ensures same { T.is_honest self.new → T.is_whole self.new → T.means self.new ≡ T.means self.old }
         // Nothing is written, and only a failed disk answers `Disk`.
         ensures kept { IsKept T.is_honest T.is_whole T.means T.may_leave T.is_stopped self.old self.new result Disk Nothing }

@@ -65,21 +65,21 @@ module _ (t : OfficeMaps) (lang : Text) where
   own_next : (e : Place × Unit) (left next : List (Place × Unit)) → left ≡ e ∷ next → text_eq lang e.0.lang ≡ true → length (taken lang left) ≡ suc (length (taken lang next))
   own_next e left next is own = ap (λ es. length (taken lang es)) is ∙ ap (λ (b : Bool). length (cond b (e.1 ∷ taken lang next) [])) own
 
-  pub one_more : (count : ℕ) (e : Place × Unit) (left next : List (Place × Unit)) → left ≡ e ∷ next → text_eq lang e.0.lang ≡ true → (count ≡ 60000 → ⊥) → IsCounted count left → IsCounted (count + 1) next
+  pub one_more : (count : ℕ) (e : Place × Unit) (left next : List (Place × Unit)) → left ≡ e ∷ next → text_eq lang e.0.lang ≡ true → (count ≡ 150000 → ⊥) → IsCounted count left → IsCounted (count + 1) next
   one_more count e left next is own other counted =
       let own : length (taken lang left) ≡ suc (length (taken lang next)) = own_next e left next is own in
-      let few : count ≤ 60000 = counted.few in
+      let few : count ≤ 150000 = counted.few in
       let sum : count + length (taken lang left) ≡ length (units_of (office_in t) lang) = counted.sum in
       record { few = omega arith; sum = omega arith }
 
-  pub too_many : (count : ℕ) (e : Place × Unit) (left next : List (Place × Unit)) → left ≡ e ∷ next → text_eq lang e.0.lang ≡ true → count ≡ 60000 → IsCounted count left →
+  pub too_many : (count : ℕ) (e : Place × Unit) (left next : List (Place × Unit)) → left ≡ e ∷ next → text_eq lang e.0.lang ≡ true → count ≡ 150000 → IsCounted count left →
       Decides false (length (units_of (office_in t) lang) ≤ unit_limit)
   too_many count e left next is own full counted = (
     λ e. absurd (false≢true e),
     λ h.
         let own : length (taken lang left) ≡ suc (length (taken lang next)) = own_next e left next is own in
         let sum : count + length (taken lang left) ≡ length (units_of (office_in t) lang) = counted.sum in
-        let few : length (units_of (office_in t) lang) ≤ 60000 = h in
+        let few : length (units_of (office_in t) lang) ≤ 150000 = h in
         absurd (omega arith),
   )
 
@@ -88,7 +88,7 @@ module _ (t : OfficeMaps) (lang : Text) where
     λ e.
         let nothing : length (taken lang left) ≡ 0 = ap length none in
         let sum : count + length (taken lang left) ≡ length (units_of (office_in t) lang) = counted.sum in
-        let few : count ≤ 60000 = counted.few in
+        let few : count ≤ 150000 = counted.few in
         omega arith,
     λ h. refl,
   )

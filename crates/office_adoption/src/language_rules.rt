@@ -109,7 +109,7 @@ fn has_few_units(alloc: Global, office: &OfficeMaps, lang: &Lang) -> Result<bool
         if *lang != place.lang {
             return Ok(true);
         }
-        if count == 60_000 {
+        if count == 150_000 {
             return Ok(false);
         }
         count += 1;

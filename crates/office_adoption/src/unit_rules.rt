@@ -137,7 +137,7 @@ fn has_few_suggestions(unit: &Unit) -> bool
     ensures { (result ≡ true) ↔ HasFewSuggestions unit.now }
 {
     let suggestions = unit.suggestions.as_slice();
-    hold_all(suggestions.len() <= 50, have_few_votes(suggestions), true)
+    hold_all(suggestions.len() <= 100, have_few_votes(suggestions), true)
 }
 
 /// Whether a unit keeps the rules of one, under the plural rule of its language.

@@ -137,7 +137,7 @@ shown_few template state units =
     let some : shown_in template state (current units) ≤ count_by test units = sum_of_some (λ u. cond (test u) 1 0) (λ u. not u.obsolete) units in
     omega (arith, some, count_by-le-length test units)
 
--- 60,000 units with 50 suggestions each
+-- 150,000 units with 100 suggestions each
 pub counts_within : (template : List Entry) (units : List Unit) → length units ≤ unit_limit → AllByRecursion (λ unit. length unit.suggestions ≤ suggestion_limit) units → AreWithin (counts_in template units)
 counts_within template units few each = record {
   approved = omega (arith, few, shown_few template Approved units);

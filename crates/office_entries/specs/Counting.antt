@@ -26,9 +26,9 @@ one_more Translated counts = record counts { translated = counts.translated + 1 
 one_more Approved counts = record counts { approved = counts.approved + 1 }
 one_more ReadOnly counts = record counts { read_only = counts.read_only + 1 }
 
--- 60,000 units of a language with 50 suggestions each
+-- 150,000 units of a language with 100 suggestions each
 abbrev pub count_limit : ℕ
-count_limit = 3000000
+count_limit = 15000000
 
 pub record AreWithin (counts : Counts) : Type 0 where
   pub approved : counts.approved ≤ count_limit

@@ -12,7 +12,8 @@ use Rattle.office_sql.specs.Inside.{AreOfficeTables}
 use Rattle.office_in_rows.specs.Meaning.{meaning_in}
 use Rattle.office_in_changed_rows.specs.Commits.{PutsNumberedRecord, WritesRecordAndUnit}
 use Rattle.office_commits.specs.Acts.{MakesAct}
-use Rattle.office_files.specs.Files.{IsOfficeFile, IsKeepable, IsKeepableUnit, StandForAll}
+use Rattle.keepable.specs.Keepable.{IsKeepableUnit}
+use Rattle.office_files.specs.Files.{IsOfficeFile, IsKeepable, StandForAll}
 use Rattle.office_files.proofs.RecordKept.{office_kept, form_kept, book_kept}
 use Rattle.office_files.proofs.UnitKept.{unit_keeps}
 

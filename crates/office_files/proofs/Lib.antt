@@ -8,3 +8,6 @@ pub mod UnitKept
 pub mod ActKept
 pub mod RoleKept
 pub mod Demo
+pub mod PolicyKept
+pub mod LanguageKept
+pub mod TemplateKept

@@ -1,14 +1,12 @@
 -- The commit of a role keeps an office's file one.
-use Rattle.std.proofs.Common.{◌≡◌, ◌≢◌, ℕ, ℤ, [], ◌∷◌, true, Option, Some, None, refl, sym, subst, ◌∙◌}
+use Rattle.std.proofs.Common.{◌≡◌, ◌≢◌, ℕ, ℤ, [], ◌∷◌, true, Option, Some, None, refl, sym, subst}
 use Rattle.std.specs.Prelude.{IsTrue, IsUtf8}
 use Rattle.std.proofs.lemmas.Bool.{and_from}
 use Rattle.sqlite.specs.declared.types.Value.TheVariants.{Int, Text as Words}
 use Rattle.sqlite.specs.Order.{Row}
 use Rattle.sqlite.specs.Effect.{Database}
 use Rattle.sqlite.specs.Tree.{Trees}
-use Rattle.sqlite_schema.specs.declared.schema.Table.{Table}
 use Rattle.sqlite_rules.specs.Lists.{Has}
-use Rattle.sqlite_rules.proofs.ListLemmas.{all_has}
 use Rattle.deliveries.specs.OfficeRules.{KeepsRules}
 use Rattle.po_read.specs.Texts.{Text}
 use Rattle.request_book.specs.declared.book.Record.{Record}
@@ -17,14 +15,14 @@ use Rattle.units.specs.Limits.{is_name}
 use Rattle.units.specs.declared.unit.Role.{Role}
 use Rattle.office_sql.specs.Inside.{AreOfficeTables}
 use Rattle.office_sql.specs.Keys.{first_text, columns}
-use Rattle.office_sql.specs.Schema.{office_schema, record_tree, team_tree, policy_tree, template_tree, language_tree, unit_tree, suggestion_tree, vote_tree}
+use Rattle.office_sql.specs.Schema.{record_tree, team_tree, policy_tree, template_tree, language_tree, unit_tree, suggestion_tree, vote_tree}
 use Rattle.office_in_rows.specs.Meaning.{meaning_in}
 use Rattle.office_in_rows.proofs.WrittenRows.{IsTree, row_spares, suggestions_there, votes_there}
 use Rattle.office_in_changed_rows.specs.Commits.{WritesRole, MakesRole}
 use Rattle.shown_rows.specs.RowTests.{is_role, is_member_row}
 use Rattle.shown_rows.proofs.ColumnsTested.{text_stands, integer_is, role_stands}
 use Rattle.office_files.specs.Files.{IsOfficeFile, IsKeepable, StandForAll}
-use Rattle.office_files.proofs.Puts.{all_put, template_same, form_same, book_same, records_there, policy_there, template_there, languages_there, units_there}
+use Rattle.office_files.proofs.Puts.{all_put, spared, template_same, form_same, book_same, records_there, policy_there, template_there, languages_there, units_there}
 use Rattle.office_files.proofs.ActKept.{stand_all, record_step}
 
 abbrev pub MemberStands : Row → Type 0
@@ -60,12 +58,7 @@ role_step name named utf8 role (Some n) is old new put it =
     (all_put first_text MemberStands (old.trees team_tree) (new.trees team_tree) put.row put.put it.office.members
     (subst MemberStands (sym put.is_row.1) (member_stands name named utf8 role n is))) it
 role_step name named utf8 role None is old new takes it =
-    team_step old.trees new.trees same (λ row there. it.office.members row (takes.rows.only row there).0) it
-  where
-    same : (t : ℕ) → IsTree t → t ≢ team_tree → new.trees t ≡ old.trees t
-    same t is_tree apart =
-        subst (λ k. new.trees k ≡ old.trees k) is_tree.2
-        (all_has (λ (table : Table). table.tree ≢ team_tree → new.trees table.tree ≡ old.trees table.tree) office_schema.tables is_tree.0 takes.others is_tree.1 (λ e. apart (sym is_tree.2 ∙ e)))
+    team_step old.trees new.trees (spared team_tree old new takes.others) (λ row there. it.office.members row (takes.rows.only row there).0) it
 
 pub role_keeps : (old new : Database) (row : Record) (name : Text) (role : Role) → MakesRole row name role old new → AreOfficeTables new
     → IsKeepable row → is_name name ≡ true → IsUtf8 name → KeepsRules (meaning_in new.trees) → IsOfficeFile old.trees → IsOfficeFile new.trees

@@ -1,6 +1,5 @@
 -- When the trees of a file are an office's, which is when they are adopted. This project's own rule.
-use Rattle.std.specs.Prelude.{◌≡◌, ◌⊎◌, ◌<◌, pos, true, IfSome, IsTrue, IsUtf8}
-use Rattle.std.specs.FinMap as maps
+use Rattle.std.specs.Prelude.{◌≡◌, ◌⊎◌, ◌<◌, pos, IsTrue, IsUtf8}
 use Rattle.sqlite.specs.declared.types.Value.TheVariants.{Int}
 use Rattle.sqlite.specs.Order.{Row, column}
 use Rattle.sqlite.specs.Effect.{Database}
@@ -9,16 +8,7 @@ use Rattle.sqlite.specs.Tree.{Trees}
 use Rattle.sqlite_catalog.specs.Listing.{IsSound}
 use Rattle.sqlite_rules.specs.Lists.{Has}
 use Rattle.deliveries.specs.OfficeRules.{KeepsRules}
-use Rattle.po_read.specs.Strings.{is_string, is_forms}
-use Rattle.po_read.specs.Texts.{Text}
 use Rattle.request_book.specs.declared.book.Record.{Record}
-use Rattle.row_values.specs.Written.{ArePrevious, texts_text, previous_text}
-use Rattle.units.specs.KeyTexts.{HasStrings}
-use Rattle.units.specs.Limits.{is_name, is_lang, is_revision}
-use Rattle.units.specs.Units.{key_text}
-use Rattle.units.specs.declared.unit.Suggestion.{Suggestion}
-use Rattle.units.specs.declared.unit.Unit.{Unit}
-use Rattle.units.specs.declared.votes.VoteValue.{VoteValue}
 use Rattle.office_sql.specs.Inside.{AreTables, AreOfficeTables}
 use Rattle.office_sql.specs.Keys.{row_number}
 use Rattle.office_sql.specs.Schema.{office_schema, policy_tree}
@@ -73,25 +63,3 @@ pub record StandForAll (trees : Trees) : Type 0 where
   pub form : TellsFirstForm trees
   pub office : StandForOffice trees
   pub book : StandForBook trees
-
--- A suggestion within its limits, whose texts are UTF-8, and so its voters.
-pub record IsKeepableSuggestion (s : Suggestion) : Type 0 where
-  pub suggester : is_name s.suggester ≡ true
-  pub suggester_text : IsUtf8 s.suggester
-  pub forms : is_forms s.forms ≡ true
-  pub forms_text : IsUtf8 (texts_text s.forms)
-  pub voters : (vote : Text × VoteValue) → Has (maps.entries s.votes) vote → (is_name vote.0 ≡ true) × IsUtf8 vote.0
-
--- So is a unit of a language.
-pub record IsKeepableUnit (lang : Text) (unit : Unit) : Type 0 where
-  pub language : (is_lang lang ≡ true) × IsUtf8 lang
-  pub key : HasStrings unit.key
-  pub key_column : IsUtf8 (key_text unit.key)
-  pub plural : IfSome unit.plural (λ text. (is_string text ≡ true) × IsUtf8 text)
-  pub forms : is_forms unit.forms ≡ true
-  pub forms_column : IsUtf8 (texts_text unit.forms)
-  pub revision : is_revision unit.revision ≡ true
-  pub comment_column : IsUtf8 (texts_text unit.comment)
-  pub previous : ArePrevious unit.previous
-  pub previous_column : IsUtf8 (previous_text unit.previous)
-  pub suggestions : (s : Suggestion) → Has unit.suggestions s → IsKeepableSuggestion s

@@ -10,7 +10,7 @@ ghost use Rattle.request_book.specs.declared.book.Record.{Record};
 ghost use Rattle.office_sql.specs.Inside.{AreOfficeTables};
 ghost use Rattle.office_in_rows.specs.Meaning.{meaning_in};
 ghost use Rattle.office_in_changed_rows.specs.Commits.{PutsNumberedRecord};
-ghost use Rattle.std.specs.Prelude.{true, ⊤, Option, Result, IfSome, IsUtf8};
+ghost use Rattle.std.specs.Prelude.{true, ⊤, List, Option, Result, IfSome, IsUtf8};
 ghost use Rattle.sqlite.specs.Held.{Held, state};
 ghost use Rattle.shown_rows.specs.declared.faults.Failure.{Failure};
 ghost use Rattle.units.specs.declared.unit.UnitView.{UnitView};
@@ -19,13 +19,20 @@ ghost use Rattle.po_read.specs.Texts.{Text};
 ghost use Rattle.units.specs.Limits.{is_name};
 ghost use Rattle.office_sql.specs.Whole.{IsCommit};
 ghost use Rattle.office_in_rows.specs.Beginnings.{MakesDemo, MakesOpening};
-ghost use Rattle.office_files.specs.Files.{HoldsOfficeRows, IsOfficeFile, IsKeepable, IsLost, KeepsFile, LeavesFiles, MakesFiles, StandForAll, IsKeepableUnit};
+ghost use Rattle.office_files.specs.Files.{HoldsOfficeRows, IsOfficeFile, IsKeepable, IsLost, KeepsFile, LeavesFiles, MakesFiles, StandForAll};
+ghost use Rattle.keepable.specs.Keepable.{IsKeepableUnit, AreKeepableUnits, AreKeepablePlans, IsKeepableLanguage, AreKeepableEntries};
+ghost use Rattle.row_values.specs.Written.{IsHeaderEntry};
 ghost use Rattle.units.specs.declared.unit.Unit.{Unit};
 ghost use Rattle.office_in_changed_rows.specs.UnitWrites.{WritesNumberedUnit};
 ghost use Rattle.units.specs.declared.unit.Role.{Role};
 ghost use Rattle.sqlite_catalog.specs.Listing.{IsSound};
 ghost use Rattle.office_sql.specs.Schema.{office_schema};
-ghost use Rattle.office_in_changed_rows.specs.Commits.{MakesRole};
+ghost use Rattle.office_in_changed_rows.specs.Commits.{MakesRole, MakesPolicy, MakesLanguage, MakesTemplate};
+ghost use Rattle.units.specs.declared.unit.Policy.{Policy};
+ghost use Rattle.deliveries.specs.declared.values.Language.{Language};
+ghost use Rattle.template_update.specs.declared.plans.Plan.{Plan};
+ghost use Rattle.po_read.specs.declared.entry.Entry.{Entry};
+ghost use Rattle.deliveries.specs.OfficeActs.{LanguagePlan};
 
 use sqlite::Alter;
 
@@ -75,6 +82,26 @@ pub fn roles_keep_files()
     ensures { (old new : Database) (row : Record) (name : Text) (role : Role) → MakesRole row name role old new → AreOfficeTables new
         → IsKeepable row → is_name name ≡ true → IsUtf8 name → KeepsRules (meaning_in new.trees)
         → IsOfficeFile old.trees → IsOfficeFile new.trees }
+{}
+
+/// The commit of a policy, where the rules go on to hold, keeps an office's file one.
+pub fn policies_keep_files()
+    ensures { (old new : Database) (row : Record) (policy : Policy) → MakesPolicy row policy old new → AreOfficeTables new
+        → IsKeepable row → KeepsRules (meaning_in new.trees) → IsOfficeFile old.trees → IsOfficeFile new.trees }
+{}
+
+/// The commit of a language, where the rules go on to hold, keeps an office's file one.
+pub fn languages_keep_files()
+    ensures { (old new : Database) (row : Record) (lang : Text) (language : Language) (plan : Plan) → MakesLanguage row lang language plan old new
+        → AreOfficeTables new → IsKeepable row → IsKeepableLanguage lang language.header → IsHeaderEntry language.header
+        → AreKeepableUnits lang plan.units → KeepsRules (meaning_in new.trees) → IsOfficeFile old.trees → IsOfficeFile new.trees }
+{}
+
+/// The commit of a template with the units that are fitted to it, where the rules go on to hold, keeps an office's file one.
+pub fn templates_keep_files()
+    ensures { (old new : Database) (row : Record) (entries : List Entry) (plans : List LanguagePlan) → MakesTemplate row entries plans old new
+        → AreOfficeTables new → IsKeepable row → AreKeepableEntries entries → AreKeepablePlans plans
+        → KeepsRules (meaning_in new.trees) → IsOfficeFile old.trees → IsOfficeFile new.trees }
 {}
 
 /// An opening of trees that list the office's schema reads that schema, however the texts are spelled.

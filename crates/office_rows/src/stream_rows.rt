@@ -17,9 +17,10 @@
 //!   failing writer N                        the output takes so many bytes, and then fails
 //!   failing faults N                        so does the second output
 //!   failing flush                           the output hands on nothing that it holds back
+//!   whole                                   the streams give and take as many bytes as there are at a time, and no less
 //!
 //! In the text of a command stand `^n` for LF, `^r` for CR, `^t` for a tab, `^xFF` for a byte and `^(TEXT)` for a text; a number behind
-//! the `^` says how many times: `^5500001( )`. Each command is tried three times: with streams that give and take 1 byte, 100 bytes,
+//! the `^` says how many times: `^22000001( )`. Each command is tried three times: with streams that give and take 1 byte, 100 bytes,
 //! and as many as there are at a time.
 //!
 //! Connections:
@@ -43,6 +44,7 @@
 //!   file deliver; LINES -> X          delivers the lines
 //!   file deliver export LANG; LINES -> X    and then exports the language
 //!   file export LANG -> X             exports a language
+//!   file unit LANG|ID -> X            a unit as callers see it; a context stands behind a further bar
 //!   file sql; TEXT                    statements that some other tool runs on the file
 //!   file spoil; TEXT -> X             the same on a copy, to which the line `<hallo>` is then delivered, and which is exported: both come
 //!                                     to X, and leave each row as it is

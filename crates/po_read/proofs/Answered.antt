@@ -17,28 +17,28 @@ use Rattle.po_read.proofs.Accepts.{no_fault}
 use Rattle.po_read.proofs.Passing.{spelled_passes}
 use Rattle.po_read.proofs.OneCatalogue.{one_catalogue}
 
-from_text : (bytes : List ℕ) (o : Option Fault) → length bytes ≤ 4194304 → IsUtf8 bytes → fault_from limits 1 no_lines (lines_of bytes) ≡ o → fault_of limits bytes ≡ o
+from_text : (bytes : List ℕ) (o : Option Fault) → length bytes ≤ 16777216 → IsUtf8 bytes → fault_from limits 1 no_lines (lines_of bytes) ≡ o → fault_of limits bytes ≡ o
 unfolding fault_of
 from_text bytes o h u e =
-    let small : nat_lt 4194304 (length bytes) ≡ false = le-ltb 4194304 (length bytes) h in
+    let small : nat_lt 16777216 (length bytes) ≡ false = le-ltb 16777216 (length bytes) h in
     let text : is_utf8 bytes ≡ true = is_utf8-from_IsUtf8 bytes u in
     rw (small, text) e
 
-pub is_long : (bytes : List ℕ) → 4194304 < length bytes → IsFault limits bytes (0, kinds.Limit)
+pub is_long : (bytes : List ℕ) → 16777216 < length bytes → IsFault limits bytes (0, kinds.Limit)
 is_long bytes h = too_long h refl
 
-pub is_no_text : (bytes : List ℕ) → length bytes ≤ 4194304 → (IsUtf8 bytes → ⊥) → IsFault limits bytes (0, kinds.NotUtf8)
+pub is_no_text : (bytes : List ℕ) → length bytes ≤ 16777216 → (IsUtf8 bytes → ⊥) → IsFault limits bytes (0, kinds.NotUtf8)
 is_no_text bytes small other = not_utf8 small (by (is_utf8 bytes) refl) refl
   where
     by : (b : Bool) → is_utf8 bytes ≡ b → b ≡ false
     by true e = absurd (other (IsUtf8-from_is_utf8 bytes e))
     by false e = refl
 
-pub is_told : (bytes : List ℕ) (fault : PoFault) → length bytes ≤ 4194304 → IsUtf8 bytes → (fault_from limits 1 no_lines (lines_of bytes) ≡ Some (fault.line, fault.kind)) ⊎ IsMemory fault → IsFault limits bytes (fault.line, fault.kind) ⊎ IsMemory fault
+pub is_told : (bytes : List ℕ) (fault : PoFault) → length bytes ≤ 16777216 → IsUtf8 bytes → (fault_from limits 1 no_lines (lines_of bytes) ≡ Some (fault.line, fault.kind)) ⊎ IsMemory fault → IsFault limits bytes (fault.line, fault.kind) ⊎ IsMemory fault
 is_told bytes fault small u (inl e) = inl (least limits bytes (fault.line, fault.kind) (from_text bytes (Some (fault.line, fault.kind)) small u e))
 is_told bytes fault small u (inr m) = inr m
 
-pub is_read : (bytes : List ℕ) (entries : List Entry) → length bytes ≤ 4194304 → IsUtf8 bytes → (fault_from limits 1 no_lines (lines_of bytes) ≡ None) × (entries ≡ entries_of bytes) → Spells bytes entries × IsWithin limits bytes entries
+pub is_read : (bytes : List ℕ) (entries : List Entry) → length bytes ≤ 16777216 → IsUtf8 bytes → (fault_from limits 1 no_lines (lines_of bytes) ≡ None) × (entries ≡ entries_of bytes) → Spells bytes entries × IsWithin limits bytes entries
 is_read bytes entries small u h =
     let a = no_fault limits bytes (from_text bytes None small u h.0) in
     subst (λ (es : List Entry). Spells bytes es × IsWithin limits bytes es) (sym h.1) (a.spells, a.within)
@@ -59,11 +59,11 @@ same_catalogue = one_catalogue
 abbrev Outcome : List ℕ → PoFault → Type 0
 Outcome bytes fault = (fault_from limits 1 no_lines (lines_of bytes) ≡ Some (fault.line, fault.kind)) ⊎ IsMemory fault
 
-pub told_of : (bytes text : List ℕ) (fault : PoFault) → (text ≡ bytes) × IsUtf8 bytes → length bytes ≤ 4194304 → (fault_from limits 1 no_lines (lines_of text) ≡ Some (fault.line, fault.kind)) ⊎ IsMemory fault → IsFault limits bytes (fault.line, fault.kind) ⊎ IsMemory fault
+pub told_of : (bytes text : List ℕ) (fault : PoFault) → (text ≡ bytes) × IsUtf8 bytes → length bytes ≤ 16777216 → (fault_from limits 1 no_lines (lines_of text) ≡ Some (fault.line, fault.kind)) ⊎ IsMemory fault → IsFault limits bytes (fault.line, fault.kind) ⊎ IsMemory fault
 told_of bytes text fault same small told = is_told bytes fault small same.1 (subst (λ (t : List ℕ). Outcome t fault) same.0 told)
 
-pub memory_line : (bytes text : List ℕ) (line : ℕ) → (text ≡ bytes) × IsUtf8 bytes → length bytes ≤ 4194304 → PassesBefore limits (lines_of text) line → IsMemoryLine limits bytes line
+pub memory_line : (bytes text : List ℕ) (line : ℕ) → (text ≡ bytes) × IsUtf8 bytes → length bytes ≤ 16777216 → PassesBefore limits (lines_of text) line → IsMemoryLine limits bytes line
 memory_line bytes text line same small h = record { within = small; utf8 = is_utf8-from_IsUtf8 bytes same.1; reached = subst (λ (t : List ℕ). PassesBefore limits (lines_of t) line) same.0 h }
 
-pub read_of : (bytes text : List ℕ) (entries : List Entry) → (text ≡ bytes) × IsUtf8 bytes → length bytes ≤ 4194304 → (fault_from limits 1 no_lines (lines_of text) ≡ None) × (entries ≡ entries_of text) → Spells bytes entries × IsWithin limits bytes entries
+pub read_of : (bytes text : List ℕ) (entries : List Entry) → (text ≡ bytes) × IsUtf8 bytes → length bytes ≤ 16777216 → (fault_from limits 1 no_lines (lines_of text) ≡ None) × (entries ≡ entries_of text) → Spells bytes entries × IsWithin limits bytes entries
 read_of bytes text entries same small h = is_read bytes entries small same.1 (subst (λ (t : List ℕ). (fault_from limits 1 no_lines (lines_of t) ≡ None) × (entries ≡ entries_of t)) same.0 h)

@@ -124,8 +124,8 @@ text_is s ls (message m (continues text)) h =
     under (goes_on_here s (message m (continues text))) (goes_on ls (message m (continues text))) _ _ (goes_is s ls (message m (continues text)) h)
     (λ g. sym (end_is s.draft text (and_right (not (marked s (not m))) (has_strings s) g)) ∙ ap (λ ss. last_with ss text) h.strings)
 
-pub length_is : (s : SoFar) (ls : List Line) (line : Line) → IsSoFar s ls → length_fault s line ≡ string_fault 65536 ls line
-length_is s ls line h = ap (λ o. when (is_long 65536 o) kinds.Limit) (text_is s ls line h)
+pub length_is : (s : SoFar) (ls : List Line) (line : Line) → IsSoFar s ls → length_fault s line ≡ string_fault 262144 ls line
+length_is s ls line h = ap (λ o. when (is_long 262144 o) kinds.Limit) (text_is s ls line h)
 
 pub order_is : (s : SoFar) (ls : List Line) (line : Line) → IsSoFar s ls → order_fault_here s line ≡ order_fault ls line
 order_is s ls blank h = ap (λ b. when b kinds.Order) (some_is s ls h)

@@ -120,10 +120,10 @@ count_is (g ∷ groups) = by (has_header_key g)
     by true = let n : length (map entry_of groups) ≡ length groups = length-map groups entry_of in omega arith
     by false = let n : length (map entry_of groups) ≡ length groups = length-map groups entry_of in omega arith
 
-entries_at : (r : Reader) (s : Lines) → Reads r s → when (nat_le 20000 (count_in r.entries.items)) kinds.Limit ≡ when (nat_le 20000 (count_of s.whole)) kinds.Limit
-entries_at r s h = ap (λ n. when (nat_le 20000 n) kinds.Limit) (ap count_in h.entries ∙ count_is s.whole)
+entries_at : (r : Reader) (s : Lines) → Reads r s → when (nat_le 50000 (count_in r.entries.items)) kinds.Limit ≡ when (nat_le 50000 (count_of s.whole)) kinds.Limit
+entries_at r s h = ap (λ n. when (nat_le 50000 n) kinds.Limit) (ap count_in h.entries ∙ count_is s.whole)
 
-pub entries_is : (r : Reader) (s : Lines) (line : Line) → Reads r s → entries_here r line ≡ entries_fault 20000 s line
+pub entries_is : (r : Reader) (s : Lines) (line : Line) → Reads r s → entries_here r line ≡ entries_fault 50000 s line
 entries_is r s blank h = refl
 entries_is r s (translator text) h = refl
 entries_is r s (extracted text) h = refl
@@ -264,7 +264,7 @@ first_length new old (flags items) h f b = refl
 first_length new old (previous m (begins keyword text)) h f b = refl
 first_length new old (previous m (continues text)) h f b =
     length_is new [] (previous m (continues text)) h
-    ∙ ap (λ t. when (is_long 65536 (cond t (Some (previous_end old.previous ++ text)) None)) kinds.Limit) (sym (not_here (not (marked old (not m))) (has_strings old) (has_previous old) (form_some old f)))
+    ∙ ap (λ t. when (is_long 262144 (cond t (Some (previous_end old.previous ++ text)) None)) kinds.Limit) (sym (not_here (not (marked old (not m))) (has_strings old) (has_previous old) (form_some old f)))
 first_length new old (message m (begins keyword text)) h f b = refl
 first_length new old (message m (continues text)) h f b = cc
 
@@ -287,25 +287,25 @@ not_closed r line apart s h =
     and_swap false true = refl
     and_swap false false = refl
 
-front_is : (r : Reader) (s : Lines) (line : Line) → Reads r s → front_fault r line ≡ or_else (string_fault 65536 s.current line) (cond (goes_on s.current line) None (ended_fault s (begins_entry line) (last_string (strings_in s.current))))
+front_is : (r : Reader) (s : Lines) (line : Line) → Reads r s → front_fault r line ≡ or_else (string_fault 262144 s.current line) (cond (goes_on s.current line) None (ended_fault s (begins_entry line) (last_string (strings_in s.current))))
 front_is r s line h = λ i. or_else (length_is (so_far r.current) s.current line h.current i) (cond (goes_is (so_far r.current) s.current line h.current i) None (ended_is r s (begins_entry line) h i))
 
-at : (s : Lines) (l : Line) → has_form s.current ≡ true → begins_entry l ≡ true → string_fault 65536 [] l ≡ string_fault 65536 s.current l
+at : (s : Lines) (l : Line) → has_form s.current ≡ true → begins_entry l ≡ true → string_fault 262144 [] l ≡ string_fault 262144 s.current l
 at s blank f b = refl
 at s (translator text) f b = refl
 at s (extracted text) f b = refl
 at s (reference text) f b = refl
 at s (flags items) f b = refl
 at s (previous m (begins keyword text)) f b = refl
-at s (previous m (continues text)) f b = ap (λ t. when (is_long 65536 (cond t (last_with (previous_in s.current) text) None)) kinds.Limit) (sym (goes_not s.current (previous m (continues text)) f refl))
+at s (previous m (continues text)) f b = ap (λ t. when (is_long 262144 (cond t (last_with (previous_in s.current) text) None)) kinds.Limit) (sym (goes_not s.current (previous m (continues text)) f refl))
 at s (message m (begins keyword text)) f b = refl
 at s (message m (continues text)) f b = cc
 
 -- the string test is the same where an entry has ended
-before_length : (s : Lines) (line : Line) → string_fault 65536 (before s line).current line ≡ string_fault 65536 s.current line
+before_length : (s : Lines) (line : Line) → string_fault 262144 (before s line).current line ≡ string_fault 262144 s.current line
 before_length s line = by (has_form s.current && begins_entry line) refl
   where
-    by : (t : Bool) → (has_form s.current && begins_entry line) ≡ t → string_fault 65536 (cond t (closed s) s).current line ≡ string_fault 65536 s.current line
+    by : (t : Bool) → (has_form s.current && begins_entry line) ≡ t → string_fault 262144 (cond t (closed s) s).current line ≡ string_fault 262144 s.current line
     by true e = let both = both_true (has_form s.current) (begins_entry line) e in at s line both.0 both.1
     by false e = refl
 
@@ -321,18 +321,18 @@ added here new s line h sound nb f c e k = record {
 }
 
 -- the tests of a line, in the two parts between which an entry ends
-fault_front : (old : Reader) (s : Lines) (line : Line) → Reads old s → fault_at limits s line ≡ or_else (front_fault old line) (or_else (order_fault (before s line).current line) (entries_fault 20000 (before s line) line))
+fault_front : (old : Reader) (s : Lines) (line : Line) → Reads old s → fault_at limits s line ≡ or_else (front_fault old line) (or_else (order_fault (before s line).current line) (entries_fault 50000 (before s line) line))
 unfolding fault_at
 fault_front old s line h =
-    ap (λ (x : Option FaultKind). or_else x (or_else (cond (goes_on s.current line) None (ended_fault s (begins_entry line) (last_string (strings_in s.current)))) (or_else (order_fault (before s line).current line) (entries_fault 20000 (before s line) line)))) (before_length s line)
-    ∙ sym (or_assoc (string_fault 65536 s.current line) (cond (goes_on s.current line) None (ended_fault s (begins_entry line) (last_string (strings_in s.current)))) (or_else (order_fault (before s line).current line) (entries_fault 20000 (before s line) line)))
-    ∙ ap (λ (x : Option FaultKind). or_else x (or_else (order_fault (before s line).current line) (entries_fault 20000 (before s line) line))) (sym (front_is old s line h))
+    ap (λ (x : Option FaultKind). or_else x (or_else (cond (goes_on s.current line) None (ended_fault s (begins_entry line) (last_string (strings_in s.current)))) (or_else (order_fault (before s line).current line) (entries_fault 50000 (before s line) line)))) (before_length s line)
+    ∙ sym (or_assoc (string_fault 262144 s.current line) (cond (goes_on s.current line) None (ended_fault s (begins_entry line) (last_string (strings_in s.current)))) (or_else (order_fault (before s line).current line) (entries_fault 50000 (before s line) line)))
+    ∙ ap (λ (x : Option FaultKind). or_else x (or_else (order_fault (before s line).current line) (entries_fault 50000 (before s line) line))) (sym (front_is old s line h))
 
-fault_back : (here : Reader) (s : Lines) (line : Line) → Reads here (before s line) → or_else (order_fault_here (so_far here.current) line) (entries_here here line) ≡ or_else (order_fault (before s line).current line) (entries_fault 20000 (before s line) line)
+fault_back : (here : Reader) (s : Lines) (line : Line) → Reads here (before s line) → or_else (order_fault_here (so_far here.current) line) (entries_here here line) ≡ or_else (order_fault (before s line).current line) (entries_fault 50000 (before s line) line)
 fault_back here s line k = λ i. or_else (order_is (so_far here.current) (before s line).current line k.current i) (entries_is here (before s line) line k i)
 
 pub front_told : (old : Reader) (line : Line) (kind : FaultKind) → (front_fault old line ≡ Some kind) ⊎ (kind ≡ kinds.Memory) → (s : Lines) → Reads old s → (fault_at limits s line ≡ Some kind) ⊎ (kind ≡ kinds.Memory)
-front_told old line kind (inl e) s h = inl (fault_front old s line h ∙ ap (λ (x : Option FaultKind). or_else x (or_else (order_fault (before s line).current line) (entries_fault 20000 (before s line) line))) e)
+front_told old line kind (inl e) s h = inl (fault_front old s line h ∙ ap (λ (x : Option FaultKind). or_else x (or_else (order_fault (before s line).current line) (entries_fault 50000 (before s line) line))) e)
 front_told old line kind (inr m) s h = inr m
 
 abbrev Follows : Reader → Reader → Line → Type 0
@@ -340,7 +340,7 @@ Follows old here line = (s : Lines) → Reads old s → Reads here (before s lin
 
 back_is : (old here : Reader) (line : Line) (o : Option FaultKind) → front_fault old line ≡ None → o ≡ or_else (order_fault_here (so_far here.current) line) (entries_here here line) → Follows old here line → (s : Lines) → Reads old s → fault_at limits s line ≡ o
 back_is old here line o none e f s h =
-    fault_front old s line h ∙ ap (λ (x : Option FaultKind). or_else x (or_else (order_fault (before s line).current line) (entries_fault 20000 (before s line) line))) none ∙ sym (fault_back here s line (f s h)) ∙ sym e
+    fault_front old s line h ∙ ap (λ (x : Option FaultKind). or_else x (or_else (order_fault (before s line).current line) (entries_fault 50000 (before s line) line))) none ∙ sym (fault_back here s line (f s h)) ∙ sym e
 
 pub entry_told : (old here : Reader) (line : Line) (kind : FaultKind) → front_fault old line ≡ None → Some kind ≡ or_else (order_fault_here (so_far here.current) line) (entries_here here line) → ((s : Lines) → Reads old s → Reads here (before s line))
     → (s : Lines) → Reads old s → (fault_at limits s line ≡ Some kind) ⊎ (kind ≡ kinds.Memory)

@@ -62,7 +62,7 @@ text_here s (previous obsolete (continues text)) = if goes_on_here s (previous o
 text_here s _ = None
 
 abbrev pub length_fault : SoFar → Line → Option FaultKind
-length_fault s line = when (is_long 65536 (text_here s line)) kinds.Limit
+length_fault s line = when (is_long 262144 (text_here s line)) kinds.Limit
 
 abbrev pub order_fault_here : SoFar → Line → Option FaultKind
 order_fault_here s (message obsolete part) = if marked s (not obsolete) then Some kinds.Order else part_fault (draft_last s.draft) (draft_header s.draft) part
@@ -153,7 +153,7 @@ abbrev pub count_here : Reader → ℕ
 count_here r = count_in r.entries.items
 
 abbrev pub entries_here : Reader → Line → Option FaultKind
-entries_here r (message obsolete (begins Msgid text)) = when (nat_le 20000 (count_here r)) kinds.Limit
+entries_here r (message obsolete (begins Msgid text)) = when (nat_le 50000 (count_here r)) kinds.Limit
 entries_here r _ = None
 
 abbrev pub has_form_here : Reader → Bool

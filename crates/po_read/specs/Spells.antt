@@ -116,7 +116,7 @@ pub record Limits : Type 0 where
   pub string : ℕ
 
 abbrev pub limits : Limits
-limits = record { bytes = 4194304; entries = 20000; string = 65536 }
+limits = record { bytes = 16777216; entries = 50000; string = 262144 }
 
 abbrev pub is_header_key : Option Text → Text → Bool
 is_header_key None [] = true

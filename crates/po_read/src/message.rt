@@ -70,7 +70,7 @@ impl Message {
     /// How many bytes the last string has.
     pub(crate) fn last_len(&self) -> usize
         ensures value { result ≡ length (draft_end (draft_of self.now)) }
-        ensures fits { result ≤ 65536 }
+        ensures fits { result ≤ 262144 }
     {
         match self {
             Message::Nothing => 0,
@@ -139,7 +139,7 @@ impl Message {
 
     /// Adds one more part, which can follow.
     pub(crate) fn add(&mut self, alloc: Global, part: Part<'_>) -> Result<(), AllocError>
-        requires short { length (part_text (draft_end (draft_of self.old)) (part_view part)) ≤ 65536 }
+        requires short { length (part_text (draft_end (draft_of self.old)) (part_view part)) ≤ 262144 }
         requires bytes { list_all is_string_byte (part_more (part_view part)) ≡ true }
         requires follows { part_fault (draft_last (draft_of self.old)) (draft_header (draft_of self.old)) (part_view part) ≡ None }
         requires digit { IsDigitPart (part_view part) }
@@ -293,7 +293,7 @@ impl Message {
 
     /// Adds the string of this piece at the last one's end.
     fn add_more(&mut self, alloc: Global, raw: &str) -> Result<(), AllocError>
-        requires short { length (draft_end (draft_of self.old)) + length (unescaped raw.now) ≤ 65536 }
+        requires short { length (draft_end (draft_of self.old)) + length (unescaped raw.now) ≤ 262144 }
         requires bytes { list_all is_string_byte (unescaped raw.now) ≡ true }
         ensures { OnOk result (draft_of self.new ≡ with_more (draft_of self.old) (unescaped raw.now)) }
     {

@@ -29,10 +29,10 @@ use std::collections::BTreeSet;
 use std::mem::replace;
 
 /// The most bytes that a text may have.
-const TEXT_LIMIT: usize = 4_194_304;
+const TEXT_LIMIT: usize = 16_777_216;
 
 /// The most entries that a catalogue may have besides the header.
-const ENTRY_LIMIT: usize = 20_000;
+const ENTRY_LIMIT: usize = 50_000;
 
 /// What was read so far: whole entries with their keys, and the entry that may go on.
 #[derive(Drop)]
@@ -307,7 +307,7 @@ fn read_text(alloc: Global, text: &str) -> Result<Vec<Entry>, PoFault>
 }
 
 /// The catalogue that the bytes spell, as "The Format of PO Files" of the GNU gettext manual has it, within the limits: a text of
-/// 4,194,304 bytes, 20,000 entries besides the header, strings of 65,536 bytes. Else the first fault, with its line; a text that is
+/// 16,777,216 bytes, 50,000 entries besides the header, strings of 262,144 bytes. Else the first fault, with its line; a text that is
 /// too long or isn't UTF-8 has it at line 0. A refused growth is told at the line that was read then.
 pub fn read(alloc: Global, bytes: &[u8]) -> Result<Catalogue, PoFault>
     // What is read is what the bytes spell, within the limits.

@@ -14,7 +14,7 @@ use std::alloc::{AllocError, Global};
 use std::marker::Model;
 use std::mem::replace;
 
-/// A string of a catalogue: Unicode text without U+0000 to U+0006 and U+000E to U+001F, of at most 65,536 bytes. The other
+/// A string of a catalogue: Unicode text without U+0000 to U+0006 and U+000E to U+001F, of at most 262,144 bytes. The other
 /// control characters have escapes of their own.
 #[derive(Debug, Drop)]
 pub struct PoString {
@@ -44,7 +44,7 @@ impl PoString {
 
     /// The string that a piece stands for.
     pub(crate) fn from_piece(alloc: Global, raw: &str) -> Result<PoString, AllocError>
-        requires short { length (unescaped raw.now) ≤ 65536 }
+        requires short { length (unescaped raw.now) ≤ 262144 }
         requires bytes { list_all is_string_byte (unescaped raw.now) ≡ true }
         ensures { IfOk result (λ string. string ≡ unescaped raw.now) }
     {
@@ -64,7 +64,7 @@ impl PoString {
 
     /// Adds that of a piece at the end.
     pub(crate) fn add_piece(&mut self, alloc: Global, raw: &str) -> Result<(), AllocError>
-        requires short { length self.old + length (unescaped raw.now) ≤ 65536 }
+        requires short { length self.old + length (unescaped raw.now) ≤ 262144 }
         requires bytes { list_all is_string_byte (unescaped raw.now) ≡ true }
         ensures { OnOk result (self.new ≡ self.old ++ unescaped raw.now) }
     {
@@ -165,7 +165,7 @@ impl Forms {
 
     /// Adds the string of a piece at the last one's end.
     pub(crate) fn add_piece(&mut self, alloc: Global, raw: &str) -> Result<(), AllocError>
-        requires short { (first : Text) × (length (last_text first self.old) + length (unescaped raw.now) ≤ 65536) }
+        requires short { (first : Text) × (length (last_text first self.old) + length (unescaped raw.now) ≤ 262144) }
         requires bytes { list_all is_string_byte (unescaped raw.now) ≡ true }
         ensures more { OnOk result (self.new ≡ last_more self.old (unescaped raw.now)) }
         ensures were { is_forms self.old ≡ true }
@@ -198,7 +198,7 @@ impl Duplicate for Forms {
 fn holds_string(text: &str) -> bool
     ensures { result ≡ is_string text.now }
 {
-    text.len() <= 65_536 && holds_string_bytes(text.as_bytes())
+    text.len() <= 262_144 && holds_string_bytes(text.as_bytes())
 }
 
 fn holds_string_bytes(bytes: &[u8]) -> bool

@@ -24,7 +24,7 @@ use std::alloc::{AllocError, Global};
 use std::mem::replace;
 
 /// The most bytes that a string may have.
-const STRING_LIMIT: usize = 65_536;
+const STRING_LIMIT: usize = 262_144;
 
 /// What the lines of an entry so far say.
 #[derive(Drop)]
@@ -189,7 +189,7 @@ impl<'a> Unfinished<'a> {
         obsolete: bool,
         part: Part<'a>,
     ) -> Result<(), AllocError>
-        requires short { length (part_text (previous_end self.old.previous) (part_view part)) ≤ 65536 }
+        requires short { length (part_text (previous_end self.old.previous) (part_view part)) ≤ 262144 }
         requires bytes { list_all is_string_byte (part_more (part_view part)) ≡ true }
         ensures { OnOk result (so_far self.new ≡ with_line (so_far self.old) (previous obsolete (part_view part.entry))) }
     {
@@ -203,7 +203,7 @@ impl<'a> Unfinished<'a> {
         obsolete: bool,
         part: Part<'a>,
     ) -> Result<(), AllocError>
-        requires short { length (part_text (draft_end (draft_of self.old.message)) (part_view part)) ≤ 65536 }
+        requires short { length (part_text (draft_end (draft_of self.old.message)) (part_view part)) ≤ 262144 }
         requires bytes { list_all is_string_byte (part_more (part_view part)) ≡ true }
         requires follows { part_fault (draft_last (draft_of self.old.message)) (draft_header (draft_of self.old.message)) (part_view part) ≡ None }
         requires digit { IsDigitPart (part_view part) }
@@ -285,8 +285,8 @@ impl<'a> Unfinished<'a> {
 /// Fault 9, unless a string of this length with that of a piece behind it is within the limit.
 #[tactic(auto, using(crate::proofs::PieceCuts::unescaped_shorter))]
 fn fits(len: usize, raw: &str) -> Result<(), FaultKind>
-    requires { len ≤ 65536 }
-    ensures { told result ≡ when (nat_lt 65536 (len + length (unescaped raw.now))) kinds.Limit }
+    requires { len ≤ 262144 }
+    ensures { told result ≡ when (nat_lt 262144 (len + length (unescaped raw.now))) kinds.Limit }
 {
     // A piece is no shorter than its string.
     if len + raw.len() <= STRING_LIMIT || len + unescaped_len(raw) <= STRING_LIMIT {

@@ -37,7 +37,7 @@ impl Previous {
     /// How many bytes the last string has.
     pub(crate) fn last_len(&self) -> usize
         ensures value { result ≡ length (previous_end self.now) }
-        ensures fits { result ≤ 65536 }
+        ensures fits { result ≤ 262144 }
     {
         if let Some(plural) = &self.plural {
             plural.as_str().len()
@@ -67,7 +67,7 @@ impl Previous {
 
     /// Adds one more part, which can follow.
     pub(crate) fn add(&mut self, alloc: Global, part: Part<'_>) -> Result<(), AllocError>
-        requires short { length (part_text (previous_end self.old) (part_view part)) ≤ 65536 }
+        requires short { length (part_text (previous_end self.old) (part_view part)) ≤ 262144 }
         requires bytes { list_all is_string_byte (part_more (part_view part)) ≡ true }
         ensures { OnOk result (self.new ≡ previous_with self.old (part_view part.entry)) }
     {
@@ -93,7 +93,7 @@ impl Previous {
 
     /// Adds the string of this piece at the last one's end.
     fn add_more(&mut self, alloc: Global, raw: &str) -> Result<(), AllocError>
-        requires short { length (previous_end self.old) + length (unescaped raw.now) ≤ 65536 }
+        requires short { length (previous_end self.old) + length (unescaped raw.now) ≤ 262144 }
         requires bytes { list_all is_string_byte (unescaped raw.now) ≡ true }
         ensures { OnOk result (self.new ≡ previous_more self.old (unescaped raw.now)) }
     {

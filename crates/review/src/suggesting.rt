@@ -60,7 +60,7 @@ pub(crate) fn suggest(
     ensures { IfOk result (λ d. (policy : PolicyValue) (rule : Rule) → d ≡ spec.decision_by_act policy rule caller.now number view.now (UnitAction.Suggest forms.now)) }
 {
     let unit = &view.unit;
-    if unit.suggestions.as_slice().len() >= 50 {
+    if unit.suggestions.as_slice().len() >= 100 {
         return Ok(Decision::Refused(Refusal::IsFull));
     }
     if is_there(forms, unit) {

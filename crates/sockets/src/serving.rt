@@ -16,7 +16,7 @@ use tables::Tables;
 const ROOM: usize = 16_384;
 
 /// How many times is read, at most, of what a client still sends behind its last answer.
-const LAST_READS: usize = 512;
+const LAST_READS: usize = 1_536;
 
 /// How many seconds a read of it waits.
 const LAST_WAIT: u64 = 1;
@@ -45,7 +45,7 @@ pub fn serve_next<T: Tables, C: Clock, L: OpenListener<Stream = TcpStream>>(
 ) -> Result<Served, ServeFault>
     ensures served { ServedSome (T.is_honest desk.new) (T.is_whole desk.new) (T.is_stopped desk.new ≡ true) (T.means desk.old) (T.means desk.new)
         (λ count. IfOk result (λ served. served.answered ≡ count)) }
-    ensures disk { T.is_honest desk.new → IfErr result (λ fault. fault ≡ Disk → T.is_stopped desk.new ≡ true) }
+    ensures disk { IfErr result (λ fault. fault ≡ Disk → T.is_stopped desk.new ≡ true) }
     ensures honest { T.is_honest desk.new → T.is_honest desk.old }
     ensures whole { T.is_honest desk.new → T.is_whole desk.new → T.is_whole desk.old }
     ensures stopped { T.is_stopped desk.old ≡ true → T.is_stopped desk.new ≡ true }
@@ -67,7 +67,7 @@ fn serve_stream<T: Tables>(
 ) -> Result<Served, ServeFault>
     ensures served { ServedSome (T.is_honest desk.new) (T.is_whole desk.new) (T.is_stopped desk.new ≡ true) (T.means desk.old) (T.means desk.new)
         (λ count. IfOk result (λ served. served.answered ≡ count)) }
-    ensures disk { T.is_honest desk.new → IfErr result (λ fault. fault ≡ Disk → T.is_stopped desk.new ≡ true) }
+    ensures disk { IfErr result (λ fault. fault ≡ Disk → T.is_stopped desk.new ≡ true) }
     ensures honest { T.is_honest desk.new → T.is_honest desk.old }
     ensures whole { T.is_honest desk.new → T.is_whole desk.new → T.is_whole desk.old }
     ensures stopped { T.is_stopped desk.old ≡ true → T.is_stopped desk.new ≡ true }

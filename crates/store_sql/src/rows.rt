@@ -31,7 +31,7 @@ use crate::making::make;
 use crate::records::read_record;
 use crate::strings::{key_fits, view_fits};
 use crate::views::{read_role, read_view};
-use crate::whole_office::{forget, keep, read_office};
+use crate::whole_office::{forget, keep, let_go, read_office};
 use deliveries::{Change, Found};
 use office_adoption::{OpenFault, adopted_office};
 use office_commits::{commit_act, commit_change};
@@ -130,7 +130,7 @@ impl<S: Alter> Rows<S> {
         let mut connection = connection;
         match adopted_office(&mut connection, alloc) {
             Ok(maps) => {
-                drop(maps);
+                let_go(alloc, maps);
                 Ok(Rows {
                     connection,
                     stopped: false,
@@ -188,7 +188,7 @@ impl<S: Alter> Rows<S> {
         match read_record(&mut self.connection, self.alloc, *number) {
             Ok(record) => Ok(record),
             Err(failure) => {
-                forget(&mut self.office);
+                forget(self.alloc, &mut self.office);
                 Err(self.lost(failure))
             }
         }
@@ -206,7 +206,7 @@ impl<S: Alter> Rows<S> {
         match read_role(&mut self.connection, name) {
             Ok(role) => Ok(role),
             Err(failure) => {
-                forget(&mut self.office);
+                forget(self.alloc, &mut self.office);
                 Err(self.lost(failure))
             }
         }
@@ -237,7 +237,7 @@ impl<S: Alter> Rows<S> {
         ) {
             Ok(found) => Ok(found),
             Err(failure) => {
-                forget(&mut self.office);
+                forget(self.alloc, &mut self.office);
                 Err(self.lost(failure))
             }
         }
@@ -296,7 +296,7 @@ impl<S: Alter> Rows<S> {
         match export_entries(&mut self.connection, self.alloc, lang, sink) {
             Ok(()) => Ok(()),
             Err(fault) => {
-                forget(&mut self.office);
+                forget(self.alloc, &mut self.office);
                 Err(self.cut_off(fault))
             }
         }
@@ -334,7 +334,7 @@ impl<S: Alter> Rows<S> {
         }
         key_fits(key);
         view_fits(view);
-        forget(&mut self.office);
+        forget(self.alloc, &mut self.office);
         match commit_act(&mut self.connection, self.alloc, row, lang, view) {
             Ok(()) => Ok(()),
             Err(failure) => Err(self.lost(failure)),
@@ -357,7 +357,7 @@ impl<S: Alter> Rows<S> {
         if self.stopped {
             return Err(Lost::Disk);
         }
-        forget(&mut self.office);
+        forget(self.alloc, &mut self.office);
         match commit_change(&mut self.connection, self.alloc, row, change) {
             Ok(()) => Ok(()),
             Err(failure) => Err(self.lost(failure)),

@@ -237,7 +237,7 @@ fn add_leftovers<'a>(
 /// obsolete ones in the text's. All revisions are 1. (The states of Weblate's documentation, "Translation states"; the GNU gettext
 /// manual, "The Format of PO Files".)
 ///
-/// None exactly where the language would have more than 60,000 units. `Memory` where a growth was refused.
+/// None exactly where the language would have more than 150,000 units. `Memory` where a growth was refused.
 pub fn load(
     alloc: Global,
     template: &Catalogue,

@@ -23,7 +23,7 @@ use std::alloc::{AllocError, Global};
 use units::{Keyed, Memory, Unit};
 
 /// How many units a language has at most, obsolete ones included.
-const MAX_UNITS: usize = 60_000;
+const MAX_UNITS: usize = 150_000;
 
 /// What becomes of a unit and the unit afterwards, by the entries of its key.
 fn update_one<'a>(
@@ -142,7 +142,7 @@ fn with_new<'a>(
 /// those of new keys in the template's. (The states of Weblate's documentation, "Translation states"; the GNU gettext manual, "The
 /// Format of PO Files".)
 ///
-/// None exactly where the language would have more than 60,000 units, or a unit would pass revision 9,000,000,000,000,000. `Memory`
+/// None exactly where the language would have more than 150,000 units, or a unit would pass revision 9,000,000,000,000,000. `Memory`
 /// where a growth was refused.
 pub fn plan(
     alloc: Global,

@@ -66,11 +66,11 @@ abbrev pub team_limit : ℕ
 team_limit = 1000
 
 abbrev pub unit_limit : ℕ
-unit_limit = 60000
+unit_limit = 150000
 
 -- how many suggestions a unit has at most, and votes a suggestion
 abbrev pub suggestion_limit : ℕ
-suggestion_limit = 50
+suggestion_limit = 100
 
 abbrev pub vote_limit : ℕ
 vote_limit = 10000

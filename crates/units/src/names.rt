@@ -6,6 +6,7 @@ ghost use Rattle.std.specs.Cmp.{partial_equiv_from_equiv};
 ghost use Rattle.std.specs.Cmp.Lexicographic.{pointwise, nat_list_eq_equiv};
 ghost use Rattle.units.specs.Limits as limits;
 
+use arrayvec::ArrayString;
 use po_read::Duplicate;
 use std::alloc::{AllocError, Global};
 use std::fmt;
@@ -15,28 +16,30 @@ use std::marker::Model;
 /// project's own rule.)
 #[derive(Drop, Debug)]
 pub struct Name {
-    name: String,
+    /// In the value itself, so that a copy takes no memory of its own.
+    name: ArrayString<32>,
 }
 
 impl Model for Name {
     ghost Value = { List ℕ };
 
-    ghost view = { λ a. string_bytes a.name };
+    ghost view = { λ a. a.name.bytes };
 
-    ghost invariant = { λ a. limits.is_name (string_bytes a.name) ≡ true };
+    ghost invariant = { λ a. limits.is_name a.name.bytes ≡ true };
 }
 
 impl Name {
-    /// The text as a name, where it is one.
-    pub fn try_new(alloc: Global, text: &str) -> Result<Option<Name>, AllocError>
+    /// The text as a name, where it is one. It takes no memory.
+    pub fn try_new(_alloc: Global, text: &str) -> Result<Option<Name>, AllocError>
         ensures { IfOk result (λ o. o ≡ (if limits.is_name text.now then Some text.now else None)) }
     {
         if !is_name(text) {
             return Ok(None);
         }
-        Ok(Some(Name {
-            name: String::from_str(alloc, text)?,
-        }))
+        match ArrayString::from(text) {
+            Ok(name) => Ok(Some(Name { name })),
+            Err(_) => Ok(None),
+        }
     }
 
     /// The text of the name.
@@ -58,9 +61,7 @@ impl fmt::Display for Name {
 
 impl Duplicate for Name {
     fn duplicate(&self) -> Result<Name, AllocError> {
-        Ok(Name {
-            name: self.name.clone()?,
-        })
+        Ok(Name { name: self.name })
     }
 }
 

@@ -1,6 +1,6 @@
 //! Where bytes go, and where they come from.
 
-ghost use Rattle.std.specs.Prelude.{◌≡◌, ◌<◌, ◌≤◌, ℕ, List, Option, length, take, OnOk, OnErr, IfOk};
+ghost use Rattle.std.specs.Prelude.{◌≡◌, ◌<◌, ◌≤◌, ℕ, Bool, false, List, Option, length, take, OnOk, OnErr, IfOk};
 ghost use Rattle.units.specs.Streams.{one_more, append_known, prepend_known, IsAtEnd};
 
 use thiserror::Error;
@@ -31,6 +31,9 @@ pub trait ByteSink {
     /// How many writes failed so far, up to the greatest `u64`.
     ghost failed: { Self → ℕ };
 
+    /// Whether it may hold back bytes that it took.
+    ghost holds_back: { Self → Bool };
+
     /// Takes bytes from the front, and answers how many.
     fn write(&mut self, bytes: &[u8]) -> Result<usize, SinkFault>
         requires { 0 < length bytes.now }
@@ -44,11 +47,9 @@ pub trait ByteSink {
     /// Hands on what it holds back, where it holds anything back: a client that waits for an answer gets it.
     fn flush(&mut self) -> Result<(), SinkFault>
         ensures same { taken self.new ≡ taken self.old }
+        ensures ok { OnOk result (holds_back self.new ≡ false) }
         ensures ok_failed { OnOk result (failed self.new ≡ failed self.old) }
-        ensures err_failed { OnErr result (failed self.new ≡ one_more (failed self.old)) }
-    {
-        Ok(())
-    }
+        ensures err_failed { OnErr result (failed self.new ≡ one_more (failed self.old)) };
 
     /// How many writes failed so far.
     fn failures(&self) -> u64

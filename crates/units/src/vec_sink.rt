@@ -1,5 +1,5 @@
 //! A sink over memory.
-ghost use Rattle.std.specs.Prelude.{Some};
+ghost use Rattle.std.specs.Prelude.{Some, false};
 
 use crate::streams::{ByteSink, SinkFault};
 
@@ -21,6 +21,8 @@ impl ByteSink for VecSink {
 
     ghost failed = { λ sink. sink.failed };
 
+    ghost holds_back = { λ _. false };
+
     fn write(&mut self, bytes: &[u8]) -> Result<usize, SinkFault> {
         let count = bytes.len().min(self.piece).min(self.room);
         if count == 0 || self.bytes.extend_from_slice(&bytes[..count]).is_err() {
@@ -29,6 +31,10 @@ impl ByteSink for VecSink {
         }
         self.room -= count;
         Ok(count)
+    }
+
+    fn flush(&mut self) -> Result<(), SinkFault> {
+        Ok(())
     }
 
     fn failures(&self) -> u64 {

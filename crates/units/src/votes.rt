@@ -162,13 +162,14 @@ fn weight(value: VoteValue) -> i64
 }
 
 /// The same votes, in their order.
+/// There is some room where they are many: a copy is mostly made for one vote more.
 fn copied_votes(
     alloc: Global,
     votes: &[(Name, VoteValue)],
 ) -> Result<Vec<(Name, VoteValue)>, AllocError>
     ensures { IfOk result (λ copy. copy.items ≡ votes.now) }
 {
-    let mut all = Vec::new(alloc);
+    let mut all = Vec::with_capacity(alloc, votes.len() + votes.len() / 16)?;
     for vote in votes {
         all.push((vote.0.duplicate()?, vote.1))?;
     }

@@ -94,7 +94,7 @@ opening_starts name = record {
     reviewed = λ off place unit e. nothing_there place_cmp place unit e;
     few_languages = rw (maps.len-empty text_cmp Entry) (omega arith);
     few_names = rw (one_long text_cmp text_total name Manager) (omega arith);
-    few_units = λ lang. subst (λ (es : List (Place × Unit)). length (map (λ e. e.1) (filter (λ e. text_eq lang e.0.0) es)) ≤ 60000) (sym (no_entries place_cmp)) (omega arith);
+    few_units = λ lang. subst (λ (es : List (Place × Unit)). length (map (λ e. e.1) (filter (λ e. text_eq lang e.0.0) es)) ≤ 150000) (sym (no_entries place_cmp)) (omega arith);
   };
   recorded = λ place unit e. nothing_there place_cmp place unit e;
   own_numbers = subst (λ (es : List (Place × Unit)). IsDistinct text_eq (flat_map (λ e. map (λ s. s.number) e.1.suggestions) es)) (sym (no_entries place_cmp)) tt;
@@ -209,7 +209,7 @@ few_members = rw (maps.len-insert text_total (maps.insert maps.empty root Manage
     by_test true n e = omega arith
     by_test false n e = omega arith
 
-one_or_none : (c : Bool) → length (map (λ (e : Place × Unit). e.1) (cond c (((de, hello), demo_unit) ∷ []) [])) ≤ 60000
+one_or_none : (c : Bool) → length (map (λ (e : Place × Unit). e.1) (cond c (((de, hello), demo_unit) ∷ []) [])) ≤ 150000
 one_or_none true = omega arith
 one_or_none false = omega arith
 
@@ -244,7 +244,7 @@ demo_starts = record {
     reviewed = λ off place unit e. ap (λ (u : Unit). is_approved u.state) (sym (hello_only place unit e).1);
     few_languages = rw (one_long text_cmp text_total de (plain_entry [] demo_header)) (omega arith);
     few_names = few_members;
-    few_units = λ lang. subst (λ (es : List (Place × Unit)). length (map (λ e. e.1) (filter (λ e. text_eq lang e.0.0) es)) ≤ 60000) (sym (one_entry place_cmp place_total (de, hello) demo_unit)) (one_or_none (text_eq lang de));
+    few_units = λ lang. subst (λ (es : List (Place × Unit)). length (map (λ e. e.1) (filter (λ e. text_eq lang e.0.0) es)) ≤ 150000) (sym (one_entry place_cmp place_total (de, hello) demo_unit)) (one_or_none (text_eq lang de));
   };
   recorded = λ place unit e. subst (λ (u : Unit). All (λ s. IsSome (maps.get begun.book s.number)) u.suggestions) (hello_only place unit e).1 (All-nil _);
   own_numbers = subst (λ (es : List (Place × Unit)). IsDistinct text_eq (flat_map (λ e. map (λ s. s.number) e.1.suggestions) es)) (sym (one_entry place_cmp place_total (de, hello) demo_unit)) tt;

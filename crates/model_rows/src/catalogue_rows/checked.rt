@@ -2,9 +2,13 @@
 use crate::catalogue_rows::stage::Stage;
 use crate::catalogue_rows::texts::plain;
 use crate::words::policy;
-use checks::{Findings, Source, directives, findings, result_state};
+use checks::{Findings, Source, brace_names, directives, findings, result_state};
 use po_read::Entry;
 use std::alloc::{AllocError, Global};
+
+const BRACKETS: [&str; 2] = ["[", "]"];
+
+const BRACES: [&str; 2] = ["{", "}"];
 
 fn tell_barred(told: &mut String, parts: &[String]) -> Result<(), AllocError> {
     for part in parts {
@@ -20,6 +24,31 @@ pub(crate) fn tell_directives(alloc: Global, told: &mut String, text: &str) -> O
         Ok(found) => tell_barred(told, found.as_slice()).ok(),
         Err(_) => None,
     }
+}
+
+/// A text with these two characters in place of those.
+fn exchanged(alloc: Global, text: &str, old: [&str; 2], new: [&str; 2]) -> Option<String> {
+    let [opening, closing] = old;
+    let [new_opening, new_closing] = new;
+    let text = text.replace(alloc, opening, new_opening).ok()?;
+    text.as_str().replace(alloc, closing, new_closing).ok()
+}
+
+fn tell_brace_names(alloc: Global, told: &mut String, text: &str) -> Option<()> {
+    match brace_names(alloc, text) {
+        Ok(found) => tell_barred(told, found.as_slice()).ok(),
+        Err(_) => None,
+    }
+}
+
+/// Tells each placeholder in braces of a text, with a bar behind it. Brackets stand for braces, also in what is told.
+pub(crate) fn tell_braces(alloc: Global, told: &mut String, text: &str) -> Option<()> {
+    let text = plain(alloc, text)?;
+    let text = exchanged(alloc, text.as_str(), BRACKETS, BRACES)?;
+    let mut barred = String::new(alloc);
+    tell_brace_names(alloc, &mut barred, text.as_str())?;
+    let barred = exchanged(alloc, barred.as_str(), BRACES, BRACKETS)?;
+    told.push_str(barred.as_str()).ok()
 }
 
 fn tell_numbers(told: &mut String, numbers: &[u32]) -> Result<(), AllocError> {

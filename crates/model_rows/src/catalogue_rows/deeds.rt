@@ -1,5 +1,5 @@
 //! What a row comes to.
-use crate::catalogue_rows::checked::{tell_directives, tell_findings, tell_state};
+use crate::catalogue_rows::checked::{tell_braces, tell_directives, tell_findings, tell_state};
 use crate::catalogue_rows::entries::{put_entries, put_entry, tell_made};
 use crate::catalogue_rows::lexed::{first_fault, tell_fault, tell_lines, tell_read};
 use crate::catalogue_rows::rules;
@@ -18,6 +18,7 @@ pub(crate) fn tell(alloc: Global, told: &mut String, stage: &mut Stage, deed: &s
         "text" => put_kept(alloc, stage, text),
         "write-fault" => tell_write_fault(told, text),
         "directives" => tell_directives(alloc, told, text),
+        "braces" => tell_braces(alloc, told, text),
         "rule" => rules::put(alloc, told, stage, text),
         "say-rule" => rules::tell_fault(alloc, told, text),
         "index" => rules::tell_index(told, stage, text),

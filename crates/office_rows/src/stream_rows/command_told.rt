@@ -20,10 +20,13 @@ pub(crate) fn command_told(alloc: Global, given: &mut Vec<u8>, deed: &str) -> Op
     come(alloc, words, given.as_slice())
 }
 
-/// What the words' command comes to with this text, by any pieces.
+/// What the words' command comes to with this text, by any pieces; or, where the words say so, by the greatest alone.
 fn come(alloc: Global, words: &str, text: &[u8]) -> Option<String> {
-    let told = come_by(alloc, words, text, 1)?;
-    for piece in [100, usize::MAX] {
+    let told = come_by(alloc, words, text, usize::MAX)?;
+    if has(words, "whole") {
+        return Some(told);
+    }
+    for piece in [1, 100] {
         let other = come_by(alloc, words, text, piece)?;
         if other.as_str() != told.as_str() {
             return format!(in alloc; "{told}, by {piece} bytes {other}").ok();

@@ -1,12 +1,17 @@
 //! What is done to the office in a database.
 ghost use Rattle.std.specs.Prelude.{◌≡◌, false};
 
+use crate::desk_rows::unit_told;
 use crate::stream_rows::streams::{Kept, Streams};
 use crate::stream_rows::table_rows::push_rows;
-use file_commands::{Closed, deliver_store, export_store, init_store, say_ready};
+use file_commands::{
+    Closed, Unopened, deliver_store, export_store, init_store, open_desk, say_ready,
+    tell_store_fault,
+};
+use office::Desk;
 use sqlite::{Alter, Connection};
 use std::alloc::Global;
-use tables::Start;
+use tables::{Start, Tables};
 use units::Lang;
 
 /// What is done to the office in a database, over the streams of a row; it comes to an exit status.
@@ -18,6 +23,8 @@ pub(crate) enum Deed<'a> {
     Deliver(Option<&'a Lang>),
     /// A language is exported.
     Export(&'a Lang),
+    /// A unit is kept in the output, as callers see it, by its language and key.
+    Unit(&'a str),
     /// Statements run, as some other tool runs them: 0 where they are taken.
     Sql(&'a str),
     /// The rows of all tables are kept in the output: 0 where all are.
@@ -45,6 +52,7 @@ pub(crate) fn done<S: Alter + Drop>(
         Deed::Make(start) => init_store(alloc, connection, start, &mut streams.faults),
         Deed::Deliver(lang) => deliver(alloc, connection, streams, lang),
         Deed::Export(lang) => export(alloc, connection, streams, lang),
+        Deed::Unit(place) => look(alloc, connection, streams, place),
         Deed::Sql(statements) => executed(connection, statements),
         Deed::Rows => read(alloc, connection, streams),
     }
@@ -83,6 +91,40 @@ fn export<S: Alter + Drop>(
         &mut streams.output,
         &mut streams.faults,
     )
+}
+
+/// Keeps a unit in an output, as callers see it.
+fn keep_unit<T: Tables>(
+    alloc: Global,
+    desk: &mut Desk<T>,
+    output: &mut Kept,
+    place: &str,
+) -> Option<()> {
+    let told = unit_told(alloc, desk, place)?;
+    output.keep(told.as_str().as_bytes())
+}
+
+fn look<S: Alter + Drop>(
+    alloc: Global,
+    connection: Connection<S>,
+    streams: &mut Streams<'_>,
+    place: &str,
+) -> Closed<S>
+    requires { connection.in_transaction ≡ false }
+{
+    match open_desk(alloc, connection) {
+        Ok(mut desk) => {
+            let kept = keep_unit(alloc, &mut desk, &mut streams.output, place);
+            Closed {
+                status: status_of(kept.is_some()),
+                connection: desk.into_tables().into_connection(),
+            }
+        }
+        Err(Unopened { fault, connection }) => Closed {
+            status: tell_store_fault(&mut streams.faults, fault),
+            connection,
+        },
+    }
 }
 
 /// The status of what was done, or not.

@@ -40,13 +40,16 @@ fn deliver_or_export(
     }
 }
 
-/// Runs the words' command on the file.
+/// Runs the words' command on the file, or looks at a unit of it.
 fn run(
     alloc: Global,
     file: &[u8],
     streams: &mut Streams<'_>,
     words: &str,
 ) -> Option<(u8, Vec<u8>)> {
+    if let Some(place) = words.strip_prefix("unit ") {
+        return in_file(alloc, file, Deed::Unit(place), streams);
+    }
     match word_behind(words, "init") {
         Some(who) => init(alloc, file, streams, who),
         None => deliver_or_export(alloc, file, streams, words),

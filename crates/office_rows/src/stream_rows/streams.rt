@@ -1,5 +1,5 @@
 //! Streams in memory, which may fail. Nothing is known of what they hold.
-ghost use Rattle.std.specs.Prelude.{None};
+ghost use Rattle.std.specs.Prelude.{None, false};
 
 use crate::stream_rows::words::{has, most};
 use client::{Link, send_lines};
@@ -78,6 +78,8 @@ impl ByteSink for Kept {
     ghost taken = { λ _. None };
 
     ghost failed = { λ s. s.sink.failed };
+
+    ghost holds_back = { λ _. false };
 
     fn write(&mut self, bytes: &[u8]) -> Result<usize, SinkFault> {
         self.sink.write(bytes)

@@ -35,10 +35,26 @@ fn add_piece(bytes: &mut Vec<u8>, piece: &str, notation: Notation) -> Option<()>
     }
     let (count, letters) = count_of(piece)?;
     let (text, rest) = repeated(letters)?;
-    for _ in 0..count {
-        add_letters(bytes, text, notation)?;
-    }
+    add_times(bytes, count, text, notation)?;
     add_letters(bytes, rest, notation)
+}
+
+/// Adds letters in which no `^` stands, so many times. (A letter alone comes up to 22 million times.)
+fn add_times(bytes: &mut Vec<u8>, count: u32, letters: &str, notation: Notation) -> Option<()> {
+    match letters.as_bytes() {
+        [letter] if *letter != b'|' => {
+            let len = bytes.len().checked_add(count as usize)?;
+            bytes.resize(len, *letter).ok()
+        }
+        _ => add_all_times(bytes, count, letters, notation),
+    }
+}
+
+fn add_all_times(bytes: &mut Vec<u8>, count: u32, letters: &str, notation: Notation) -> Option<()> {
+    for _ in 0..count {
+        add_letters(bytes, letters, notation)?;
+    }
+    Some(())
 }
 
 /// Adds letters in which no `^` stands.

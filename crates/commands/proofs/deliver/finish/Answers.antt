@@ -1,10 +1,10 @@
-use Rattle.std.proofs.Common.{◌≡◌, refl}
+use Rattle.std.proofs.Common.{◌≡◌, refl, rules}
 use Rattle.commands.specs.Gathering.{flushed, held}
 use Rattle.commands.specs.Writers.{writer_at}
 use Rattle.commands.proofs.deliver.finish.Goals as goal
 
 pub returns-in-Ok-clause-finished : goal.returns-in-Ok-clause-finished
-returns-in-Ok-clause-finished g c = flushed _ c.export_named-status.ensures.exported c.in-Ok.ensures
+returns-in-Ok-clause-finished g c = flushed _ c.export_named-status.ensures.exported (search rules)
 
 pub returns-in-Err-clause-finished : goal.returns-in-Err-clause-finished
-returns-in-Err-clause-finished g c = held _ c.export_named-status.result c.export_named-status.ensures.exported c.in-Err.ensures refl
+returns-in-Err-clause-finished g c = held _ c.export_named-status.result c.export_named-status.ensures.exported (search rules) refl

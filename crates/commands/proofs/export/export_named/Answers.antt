@@ -1,5 +1,7 @@
-use Rattle.std.proofs.Common.{◌≡◌, refl, sym, ap}
+use Rattle.std.proofs.Common.{◌≡◌, refl, sym, ap, Result, Err}
 use Rattle.std.specs.Prelude.{option_map}
+use Rattle.office.specs.declared.export.ExportReceipt.{ExportReceipt}
+use Rattle.office.specs.declared.faults.ExportFault.{ExportFault}
 use Rattle.commands.specs.DeliverLines.{unnamed, written, faulted}
 use Rattle.commands.proofs.Streaming.{took_none}
 use Rattle.commands.proofs.Exporting.{still_exported, text_taken}
@@ -11,7 +13,7 @@ returns-in-None-clause-exported g c = unnamed (ap (option_map _) c.in-None.is) (
 pub returns-in-Ok-clause-exported : goal.returns-in-Ok-clause-exported
 returns-in-Ok-clause-exported g c =
     let done = c.in-Ok.ensures in
-    written c.in-Some.lang.now (ap (option_map _) c.in-Some.is)
+    written c.in-Some.lang.now (ap (option_map _) c.in-Some.is) done.kept.open_still
     (λ h. text_taken _ _ _ _ (still_exported _ _ (g.T.Tables.means c.args.desk.now) (g.T.Tables.means c.export.new.self) c.in-Some.lang.now _ _ _ done.kept.open_still done.same done.text h))
     (took_none _ _) refl
 
@@ -20,5 +22,6 @@ returns-in-Err-clause-exported g c =
     let cut = c.in-Err.ensures in
     faulted c.in-Some.lang.now (ap (option_map _) c.in-Some.is)
     (g.T.Tables.means c.args.desk.now).office (λ h w. sym (ap (λ m. m.office) (cut.same h w)))
-    (record { fault = c.in-Err.fault; cut = cut.err; told = c.tell_fault.ensures.told })
+    (record { fault = c.in-Err.fault; cut = cut.err; device = cut.device; told = c.tell_fault.ensures.told })
+    (λ h none. cut.open_still h (ap {A = ExportFault} {B = Result ExportReceipt ExportFault} (λ e. Err e) none))
     c.tell_fault.ensures.status

@@ -4,8 +4,8 @@ use Rattle.commands.proofs.export.export_text.Goals as goal
 
 pub returns-in-Ok-clause-printed : goal.returns-in-Ok-clause-printed
 returns-in-Ok-clause-printed g c =
-    receipt_told c.in-Ok.receipt c.tell_written.result c.in-Ok.ensures.text c.in-Ok.ensures.count c.tell_written.ensures.told
+    receipt_told c.in-Ok.receipt c.tell_written.result c.in-Ok.ensures.text c.in-Ok.ensures.unfailed c.tell_written.ensures.told
 
 pub returns-in-Err-clause-printed : goal.returns-in-Err-clause-printed
 returns-in-Err-clause-printed g c =
-    ended (record { fault = c.in-Err.fault; cut = c.in-Err.ensures.err; told = c.tell_fault.ensures.told }) c.tell_fault.ensures.status
+    ended (record { fault = c.in-Err.fault; cut = c.in-Err.ensures.err; device = c.in-Err.ensures.device; told = c.tell_fault.ensures.told }) c.tell_fault.ensures.status

@@ -25,4 +25,4 @@ pub returns : goal.returns
 returns g c =
     let start : export_fault_line c.args.fault ≡ export_fault_line c.args.fault = refl in
     let number = ap (λ k. decimal k ++ codes "\n") (sym c.number.ensures) in
-    outcome _ _ _ (more (more (more (begin _ _ start) refl c.in_ok-send.ensures) number c.in_ok-send_number.ensures) refl c.in_ok-send-2.ensures) refl c.flush.ensures
+    outcome _ _ _ (more (more (more (begin _ _ start) refl c.in_ok-send.ensures) number c.in_ok-send_number.ensures) refl c.in_ok-send-2.ensures) refl c.flush.ensures.sent

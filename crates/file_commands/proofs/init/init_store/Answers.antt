@@ -3,6 +3,7 @@ use Rattle.sqlite.specs.Held.{state}
 use Rattle.tables.specs.Starts.{started}
 use Rattle.commands.proofs.Streaming.{took_none}
 use Rattle.office_files.specs.Files.{KeepsFile, LeavesFiles}
+use Rattle.store_sql.specs.Tables.{held_by}
 use Rattle.file_commands.specs.Opening.{Holds}
 use Rattle.file_commands.specs.Init.{made, refused}
 use Rattle.file_commands.proofs.Tables.{holds_made}
@@ -15,7 +16,7 @@ returns-in-Ok-clause-initialised g c =
       was_empty = c.in-Ok.ensures.allowed;
       file = subst (λ held. KeepsFile (state g.S.Store held)) (sym c.into_connection.ensures.held) c.in-Ok.ensures.made.file;
       leaves = subst (λ held. LeavesFiles (state g.S.Store held)) (sym c.into_connection.ensures.held) c.in-Ok.ensures.made.leaves;
-      holds = subst (λ held. Holds (state g.S.Store held) (started c.args.start.now)) (sym c.into_connection.ensures.held) (holds_made g.S.Store c.in-Ok.tables.rows c.args.start.now c.in-Ok.ensures.made);
+      holds = subst (λ held. Holds (state g.S.Store held) (started c.args.start.now)) (sym c.into_connection.ensures.held) (holds_made g.S.Store (held_by g.S.Store c.in-Ok.tables) c.args.start.now c.in-Ok.ensures.made);
     })
     (took_none _ _) refl
 

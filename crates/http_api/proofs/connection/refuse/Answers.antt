@@ -4,6 +4,7 @@ use Rattle.commands.specs.Writers.{writer_at, TakesAll, TakesPart}
 use Rattle.http_api.specs.declared.connection.Next.{Next}
 use Rattle.http_api.specs.declared.connection.Next.TheVariants.{Last}
 use Rattle.http_api.specs.declared.faults.ServeFault.TheVariants as fault
+use Rattle.http_api.proofs.Counting.{on_ok_and}
 use Rattle.http_api.proofs.Handing.{passed_on, tells_handed, tells_and, ok_and}
 use Rattle.http_api.proofs.connection.refuse.Goals as goal
 
@@ -19,7 +20,10 @@ returns-clause-told g c =
     let mid = writer_at g.W.ByteSink.taken g.W.ByteSink.failed c.send_refusal.new.w in
     let new = writer_at g.W.ByteSink.taken g.W.ByteSink.failed c.hand_on.new.w in
     let text = refusal_text c.args.refusal true in
-    tells_and old new text c.hand_on.result _ c.and.result c.and.ensures (tells_handed old mid new text c.hand_on.result c.in_ok-send_refusal.ensures c.hand_on.ensures)
+    tells_and old new text c.hand_on.result _ c.and.result c.and.ensures (tells_handed old mid new text c.hand_on.result c.in_ok-send_refusal.ensures c.hand_on.ensures.told)
 
 pub returns-clause-next : goal.returns-clause-next
 returns-clause-next g c = ok_and (λ (next : Next). next ≡ Last) c.hand_on.result Last c.and.result c.and.ensures refl
+
+pub returns-clause-handed_on : goal.returns-clause-handed_on
+returns-clause-handed_on g c = on_ok_and _ c.hand_on.result Last c.and.result c.and.ensures c.hand_on.ensures.handed_on

@@ -1,4 +1,4 @@
-use Rattle.http_api.proofs.Exporting.{measured_if, unmeasured_if}
+use Rattle.http_api.proofs.Exporting.{measured_if, unmeasured_if, open_if_absent}
 use Rattle.http_api.proofs.exports.measure.Goals as goal
 
 pub returns-clause-ok : goal.returns-clause-ok
@@ -6,3 +6,6 @@ returns-clause-ok g c = λ h. measured_if _ _ _ c.export.result (c.export.ensure
 
 pub returns-clause-err : goal.returns-clause-err
 returns-clause-err g c = λ h. unmeasured_if _ _ _ _ _ c.export.result (c.export.ensures.err h)
+
+pub returns-clause-no_language : goal.returns-clause-no_language
+returns-clause-no_language g c = λ h. open_if_absent c.export.result (c.export.ensures.open_still h)

@@ -1,7 +1,10 @@
-use Rattle.std.proofs.Common.{◌≡◌, true, ap, Result, Err}
+use Rattle.std.proofs.Common.{◌≡◌, true, ap, Result, Err, ◌∙◌}
 use Rattle.http_api.specs.declared.faults.ServeFault.{ServeFault}
+use Rattle.http_api.specs.declared.faults.ServeFault.TheVariants as fault
 use Rattle.commands.specs.Writers.{writer_at}
-use Rattle.http_api.proofs.Exporting.{text_written, text_broke_off, head_broke_off}
+use Rattle.http_api.specs.Answering.{AnswerFailed}
+use Rattle.http_api.proofs.Handing.{passed_on}
+use Rattle.http_api.proofs.Exporting.{text_written, text_broke_off, head_broke_off, export_failed}
 use Rattle.http_api.proofs.exports.write_export.Goals as goal
 
 pub returns-in_err-write_head-clause-wrote : goal.returns-in_err-write_head-clause-wrote
@@ -15,3 +18,16 @@ returns-in-Ok-clause-wrote g c = λ text holds.
 pub returns-in-Err-clause-wrote : goal.returns-in-Err-clause-wrote
 returns-in-Err-clause-wrote g c = λ text holds.
     text_broke_off {T = Unit {0}} (writer_at g.W.ByteSink.taken g.W.ByteSink.failed c.args.w.now) (writer_at g.W.ByteSink.taken g.W.ByteSink.failed c.write_head.new.w) (writer_at g.W.ByteSink.taken g.W.ByteSink.failed c.export.new.w) c.args.receipt _ text c.args.last c.in-Err.fault (Err c.export_fault.result) (ap {A = ServeFault} {B = Result (Unit {0}) ServeFault} (λ e. Err e) c.export_fault.ensures) c.in-Err.ensures.kept.honest holds c.in_ok-write_head.ensures c.in-Err.ensures.err c.in-Err.ensures.kept.disk
+
+pub returns-in_err-write_head-clause-failures : goal.returns-in_err-write_head-clause-failures
+returns-in_err-write_head-clause-failures g c =
+    let old = g.W.ByteSink.failed c.args.w.now in
+    let new = g.W.ByteSink.failed c.write_head.new.w in
+    passed_on (λ _. new ≡ old) (AnswerFailed (g.T.Tables.is_stopped c.args.desk.now ≡ true) old new) c.from_residual.result fault.Write c.from_residual.ensures.1 c.in_err-write_head.ensures.count
+
+pub returns-in-Ok-clause-failures : goal.returns-in-Ok-clause-failures
+returns-in-Ok-clause-failures g c = c.in-Ok.ensures.unfailed ∙ c.in_ok-write_head.ensures.count
+
+pub returns-in-Err-clause-failures : goal.returns-in-Err-clause-failures
+returns-in-Err-clause-failures g c =
+    export_failed (g.T.Tables.is_stopped c.export.new.self ≡ true) (g.W.ByteSink.failed c.args.w.now) (g.W.ByteSink.failed c.write_head.new.w) (g.W.ByteSink.failed c.export.new.w) c.in-Err.fault c.export_fault.result c.export_fault.ensures c.in_ok-write_head.ensures.count c.in-Err.ensures.device c.in-Err.ensures.kept.disk

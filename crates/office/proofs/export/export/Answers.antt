@@ -6,22 +6,24 @@ use Rattle.office.specs.declared.export.ExportReceipt.{ExportReceipt}
 use Rattle.office.specs.declared.faults.ExportFault.TheVariants as fault
 use Rattle.office.specs.Exports.{WasExported, WasCut}
 use Rattle.office.specs.Faults.{fault_of}
-use Rattle.office.proofs.Exported.{text_there, all_exported, none_exported, sink_cut, passed_on}
+use Rattle.office.proofs.Exported.{text_there, all_exported, none_exported, sink_cut, told_on}
 use Rattle.office.proofs.Spelled.{spells_its_catalogue, exports_the_same}
 use Rattle.office.proofs.export.export.Goals as goal
 
-pub returns-in_err-each_entry-clause-err : goal.returns-in_err-each_entry-clause-err
-returns-in_err-each_entry-clause-err g c = λ honest.
-    let text = export_text (g.T.Tables.means c.args.tables.now).office c.args.lang.now in
+pub returns-in-Err-clause-err : goal.returns-in-Err-clause-err
+returns-in-Err-clause-err g c = λ honest.
+    let office = (g.T.Tables.means c.args.tables.now).office in
+    let lang = c.args.lang.now in
     let taken = g.W.ByteSink.taken in
     let failed = g.W.ByteSink.failed in
-    let now = c.each_entry.new.sink.w.now in
+    let now = c.each_entry-sent.new.sink.w.now in
     let old = c.args.w.now in
-    let each = c.in_err-each_entry.field-0.0 in
-    let cut : WasCut text (taken old) (taken now) (failed old) (failed now) (fault_of each) =
-    subst (λ t. WasCut t (taken old) (taken now) (failed old) (failed now) (fault_of each)) (sym (text_there (g.T.Tables.means c.args.tables.now).office c.args.lang.now))
-    (sink_cut (λ s. s.w.ghost_name) (λ s. taken s.w.now) (λ s. failed s.w.now) (λ s. s.checksum) (λ s. s.begun) _ _ _ each refl c.new.ensures (c.in_err-each_entry.ensures.cut honest)) in
-    passed_on (taken old) (failed old) text c.from_residual.result (fault_of each) (search rules) (search rules) c.from_residual.ensures.1 cut
+    let each = c.in-Err.fault in
+    let cut : WasCut (export_text office lang) (taken old) (taken now) (failed old) (failed now) (fault_of each) =
+    subst (λ t. WasCut t (taken old) (taken now) (failed old) (failed now) (fault_of each)) (sym (text_there office lang))
+    (sink_cut (λ s. s.w.ghost_name) (λ s. taken s.w.now) (λ s. failed s.w.now) (λ s. s.checksum) (λ s. s.begun) _ _ _ each refl c.new.ensures (c.in-Err.ensures.cut honest)) in
+    told_on (export_text office lang) (taken old) (failed old) (fault_of each) c.from.result c.told.result (search rules) (search rules)
+    c.failures-before.ensures c.failures-after.ensures c.from.ensures cut c.told.ensures.failed c.told.ensures.others
 
 pub returns-then-not-begun-clause-err : goal.returns-then-not-begun-clause-err
 returns-then-not-begun-clause-err g c = λ honest.
@@ -29,11 +31,11 @@ returns-then-not-begun-clause-err g c = λ honest.
     let lang = c.args.lang.now in
     let taken = g.W.ByteSink.taken in
     let failed = g.W.ByteSink.failed in
-    let now = c.each_entry.new.sink.w.now in
+    let now = c.each_entry-sent.new.sink.w.now in
     let old = c.args.w.now in
     let was : WasCut (export_text office lang) (taken old) (taken now) (failed old) (failed now) fault.NoLanguage =
     subst (λ text. WasCut text (taken old) (taken now) (failed old) (failed now) fault.NoLanguage) (sym (text_there office lang))
-    (none_exported (entries_of office lang) c.if-not-begun.true (c.in_ok-each_entry.ensures.all honest).1) in
+    (none_exported (entries_of office lang) c.if-not-begun.true (c.in_default.ensures.all honest).1) in
     search rules
 
 pub returns-clause-text : goal.returns-clause-text
@@ -41,25 +43,20 @@ returns-clause-text g c = λ honest.
     let office = (g.T.Tables.means c.args.tables.now).office in
     let lang = c.args.lang.now in
     let old = g.W.ByteSink.taken c.args.w.now in
-    let now = g.W.ByteSink.taken c.each_entry.new.sink.w.now in
-    let receipt : ExportReceipt = record { bytes = c.each_entry.new.sink.checksum.bytes; sha256 = c.finalize.result } in
+    let now = g.W.ByteSink.taken c.each_entry-sent.new.sink.w.now in
+    let receipt : ExportReceipt = record { bytes = c.each_entry-sent.new.sink.checksum.bytes; sha256 = c.finalize.result } in
     let was : WasExported (export_text office lang) old now receipt =
     subst (λ text. WasExported text old now receipt) (sym (text_there office lang))
-    (all_exported (entries_of office lang) c.finalize.result c.new.ensures c.if-not-begun.false (c.in_ok-each_entry.ensures.all honest).1 c.finalize.ensures) in
+    (all_exported (entries_of office lang) c.finalize.result c.new.ensures c.if-not-begun.false (c.in_default.ensures.all honest).1 c.finalize.ensures) in
     subst (λ t. WasExported (export_text office lang) old t receipt) (search rules) was
 
 pub returns-clause-spelled : goal.returns-clause-spelled
 returns-clause-spelled g c = λ honest.
-    let whole = c.in_ok-each_entry.ensures.kept.open_still honest in
-    let keeps = subst KeepsRules (c.each_entry.ensures.same honest whole) (g.met.T.Tables.rules c.each_entry.new.self honest whole) in
+    let whole = c.in_default.ensures.kept.open_still honest in
+    let keeps = subst KeepsRules (c.each_entry-sent.ensures.same honest whole) (g.met.T.Tables.rules c.each_entry-sent.new.self honest whole) in
     spells_its_catalogue (g.T.Tables.means c.args.tables.now).office c.args.lang.now (g.W.ByteSink.taken c.args.w.now) _ _ keeps.office
-    (c.in_ok-each_entry.ensures.all honest).1.strings (returns-clause-text g c honest)
+    (c.in_default.ensures.all honest).1.strings (returns-clause-text g c honest)
 
 pub returns-clause-commuting : goal.returns-clause-commuting
 returns-clause-commuting g c = λ honest.
     exports_the_same (g.T.Tables.means c.args.tables.now).office c.args.lang.now (g.W.ByteSink.taken c.args.w.now) _ _ (returns-clause-text g c honest)
-
-pub returns-clause-count : goal.returns-clause-count
-returns-clause-count g c = λ honest.
-    let same : g.W.ByteSink.failed c.each_entry.new.sink.w.now ≡ g.W.ByteSink.failed c.args.w.now = (c.in_ok-each_entry.ensures.all honest).1.sent.count in
-    search rules

@@ -9,6 +9,6 @@ use Rattle.office_adoption.proofs.unit_rules.has_few_suggestions.Goals as goal
 
 pub returns : goal.returns
 returns c =
-    few_told c.args.unit.now c.hold_all.result (leb (length c.as_slice-suggestions.result.now) 50) c.have_few_votes.result c.hold_all.ensures
-    (ap (λ (xs : List Suggestion). leb (length xs) 50) c.as_slice-suggestions.ensures)
+    few_told c.args.unit.now c.hold_all.result (leb (length c.as_slice-suggestions.result.now) 100) c.have_few_votes.result c.hold_all.ensures
+    (ap (λ (xs : List Suggestion). leb (length xs) 100) c.as_slice-suggestions.ensures)
     (c.have_few_votes.ensures ∙ ap (list_all (λ (s : Suggestion). nat_le (maps.len s.votes) vote_limit)) c.as_slice-suggestions.ensures)

@@ -1,0 +1,11 @@
+//! What types keep of the values that rows are written for: their limits, and that their texts are UTF-8. Each function looks at its
+//! value, and does nothing with it: what it ensures is what clauses need.
+#![tactic(auto)]
+
+mod entries;
+mod texts;
+mod unit_parts;
+
+pub use entries::{entries_fit, language_fits};
+pub use texts::{key_fits, name_fits, record_fits};
+pub use unit_parts::{plans_fit, unit_fits, units_fit};
