@@ -27,7 +27,7 @@ HEADER = (
     'msgid ""\nmsgstr ""\n"Content-Type: text/plain; charset=UTF-8\\n"\n'
     '"Plural-Forms: nplurals=2; plural=n != 1;\\n"\n'
 )
-MOST_TEXT, MOST_LINE = 4_194_304, 5_500_000
+MOST_TEXT, MOST_LINE = 16_777_216, 22_000_000
 
 
 def key(i):

@@ -24,8 +24,9 @@ TOP = pathlib.Path(__file__).resolve().parent.parent
 ROWS = TOP / "crates" / "model_rows" / "stdin"
 PART = "== catalogues\n"
 KINDS = {1: "not UTF-8", 2: "line", 3: "quote", 4: "escape", 5: "order", 6: "forms", 7: "duplicate", 8: "charset", 9: "limit"}
-TEXT_LIMIT = 4_194_304
-STRING_LIMIT = 65_536
+TEXT_LIMIT = 16_777_216
+STRING_LIMIT = 262_144
+ENTRY_LIMIT = 50_000
 SHOWN = 5
 BATCH = 25
 
@@ -378,7 +379,7 @@ def soup(r):
 def large(r):
     """About as many entries, or bytes, as there may be."""
     if r.random() < 0.6:
-        count = 20_000 + r.choice([-1, 0, 0, 1])
+        count = ENTRY_LIMIT + r.choice([-1, 0, 0, 1])
         header = r.choice(["", 'msgid ""\nmsgstr ""\n', 'msgctxt ""\nmsgid ""\nmsgstr ""\n'])
         last = r.choice(["", '#~ msgid "x"\n#~ msgstr "x"\n', 'msgctxt "x"\nmsgctxt "x"', "# x", 'msgid "0"'])
         return (header + "".join(f'msgid "{n}"\nmsgstr ""\n' for n in range(count)) + last).encode()

@@ -330,9 +330,9 @@ def lengths(front, office):
     let_in(front, office, "an act of 99,999 bytes", act("ann", body=b"x" * 99_999))
     refused(front, office, "one of 100,000", act("ann", body=b"x" * 100_000), 413, "too-large")
     refused(front, office, "a manager's login that isn't root's", act("Bea", body=b"x" * 100_000), 413, "too-large")
-    reached = let_in(front, office, "a manager's of 5,242,880", act("root", body=b"x" * 5_242_880), "root")
-    same(f"{front.name}: its body", len(reached.body), 5_242_880)
-    refused(front, office, "a manager's of 5,242,881", act("root", body=b"x" * 5_242_881), 413, "too-large")
+    reached = let_in(front, office, "a manager's of 20,971,520", act("root", body=b"x" * 20_971_520), "root")
+    same(f"{front.name}: its body", len(reached.body), 20_971_520)
+    refused(front, office, "a manager's of 20,971,521", act("root", body=b"x" * 20_971_521), 413, "too-large")
     for login in ("ann", "root"):
         chunked = act(login, "Transfer-Encoding: chunked", body=b"2\r\n{}\r\n0\r\nX-Office-Caller: root\r\n\r\n", length=False)
         refused(front, office, f"chunks of {login}", chunked, 411, "length")

@@ -1,5 +1,5 @@
 #!/usr/bin/env python3
-"""Fills a language of the demo office with as many units as it may have, 60,000, and asks for one more.
+"""Fills a language of the demo office with as many units as it may have, 150,000, and asks for one more.
 
 Each template brings new messages, and those of the one before become obsolete units and stay. Replies of status 200 are told
 by their status, refusals by their bodies too.
@@ -30,14 +30,14 @@ def messages(letters, count):
 
 # The demo office has one unit in `de`.
 ROWS = [
-    (1, "root", messages("a", 20000), "200"),
-    (2, "root", messages("b", 20000), "200"),
-    (3, "root", messages("c", 20000), LIMIT),
-    (4, "root", messages("c", 19999), "200"),
+    (1, "root", messages("a", 50000), "200"),
+    (2, "root", messages("b", 50000), "200"),
+    (3, "root", messages("c", 50000), LIMIT),
+    (4, "root", messages("c", 49999), "200"),
     (5, "root", messages("d", 1), LIMIT),
     (6, "ann", messages("d", 1), ROLE),
     (7, "root", FAULTY, PO),
-    (8, "root", messages("a", 20000), "200"),
+    (8, "root", messages("a", 50000), "200"),
 ]
 
 

@@ -106,7 +106,7 @@ BEGINNING = [
     *({"act": "language", "lang": lang, "po": header(plural)} for lang, plural in LANGUAGES.items()),
     *({"act": "team", "name": name, "role": role} for name, role in (("ann", "translator"), ("bea", "translator"), ("rob", "reviewer"))),
     {"act": "policy", **POLICY},
-    *({"act": "suggest", "lang": "de", "id": "full", "seen": 1, "forms": [f"Vorschlag {n}"]} for n in range(50)),
+    *({"act": "suggest", "lang": "de", "id": "full", "seen": 1, "forms": [f"Vorschlag {n}"]} for n in range(100)),
 ]
 
 
@@ -557,7 +557,7 @@ def case_refusals(world):
     ann.click(f"#vote-for-{made}")
     ann.wait_text("#alert", "This suggestion isn't there any more")
     translate(ann, "full", "noch einer", "suggest")
-    ann.wait_text("#alert", "It is full: a message has at most 50 suggestions")
+    ann.wait_text("#alert", "It is full: a message has at most 100 suggestions")
     ann.click("#drop-draft")
     refused_by_policy(world, ann, rob)
 
@@ -757,9 +757,9 @@ def case_texts(world):
     tab.click("#translate")
     tab.wait_text("#alert", "In German: the text has a control character that a translation can't have. Nothing was sent.")
     tab.fill("#form-0", "")
-    tab.fill("#form-0", "x" * 65_537)
+    tab.fill("#form-0", "x" * 262_145)
     tab.click("#translate")
-    tab.wait_text("#alert", "In German: the text has more than 65,536 bytes. Nothing was sent.")
+    tab.wait_text("#alert", "In German: the text has more than 262,144 bytes. Nothing was sent.")
     tab.fill("#form-0", "")
     tab.open("%s: no such file\n")
     tab.fill("#form-0", "%s: keine solche Datei\n")

@@ -30,12 +30,12 @@ MODEL_ROWS = TOP / "crates" / "model_rows" / "stdin"
 OFFICE_ROWS = TOP / "crates" / "office_rows" / "stdin"
 CLI = TOP / "crates" / "cli"
 
-# Malformed texts that JSON Schema takes, by why it has to, each with a pattern of the text. (Nor can a schema count bytes: a string of fewer than
-# 65,536 characters may have more of them. No row has one.)
+# Malformed texts that JSON Schema takes, by why it has to, each with a pattern of the text.
 UNSAYABLE = {
     "a whole number with a fraction of 0": re.compile(r'"(?:value|seen|accept_at)":-?[0-9]+\.0+[,}]'),
     "a whole number with an exponent": re.compile(r'"(?:value|seen|accept_at)":[0-9.]+e[0-9]+[,}]'),
     "a zero with a sign": re.compile(r'"(?:value|seen|accept_at)":-0[,}]'),
+    "more bytes than characters": re.compile(r"[^\x00-\x7F]{131073}"),
 }
 
 looks = wrong = 0
@@ -235,24 +235,35 @@ def messages(stream):
             return
         headers = [(name.strip().lower(), value.strip()) for name, value in headers]
         lengths = [value for name, value in headers if name == b"content-length"]
-        length = int(lengths[0]) if lengths and lengths[0].isdigit() else 0
+        length = int(lengths[0]) if lengths and re.fullmatch(rb"[0-9]{1,9}", lengths[0]) else 0
         body = stream[match.end() : match.end() + length]
         yield match[1].decode(errors="replace"), headers, body
         stream = stream[match.end() + length :]
 
 
+def query_of(text):
+    """The parameters of a query; None where they are no UTF-8."""
+    try:
+        return urllib.parse.parse_qsl(text, keep_blank_values=True, errors="strict")
+    except UnicodeDecodeError:
+        return None
+
+
 def route_of(target):
-    """The route of a target, with its parameters; None where there is none."""
+    """The route of a target, with its parameters, which are None where they are no UTF-8; None where there is none."""
     path, _, query = target.partition("?")
     for route in DESCRIPTION["paths"]:
         found = re.fullmatch(re.sub(r"\{(\w+)\}", r"(?P<\1>[^/]+)", route), path)
         if found and ("?" not in target or route == "/v1/unit"):
-            return route, list(found.groupdict().items()) + urllib.parse.parse_qsl(query, keep_blank_values=True)
+            asked = query_of(query)
+            return route, None if asked is None else list(found.groupdict().items()) + asked
     return None
 
 
 def is_asked_well(route, method, parameters, headers, body):
     """Whether the description takes the parameters, the caller and the body of a message."""
+    if parameters is None:
+        return False
     told = DESCRIPTION["paths"][route][method]
     described = [resolved(it) for it in told.get("parameters", [])]
     names = [name for name, _ in parameters]
@@ -266,8 +277,8 @@ def is_asked_well(route, method, parameters, headers, body):
             return False
     if method == "get":
         return True
-    callers = [value.decode() for name, value in headers if name == b"x-office-caller"]
     try:
+        callers = [value.decode() for name, value in headers if name == b"x-office-caller"]
         return len(callers) == 1 and NAME.is_valid(callers[0]) and is_valid(BODY, body.decode())
     except UnicodeDecodeError:
         return False

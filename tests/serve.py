@@ -243,8 +243,8 @@ def routes(folder):
     ]
     ends = [
         ("no length", head_of(7).encode(), refusal(411, "Length Required", "length", end=True)),
-        ("too large", head_of(7, 5242881).encode(), refusal(413, "Payload Too Large", "too-large", end=True)),
-        ("too large, and its body", head_of(7, 5242881).encode() + b"x" * 5242881, refusal(413, "Payload Too Large", "too-large", end=True)),
+        ("too large", head_of(7, 20971521).encode(), refusal(413, "Payload Too Large", "too-large", end=True)),
+        ("too large, and its body", head_of(7, 20971521).encode() + b"x" * 20971521, refusal(413, "Payload Too Large", "too-large", end=True)),
         ("chunked", head_of(7, more="Transfer-Encoding: chunked\r\n").encode(), refusal(400, "Bad Request", "malformed", end=True)),
         ("no head", b"a" * 8192, refusal(431, "Request Header Fields Too Large", "head", end=True)),
         ("no HTTP", b"hello\r\n\r\n", refusal(400, "Bad Request", "malformed", end=True)),

@@ -1,7 +1,7 @@
 // What the office takes as a string, and as lines of a comment (docs/FORMATS.md), and how a text with characters that a text
 // field can't hold is written in one.
 
-const LONGEST_STRING = 65_536;
+const LONGEST_STRING = 262_144;
 const MOST_LINES = 20;
 const LONGEST_LINE = 1_000;
 const NO_STRING = /[\x00-\x06\x0e-\x1f]|\p{Surrogate}/u;

@@ -43,7 +43,7 @@ export const REFUSALS = {
   "no-suggestion": "This suggestion isn't there any more: it was accepted or dismissed.",
   "voting-off": "There is no voting in this office.",
   "reviews-off": "There are no reviews in this office.",
-  full: "It is full: a message has at most 50 suggestions, and a suggestion at most 10,000 votes.",
+  full: "It is full: a message has at most 100 suggestions, and a suggestion at most 10,000 votes.",
   same: "Nothing would change: it stands there so already, or it is your own suggestion, which counts as your vote.",
   unfit: "The text doesn't allow it: a suggestion can't be empty, and only what is translated is approved or sent back.",
   "language-exists": "The office has this language already.",

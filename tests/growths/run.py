@@ -19,7 +19,7 @@ PROGRAM = os.path.join("crates", "cli", "out", "cli")
 REPLY = '200 {"revision":2,"state":"translated"}\n'
 MEMORY = '503 {"error":"memory"}\n'
 MALFORMED = '400 {"error":"malformed"}\n'
-LIMIT = 5_500_000
+LIMIT = 22_000_000
 EXPORT = (
     'msgid ""\nmsgstr ""\n"Content-Type: text/plain; charset=UTF-8\\n"\n'
     '"Plural-Forms: nplurals=2; plural=n != 1;\\n"\n\nmsgid "Hello"\nmsgstr "Hallo"\n'

@@ -6,7 +6,7 @@ use crate::line::{Keyword, Line, Part};
 use std::collections::HashSet;
 
 /// The most bytes that a string may have.
-const STRING_LIMIT: usize = 65_536;
+const STRING_LIMIT: usize = 262_144;
 
 #[derive(Default)]
 pub struct Draft {

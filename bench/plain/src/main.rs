@@ -1,4 +1,4 @@
-//! The job of `office canon` in plain Rust, to be timed beside it: reads PO text from standard input, at most 4,194,305
+//! The job of `office canon` in plain Rust, to be timed beside it: reads PO text from standard input, at most 16,777,217
 //! bytes and no further, and prints its canonical text; or only `po line L kind K` on the second output, with status 1.
 
 mod draft;

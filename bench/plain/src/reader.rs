@@ -9,10 +9,10 @@ use std::collections::HashSet;
 use std::mem::take;
 
 /// The most bytes that a text may have.
-pub const TEXT_LIMIT: usize = 4_194_304;
+pub const TEXT_LIMIT: usize = 16_777_216;
 
 /// The most entries that a text may have besides the header.
-const ENTRY_LIMIT: usize = 20_000;
+const ENTRY_LIMIT: usize = 50_000;
 
 /// The entries that a text has, or its first fault.
 pub fn read(bytes: &[u8]) -> Result<Vec<Entry>, Fault> {
