@@ -64,16 +64,18 @@ text_with (x ∷ front) e rest = refl
 
 -- ---- what the call says, by the entries
 
-pub all_exported : {t0 t1 : Option (List ℕ)} {f0 f1 : ℕ} {s0 s1 : Checksum} {begun : Bool} (es : List Entry) (sha : List ℕ) → IsChecksum s0 [] → begun ≡ true → TookEntries t0 t1 f0 f1 s0 s1 false begun es
-    → ((m : List ℕ) → Holds256 s1.digest m → sha ≡ sha256 m) → WasExported (text_by es) t0 t1 (record { bytes = s1.bytes; sha256 = sha })
-all_exported [] sha empty begun took digest = absurd (false≢true (sym took.begun ∙ begun))
-all_exported (e ∷ es) sha empty begun took digest =
-    let sum = took.sent.summed [] empty in
-    record { whole = added_text false (e ∷ es); is = refl; taken = took.sent.taken; bytes = sum.bytes; within = sum.within; digest = digest (added_text false (e ∷ es)) sum.digest }
+pub all_exported : {t0 t1 : Option (List ℕ)} {f0 f1 : ℕ} {s0 s1 : Checksum} {b0 b1 begun : Bool} (es : List Entry) (sha : List ℕ) → IsChecksum s0 [] → b0 ≡ false → begun ≡ true → begun ≡ begun_after false es
+    → TookEntries t0 t1 f0 f1 s0 s1 b0 b1 es → ((m : List ℕ) → Holds256 s1.digest m → sha ≡ sha256 m) → WasExported (text_by es) t0 t1 (record { bytes = s1.bytes; sha256 = sha })
+all_exported [] sha empty first begun after took digest = absurd (false≢true (sym after ∙ begun))
+all_exported {t0} {t1} {f0} {f1} {s0} {s1} {b1 = b1} (e ∷ es) sha empty first begun after took digest =
+    let sent = (subst (λ b. TookEntries t0 t1 f0 f1 s0 s1 b b1 (e ∷ es)) first took).sent in
+    let sum = sent.summed [] empty in
+    record { whole = added_text false (e ∷ es); is = refl; taken = sent.taken; bytes = sum.bytes; within = sum.within; digest = digest (added_text false (e ∷ es)) sum.digest }
 
-pub none_exported : {t0 t1 : Option (List ℕ)} {f0 f1 : ℕ} {s0 s1 : Checksum} {begun : Bool} (es : List Entry) → begun ≡ false → TookEntries t0 t1 f0 f1 s0 s1 false begun es → WasCut (text_by es) t0 t1 f0 f1 fault.NoLanguage
-none_exported {t0} [] begun took = (refl, took.sent.taken ∙ append_known-nil t0)
-none_exported (e ∷ es) begun took = absurd (false≢true (sym begun ∙ took.begun))
+pub none_exported : {t0 t1 : Option (List ℕ)} {f0 f1 : ℕ} {s0 s1 : Checksum} {b0 b1 begun : Bool} (es : List Entry) → begun ≡ false → begun ≡ begun_after false es → TookEntries t0 t1 f0 f1 s0 s1 b0 b1 es
+    → WasCut (text_by es) t0 t1 f0 f1 fault.NoLanguage
+none_exported {t0} [] begun after took = (refl, took.sent.taken ∙ append_known-nil t0)
+none_exported (e ∷ es) begun after took = absurd (false≢true (sym begun ∙ after))
 
 took_front : {t0 t1 : Option (List ℕ)} {f0 f1 : ℕ} {s0 s1 : Checksum} {begun : Bool} (es front rest : List Entry) → es ≡ front ++ rest → TookEntries t0 t1 f0 f1 s0 s1 false begun front → TookBeginning t0 t1 (unwrap_or (text_by es) [])
 took_front es front rest cut took = record {
@@ -99,16 +101,16 @@ entry_refused {t0} {t2 = t2} {f0} {f2 = f2} {s0} {begun = begun} es front rest e
 
 -- ---- the same, of a sink that is told by what its writer took, how often that failed, and its checksum
 
-pub sink_cut : {S N : Type 0} (name : S → N) (taken : S → Option (List ℕ)) (failed : S → ℕ) (sum : S → Checksum) (begun : S → Bool) (old new : S) (es : List Entry) (each : EachFault SendFault)
+pub sink_cut : {S N : Type 0} (name : S → N) (taken : S → Option (List ℕ)) (failed : S → ℕ) (sum : S → Checksum) (begun flag : S → Bool) (old new : S) (es : List Entry) (each : EachFault SendFault)
     → begun old ≡ false → IsChecksum (sum old) []
-    → WasCutShort (λ a xs b. (name b ≡ name a) × TookEntries (taken a) (taken b) (failed a) (failed b) (sum a) (sum b) (begun a) (begun b) xs)
+    → WasCutShort (λ a xs b. (name b ≡ name a) × TookEntries (taken a) (taken b) (failed a) (failed b) (sum a) (sum b) (begun a) (begun b) xs × (flag b ≡ begun_after (flag a) xs))
     (λ a entry e b. (name b ≡ name a) × SentPart (taken a) (taken b) (failed a) (failed b) (sum a) (separated (begun a) (entry_text entry)) e) old new es each
     → WasCut (text_by es) (taken old) (taken new) (failed old) (failed new) (fault_of each)
-sink_cut name taken failed sum begun old new es (NoTables lost.Memory) first empty cut =
+sink_cut name taken failed sum begun flag old new es (NoTables lost.Memory) first empty cut =
     took_front es cut.front cut.rest cut.whole (subst (λ b. TookEntries (taken old) (taken new) (failed old) (failed new) (sum old) (sum new) b (begun new) cut.front) first cut.took.1)
-sink_cut name taken failed sum begun old new es (NoTables lost.Disk) first empty cut =
+sink_cut name taken failed sum begun flag old new es (NoTables lost.Disk) first empty cut =
     took_front es cut.front cut.rest cut.whole (subst (λ b. TookEntries (taken old) (taken new) (failed old) (failed new) (sum old) (sum new) b (begun new) cut.front) first cut.took.1)
-sink_cut name taken failed sum begun old new es (NoSink e) first empty cut =
+sink_cut name taken failed sum begun flag old new es (NoSink e) first empty cut =
     entry_refused es cut.front cut.rest cut.entry e empty cut.whole
     (subst (λ b. TookEntries (taken old) (taken cut.mid) (failed old) (failed cut.mid) (sum old) (sum cut.mid) b (begun cut.mid) cut.front) first cut.took.1) cut.refused.1
 

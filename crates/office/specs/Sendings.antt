@@ -87,6 +87,10 @@ added-append begun (x ∷ xs) ys =
     ap (λ text. separated begun (entry_text x) ++ text) (added-append true xs ys ∙ ap (λ b. added_text true xs ++ added_text b ys) (after_begun xs))
     ∙ sym (append_assoc (separated begun (entry_text x)) (added_text true xs) (added_text true ys))
 
+-- whether a text is begun, after some entries and after more
+pub begun-more : (a b c : Bool) (xs ys : List Entry) → b ≡ begun_after a xs → c ≡ begun_after b ys → c ≡ begun_after a (xs ++ ys)
+begun-more a b c xs ys first then = then ∙ (ap (λ x. begun_after x ys) first ∙ sym (begun-append a xs ys))
+
 pub took-none : (t : Option (List ℕ)) (f : ℕ) (s : Checksum) (begun : Bool) → TookEntries t t f f s s begun begun []
 took-none t f s begun = record { sent = sent_none t f s; begun = refl; strings = tt }
 
@@ -94,6 +98,6 @@ pub took-more : (t0 t1 t2 : Option (List ℕ)) (f0 f1 f2 : ℕ) (s0 s1 s2 : Chec
     → TookEntries t1 t2 f1 f2 s1 s2 b1 b2 ys → TookEntries t0 t2 f0 f2 s0 s2 b0 b2 (xs ++ ys)
 took-more t0 t1 t2 f0 f1 f2 s0 s1 s2 b0 b1 b2 xs ys first then = record {
   sent = subst (SentAll t0 t2 f0 f2 s0 s2) (ap (λ b. added_text b0 xs ++ added_text b ys) first.begun ∙ sym (added-append b0 xs ys)) (sent_both first.sent then.sent);
-  begun = then.begun ∙ (ap (λ b. begun_after b ys) first.begun ∙ sym (begun-append b0 xs ys));
+  begun = begun-more b0 b1 b2 xs ys first.begun then.begun;
   strings = all_both HasEntryStrings xs ys first.strings then.strings;
 }

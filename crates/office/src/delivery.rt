@@ -14,6 +14,7 @@ ghost use Rattle.deliveries.specs.UnitOutcomes.{outcome_of};
 ghost use Rattle.deliveries.specs.OfficeChanges.{changed_by, IsPossibleChange};
 ghost use Rattle.deliveries.specs.OfficeRules.{KeepsRules};
 ghost use Rattle.office_acts.specs.Settled.{IsSettled};
+ghost use Rattle.request_book.specs.Contents.{IsContent};
 ghost use Rattle.tables.specs.Stops.{Nothing};
 ghost use Rattle.tables.specs.Kept.{IsKept};
 ghost use Rattle.tables.specs.declared.faults.Lost.TheVariants.{Disk};
@@ -105,6 +106,7 @@ fn commit_unit_act<T: Tables>(
     reply: Reply,
 ) -> Result<Reply, Lost>
     requires new { T.is_honest tables.old → IsTrue (is_none (maps.get (T.means tables.old).book row.number)) }
+    requires content { IsContent row.content }
     requires rules { T.is_honest tables.old → KeepsRules (record { office = with_view (T.means tables.old).office lang.now key.now view; book = with_record (T.means tables.old).book row }) }
     ensures handed_on { IfOk result (λ r. r ≡ reply) }
     ensures done { T.is_honest tables.new → OnOk result
@@ -195,6 +197,7 @@ fn commit_office_act<T: Tables>(
     reply: Reply,
 ) -> Result<Reply, Lost>
     requires new { T.is_honest tables.old → IsTrue (is_none (maps.get (T.means tables.old).book row.number)) }
+    requires content { IsContent row.content }
     requires possible { T.is_honest tables.old → IsPossibleChange (T.means tables.old).office change }
     requires rules { T.is_honest tables.old → KeepsRules (record { office = changed_by (T.means tables.old).office change; book = with_record (T.means tables.old).book row }) }
     ensures handed_on { IfOk result (λ r. r ≡ reply) }

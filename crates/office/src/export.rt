@@ -11,7 +11,7 @@ ghost use Rattle.office.specs.declared.faults.ExportFault.TheVariants.{NoLanguag
 ghost use Rattle.office.specs.Exports.{WasExported, WasCut};
 
 use crate::checksum::Checksum;
-use crate::export_sink::ExportSink;
+use crate::export_sink::{ExportSink, text_writer};
 use crate::faults::ExportFault;
 use sha2::Digest;
 use std::alloc::Global;
@@ -39,7 +39,7 @@ fn told(fault: ExportFault, before: u64, after: u64) -> ExportFault
     }
 }
 
-/// Writes a language's text. One entry is in memory at a time.
+/// Writes a language's text. The text of one entry is in memory at a time.
 pub(crate) fn export<T: Tables, W: ByteSink>(
     alloc: Global,
     tables: &mut T,
@@ -67,9 +67,10 @@ pub(crate) fn export<T: Tables, W: ByteSink>(
     ensures kept { IsKept T.is_honest T.is_whole T.means T.may_leave T.is_stopped tables.old tables.new result Disk Nothing }
 {
     let before = w.failures();
+    let mut text = text_writer(alloc);
     let mut sink = ExportSink {
         w: &mut *w,
-        alloc,
+        text: &mut text,
         begun: false,
         checksum: Checksum::new(),
     };

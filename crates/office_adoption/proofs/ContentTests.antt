@@ -21,7 +21,7 @@ use Rattle.request_book.specs.Acts.{action_text, fields_of, vote_data, IsNumber,
 use Rattle.request_book.specs.declared.act.Request.{Request}
 use Rattle.request_book.proofs.CanonLemmas.{read_canon}
 use Rattle.uuid.specs.Parts.{zero_bytes}
-use Rattle.office_adoption.specs.Contents.{IsContent}
+use Rattle.request_book.specs.Contents.{IsContent}
 
 -- ---- a member put where a field lacked it
 

@@ -16,7 +16,7 @@ use Rattle.office_sql.specs.Whole.{IsIdle}
 use Rattle.office_found.specs.Found.{HoldsOffice}
 use Rattle.office_in_rows.specs.Meaning.{template_in, meaning_in, office_of_rows, AreNumbered}
 use Rattle.shown_rows.specs.RowTests.{is_member_row, is_policy_row, is_entry_row, is_language_row, is_unit_row, is_suggestion_row, is_vote_row, is_record_row}
-use Rattle.office_adoption.specs.Contents.{IsContent}
+use Rattle.request_book.specs.Contents.{IsContent}
 use Rattle.office_adoption.specs.declared.faults.OpenFault.{OpenFault}
 use Rattle.office_adoption.specs.declared.faults.OpenFault.TheVariants.{Foreign, Exists}
 use Rattle.office_adoption.specs.declared.faults.Mismatch.TheVariants.{OtherTables, OtherForm, UnreadRow, BrokenRules}

@@ -6,7 +6,7 @@ use Rattle.office_sql.specs.Keys.{text_at}
 use Rattle.office_in_rows.specs.Meaning.{number_at}
 use Rattle.office_in_rows.specs.Shown.{shown_record}
 use Rattle.office_at_hand.specs.OfficeShown.{each_put}
-use Rattle.office_adoption.specs.Contents.{IsContent}
+use Rattle.request_book.specs.Contents.{IsContent}
 use Rattle.shown_rows.specs.RowTests.{is_record_row}
 
 -- content, status, body, number: the records, put in one after the other

@@ -1,5 +1,4 @@
 pub mod Parts
-pub mod Contents
 pub mod Given
 pub mod Books
 pub mod RecordTable

@@ -9,7 +9,7 @@ ghost use Rattle.uuid.specs.Parts.{zero_bytes};
 ghost use Rattle.request_book.specs.Acts.{IsRequest, IsRequestText, content_text};
 ghost use Rattle.request_book.specs.Words.{number_data};
 ghost use Rattle.request_book.specs.declared.act.Request.{Request};
-ghost use Rattle.office_adoption.specs.Contents.{IsContent};
+ghost use Rattle.request_book.specs.Contents.{IsContent};
 
 use request_book::{Request, RequestFault, canon};
 use serde_json::{Map, Value, put};

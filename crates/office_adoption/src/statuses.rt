@@ -7,7 +7,7 @@ ghost use Rattle.row_values.specs.Readings.{number_read};
 ghost use Rattle.office_sql.specs.Keys.{text_at};
 ghost use Rattle.office_in_rows.specs.Meaning.{number_at};
 ghost use Rattle.office_in_rows.specs.Shown.{shown_record};
-ghost use Rattle.office_adoption.specs.Contents.{IsContent};
+ghost use Rattle.request_book.specs.Contents.{IsContent};
 ghost use Rattle.office_adoption.specs.Given.{AreStatusesOf};
 ghost use Rattle.shown_rows.specs.RowTests.{holds_text, is_number, is_record_row, IsUnread};
 ghost use Rattle.tables.specs.declared.faults.Lost.TheVariants.{Disk};

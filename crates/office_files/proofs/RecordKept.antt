@@ -21,7 +21,7 @@ use Rattle.office_in_rows.specs.Cells.{record_cells}
 use Rattle.office_in_rows.specs.Meaning.{meaning_in}
 use Rattle.office_in_rows.proofs.WrittenRows.{IsTree, row_spares, suggestions_there, votes_there}
 use Rattle.office_adoption.specs.Adoption.{StandForOffice, StandForBook}
-use Rattle.office_adoption.specs.Contents.{IsContent}
+use Rattle.request_book.specs.Contents.{IsContent}
 use Rattle.office_in_changed_rows.specs.Commits.{PutsNumberedRecord}
 use Rattle.shown_rows.specs.RowTests.{any_text, is_number, is_status, is_record_row}
 use Rattle.shown_rows.proofs.ColumnsTested.{text_stands, integer_is, number_stands, natural_stands}

@@ -14,7 +14,7 @@ use Rattle.office_sql.specs.Keys.{row_number}
 use Rattle.office_sql.specs.Schema.{office_schema, policy_tree}
 use Rattle.office_in_rows.specs.Meaning.{meaning_in}
 use Rattle.office_adoption.specs.Adoption.{StandForOffice, StandForBook}
-use Rattle.office_adoption.specs.Contents.{IsContent}
+use Rattle.request_book.specs.Contents.{IsContent}
 use Rattle.office_adoption.specs.declared.faults.OpenFault.{OpenFault}
 use Rattle.office_adoption.specs.declared.faults.OpenFault.TheVariants.{Memory, Disk}
 

@@ -80,7 +80,7 @@ module _ (old mid next after : Database) (row : Record) (lang : Text) (header : 
   made fits numbered = commits_change old mid after row left ready numbered recorded (has.others.records ∙ put.0.0.others.0 (λ e. cc)) (office_is fits)
 
 -- the header of a language of an office that keeps the rules reads back
-header_fits : (office : Office) (lang : Text) (header : Entry) (plan : Plan) (row : Record) (old : Database) → is_forms header.forms ≡ true → ArePrevious header.previous
+pub header_fits : (office : Office) (lang : Text) (header : Entry) (plan : Plan) (row : Record) (old : Database) → is_forms header.forms ≡ true → ArePrevious header.previous
     → KeepsRules (record { office = with_language office lang header plan; book = with_record (book_in old.trees) row }) → IsHeaderEntry header
 header_fits office lang header plan row old forms previous rules =
     let there : maps.get (maps.insert office.headers lang header) lang ≡ Some header =

@@ -30,6 +30,9 @@ impl<W> Model for CatalogueWriter<W> {
 }
 
 impl<W: ByteSink> CatalogueWriter<W> {
+    ghost use Rattle.std.specs.Borrow.{Lends, sem};
+    ghost use Rattle.po_write.specs.contracts.writer.CatalogueWriter.{the_row};
+
     /// A writer to whose sink no entry was written yet.
     pub fn new(sink: W) -> Self
         ensures state { result ≡ record { sink = sink; begun = false; failed = false } }
@@ -78,6 +81,14 @@ impl<W: ByteSink> CatalogueWriter<W> {
                 Err(WriteFault::Device)
             }
         }
+    }
+
+    /// The sink, to read what it took or to empty it. The next entry comes behind a blank line all the same.
+    pub fn sink_mut(&mut self) -> &mut W
+        ensures* writes_back { sem 𝓛 (Lends (the_row W.row) W.row self.entry result (λ sink. record self.old { sink = sink })) }
+        ensures sink { result.now ≡ self.old.sink }
+    {
+        &mut self.sink
     }
 
     /// The sink, and whether every entry was written whole.

@@ -6,3 +6,4 @@ pub mod Book
 pub mod Faults
 pub mod Fields
 pub mod Puts
+pub mod Contents

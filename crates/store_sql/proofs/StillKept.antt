@@ -14,6 +14,8 @@ use Rattle.tables.specs.declared.faults.Lost.TheVariants.{Disk}
 use Rattle.office_sql.specs.Inside.{AreOfficeTables}
 use Rattle.office_sql.specs.Whole.{StaysIdle, IsLookUp, IsCommit}
 use Rattle.office_in_rows.specs.Meaning.{meaning_in, AreNumbered}
+use Rattle.office_files.specs.Files.{MakesFiles}
+use Rattle.office_files.proofs.Stops.{look_up_keeps, look_up_leaves, commit_keeps, commit_leaves}
 use Rattle.store_sql.specs.Kept.{KeepsOffice, LeavesItsOwn, is_honest, is_whole, means, may_leave, is_stopped}
 
 module _ {S : Type 0} (g : store.Ghosts S) where
@@ -61,6 +63,8 @@ module _ {S : Type 0} (g : store.Ghosts S) where
       rules = λ clean is_open.
           let same = looked.same clean is_open in
           subst (λ (d : Database). KeepsRules (meaning_in d.trees)) (sym same.now) (keeps.rules (early clean) same.was_open);
+      file = look_up_keeps (state g old) (state g new) r P looked keeps.file;
+      leaves = look_up_leaves (state g old) (state g new) r P looked keeps.file keeps.leaves;
     }
 
     pub means_still : HasCleanDisk (state g new) → IsTrue (state g new).is_open → meaning_in (state g new).now.trees ≡ meaning_in (state g old).now.trees
@@ -100,7 +104,8 @@ module _ {S : Type 0} (g : store.Ghosts S) where
   -- the connection keeps its office where the transaction makes what keeps the rules
   module _ {A E : Type 0} (old new : Held S) (r : Result A E) (Makes : Database → Database → Type 0) (keeps : KeepsOffice (state g old)) (commits : IsCommit (state g old) (state g new) r Makes)
       (meaning : OfficeWithBook) (rules : HasCleanDisk (state g old) → KeepsRules meaning)
-      (makes : (db : Database) → HasCleanDisk (state g old) → IsTrue (state g old).is_open → AreOfficeTables db → Makes (state g old).now db → (meaning_in db.trees ≡ meaning) × AreNumbered db.trees) where
+      (makes : (db : Database) → HasCleanDisk (state g old) → IsTrue (state g old).is_open → AreOfficeTables db → Makes (state g old).now db → (meaning_in db.trees ≡ meaning) × AreNumbered db.trees)
+      (files : MakesFiles Makes (state g old)) where
     clean_before : HasCleanDisk (state g new) → HasCleanDisk (state g old)
     clean_before clean = omega (arith, commits.survives.clean)
 
@@ -141,6 +146,8 @@ module _ {S : Type 0} (g : store.Ghosts S) where
       rules = λ clean is_open. by_result r (λ (made : Makes (state g old).now (state g new).now × AreOfficeTables (state g new).now × ((state g new).now ≡ (state g new).committed)).
           subst KeepsRules (sym (makes (state g new).now (clean_before clean) (commits.was_open clean is_open) made.1 made.0).0) (rules (clean_before clean)))
           (λ (same : StaysIdle (state g old) (state g new)). subst (λ (d : Database). KeepsRules (meaning_in d.trees)) (sym same.now) (keeps.rules (clean_before clean) same.was_open)) (commits.made clean) (commits.same clean is_open);
+      file = commit_keeps (state g old) (state g new) r Makes commits files keeps.file;
+      leaves = commit_leaves (state g old) (state g new) r Makes commits files keeps.file keeps.leaves;
     }
 
     pub kept_committed : {B : Type 0} (s : Result B Lost) (before after : Bool × Bool) → IsSettled → before.0 ≡ false → (OnOk r (IsTrue (state g new).is_open) → OnOk s (IsTrue (state g new).is_open))

@@ -1,8 +1,6 @@
 -- Of what a stop may leave there is one proof at most, so a struct can keep it in a ghost field.
-use mathlib.Core.Path.{◌≡◌}
 use base.Stored.{Coded, Coded-set, coded_ℕ, coded_list, coded×, coded_via}
 use Rattle.std.specs.FinMap as maps
-use Rattle.std.specs.Prelude.{ℕ, List}
 use Rattle.po_read.specs.contracts.entry.Entry as entry
 use Rattle.units.specs.contracts.unit.Unit as unit
 use Rattle.units.specs.contracts.unit.Key as key
@@ -10,7 +8,6 @@ use Rattle.units.specs.contracts.unit.Role as role
 use Rattle.units.specs.contracts.unit.Policy as policy
 use Rattle.po_read.specs.Texts.{Text}
 use Rattle.units.specs.Office.{Office}
-use Rattle.request_book.specs.Replies.{Reply}
 use Rattle.request_book.specs.Book.{OfficeWithBook, Recorded}
 
 text_code : Coded Text

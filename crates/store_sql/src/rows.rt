@@ -7,6 +7,7 @@ ghost use Rattle.request_book.specs.Book.{row_of, with_record};
 ghost use Rattle.deliveries.specs.UnitAccess.{found_of, with_view};
 ghost use Rattle.deliveries.specs.OfficeChanges.{changed_by};
 ghost use Rattle.deliveries.specs.OfficeRules.{KeepsRules};
+ghost use Rattle.request_book.specs.Contents.{IsContent};
 ghost use Rattle.tables.specs.Kept.{IsKept};
 ghost use Rattle.tables.specs.Stops.{Nothing};
 ghost use Rattle.tables.specs.Sinks.{WasCutShort};
@@ -20,19 +21,20 @@ ghost use Rattle.tables.specs.declared.faults.Lost.TheVariants.{Disk};
 ghost use Rattle.sqlite.specs.State.{HasCleanDisk};
 ghost use Rattle.office_sql.specs.Schema.{no_schema};
 ghost use Rattle.office_adoption.specs.Adoption.{Refuses, StaysAsItWas};
-ghost use Rattle.office_files.specs.Files.{IsOfficeFile, IsLost};
+ghost use Rattle.office_files.specs.Files.{IsOfficeFile, IsLost, KeepsFile, LeavesFiles};
 ghost use Rattle.sqlite.specs.Effect.{IsDatabase};
 ghost use Rattle.store_sql.specs.Adopting.{AreAdopted};
 ghost use Rattle.store_sql.specs.Faults.{RefusesIn};
 ghost use Rattle.store_sql.specs.Kept.{KeepsOffice, KeepsOwnRules, LeavesItsOwn, IsAtHand, is_honest, is_whole, means, may_leave, is_stopped, is_loaded};
 ghost use Rattle.store_sql.specs.Making.{AreMade, IsHandedBack};
 
+use crate::keepable_values::{change_fits, record_fits, view_fits};
 use crate::making::make;
 use crate::records::read_record;
-use crate::strings::{key_fits, view_fits};
 use crate::views::{read_role, read_view};
 use crate::whole_office::{forget, keep, let_go, read_office};
 use deliveries::{Change, Found};
+use keepable::key_fits;
 use office_adoption::{OpenFault, adopted_office};
 use office_commits::{commit_act, commit_change};
 use office_entries::counts;
@@ -147,6 +149,8 @@ impl<S: Alter> Rows<S> {
     pub(crate) fn into_connection(self) -> Connection<S>
         ensures held { result ≡ self.0 }
         ensures between { result.in_transaction ≡ false }
+        ensures file { KeepsFile (state S.Store result) }
+        ensures leaves { LeavesFiles (state S.Store result) }
     {
         let Rows {
             connection,
@@ -165,6 +169,14 @@ impl<S: Alter> Rows<S> {
     pub(crate) fn rules(&self)
         ensures rules { KeepsOwnRules S.Store self.now }
         ensures settled { LeavesItsOwn S.Store self.now }
+    {
+        let _read = self.stopped;
+    }
+
+    /// The rows of a connection that isn't shut are an office's file, and so is what a stop leaves. (A law as the one above.)
+    pub(crate) fn keeps_file(&self)
+        ensures file { KeepsFile (state S.Store self.now.0) }
+        ensures leaves { LeavesFiles (state S.Store self.now.0) }
     {
         let _read = self.stopped;
     }
@@ -314,8 +326,8 @@ impl<S: Alter> Rows<S> {
         }
     }
 
-    /// Writes a request's record and its unit's new view, if it has one; or neither. The number must be new, and what the commit
-    /// leaves must keep the rules.
+    /// Writes a request's record and its unit's new view, if it has one; or neither. The number must be new, the content a
+    /// request's, and what the commit leaves must keep the rules.
     pub(crate) fn commit_unit(
         &mut self,
         row: &Record,
@@ -323,6 +335,7 @@ impl<S: Alter> Rows<S> {
         key: &Key,
         view: &Option<UnitView>,
     ) -> Result<(), Lost>
+        requires content { IsContent row.now.content }
         requires rules { is_honest S.Store self.old → KeepsRules (record { office = with_view (means S.Store self.old).office lang.now key.now view.now; book = with_record (means S.Store self.old).book row.now }) }
         ensures done { is_honest S.Store self.new → OnOk result (means S.Store self.new ≡ record { office = with_view (means S.Store self.old).office lang.now key.now view.now; book = with_record (means S.Store self.old).book row.now }) }
         ensures same { is_honest S.Store self.new → is_whole S.Store self.new → OnErr result (means S.Store self.new ≡ means S.Store self.old) }
@@ -333,7 +346,8 @@ impl<S: Alter> Rows<S> {
             return Err(Lost::Disk);
         }
         key_fits(key);
-        view_fits(view);
+        view_fits(lang, view);
+        record_fits(row);
         forget(self.alloc, &mut self.office);
         match commit_act(&mut self.connection, self.alloc, row, lang, view) {
             Ok(()) => Ok(()),
@@ -341,13 +355,14 @@ impl<S: Alter> Rows<S> {
         }
     }
 
-    /// Writes a request's record and what its act changes, if it changes anything; or neither. The number must be new, and what the
-    /// commit leaves must keep the rules.
+    /// Writes a request's record and what its act changes, if it changes anything; or neither. The number must be new, the
+    /// content a request's, and what the commit leaves must keep the rules.
     pub(crate) fn commit_office(
         &mut self,
         row: &Record,
         change: &Option<Change>,
     ) -> Result<(), Lost>
+        requires content { IsContent row.now.content }
         requires rules { is_honest S.Store self.old → KeepsRules (record { office = changed_by (means S.Store self.old).office change.now; book = with_record (means S.Store self.old).book row.now }) }
         ensures done { is_honest S.Store self.new → OnOk result (means S.Store self.new ≡ record { office = changed_by (means S.Store self.old).office change.now; book = with_record (means S.Store self.old).book row.now }) }
         ensures same { is_honest S.Store self.new → is_whole S.Store self.new → OnErr result (means S.Store self.new ≡ means S.Store self.old) }
@@ -357,6 +372,8 @@ impl<S: Alter> Rows<S> {
         if self.stopped {
             return Err(Lost::Disk);
         }
+        record_fits(row);
+        change_fits(change);
         forget(self.alloc, &mut self.office);
         match commit_change(&mut self.connection, self.alloc, row, change) {
             Ok(()) => Ok(()),

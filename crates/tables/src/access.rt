@@ -6,6 +6,7 @@ ghost use Rattle.request_book.specs.Book.{OfficeWithBook, row_of, with_record};
 ghost use Rattle.deliveries.specs.UnitAccess.{found_of, with_view};
 ghost use Rattle.deliveries.specs.OfficeChanges.{changed_by, IsPossibleChange};
 ghost use Rattle.deliveries.specs.OfficeRules.{KeepsRules};
+ghost use Rattle.request_book.specs.Contents.{IsContent};
 ghost use Rattle.tables.specs.Stops.{Nothing, LeavesOnly};
 ghost use Rattle.tables.specs.Kept.{IsKept};
 ghost use Rattle.tables.specs.Sinks.{WasCutShort};
@@ -83,8 +84,8 @@ pub trait Tables: Drop {
         requires loaded { is_loaded self.now }
         ensures { is_honest self.now → is_whole self.now → office_in result.now ≡ (means self.now).office };
 
-    /// Writes a request's record and its unit's new view, if it has one; or neither. The number must be new, and what the commit
-    /// leaves must keep the rules.
+    /// Writes a request's record and its unit's new view, if it has one; or neither. The number must be new, the content a request's,
+    /// and what the commit leaves must keep the rules.
     fn commit_unit(
         &mut self,
         row: Record,
@@ -93,16 +94,18 @@ pub trait Tables: Drop {
         view: Option<UnitView>,
     ) -> Result<(), Lost>
         requires new { is_honest self.old → IsTrue (is_none (maps.get (means self.old).book row.number)) }
+        requires content { IsContent row.content }
         requires rules { is_honest self.old → KeepsRules (record { office = with_view (means self.old).office lang.now key.now view; book = with_record (means self.old).book row }) }
         ensures done { is_honest self.new → OnOk result (means self.new ≡ record { office = with_view (means self.old).office lang.now key.now view; book = with_record (means self.old).book row }) }
         ensures same { is_honest self.new → is_whole self.new → OnErr result (means self.new ≡ means self.old) }
         ensures kept { IsKept is_honest is_whole means may_leave is_stopped self.old self.new result Disk
             (λ m. m ≡ record { office = with_view (means self.old).office lang.now key.now view; book = with_record (means self.old).book row }) };
 
-    /// Writes a request's record and what its act changes, if it changes anything; or neither. The number must be new, the change
-    /// possible, and what the commit leaves must keep the rules.
+    /// Writes a request's record and what its act changes, if it changes anything; or neither. The number must be new, the content a
+    /// request's, the change possible, and what the commit leaves must keep the rules.
     fn commit_office(&mut self, row: Record, change: Option<Change>) -> Result<(), Lost>
         requires new { is_honest self.old → IsTrue (is_none (maps.get (means self.old).book row.number)) }
+        requires content { IsContent row.content }
         requires possible { is_honest self.old → IsPossibleChange (means self.old).office change }
         requires rules { is_honest self.old → KeepsRules (record { office = changed_by (means self.old).office change; book = with_record (means self.old).book row }) }
         ensures done { is_honest self.new → OnOk result (means self.new ≡ record { office = changed_by (means self.old).office change; book = with_record (means self.old).book row }) }

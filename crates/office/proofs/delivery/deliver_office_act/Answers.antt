@@ -1,9 +1,13 @@
-use Rattle.std.proofs.Common.{ap, sym}
+use Rattle.std.proofs.Common.{◌∙◌, ap, sym}
 use Rattle.request_book.specs.Book.{OfficeWithBook}
 use Rattle.request_book.specs.Replies.{Reply}
+use Rattle.request_book.specs.declared.book.Record.{Record}
 use Rattle.office.proofs.Committed.{handed_on, office_act_delivered, office_act_keeps}
 use Rattle.office.proofs.Stopped.{alike, read_then}
 use Rattle.office.proofs.delivery.deliver_office_act.Goals as goal
+
+pub commit_office_act-requires-clause-content : goal.commit_office_act-requires-clause-content
+commit_office_act-requires-clause-content g c = (c.args.request.now, c.requires.limits, sym c.requires.content ∙ sym (ap (λ (r : Record). r.content) c.in-Some.ensures))
 
 pub commit_office_act-requires-clause-rules : goal.commit_office_act-requires-clause-rules
 commit_office_act-requires-clause-rules g c = λ honest.

@@ -1,9 +1,13 @@
-use Rattle.std.proofs.Common.{ap, refl}
+use Rattle.std.proofs.Common.{◌∙◌, ap, refl, sym}
 use Rattle.request_book.specs.Book.{OfficeWithBook}
 use Rattle.request_book.specs.Replies.{Reply}
+use Rattle.request_book.specs.declared.book.Record.{Record}
 use Rattle.office.proofs.Committed.{handed_on, unit_act_delivered, unit_act_keeps}
 use Rattle.office.proofs.Stopped.{alike, read_then}
 use Rattle.office.proofs.delivery.deliver_unit_act.Goals as goal
+
+pub commit_unit_act-requires-clause-content : goal.commit_unit_act-requires-clause-content
+commit_unit_act-requires-clause-content g c = (c.args.request.now, c.requires.limits, sym c.requires.content ∙ sym (ap (λ (r : Record). r.content) c.in-Some.ensures))
 
 pub commit_unit_act-requires-clause-rules : goal.commit_unit_act-requires-clause-rules
 commit_unit_act-requires-clause-rules g c = λ honest.

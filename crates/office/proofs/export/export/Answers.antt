@@ -1,4 +1,4 @@
-use Rattle.std.proofs.Common.{◌≡◌, rules, refl, subst, sym}
+use Rattle.std.proofs.Common.{rules, subst, sym}
 use Rattle.deliveries.specs.ExportText.{export_text}
 use Rattle.deliveries.specs.OfficeRules.{KeepsRules}
 use Rattle.tables.specs.Entries.{entries_of}
@@ -21,7 +21,7 @@ returns-in-Err-clause-err g c = λ honest.
     let each = c.in-Err.fault in
     let cut : WasCut (export_text office lang) (taken old) (taken now) (failed old) (failed now) (fault_of each) =
     subst (λ t. WasCut t (taken old) (taken now) (failed old) (failed now) (fault_of each)) (sym (text_there office lang))
-    (sink_cut (λ s. s.w.ghost_name) (λ s. taken s.w.now) (λ s. failed s.w.now) (λ s. s.checksum) (λ s. s.begun) _ _ _ each refl c.new.ensures (c.in-Err.ensures.cut honest)) in
+    (sink_cut (λ s. s.w.ghost_name) (λ s. taken s.w.now) (λ s. failed s.w.now) (λ s. s.checksum) (λ s. s.text.now.begun) (λ s. s.begun) _ _ _ each c.text_writer-text.ensures c.new.ensures (c.in-Err.ensures.cut honest)) in
     told_on (export_text office lang) (taken old) (failed old) (fault_of each) c.from.result c.told.result (search rules) (search rules)
     c.failures-before.ensures c.failures-after.ensures c.from.ensures cut c.told.ensures.failed c.told.ensures.others
 
@@ -33,9 +33,10 @@ returns-then-not-begun-clause-err g c = λ honest.
     let failed = g.W.ByteSink.failed in
     let now = c.each_entry-sent.new.sink.w.now in
     let old = c.args.w.now in
+    let all = c.in_default.ensures.all honest in
     let was : WasCut (export_text office lang) (taken old) (taken now) (failed old) (failed now) fault.NoLanguage =
     subst (λ text. WasCut text (taken old) (taken now) (failed old) (failed now) fault.NoLanguage) (sym (text_there office lang))
-    (none_exported (entries_of office lang) c.if-not-begun.true (c.in_default.ensures.all honest).1) in
+    (none_exported (entries_of office lang) c.if-not-begun.true all.2 all.1) in
     search rules
 
 pub returns-clause-text : goal.returns-clause-text
@@ -45,9 +46,10 @@ returns-clause-text g c = λ honest.
     let old = g.W.ByteSink.taken c.args.w.now in
     let now = g.W.ByteSink.taken c.each_entry-sent.new.sink.w.now in
     let receipt : ExportReceipt = record { bytes = c.each_entry-sent.new.sink.checksum.bytes; sha256 = c.finalize.result } in
+    let all = c.in_default.ensures.all honest in
     let was : WasExported (export_text office lang) old now receipt =
     subst (λ text. WasExported text old now receipt) (sym (text_there office lang))
-    (all_exported (entries_of office lang) c.finalize.result c.new.ensures c.if-not-begun.false (c.in_default.ensures.all honest).1 c.finalize.ensures) in
+    (all_exported (entries_of office lang) c.finalize.result c.new.ensures c.text_writer-text.ensures c.if-not-begun.false all.2 all.1 c.finalize.ensures) in
     subst (λ t. WasExported (export_text office lang) old t receipt) (search rules) was
 
 pub returns-clause-spelled : goal.returns-clause-spelled

@@ -2,7 +2,7 @@ use Rattle.std.proofs.Common.{◌≡◌, true, sym, ap, subst}
 use Rattle.std.proofs.lemmas.Result.{IfErr-weaker}
 use Rattle.request_book.specs.declared.book.Record.{Record}
 use Rattle.tables.specs.declared.faults.Lost.TheVariants.{Disk}
-use Rattle.office_adoption.specs.Contents.{IsContent}
+use Rattle.request_book.specs.Contents.{IsContent}
 use Rattle.shown_rows.specs.declared.faults.Failure.{Failure}
 use Rattle.shown_rows.specs.RowTests.{is_record_row}
 use Rattle.shown_rows.proofs.RowsTold.{not_read, handed_on_of}

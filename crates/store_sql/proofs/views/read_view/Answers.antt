@@ -17,5 +17,5 @@ returns g c =
           (ShowsViewRows c.as_str.result.now c.as_str-2.result.now c.as_str-3.result.now) (IsShownFound c.args.key.now c.in_ok-rows.rows)
           (λ db r. r ≡ found_of (office_of_rows db.trees) c.args.lang.now c.args.key.now c.args.name.now) c.in_ok-rows.ensures.found c.found_in-found.ensures.shown
           (λ clean is_open shows found shown. reads_view old c.args.lang.now c.args.key.now c.args.name.now c.as_str.result.now c.as_str-2.result.now c.as_str-3.result.now
-          c.in_ok-rows.rows found c.requires.keeps c.key_fits.ensures c.as_str.ensures.value (search rules) c.as_str-3.ensures.value clean is_open shown shows);
+          c.in_ok-rows.rows found c.requires.keeps c.key_fits.ensures.strings c.as_str.ensures.value (search rules) c.as_str-3.ensures.value clean is_open shown shows);
     }

@@ -1,0 +1,46 @@
+//! What types keep of the values that a commit writes, for clauses: each is looked at, and nothing is done with it.
+ghost use Rattle.std.specs.Prelude.{IfSome};
+ghost use Rattle.keepable.specs.Keepable.{IsKeepableUnit};
+ghost use Rattle.office_files.specs.Files.{IsKeepable};
+ghost use Rattle.request_book.specs.Contents.{IsContent};
+ghost use Rattle.store_sql.specs.Changes.{IsKeepableChange};
+
+use deliveries::Change;
+use keepable::{entries_fit, language_fits, name_fits, plans_fit, unit_fits, units_fit};
+use request_book::Record;
+use units::{Lang, UnitView};
+
+/// The record of a request can be read back of its row.
+pub(crate) fn record_fits(row: &Record)
+    requires content { IsContent row.now.content }
+    ensures { IsKeepable row.now }
+{
+    keepable::record_fits(row);
+}
+
+/// So can a view's unit, if there is a view.
+pub(crate) fn view_fits(lang: &Lang, view: &Option<UnitView>)
+    ensures { IfSome view.now (λ v. IsKeepableUnit lang.now v.unit) }
+{
+    if let Some(view) = view {
+        unit_fits(lang, &view.unit);
+    }
+}
+
+/// So can what a change of the office writes, if there is one.
+pub(crate) fn change_fits(change: &Option<Change>)
+    ensures { IfSome change.now IsKeepableChange }
+{
+    match change {
+        None | Some(Change::NewPolicy(_)) => {}
+        Some(Change::OneRole(name, _)) => name_fits(name),
+        Some(Change::NewLanguage(lang, language, plan)) => {
+            language_fits(lang, &language.header);
+            units_fit(lang, plan.units.as_slice());
+        }
+        Some(Change::NewTemplate(template, plans)) => {
+            entries_fit(template.entries());
+            plans_fit(plans.as_slice());
+        }
+    }
+}
