@@ -21,7 +21,7 @@ import tempfile
 
 PROGRAM = sys.argv[1] if len(sys.argv) > 1 else os.path.join("crates", "cli", "out", "cli")
 HEADER = 'msgid ""\nmsgstr "Plural-Forms: nplurals=2; plural=n!=1;\\n"\n'
-OBSOLETE, FIRST = 5_000, 5_000
+OBSOLETE, FIRST, FURTHER = 5_000, 5_000, 40
 AMPLE, CUT, UNOPENED = "as with ample memory", "export fault 3", "not begun"
 
 
@@ -73,28 +73,37 @@ class Export:
         self.found[kind] += 1
         return kind, out
 
-    def border(self, low, kinds):
-        """The first growth behind `low` whose refusal comes to one of these, where all behind it do."""
+    def border(self, low, is_behind):
+        """The first growth behind `low` of which this is so, where it is so of all behind it."""
         high = low + 1
-        while self.judged(high)[0] not in kinds:
+        while not is_behind(high):
             high *= 2
         while low + 1 < high:
             middle = (low + high) // 2
-            if self.judged(middle)[0] in kinds:
+            if is_behind(middle):
                 high = middle
             else:
                 low = middle
         return high
 
+    def is_open(self, number):
+        """Whether the office was opened."""
+        return self.judged(number)[0] in (AMPLE, CUT)
+
+    def is_whole(self, number):
+        """Whether this refusal and one further behind change nothing: one alone may be of memory that is only asked for, as an opening does
+        behind its maps."""
+        return all(self.judged(it)[0] == AMPLE for it in (number, number + FURTHER))
+
     def first(self):
         """The export's first growth: none of those behind it leaves the office unopened."""
         low = 0
         while True:
-            high = self.border(low, {AMPLE, CUT})
+            high = self.border(low, self.is_open)
             near = [*range(high, high + 20), *range(high + 20, high + 2_000, 99)]
             earlier = [number for number in near if self.judged(number)[0] == UNOPENED]
             if not earlier:
-                return high
+                return next(number for number in range(high, high + FURTHER) if self.judged(number)[0] == CUT)
             low = earlier[-1]
 
     def told(self, name):
@@ -127,7 +136,7 @@ def large(library, folder):
     text = HEADER + "".join(entry(i, "#~ ") for i in range(OBSOLETE))
     export = Export(library, made(os.path.join(folder, "large.db"), [{"act": "language", "lang": "de", "po": text}]), text)
     first = export.first()
-    behind = export.border(first, {AMPLE})
+    behind = export.border(first, export.is_whole)
     front = HEADER + entry(0, "#~ ")
     met = None
     for number in [*range(first, min(first + FIRST, behind), 50), *range(behind - 100, behind)]:
