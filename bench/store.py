@@ -23,7 +23,7 @@ TOP = pathlib.Path(__file__).resolve().parent.parent
 FOLDER = sys.argv[1] if len(sys.argv) > 1 else None
 ACTS = int(sys.argv[2]) if len(sys.argv) > 2 else 2_000
 ROUNDS = int(sys.argv[3]) if len(sys.argv) > 3 else 5
-PROGRAM = pathlib.Path(sys.argv[4] if len(sys.argv) > 4 else "/tmp/office-store-program/crates/office_files/out/office_files").resolve()
+PROGRAM = pathlib.Path(sys.argv[4] if len(sys.argv) > 4 else "/tmp/office-store-program/crates/stored_offices/out/stored_offices").resolve()
 LOOKS = 10 * ACTS
 
 # In the order in which an act runs them: a look into the book, six reads, and three writes.

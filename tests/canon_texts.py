@@ -4,10 +4,11 @@ to come out of them again as it is.
 
     tests/canon_texts.py PROGRAM [OTHER] [COUNT [SEED]]      (bench/plain, which cargo builds; 10,000 texts; seed 1)
 
-A program is the office's, which is called with `canon`, or one that does the same without words, such as bench/plain. First come the texts of
-crates/model_rows/stdin, part `catalogues`, whose faults or canonical texts are written there. The random ones are catalogues written in many ways, most of them then
-changed in some place: bytes, lines, keywords, marks, entries, ends. Text N of a seed is always the same. Prints the first texts that are answered
-otherwise, how often each fault came, and last `N texts, M of them read, K differences`. Ends with status 1 if something differs.
+A program is the office's, which is called with `canon`, or one that does the same without words, such as bench/plain. First come the texts
+of crates/cases_model/stdin, part `catalogues`, whose faults or canonical texts are written there. The random ones are catalogues written in many
+ways, most of them then changed in some place: bytes, lines, keywords, marks, entries, ends. Text N of a seed is always the same. Prints the first
+texts that are answered otherwise, how often each fault came, and last `N texts, M of them read, K differences`. Ends with status 1 if something
+differs.
 """
 import collections
 import multiprocessing
@@ -21,7 +22,7 @@ import sys
 import tempfile
 
 TOP = pathlib.Path(__file__).resolve().parent.parent
-ROWS = TOP / "crates" / "model_rows" / "stdin"
+ROWS = TOP / "crates" / "cases_model" / "stdin"
 PART = "== catalogues\n"
 KINDS = {1: "not UTF-8", 2: "line", 3: "quote", 4: "escape", 5: "order", 6: "forms", 7: "duplicate", 8: "charset", 9: "limit"}
 TEXT_LIMIT = 16_777_216
@@ -77,7 +78,7 @@ def turned(what, times, kept):
 
 
 def row_text(text, kept):
-    """The bytes that the text of a row stands for: the head of crates/model_rows/src/catalogue_rows.rt says how."""
+    """The bytes that the text of a row stands for: the head of crates/cases_model/src/catalogue_rows.rt says how."""
     text = text.replace("; ", "\n")
     if text.endswith(";"):
         text = text[:-1] + "\n"

@@ -22,8 +22,8 @@ import time
 
 TOP = pathlib.Path(__file__).resolve().parent.parent
 ROWS = (TOP / "tests" / "store" / "rows.txt").read_text()
-STATEMENTS = [it for folder in ("office_sql", "office_scans", "office_commits", "sql_exports", "store_sql") for it in sorted((TOP / "crates" / folder / "src").glob("*.rt"))]
-PROGRAM = pathlib.Path(sys.argv[1] if len(sys.argv) > 1 else "/tmp/office-store-program/crates/office_files/out/office_files").resolve()
+STATEMENTS = [it for folder in ("sql_schema", "sql_statements") for it in sorted((TOP / "crates" / folder / "src").glob("*.rt"))]
+PROGRAM = pathlib.Path(sys.argv[1] if len(sys.argv) > 1 else "/tmp/office-store-program/crates/stored_offices/out/stored_offices").resolve()
 
 # A table's columns, each with its type, whether it is NOT NULL, and its place in the primary key; the columns of each further unique
 # key; and its references: the other table, the columns here and there, and what is done where a row that is referred to goes.

@@ -51,6 +51,8 @@ export const REFUSALS = {
   "plural-forms": "The header has no rule Plural-Forms, or one with a fault.",
   limit: "A limit of the office would be passed.",
   "last-manager": "No manager would be left.",
+  "domain-exists": "The office has this domain already.",
+  "no-domain": "The office doesn't have this domain.",
 };
 
 const FAULTS = {

@@ -1,18 +1,18 @@
 #!/usr/bin/env python3
 """Runs one act of each kind with each of its growths refused in turn.
 
-The rows are those of crates/model_rows/stdin behind `# One act of each kind`. With a growth refused there either is no unit, no
+The rows are those of crates/cases_model/stdin behind `# One act of each kind`. With a growth refused there either is no unit, no
 request, no row or no text of what came ("beside the decision"), or the decision answers want of memory and, made again, is what
 it is with ample memory ("of the decision"). Never may the act come to anything else.
 
-Usage: tests/growths/review.py        (from the top of the repository, after rt run in crates/model_rows; wants cc)
+Usage: tests/growths/review.py        (from the top of the repository, after rt run in crates/cases_model; wants cc)
 """
 import os
 import subprocess
 import tempfile
 
-CRATE = os.path.join("crates", "model_rows")
-PROGRAM = os.path.join(CRATE, "out", "model_rows")
+CRATE = os.path.join("crates", "cases_model")
+PROGRAM = os.path.join(CRATE, "out", "cases_model")
 PART = "== units"
 
 

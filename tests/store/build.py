@@ -4,7 +4,7 @@
     tests/store/build.py [FOLDER]     (FOLDER is /tmp/office-store-program where none is given)
 
 Its files stand in this folder and not under crates/, since it would cost the gate ten minutes; they are called *.rt.txt, as the
-gate takes code from crates/ alone. It is built as the crate office_files in a copy of the repository, which stays in FOLDER for the next
+gate takes code from crates/ alone. It is built as the crate stored_offices in a copy of the repository, which stays in FOLDER for the next
 time. From nothing that takes as long as the crates below it.
 """
 import filecmp
@@ -16,7 +16,7 @@ import tempfile
 
 TOP = pathlib.Path(__file__).resolve().parent.parent.parent
 FOLDER = pathlib.Path("/tmp/office-store-program")
-NAME = "office_files"
+NAME = "stored_offices"
 STANDS_ON = "store_sql office tables request_book units po_read sqlite anyhow"
 
 

@@ -22,8 +22,7 @@ use std::io::{self, BufWriter, ErrorKind, Stdout};
 use std::process::ExitCode;
 use store::PlainTables;
 use store_sql::OpenFault;
-use tables::Start;
-use units::{ByteSink, Lang};
+use units::ByteSink;
 use words::{Asked, Deliver, Plural, error_code, no_text, read_words};
 use work::Work;
 
@@ -60,7 +59,11 @@ fn asked_status(rt: &HostRuntime, asked: &Asked<'_>) -> io::Result<u8> {
     match asked {
         Asked::Init(options) => Ok(in_file(rt, options.store, Work::Make(&options.start))),
         Asked::Deliver(options) => deliver_standard(rt, options),
-        Asked::Export(options) => Ok(in_file(rt, options.store, Work::Export(&options.lang))),
+        Asked::Export(options) => Ok(in_file(
+            rt,
+            options.store,
+            Work::Export(&options.domain, &options.lang),
+        )),
         Asked::Serve(options) => Ok(in_file(rt, options.store, Work::Serve(options))),
         Asked::Send(options) => send_file(rt, options),
         Asked::Plural(options) => plural_standard(rt, options),
@@ -88,23 +91,22 @@ fn store_fault(rt: &HostRuntime, fault: OpenFault) -> u8 {
 
 /// Delivers what the standard input gives, to the office in a file, or to one in memory.
 fn deliver_standard(rt: &HostRuntime, options: &Deliver<'_>) -> io::Result<u8> {
-    let export = options.export.as_ref();
     if let Some(path) = options.store {
-        return Ok(in_file(rt, path, Work::Deliver(export)));
+        let work = Work::Deliver(&options.domain, options.export.as_ref());
+        return Ok(in_file(rt, path, work));
     }
     let mut replies = Output::new(BufWriter::new(rt.alloc(), rt.stdout())?);
-    let status = deliver_in_memory(rt, &options.start, &mut replies, export);
+    let status = deliver_in_memory(rt, options, &mut replies);
     drop(replies);
     Ok(status)
 }
 
 fn deliver_in_memory(
     rt: &HostRuntime,
-    start: &Start,
+    options: &Deliver<'_>,
     replies: &mut Output<BufWriter<Stdout>>,
-    export: Option<&Lang>,
 ) -> u8 {
-    match PlainTables::new(rt.alloc(), start) {
+    match PlainTables::new(rt.alloc(), &options.start) {
         Ok(tables) => {
             let mut desk = Desk::new(rt.alloc(), tables);
             let mut source = Input::new(rt.stdin());
@@ -115,7 +117,8 @@ fn deliver_in_memory(
                 &mut source,
                 replies,
                 &mut faults,
-                export,
+                &options.domain,
+                options.export.as_ref(),
             );
             drop(desk);
             status

@@ -44,7 +44,10 @@ const SENTENCES: [(&str, &str); 27] = [
         "A number stands twice in the file. Nothing was sent.",
     ),
     ("sender fault 2", "There was no memory. Nothing was sent."),
-    ("export fault 1", "The office has no such language."),
+    (
+        "export fault 1",
+        "The office has no such domain or language.",
+    ),
     ("export fault 2", "The output couldn't be written."),
     (
         "export fault 3",

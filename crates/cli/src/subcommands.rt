@@ -108,6 +108,12 @@ pub(crate) const DELIVER: Subcommand = Subcommand {
             value: Value::Text,
             help: "Prints the language's PO text behind the replies",
         },
+        Word {
+            name: "domain",
+            called: "NAME",
+            value: Value::TextOr("main"),
+            help: "The language's domain",
+        },
     ],
     behind: MAN_PAGE,
 };
@@ -121,6 +127,12 @@ pub(crate) const EXPORT: Subcommand = Subcommand {
             called: "FILE",
             value: Value::NeededText,
             help: "The file that the office is in",
+        },
+        Word {
+            name: "domain",
+            called: "NAME",
+            value: Value::TextOr("main"),
+            help: "The language's domain",
         },
         Word {
             name: "lang",

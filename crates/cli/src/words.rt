@@ -1,6 +1,8 @@
 //! The words of the command line.
 
-use crate::subcommands::{DELIVER, EXPORT, INIT, PLURAL, SEND, SERVE, command_of, office_command};
+use crate::subcommands::{
+    DELIVER, EXPORT, INIT, PLURAL, SEND, SERVE, Subcommand, command_of, office_command,
+};
 use clap::error::ErrorKind;
 use clap::{ArgMatches, Command, Error};
 use commands::FAILED;
@@ -34,14 +36,17 @@ pub(crate) struct Deliver<'a> {
     pub(crate) store: Option<&'a str>,
     /// The office that opens: empty with one manager, or the demo office.
     pub(crate) start: Start,
+    /// The domain of the language.
+    pub(crate) domain: Name,
     /// The language to export at the end.
     pub(crate) export: Option<Lang>,
 }
 
-/// The options of `export`: the file, and the language.
+/// The options of `export`: the file, the domain, and its language.
 #[derive(Drop)]
 pub(crate) struct Export<'a> {
     pub(crate) store: &'a str,
+    pub(crate) domain: Name,
     pub(crate) lang: Lang,
 }
 
@@ -208,31 +213,45 @@ fn wrong_value<'a>(
     error
 }
 
-fn init_options<'a>(alloc: Global, found: &ArgMatches<'a>) -> Result<Asked<'a>, Error> {
-    match Name::try_new(alloc, found.get_str("manager").unwrap_or(""))? {
-        Some(manager) => Ok(Asked::Init(Init {
-            store: found.get_str("store").unwrap_or(""),
-            start: Start::Opening(manager),
-        })),
-        None => Err(or_memory(wrong_value(command_of(alloc, INIT), "office init", NO_NAME))),
+/// The name that an option of a subcommand has, whose usage begins so. clap has put the text that stands for a name left out.
+fn name_of(
+    alloc: Global,
+    found: &ArgMatches<'_>,
+    option: &str,
+    subcommand: Subcommand,
+    usage: &str,
+) -> Result<Name, Error> {
+    match Name::try_new(alloc, found.get_str(option).unwrap_or(""))? {
+        Some(name) => Ok(name),
+        None => Err(or_memory(wrong_value(command_of(alloc, subcommand), usage, NO_NAME))),
     }
+}
+
+/// The language of this code, in a subcommand whose usage begins so.
+fn lang_of(alloc: Global, text: &str, subcommand: Subcommand, usage: &str) -> Result<Lang, Error> {
+    match Lang::try_new(alloc, text)? {
+        Some(lang) => Ok(lang),
+        None => Err(or_memory(wrong_value(command_of(alloc, subcommand), usage, NO_LANG))),
+    }
+}
+
+fn init_options<'a>(alloc: Global, found: &ArgMatches<'a>) -> Result<Asked<'a>, Error> {
+    let manager = name_of(alloc, found, "manager", INIT, "office init")?;
+    Ok(Asked::Init(Init {
+        store: found.get_str("store").unwrap_or(""),
+        start: Start::Opening(manager),
+    }))
 }
 
 fn export_options<'a>(alloc: Global, found: &ArgMatches<'a>) -> Result<Asked<'a>, Error> {
-    match Lang::try_new(alloc, found.get_str("lang").unwrap_or(""))? {
-        Some(lang) => Ok(Asked::Export(Export {
-            store: found.get_str("store").unwrap_or(""),
-            lang,
-        })),
-        None => Err(or_memory(wrong_value(command_of(alloc, EXPORT), "office export", NO_LANG))),
-    }
-}
-
-fn deliver_options<'a>(alloc: Global, found: &ArgMatches<'a>) -> Result<Asked<'a>, Error> {
-    match Name::try_new(alloc, found.get_str("manager").unwrap_or("root"))? {
-        Some(manager) => managed_options(alloc, found, manager),
-        None => Err(or_memory(wrong_value(command_of(alloc, DELIVER), "office deliver", NO_NAME))),
-    }
+    let text = found.get_str("lang").unwrap_or("");
+    let lang = lang_of(alloc, text, EXPORT, "office export")?;
+    let domain = name_of(alloc, found, "domain", EXPORT, "office export")?;
+    Ok(Asked::Export(Export {
+        store: found.get_str("store").unwrap_or(""),
+        domain,
+        lang,
+    }))
 }
 
 fn start(is_demo: bool, manager: Name) -> Start {
@@ -243,31 +262,17 @@ fn start(is_demo: bool, manager: Name) -> Start {
     }
 }
 
-/// The options of `deliver` with this manager.
-fn managed_options<'a>(
-    alloc: Global,
-    found: &ArgMatches<'a>,
-    manager: Name,
-) -> Result<Asked<'a>, Error> {
-    match lang_option(alloc, found.get_str("export")) {
-        Ok(export) => Ok(Asked::Deliver(Deliver {
-            store: found.get_str("store"),
-            start: start(found.get_flag("demo"), manager),
-            export,
-        })),
-        Err(error) => {
-            drop(manager);
-            Err(error)
-        }
-    }
-}
-
-fn lang_option(alloc: Global, value: Option<&str>) -> Result<Option<Lang>, Error> {
-    let Some(text) = value else {
-        return Ok(None);
+fn deliver_options<'a>(alloc: Global, found: &ArgMatches<'a>) -> Result<Asked<'a>, Error> {
+    let manager = name_of(alloc, found, "manager", DELIVER, "office deliver")?;
+    let domain = name_of(alloc, found, "domain", DELIVER, "office deliver")?;
+    let export = match found.get_str("export") {
+        Some(text) => Some(lang_of(alloc, text, DELIVER, "office deliver")?),
+        None => None,
     };
-    match Lang::try_new(alloc, text)? {
-        Some(lang) => Ok(Some(lang)),
-        None => Err(or_memory(wrong_value(command_of(alloc, DELIVER), "office deliver", NO_LANG))),
-    }
+    Ok(Asked::Deliver(Deliver {
+        store: found.get_str("store"),
+        start: start(found.get_flag("demo"), manager),
+        domain,
+        export,
+    }))
 }

@@ -10,17 +10,17 @@ use sqlite::{Alter, Connection};
 use std::io::BufWriter;
 use std::rt::HostRuntime;
 use store::Start;
-use units::Lang;
+use units::{Lang, Name};
 
 /// What is done to the office in a database.
 #[derive(Clone, Copy)]
 pub(crate) enum Work<'a> {
     /// It is made, as this start has it.
     Make(&'a Start),
-    /// The standard input is delivered to it, and then a language is exported, if one is named.
-    Deliver(Option<&'a Lang>),
-    /// A language is exported.
-    Export(&'a Lang),
+    /// The standard input is delivered to it, and then the domain's language is exported, if one is named.
+    Deliver(&'a Name, Option<&'a Lang>),
+    /// The domain's language is exported.
+    Export(&'a Name, &'a Lang),
     /// It is served on a port.
     Serve(&'a Serve<'a>),
 }
@@ -50,8 +50,8 @@ pub(crate) fn done<S: Alter + Drop>(
 {
     match work {
         Work::Make(start) => make(rt, connection, start),
-        Work::Deliver(export) => deliver(rt, connection, export),
-        Work::Export(lang) => export(rt, connection, lang),
+        Work::Deliver(domain, export) => deliver(rt, connection, domain, export),
+        Work::Export(domain, lang) => export(rt, connection, domain, lang),
         Work::Serve(options) => serve_opened(rt, connection, options),
     }
 }
@@ -65,6 +65,7 @@ fn make<S: Alter + Drop>(rt: &HostRuntime, connection: Connection<S>, start: &St
 fn deliver<S: Alter + Drop>(
     rt: &HostRuntime,
     connection: Connection<S>,
+    domain: &Name,
     export: Option<&Lang>,
 ) -> Closed<S>
     requires { connection.in_transaction ≡ false }
@@ -76,6 +77,7 @@ fn deliver<S: Alter + Drop>(
             &mut Input::new(rt.stdin()),
             &mut Output::new(buffer),
             &mut second_output(rt),
+            domain,
             export,
         ),
         Err(_) => Closed {
@@ -85,13 +87,19 @@ fn deliver<S: Alter + Drop>(
     }
 }
 
-fn export<S: Alter + Drop>(rt: &HostRuntime, connection: Connection<S>, lang: &Lang) -> Closed<S>
+fn export<S: Alter + Drop>(
+    rt: &HostRuntime,
+    connection: Connection<S>,
+    domain: &Name,
+    lang: &Lang,
+) -> Closed<S>
     requires { connection.in_transaction ≡ false }
 {
     match BufWriter::new(rt.alloc(), rt.stdout()) {
         Ok(buffer) => export_store(
             rt.alloc(),
             connection,
+            domain,
             lang,
             &mut Output::new(buffer),
             &mut second_output(rt),

@@ -12,7 +12,7 @@ use Rattle.po_read.specs.Faults.{IsFault, too_long, not_utf8, at_line, at_end}
 use Rattle.po_read.specs.Views.{IsMemory}
 use Rattle.po_write.specs.Sending.{TookAll, TookPart}
 use Rattle.po_write.specs.Text.{text_of}
-use Rattle.commands.proofs.Streaming.{took_none, all_or_part}
+use Rattle.office.proofs.Streaming.{took_none, all_or_part}
 use Rattle.commands.specs.CanonText.{read_limit, WasRead, WasGathered, po_fault_line, Writer, TakesAll, TakesPart, Canon, written, broke, told, unread}
 
 -- ---- writing

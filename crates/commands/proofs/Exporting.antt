@@ -2,7 +2,7 @@
 use Rattle.std.proofs.Common.{◌≡◌, ℕ, List, [], append-nil, Option, sym, subst, ◌∙◌}
 use Rattle.std.specs.Prelude.{IsSomeAnd}
 use Rattle.po_read.specs.Texts.{Text}
-use Rattle.units.specs.Office.{Office}
+use Rattle.units.specs.Office.{Office, project_in}
 use Rattle.units.specs.Streams.{Took, TookBeginning, RoseOrStands}
 use Rattle.units.proofs.Taking.{append_known-nil, took_then_beginning}
 use Rattle.po_write.specs.Sending.{TookAll, TookPart}
@@ -11,15 +11,15 @@ use Rattle.deliveries.specs.ExportText.{export_text}
 use Rattle.office.specs.declared.export.ExportReceipt.{ExportReceipt}
 use Rattle.office.specs.declared.faults.ExportFault.TheVariants.{Device}
 use Rattle.office.specs.Exports.{WasExported, WasCut, Failed}
-use Rattle.commands.specs.Writers.{Writer}
+use Rattle.office.specs.Writers.{Writer}
 use Rattle.commands.specs.ExportLines.{Printed, printed, untold, ended, IsToldBehind, whole, broken, held}
 
 -- behind a receipt the tables are whole, so their office is the one that was exported
-pub still_exported : (Honest Whole : Type 0) (before after : OfficeWithBook) (lang : Text) (t0 t1 : Option (List ℕ)) (receipt : ExportReceipt) →
-    (Honest → Whole) → (Honest → Whole → after ≡ before) → (Honest → WasExported (export_text before.office lang) t0 t1 receipt) →
-    Honest → WasExported (export_text after.office lang) t0 t1 receipt
-still_exported Honest Whole before after lang t0 t1 receipt open_still same exported h =
-    let P : OfficeWithBook → Type 0 = λ m. WasExported (export_text m.office lang) t0 t1 receipt in
+pub still_exported : (Honest Whole : Type 0) (before after : OfficeWithBook) (domain lang : Text) (t0 t1 : Option (List ℕ)) (receipt : ExportReceipt) →
+    (Honest → Whole) → (Honest → Whole → after ≡ before) → (Honest → WasExported (export_text (project_in before.office domain) lang) t0 t1 receipt) →
+    Honest → WasExported (export_text (project_in after.office domain) lang) t0 t1 receipt
+still_exported Honest Whole before after domain lang t0 t1 receipt open_still same exported h =
+    let P : OfficeWithBook → Type 0 = λ m. WasExported (export_text (project_in m.office domain) lang) t0 t1 receipt in
     subst P (sym (same h (open_still h))) (exported h)
 
 pub text_taken : (text : Option (List ℕ)) (t0 t1 : Option (List ℕ)) (receipt : ExportReceipt) → WasExported text t0 t1 receipt → IsSomeAnd text (Took t0 t1)
@@ -45,18 +45,18 @@ held_back text t0 t1 t2 f0 f1 f2 receipt exported same part =
       count = subst R same part.count;
     })
 
-pub receipt_told : {Honest : Type 0} {office : Office} {lang : Text} {w0 w1 w2 e0 e1 : Writer} (receipt : ExportReceipt) (status : ℕ) →
-    (Honest → WasExported (export_text office lang) w0.taken w1.taken receipt) → w1.failed ≡ w0.failed → IsToldBehind w1 w2 e0 e1 receipt status →
-    Printed Honest office lang w0 w2 e0 e1 status
-receipt_told {office = office} {lang = lang} {w0} {w1} {w2} receipt status exported count (whole all told is) =
-    printed receipt (λ h. handed_on (export_text office lang) w0.taken w1.taken w2.taken w1.failed w2.failed receipt (exported h) all) told is
-receipt_told {office = office} {lang = lang} {w0} {w1} {w2} receipt status exported count (broken all told is) =
-    untold receipt (λ h. handed_on (export_text office lang) w0.taken w1.taken w2.taken w1.failed w2.failed receipt (exported h) all) told is
-receipt_told {office = office} {lang = lang} {w0} {w1} {w2} receipt status exported count (held part told is) =
+pub receipt_told : {Honest : Type 0} {office : Office} {domain lang : Text} {w0 w1 w2 e0 e1 : Writer} (receipt : ExportReceipt) (status : ℕ) →
+    (Honest → WasExported (export_text (project_in office domain) lang) w0.taken w1.taken receipt) → w1.failed ≡ w0.failed → IsToldBehind w1 w2 e0 e1 receipt status →
+    Printed Honest office domain lang w0 w2 e0 e1 status
+receipt_told {office = office} {domain = domain} {lang = lang} {w0} {w1} {w2} receipt status exported count (whole all told is) =
+    printed receipt (λ h. handed_on (export_text (project_in office domain) lang) w0.taken w1.taken w2.taken w1.failed w2.failed receipt (exported h) all) told is
+receipt_told {office = office} {domain = domain} {lang = lang} {w0} {w1} {w2} receipt status exported count (broken all told is) =
+    untold receipt (λ h. handed_on (export_text (project_in office domain) lang) w0.taken w1.taken w2.taken w1.failed w2.failed receipt (exported h) all) told is
+receipt_told {office = office} {domain = domain} {lang = lang} {w0} {w1} {w2} receipt status exported count (held part told is) =
     ended
     (record {
       fault = Device;
-      cut = λ h. held_back (export_text office lang) w0.taken w1.taken w2.taken w0.failed w1.failed w2.failed receipt (exported h) count part;
+      cut = λ h. held_back (export_text (project_in office domain) lang) w0.taken w1.taken w2.taken w0.failed w1.failed w2.failed receipt (exported h) count part;
       device = λ _. let R : ℕ → Type 0 = λ f. RoseOrStands f w2.failed in subst R count part.count;
       told = told;
     })

@@ -4,9 +4,9 @@ use Rattle.std.specs.Prelude.{flat_map, Option, Result, Ok, Err, MatchResult, Is
 use Rattle.units.specs.Streams.{prepend_known}
 use Rattle.commands.specs.declared.lines.Line.{Line}
 use Rattle.commands.specs.TextLines.{HasNoEnd, with_end, IsCut, with_rest}
-use Rattle.commands.specs.Exchanges.{Exchange, IsLine, exchange_line, Answered}
+use Rattle.office.specs.Exchanges.{Exchange, IsLine, exchange_line, Answered}
 use Rattle.commands.specs.Gathering.{Gathers, Passed, BrokeOff, ReadOff}
-use Rattle.commands.proofs.Going.{answered_further, one_answered, none_answered}
+use Rattle.office.proofs.Going.{answered_further, one_answered, none_answered}
 use Rattle.commands.proofs.Cutting.{no_end-append, nothing_cut, one_cut, cut_further, whole_further, each_further}
 
 -- ---- one line

@@ -1,8 +1,6 @@
 pub mod PluralLemmas
 pub mod Ends
-pub mod Streaming
 pub mod CanonLemmas
-pub mod Going
 pub mod Cutting
 pub mod Gathered
 pub mod Reading

@@ -6,12 +6,12 @@ use Rattle.units.specs.Streams.{prepend_known, IsAtEnd, RoseOrStands}
 use Rattle.po_write.specs.Sending.{TookAll, TookPart}
 use Rattle.commands.specs.declared.lines.Line.{Line}
 use Rattle.commands.specs.TextLines.{HasNoEnd, with_end, IsCut, with_rest, AreLinesOf}
-use Rattle.commands.specs.Exchanges.{Exchange, Answered}
+use Rattle.office.specs.Exchanges.{Exchange, Answered}
 use Rattle.commands.specs.Gathering.{Gathers, Passed, BrokeOff, ReadOn, ReadOff, LinesAnswered}
-use Rattle.commands.specs.Writers.{Writer, TakesAll, TakesPart}
+use Rattle.office.specs.Writers.{Writer, TakesAll, TakesPart}
 use Rattle.commands.specs.DeliverLines.{SomeAnswered, Stopped, no_source, no_sink, endless}
-use Rattle.commands.proofs.Streaming.{took_all, took_part, nothing_read, read_more, all_read, Given, given}
-use Rattle.commands.proofs.Going.{answered_further, none_answered}
+use Rattle.office.proofs.Streaming.{took_all, took_part, nothing_read, read_more, all_read, Given, given}
+use Rattle.office.proofs.Going.{answered_further, none_answered}
 use Rattle.commands.proofs.Gathered.{answered_so, failed}
 use Rattle.commands.proofs.Cutting.{nothing_cut, cut_further, whole_further, each_further, Front, lines_at_end, lines_in_front}
 

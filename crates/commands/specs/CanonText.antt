@@ -9,7 +9,7 @@ use Rattle.po_read.specs.declared.entry.Entry.{Entry}
 use Rattle.po_read.specs.Spells.{Spells, IsWithin, limits}
 use Rattle.po_read.specs.Faults.{IsFault}
 use Rattle.po_write.specs.Text.{text_of}
-pub use Rattle.commands.specs.Writers.{Writer, writer_at, TakesAll, TakesPart}
+pub use Rattle.office.specs.Writers.{Writer, writer_at, TakesAll, TakesPart}
 
 -- the most bytes that are read: one more than a PO text may have
 abbrev pub read_limit : ℕ

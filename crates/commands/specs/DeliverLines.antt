@@ -1,15 +1,15 @@
--- What comes of `office deliver`: the lines of a text, what each is answered, and behind the answers the text of a language. This
+-- What comes of `office deliver`: the lines of a text, what each is answered, and behind the answers the text of a domain's language. This
 -- project's own rule.
 use Rattle.std.specs.Prelude.{◌≡◌, ◌≤◌, ◌-◌, ◌^◌, ℕ, List, [], ◌++◌, length, Option, Some, None, IsSomeAnd}
 use Rattle.po_read.specs.Texts.{Text}
-use Rattle.units.specs.Office.{Office}
+use Rattle.units.specs.Office.{Office, project_in}
 use Rattle.units.specs.Streams.{Took, RoseOrStands}
 use Rattle.request_book.specs.Book.{OfficeWithBook}
 use Rattle.deliveries.specs.ExportText.{export_text}
 use Rattle.office.specs.declared.faults.ExportFault.TheVariants.{NoLanguage}
-use Rattle.commands.specs.Writers.{Writer, TakesAll, TakesPart}
+use Rattle.office.specs.Writers.{Writer, TakesAll, TakesPart}
 use Rattle.commands.specs.TextLines.{AreLinesOf}
-use Rattle.commands.specs.Exchanges.{Exchange, HasDelivered, Answered}
+use Rattle.office.specs.Exchanges.{Exchange, HasDelivered, Answered}
 use Rattle.commands.specs.ExportLines.{EndedWithFault}
 
 -- ---- lines and their answers
@@ -42,19 +42,19 @@ pub data Stopped (text : List ℕ) (reads_failed_old reads_failed_new : ℕ) (ol
 -- ---- the text of a language
 
 -- What came of an export, on the two outputs and in the exit status:
-pub data Exported (Honest Whole : Type 0) (office : Office) (lang : Option Text) (out_old out_new faults_old faults_new : Writer) (status : ℕ) : Type 0 where
+pub data Exported (Honest Whole : Type 0) (office : Office) (domain : Text) (lang : Option Text) (out_old out_new faults_old faults_new : Writer) (status : ℕ) : Type 0 where
   -- no language is named;
   unnamed : lang ≡ None → TakesAll out_old out_new [] → TakesAll faults_old faults_new [] → status ≡ 0
-      → Exported Honest Whole office lang out_old out_new faults_old faults_new status
+      → Exported Honest Whole office domain lang out_old out_new faults_old faults_new status
   -- or its text was written, of tables that aren't shut;
-  written : (named : Text) → lang ≡ Some named → (Honest → Whole) → (Honest → IsSomeAnd (export_text office named) (Took out_old.taken out_new.taken))
+  written : (named : Text) → lang ≡ Some named → (Honest → Whole) → (Honest → IsSomeAnd (export_text (project_in office domain) named) (Took out_old.taken out_new.taken))
       → TakesAll faults_old faults_new [] → status ≡ 0
-      → Exported Honest Whole office lang out_old out_new faults_old faults_new status
+      → Exported Honest Whole office domain lang out_old out_new faults_old faults_new status
   -- or there is a fault. Where it shut the store, it isn't said which office was exported; that the language isn't there is told by tables
   -- that aren't shut.
   faulted : (named : Text) → lang ≡ Some named → (meant : Office) → (Honest → Whole → meant ≡ office)
-      → (ended : EndedWithFault Honest meant named out_old out_new faults_old faults_new) → (Honest → ended.fault ≡ NoLanguage → Whole) → status ≡ 1
-      → Exported Honest Whole office lang out_old out_new faults_old faults_new status
+      → (ended : EndedWithFault Honest meant domain named out_old out_new faults_old faults_new) → (Honest → ended.fault ≡ NoLanguage → Whole) → status ≡ 1
+      → Exported Honest Whole office domain lang out_old out_new faults_old faults_new status
 
 -- ---- the whole
 
@@ -73,18 +73,18 @@ abbrev pub HoldsBack : Writer → Writer → Type 0
 HoldsBack old new = TakesPart old new []
 
 -- What came of a text, at the desk, on the outputs and in the exit status:
-pub data Delivered (Honest Whole Gone : Type 0) (before after : OfficeWithBook) (lang : Option Text) (text : List ℕ) (reads_failed_old reads_failed_new : ℕ)
+pub data Delivered (Honest Whole Gone : Type 0) (before after : OfficeWithBook) (domain : Text) (lang : Option Text) (text : List ℕ) (reads_failed_old reads_failed_new : ℕ)
     (replies_old replies_new faults_old faults_new : Writer) (status : ℕ) : Type 0 where
   -- each line was answered, and the language exported behind the answers;
   done : AllAnswered (HasDelivered Honest Whole Gone before after)
-      (TookBehind (λ old new. Exported Honest Whole after.office lang old new faults_old faults_new status) HandsOn replies_old replies_new) text
-      → Delivered Honest Whole Gone before after lang text reads_failed_old reads_failed_new replies_old replies_new faults_old faults_new status
+      (TookBehind (λ old new. Exported Honest Whole after.office domain lang old new faults_old faults_new status) HandsOn replies_old replies_new) text
+      → Delivered Honest Whole Gone before after domain lang text reads_failed_old reads_failed_new replies_old replies_new faults_old faults_new status
   -- or the writer held back some of that;
   held : (exit : ℕ) → AllAnswered (HasDelivered Honest Whole Gone before after)
-      (TookBehind (λ old new. Exported Honest Whole after.office lang old new faults_old faults_new exit) HoldsBack replies_old replies_new) text
+      (TookBehind (λ old new. Exported Honest Whole after.office domain lang old new faults_old faults_new exit) HoldsBack replies_old replies_new) text
       → status ≡ 1
-      → Delivered Honest Whole Gone before after lang text reads_failed_old reads_failed_new replies_old replies_new faults_old faults_new status
+      → Delivered Honest Whole Gone before after domain lang text reads_failed_old reads_failed_new replies_old replies_new faults_old faults_new status
   -- or a stream failed behind the first lines.
   stopped : SomeAnswered (HasDelivered Honest Whole Gone before after) (Stopped text reads_failed_old reads_failed_new replies_old replies_new) text
       → TakesAll faults_old faults_new [] → status ≡ 1
-      → Delivered Honest Whole Gone before after lang text reads_failed_old reads_failed_new replies_old replies_new faults_old faults_new status
+      → Delivered Honest Whole Gone before after domain lang text reads_failed_old reads_failed_new replies_old replies_new faults_old faults_new status

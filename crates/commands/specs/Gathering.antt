@@ -6,8 +6,8 @@ use Rattle.commands.specs.declared.lines.Gathered.{Gathered}
 use Rattle.commands.specs.declared.lines.Gathered.TheVariants.{Whole, TooLong, NoMemory}
 use Rattle.commands.specs.declared.lines.Line.{Line}
 use Rattle.commands.specs.TextLines.{HasNoEnd, with_end, IsCut}
-use Rattle.commands.specs.Exchanges.{Exchange, line_limit, Answered}
-use Rattle.commands.specs.Writers.{Writer, TakesAll}
+use Rattle.office.specs.Exchanges.{Exchange, line_limit, Answered}
+use Rattle.office.specs.Writers.{Writer, TakesAll}
 use Rattle.commands.specs.DeliverLines.{AllAnswered, SomeAnswered, Stopped, HandsOn, HoldsBack}
 
 -- what is known of bytes by how they were gathered, how many they are, and which were kept

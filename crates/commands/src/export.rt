@@ -2,7 +2,7 @@
 ghost use Rattle.std.specs.Prelude.{◌≡◌, ◌≤◌, ◌⊎◌, [], option_map, true, false, OnOk};
 ghost use Rattle.hex.specs.Hex.{encode_lower};
 ghost use Rattle.po_write.specs.Sending.{Sends};
-ghost use Rattle.commands.specs.Writers.{writer_at, TakesAll, TakesPart};
+ghost use Rattle.office.specs.Writers.{writer_at, TakesAll, TakesPart};
 ghost use Rattle.commands.specs.ExportLines.{export_fault_line, receipt_line, Printed, IsToldBehind};
 ghost use Rattle.commands.specs.DeliverLines.{Exported};
 
@@ -10,7 +10,7 @@ use crate::numbers::send_number;
 use office::{Desk, ExportFault, ExportReceipt};
 use po_write::send;
 use tables::Tables;
-use units::{ByteSink, Lang, SinkFault};
+use units::{ByteSink, Lang, Name, SinkFault};
 
 /// Exit status of a run that did what it was asked for.
 pub const DONE: u8 = 0;
@@ -46,14 +46,15 @@ fn tell_fault<E: ByteSink>(e: &mut E, fault: ExportFault) -> u8
     FAILED
 }
 
-/// Writes the text of the language, if one is named; a fault is told on the second output.
+/// Writes the text of the domain's language, if one is named; a fault is told on the second output.
 pub(crate) fn export_named<T: Tables, W: ByteSink, E: ByteSink>(
     desk: &mut Desk<T>,
     w: &mut W,
     e: &mut E,
+    domain: &Name,
     lang: Option<&Lang>,
 ) -> u8
-    ensures exported { Exported (T.is_honest desk.new) (T.is_whole desk.new) (T.means desk.new).office (option_map (λ named. named.now) lang.entry)
+    ensures exported { Exported (T.is_honest desk.new) (T.is_whole desk.new) (T.means desk.new).office domain.now (option_map (λ named. named.now) lang.entry)
         (writer_at W.taken W.failed w.old) (writer_at W.taken W.failed w.new) (writer_at E.taken E.failed e.old) (writer_at E.taken E.failed e.new) result }
     ensures honest { T.is_honest desk.new → T.is_honest desk.old }
     ensures whole { T.is_honest desk.new → T.is_whole desk.new → T.is_whole desk.old }
@@ -62,7 +63,7 @@ pub(crate) fn export_named<T: Tables, W: ByteSink, E: ByteSink>(
 {
     match lang {
         None => DONE,
-        Some(lang) => match desk.export(lang, w) {
+        Some(lang) => match desk.export(domain, lang, w) {
             Ok(_receipt) => DONE,
             Err(fault) => tell_fault(e, fault),
         },
@@ -106,17 +107,18 @@ fn tell_written<W: ByteSink, E: ByteSink>(w: &mut W, e: &mut E, receipt: ExportR
     }
 }
 
-/// Prints the PO text of a language, hands on what the writer holds back, and then prints a line `bytes B sha256 H` on the second output, the
-/// text's length and its SHA-256 digest in lower case; or, where the export failed or the writer did, a line `export fault K` there.
+/// Prints the PO text of a domain's language, hands on what the writer holds back, and then prints a line `bytes B sha256 H` on the second
+/// output, the text's length and its SHA-256 digest in lower case; or, where the export failed or the writer did, a line `export fault K` there.
 ///
 /// Answers the exit status: 0, or 1 where the export or a stream failed.
 pub fn export_text<T: Tables, W: ByteSink, E: ByteSink>(
     desk: &mut Desk<T>,
+    domain: &Name,
     lang: &Lang,
     w: &mut W,
     e: &mut E,
 ) -> u8
-    ensures printed { Printed (T.is_honest desk.new) (T.means desk.old).office lang.now
+    ensures printed { Printed (T.is_honest desk.new) (T.means desk.old).office domain.now lang.now
         (writer_at W.taken W.failed w.old) (writer_at W.taken W.failed w.new) (writer_at E.taken E.failed e.old) (writer_at E.taken E.failed e.new) result }
     ensures status { result ≤ 1 }
     // Nothing of the text is held back.
@@ -126,7 +128,7 @@ pub fn export_text<T: Tables, W: ByteSink, E: ByteSink>(
     ensures whole { T.is_honest desk.new → T.is_whole desk.new → T.is_whole desk.old }
     ensures same { T.is_honest desk.new → T.is_whole desk.new → T.means desk.new ≡ T.means desk.old }
 {
-    match desk.export(lang, w) {
+    match desk.export(domain, lang, w) {
         Ok(receipt) => tell_written(w, e, receipt),
         Err(fault) => tell_fault(e, fault),
     }

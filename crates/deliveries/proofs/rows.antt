@@ -3,3 +3,4 @@ pub mod Rows
 pub mod ActRows
 pub mod LastRevision
 pub mod ExportRows
+pub mod DomainRows

@@ -8,7 +8,7 @@ use Rattle.units.specs.declared.unit.Refusal.TheVariants.{NoLanguage, NoUnit}
 use Rattle.review.specs.declared.decision.Decision.{Decision}
 use Rattle.review.specs.declared.decision.Decision.TheVariants.{Done, Refused}
 use Rattle.review.specs.UnitStep.{unit_step}
-use Rattle.deliveries.specs.declared.values.Found.{Found}
+use Rattle.deliveries.specs.declared.values.ActContext.{ActContext}
 use Rattle.deliveries.specs.declared.values.Outcome.{Outcome}
 use Rattle.replies.specs.Bodies.{refused, done}
 
@@ -20,10 +20,10 @@ abbrev pub outcome_of_decision : Decision → Outcome
 outcome_of_decision (Done view values) = record { view = Some view; reply = done values }
 outcome_of_decision (Refused refusal) = refusing refusal
 
-abbrev outcome_with : Text → Text → UnitAct → Found → Outcome
+abbrev outcome_with : Text → Text → UnitAct → ActContext → Outcome
 outcome_with caller number act found =
     option_map_or (λ view. outcome_of_decision (unit_step found.policy found.rule found.role caller number view act)) found.view (refusing NoUnit)
 
 -- nothing is found where there is no such language
-abbrev pub outcome_of : Option Found → Text → Text → UnitAct → Outcome
+abbrev pub outcome_of : Option ActContext → Text → Text → UnitAct → Outcome
 outcome_of found caller number act = option_map_or (outcome_with caller number act) found (refusing NoLanguage)

@@ -5,6 +5,7 @@ mod laws;
 mod values;
 
 pub use laws::{
-    alike_by_swaps, either_order, equal_exports, run_goes_on, unit_act_leaves_the_rest,
+    alike_by_swaps, domain_act_leaves_other_domains, either_order, equal_exports, run_goes_on,
+    unit_act_leaves_the_rest,
 };
-pub use values::{Change, Found, Language, Outcome};
+pub use values::{ActContext, Change, DomainChange, Language, Outcome};

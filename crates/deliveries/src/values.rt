@@ -22,7 +22,7 @@ pub struct Language {
 /// What an act on a unit needs to know: of its language the plural rule, of the office its policy, of the caller the role, and of
 /// the unit its view, if it is there.
 #[derive(Drop)]
-pub struct Found {
+pub struct ActContext {
     pub rule: PluralForms,
     pub policy: Policy,
     pub role: Role,
@@ -36,15 +36,24 @@ pub struct Outcome {
     pub reply: Reply,
 }
 
+/// What a language or a template changes in its domain.
+#[derive(Drop)]
+pub enum DomainChange {
+    /// A language comes with its units.
+    NewLanguage(Lang, Language, Plan),
+    /// The template is this one, and each language has the units of its plan.
+    NewTemplate(Catalogue, Vec<(Lang, Plan)>),
+}
+
 /// What an office act changes.
 #[derive(Drop)]
 pub enum Change {
     /// The name has this role; as a guest it isn't in the team.
     OneRole(Name, Role),
-    /// The policy is this one, and no unit stays approved where it has no reviews.
+    /// The policy is this one, and no unit of any domain stays approved where it has no reviews.
     NewPolicy(Policy),
-    /// A language comes with its units.
-    NewLanguage(Lang, Language, Plan),
-    /// The template is this one, and each language has the units of its plan.
-    NewTemplate(Catalogue, Vec<(Lang, Plan)>),
+    /// A domain comes, with no message and no language.
+    NewDomain(Name),
+    /// The domain of this name changes.
+    InDomain(Name, DomainChange),
 }

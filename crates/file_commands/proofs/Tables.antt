@@ -2,7 +2,7 @@
 use Rattle.std.proofs.Common.{Bool, refl}
 use Rattle.sqlite.specs.Held.{Held, state}
 use Rattle.sqlite_trees.specs.declared.store.Store as store
-use Rattle.office_in_rows.specs.Meaning.{meaning_in}
+use Rattle.sql_meaning.specs.Meaning.{meaning_in}
 use Rattle.tables.specs.Starts.{started}
 use Rattle.tables.specs.declared.start.Start.{Start}
 use Rattle.store_sql.specs.Adopting.{AreAdopted}

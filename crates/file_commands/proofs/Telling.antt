@@ -1,7 +1,7 @@
 -- Lines that are written and handed on.
 use Rattle.std.proofs.Common.{◌≡◌, ℕ, List, [], true, false, Result, Ok, Err, MatchResult, IsErr, subst, append-nil}
-use Rattle.commands.specs.Writers.{Writer, TakesAll, TakesPart}
-use Rattle.commands.proofs.Streaming.{took_all, took_part}
+use Rattle.office.specs.Writers.{Writer, TakesAll, TakesPart}
+use Rattle.office.proofs.Streaming.{took_all, took_part}
 
 pub broke_off : {T E : Type 0} (w0 w1 : Writer) (text : List ℕ) (r : Result T E) → IsErr r → TakesPart w0 w1 text → MatchResult r (λ _. TakesAll w0 w1 text) (λ _. TakesPart w0 w1 text)
 broke_off w0 w1 text (Ok x) err part = let differs : false ≡ true = err in cc

@@ -1,8 +1,8 @@
 -- What is told where an office's tables can't be had. This project's own rule; the faults are numbered as `open_fault_number` says.
 use Rattle.std.specs.Prelude.{◌⊎◌, ℕ, List, codes}
-use Rattle.office_adoption.specs.declared.faults.OpenFault.{OpenFault}
-use Rattle.office_adoption.specs.declared.faults.OpenFault.TheVariants.{Memory, Disk, Foreign, Exists}
-use Rattle.commands.specs.Writers.{Writer, TakesAll, TakesPart}
+use Rattle.sql_adoption.specs.declared.faults.OpenFault.{OpenFault}
+use Rattle.sql_adoption.specs.declared.faults.OpenFault.TheVariants.{Memory, Disk, Foreign, Exists}
+use Rattle.office.specs.Writers.{Writer, TakesAll, TakesPart}
 
 abbrev pub store_fault_line : OpenFault → List ℕ
 store_fault_line Memory = codes "store fault 1\n"

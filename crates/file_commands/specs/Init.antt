@@ -4,12 +4,12 @@ use Rattle.sqlite.specs.Held.{Held, state}
 use Rattle.sqlite_trees.specs.declared.store.Store as store
 use Rattle.tables.specs.Starts.{started}
 use Rattle.tables.specs.declared.start.Start.{Start}
-use Rattle.office_sql.specs.Schema.{no_schema}
-use Rattle.office_adoption.specs.declared.faults.OpenFault.{OpenFault}
-use Rattle.office_files.specs.Files.{KeepsFile, LeavesFiles}
+use Rattle.sql_schema.specs.Schema.{no_schema}
+use Rattle.sql_adoption.specs.declared.faults.OpenFault.{OpenFault}
+use Rattle.sql_files.specs.Files.{KeepsFile, LeavesFiles}
 use Rattle.store_sql.specs.Faults.{RefusesIn}
 use Rattle.store_sql.specs.Making.{IsHandedBack}
-use Rattle.commands.specs.Writers.{Writer, TakesAll, TakesPart}
+use Rattle.office.specs.Writers.{Writer, TakesAll, TakesPart}
 use Rattle.file_commands.specs.Faults.{store_fault_line, TellsLine}
 use Rattle.file_commands.specs.Opening.{Holds}
 

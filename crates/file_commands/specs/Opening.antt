@@ -5,11 +5,11 @@ use Rattle.sqlite.specs.State.{State, HasCleanDisk}
 use Rattle.sqlite.specs.Tree.{Trees}
 use Rattle.sqlite_trees.specs.declared.store.Store as store
 use Rattle.request_book.specs.Book.{OfficeWithBook}
-use Rattle.office_in_rows.specs.Meaning.{meaning_in}
-use Rattle.office_adoption.specs.Adoption.{IsAdopted, Refuses, StaysAsItWas}
-use Rattle.office_files.specs.Files.{IsOfficeFile, IsLost}
+use Rattle.sql_meaning.specs.Meaning.{meaning_in}
+use Rattle.sql_adoption.specs.Adoption.{IsAdopted, Refuses, StaysAsItWas}
+use Rattle.sql_files.specs.Files.{IsOfficeFile, IsLost}
 use Rattle.sqlite.specs.Effect.{IsDatabase}
-use Rattle.office_adoption.specs.declared.faults.OpenFault.{OpenFault}
+use Rattle.sql_adoption.specs.declared.faults.OpenFault.{OpenFault}
 
 -- While the disk has returned what was written, no failure has shut the connection, its rows mean this office with its book, and a stop
 -- leaves no other.

@@ -3,8 +3,8 @@
 use Rattle.std.specs.Prelude.{◌≡◌, ℕ}
 use Rattle.sqlite.specs.Held.{Held}
 use Rattle.sqlite_trees.specs.declared.store.Store as store
-use Rattle.office_adoption.specs.declared.faults.OpenFault.{OpenFault}
-use Rattle.commands.specs.Writers.{Writer}
+use Rattle.sql_adoption.specs.declared.faults.OpenFault.{OpenFault}
+use Rattle.office.specs.Writers.{Writer}
 use Rattle.file_commands.specs.Faults.{store_fault_line, TellsLine}
 use Rattle.file_commands.specs.Opening.{IsOpened, IsUnopened}
 

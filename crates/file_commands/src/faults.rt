@@ -1,7 +1,7 @@
 //! What is told where an office's tables can't be had.
 ghost use Rattle.std.specs.Prelude.{◌≡◌, [], codes};
 ghost use Rattle.po_write.specs.Sending.{Sends};
-ghost use Rattle.commands.specs.Writers.{writer_at};
+ghost use Rattle.office.specs.Writers.{writer_at};
 ghost use Rattle.file_commands.specs.Faults.{store_fault_line, TellsLine};
 
 use commands::FAILED;

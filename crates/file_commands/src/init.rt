@@ -1,7 +1,7 @@
 //! `office init`: an office in a new database.
 ghost use Rattle.std.specs.Prelude.{◌≡◌, ◌≤◌, false, MatchOption};
 ghost use Rattle.sqlite.specs.Held.{Held};
-ghost use Rattle.commands.specs.Writers.{writer_at};
+ghost use Rattle.office.specs.Writers.{writer_at};
 ghost use Rattle.file_commands.specs.Init.{Initialised, Said, ready_line};
 
 use crate::faults::{send_line, tell_store_fault};

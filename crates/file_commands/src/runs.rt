@@ -2,8 +2,8 @@
 ghost use Rattle.std.specs.Prelude.{◌≡◌, ◌≤◌, Bool, false, true, List, ℕ, IsTrue, IfSome, option_map};
 ghost use Rattle.sqlite.specs.Held.{state};
 ghost use Rattle.sqlite.specs.State.{HasCleanDisk};
-ghost use Rattle.office_in_rows.specs.Meaning.{meaning_in};
-ghost use Rattle.commands.specs.Writers.{writer_at};
+ghost use Rattle.sql_meaning.specs.Meaning.{meaning_in};
+ghost use Rattle.office.specs.Writers.{writer_at};
 ghost use Rattle.commands.specs.DeliverLines.{Delivered};
 ghost use Rattle.commands.specs.ExportLines.{Printed};
 ghost use Rattle.commands.specs.Gathering.{Finished};
@@ -16,7 +16,7 @@ use office::Desk;
 use sqlite::{Alter, Connection};
 use std::alloc::Global;
 use tables::Tables;
-use units::{ByteSink, ByteSource, Lang};
+use units::{ByteSink, ByteSource, Lang, Name};
 
 /// Opens the office in a database, delivers each line of the source to it and writes the answers, as `deliver_lines` does, and closes it. Where
 /// the office can't be opened, a line `store fault K` is written on `faults`, and nothing is read.
@@ -28,6 +28,7 @@ pub fn deliver_store<S: Alter + Drop, R: ByteSource, W: ByteSink, E: ByteSink>(
     source: &mut R,
     replies: &mut W,
     faults: &mut E,
+    domain: &Name,
     lang: Option<&Lang>,
 ) -> Closed<S>
     requires autocommit { connection.in_transaction ≡ false }
@@ -36,7 +37,7 @@ pub fn deliver_store<S: Alter + Drop, R: ByteSource, W: ByteSink, E: ByteSink>(
     ensures delivered { Ran S.Store
         (λ opened. (text : List ℕ) × IfSome (R.left source.old) (λ all. text ≡ all) × (stopped : Bool)
         × Delivered (HasCleanDisk (state S.Store result.connection)) (IsTrue (state S.Store result.connection).is_open) (stopped ≡ true)
-        (meaning_in (state S.Store opened).now.trees) (meaning_in (state S.Store result.connection).now.trees)
+        (meaning_in (state S.Store opened).now.trees) (meaning_in (state S.Store result.connection).now.trees) domain.now
         (option_map (λ named. named.now) lang.entry) text (R.failed source.old) (R.failed source.new)
         (writer_at W.taken W.failed replies.old) (writer_at W.taken W.failed replies.new)
         (writer_at E.taken E.failed faults.old) (writer_at E.taken E.failed faults.new) result.status)
@@ -47,7 +48,7 @@ pub fn deliver_store<S: Alter + Drop, R: ByteSource, W: ByteSink, E: ByteSink>(
 {
     match open_desk(alloc, connection) {
         Ok(mut desk) => {
-            let status = deliver_lines(alloc, &mut desk, source, replies, faults, lang);
+            let status = deliver_lines(alloc, &mut desk, source, replies, faults, domain, lang);
             Closed {
                 status,
                 connection: close_desk(desk),
@@ -60,33 +61,35 @@ pub fn deliver_store<S: Alter + Drop, R: ByteSource, W: ByteSink, E: ByteSink>(
     }
 }
 
-/// Prints a language's text and its receipt, and hands on what the writer holds back.
+/// Prints the text of a domain's language and its receipt, and hands on what the writer holds back.
 fn export_whole<T: Tables, W: ByteSink, E: ByteSink>(
     desk: &mut Desk<T>,
+    domain: &Name,
     lang: &Lang,
     w: &mut W,
     e: &mut E,
 ) -> u8
-    ensures printed { Finished (λ old new exit. Printed (T.is_honest desk.new) (T.means desk.old).office lang.now
+    ensures printed { Finished (λ old new exit. Printed (T.is_honest desk.new) (T.means desk.old).office domain.now lang.now
         old new (writer_at E.taken E.failed e.old) (writer_at E.taken E.failed e.new) exit)
         (writer_at W.taken W.failed w.old) (writer_at W.taken W.failed w.new) result }
     ensures status { result ≤ 1 }
     ensures same { T.is_honest desk.new → T.is_whole desk.new → T.means desk.new ≡ T.means desk.old }
 {
-    let status = export_text(desk, lang, w, e);
+    let status = export_text(desk, domain, lang, w, e);
     match hand_on(w) {
         Ok(()) => status,
         Err(_) => FAILED,
     }
 }
 
-/// Opens the office in a database, prints a language's text and, on the second output, its receipt, as `export_text` does, hands on what the
-/// writer holds back, and closes the office. Where it can't be opened, a line `store fault K` is written on the second output.
+/// Opens the office in a database, prints the text of a domain's language and, on the second output, its receipt, as `export_text` does, hands on
+/// what the writer holds back, and closes the office. Where it can't be opened, a line `store fault K` is written on the second output.
 ///
 /// Answers the exit status: 0, or 1 after a fault or where a stream failed; and the connection.
 pub fn export_store<S: Alter + Drop, W: ByteSink, E: ByteSink>(
     alloc: Global,
     connection: Connection<S>,
+    domain: &Name,
     lang: &Lang,
     w: &mut W,
     e: &mut E,
@@ -95,7 +98,7 @@ pub fn export_store<S: Alter + Drop, W: ByteSink, E: ByteSink>(
     // The rows mean afterwards what they meant when the office was opened, and the text is that office's.
     ensures exported { Ran S.Store
         (λ opened. Finished (λ old new exit. Printed (HasCleanDisk (state S.Store result.connection))
-        (meaning_in (state S.Store opened).now.trees).office lang.now
+        (meaning_in (state S.Store opened).now.trees).office domain.now lang.now
         old new (writer_at E.taken E.failed e.old) (writer_at E.taken E.failed e.new) exit)
         (writer_at W.taken W.failed w.old) (writer_at W.taken W.failed w.new) result.status
         × (HasCleanDisk (state S.Store result.connection) → IsTrue (state S.Store result.connection).is_open
@@ -107,7 +110,7 @@ pub fn export_store<S: Alter + Drop, W: ByteSink, E: ByteSink>(
 {
     match open_desk(alloc, connection) {
         Ok(mut desk) => {
-            let status = export_whole(&mut desk, lang, w, e);
+            let status = export_whole(&mut desk, domain, lang, w, e);
             Closed {
                 status,
                 connection: close_desk(desk),

@@ -1,10 +1,11 @@
 -- Answers that are written out.
-use Rattle.std.proofs.Common.{◌≡◌, ℕ, List, ◌++◌, true, false, length, refl}
+use Rattle.std.proofs.Common.{◌≡◌, ℕ, List, [], ◌∷◌, ◌++◌, true, false, length, map, refl}
 use Rattle.std.specs.Prelude.{codes}
+use Rattle.std.specs.List.{list_all}
 use Rattle.std.specs.Fmt.{digits}
 use Rattle.http_api.specs.declared.answer_bytes.Content.TheVariants.{Json}
 use Rattle.http_messages.specs.declared.refusal.Refusal.TheVariants.{LongHead, Malformed, TooLarge, NoRoute, Method, NoLength, Memory}
-use Rattle.http_api.specs.Statuses.{phrase}
+use Rattle.http_api.specs.Statuses.{phrase, is_status}
 use Rattle.http_api.specs.Answers.{answer_text, refusal_text}
 
 -- a reply, on a connection that goes on
@@ -59,3 +60,15 @@ no_route = refl
 memory : refusal_text Memory false ≡ codes "HTTP/1.1 503 Service Unavailable\r\nContent-Type: application/json\r\nContent-Length: 18\r\n\r\n{\"error\":\"memory\"}"
 unfolding digits phrase
 memory = refl
+
+-- the phrases of the statuses that the office answers
+phrases_are : map phrase (200 ∷ 400 ∷ 403 ∷ 404 ∷ 405 ∷ 409 ∷ 411 ∷ 413 ∷ 422 ∷ 431 ∷ 503 ∷ 507 ∷ [])
+    ≡ codes "OK" ∷ codes "Bad Request" ∷ codes "Forbidden" ∷ codes "Not Found" ∷ codes "Method Not Allowed" ∷ codes "Conflict" ∷ codes "Length Required"
+    ∷ codes "Payload Too Large" ∷ codes "Unprocessable Entity" ∷ codes "Request Header Fields Too Large" ∷ codes "Service Unavailable"
+    ∷ codes "Insufficient Storage" ∷ []
+unfolding phrase
+phrases_are = refl
+
+-- what an office records was answered with one of these
+recorded_statuses : list_all is_status (200 ∷ 403 ∷ 404 ∷ 409 ∷ 422 ∷ []) ≡ true
+recorded_statuses = refl

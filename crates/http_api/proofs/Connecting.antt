@@ -5,8 +5,8 @@ use Rattle.std.proofs.lemmas.Bool.Decides.{nat_tests}
 use Rattle.std.proofs.lemmas.List.{map-append}
 use Rattle.units.specs.Streams.{prepend_known, RoseOrStands}
 use Rattle.units.proofs.Taking.{took_then_beginning}
-use Rattle.commands.specs.Writers.{Writer, TakesAll}
-use Rattle.commands.proofs.Streaming.{nothing_read, read_more, all_read, given, took_all}
+use Rattle.office.specs.Writers.{Writer, TakesAll}
+use Rattle.office.proofs.Streaming.{nothing_read, read_more, all_read, given, took_all}
 use Rattle.http_messages.specs.Asked.{Asked, Asking}
 use Rattle.http_messages.specs.Streams.{Item, step, first_step, items_within, items_of, answer_limit}
 use Rattle.http_messages.specs.Arrivals.{WasCutOff}

@@ -2,8 +2,8 @@
 use Rattle.std.proofs.Common.{◌≡◌, List, [], ℕ, Bool, Result, Ok, Err, MatchResult, sym, subst, append-nil}
 use Rattle.std.specs.Prelude.{IsErrAnd, IfOk, OnOk}
 use Rattle.std.specs.Result.{result_and}
-use Rattle.commands.specs.Writers.{Writer, TakesAll, TakesPart}
-use Rattle.commands.proofs.Streaming.{took_all, took_part}
+use Rattle.office.specs.Writers.{Writer, TakesAll, TakesPart}
+use Rattle.office.proofs.Streaming.{took_all, took_part}
 use Rattle.http_api.specs.declared.faults.ServeFault.{ServeFault}
 use Rattle.http_api.specs.declared.faults.ServeFault.TheVariants as fault
 use Rattle.http_api.specs.Outcomes.{Outcome, outcome_answer}

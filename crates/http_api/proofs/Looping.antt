@@ -1,20 +1,21 @@
 -- The loop over a connection, by tables and a writer.
-use Rattle.std.proofs.Common.{◌≡◌, ◌≤◌, ◌<◌, ◌+◌, ◌==◌, List, [], ℕ, Bool, true, Option, Result, Ok, Err, MatchResult, inl, inr, sym, subst}
-use Rattle.std.specs.Prelude.{IfSome, IsErrAnd, ◌||◌}
+use Rattle.std.proofs.Common.{◌≡◌, ◌≤◌, ◌<◌, ◌+◌, ◌==◌, List, [], ℕ, Bool, true, Option, Some, None, Result, Ok, Err, MatchResult, inl, inr, refl, sym, subst}
+use Rattle.std.specs.Prelude.{IfSome, IsErrAnd, ◌||◌, unwrap_or}
 use Rattle.request_book.specs.Book.{OfficeWithBook}
-use Rattle.commands.specs.Writers.{Writer, TakesAll}
-use Rattle.commands.proofs.Streaming.{took_none}
+use Rattle.office.specs.Writers.{Writer, TakesAll}
+use Rattle.office.proofs.Streaming.{took_none}
 use Rattle.http_messages.specs.Asked.{Asked}
-use Rattle.http_messages.specs.Streams.{answer_limit}
+use Rattle.http_messages.specs.Streams.{answer_limit, items_of}
 use Rattle.http_api.specs.declared.connection.Next.{Next}
 use Rattle.http_api.specs.declared.connection.Next.TheVariants.{End, Last, More}
 use Rattle.http_api.specs.declared.faults.ServeFault.{ServeFault}
+use Rattle.http_api.specs.declared.faults.ServeFault.TheVariants.{Memory}
 use Rattle.http_api.specs.Faults.{fault_of}
 use Rattle.http_api.specs.Outcomes.{Outcome, outcome_answer}
 use Rattle.http_api.specs.Answering.{ComesTo, WroteBeginning}
 use Rattle.http_api.specs.Served.{HasServed}
 use Rattle.http_api.specs.Steps.{Stepped, SteppedOff, unread, broke_off}
-use Rattle.http_api.specs.Connection.{ReadsNoMore, ReadsOn, AllServed, SomeServed, GivenUp}
+use Rattle.http_api.specs.Connection.{ReadsNoMore, ReadsOn, AllServed, SomeServed, GivenUp, no_room}
 use Rattle.http_api.proofs.Serving.{serves, none_served}
 use Rattle.http_api.proofs.Connecting.{HasRoom, has_room, Along, begins, goes_along, AllTaken, ends, is_full, lasts, lasts_read, full_read, SomeTaken, cut_off, breaks_off, wrote_more, gives_up, stops}
 
@@ -39,6 +40,26 @@ module _ {S V : Type 0} (is_honest is_whole : S → Type 0) (means : S → Offic
     whole = λ h w. w;
     stopped = λ s. s;
   }
+
+  -- nothing is served where there is no memory for the routes
+  pub no_routes : (start : S) (old : V) (left : Option (List ℕ)) (failed : ℕ) → (bytes : List ℕ) × IfSome left (λ all. bytes ≡ all)
+      × SomeServed (is_honest start) (is_whole start) (is_stopped start ≡ true) (means start) (means start) bytes failed failed (at old) (at old) Memory
+  no_routes start old left failed = (
+    unwrap_or left [],
+    known left,
+    record {
+      front = [];
+      back = items_of (unwrap_or left []);
+      cut = refl;
+      outcomes = [];
+      served = none_served (is_honest start) (is_whole start) (is_stopped start ≡ true) (means start);
+      given_up = λ h. no_room refl (took_none (at old).taken (at old).failed);
+    },
+  )
+    where
+      known : (o : Option (List ℕ)) → IfSome o (λ all. unwrap_or o [] ≡ all)
+      known None = tt
+      known (Some all) = refl
 
   module _ (s0 s1 s2 : S) (v0 v1 v2 : V) (l0 l1 l2 : Option (List ℕ)) (f0 f1 f2 answered : ℕ) (held now : List ℕ) (full : Bool) (so_far : Serving s0 s1 v0 v1 l0 l1 f0 f1 answered held) where
     abbrev Same : Type 0

@@ -1,12 +1,11 @@
 -- A list of messages with their outcomes, and one more.
 use Rattle.std.proofs.Common.{◌≡◌, List, [], ◌∷◌, ◌++◌, refl, sym, subst, ap, ◌∙◌, append_assoc, append-nil}
-use Rattle.po_read.specs.Texts.{Text}
 use Rattle.units.specs.Office.{Office}
 use Rattle.request_book.specs.Book.{OfficeWithBook}
 use Rattle.http_messages.specs.Queries.{UnitName}
-use Rattle.http_messages.specs.Asked.{Asked}
+use Rattle.http_messages.specs.Asked.{LanguageName, Asked}
 use Rattle.http_messages.specs.Asked as ask
-use Rattle.commands.specs.Exchanges.{Exchange, HasDelivered}
+use Rattle.office.specs.Exchanges.{Exchange, HasDelivered}
 use Rattle.http_api.specs.Outcomes.{Outcome, UnitShown, CountsShown, TextExported, IsOutcome, unit_shown, unit_without_language, unit_absent, unit_lost, counts_shown, counts_without_language, counts_lost, text_exported, text_without_language, text_too_long, text_lost}
 use Rattle.http_api.specs.Served.{exchange_in, office_behind, AreOutcomes, exchanges_of, HasServed}
 use Rattle.http_api.specs.Answering.{Came}
@@ -20,24 +19,24 @@ module _ (Honest Whole Stopped StillHonest StillWhole StillStopped : Type 0) (ho
   unit_still name o (unit_absent is fact) = unit_absent is (λ h. fact (honest h))
   unit_still name o (unit_lost lost is disk) = unit_lost lost is (λ e. still (disk e))
 
-  counts_still : (lang : Text) (o : Outcome) → CountsShown Honest Whole Stopped office lang o → CountsShown StillHonest StillWhole StillStopped office lang o
-  counts_still lang o (counts_shown text is fact) = counts_shown text is (λ h. fact (honest h))
-  counts_still lang o (counts_without_language is fact) = counts_without_language is (λ h. fact (honest h))
-  counts_still lang o (counts_lost lost is disk) = counts_lost lost is (λ e. still (disk e))
+  counts_still : (name : LanguageName) (o : Outcome) → CountsShown Honest Whole Stopped office name o → CountsShown StillHonest StillWhole StillStopped office name o
+  counts_still name o (counts_shown text is fact) = counts_shown text is (λ h. fact (honest h))
+  counts_still name o (counts_without_language is fact) = counts_without_language is (λ h. fact (honest h))
+  counts_still name o (counts_lost lost is disk) = counts_lost lost is (λ e. still (disk e))
 
-  text_still : (lang : Text) (o : Outcome) → TextExported Honest Whole Stopped office lang o → TextExported StillHonest StillWhole StillStopped office lang o
-  text_still lang o (text_exported text is fact within) = text_exported text is (λ h. fact (honest h)) (λ h. within (honest h))
-  text_still lang o (text_without_language is fact) = text_without_language is (λ h. fact (honest h))
-  text_still lang o (text_too_long is fact) = text_too_long is (λ h w. fact (honest h) (whole h w))
-  text_still lang o (text_lost lost is disk) = text_lost lost is (λ e. still (disk e))
+  text_still : (name : LanguageName) (o : Outcome) → TextExported Honest Whole Stopped office name o → TextExported StillHonest StillWhole StillStopped office name o
+  text_still name o (text_exported text is fact within) = text_exported text is (λ h. fact (honest h)) (λ h. within (honest h))
+  text_still name o (text_without_language is fact) = text_without_language is (λ h. fact (honest h))
+  text_still name o (text_too_long is fact) = text_too_long is (λ h w. fact (honest h) (whole h w))
+  text_still name o (text_lost lost is disk) = text_lost lost is (λ e. still (disk e))
 
   is_still : (a : Asked) (o : Outcome) → IsOutcome Honest Whole Stopped office a o → IsOutcome StillHonest StillWhole StillStopped office a o
   is_still (ask.refused refusal) o is = is
   is_still (ask.request number callers body) o is = is
-  is_still (ask.export lang) o is = text_still lang o is
+  is_still (ask.export name) o is = text_still name o is
   is_still (ask.unit name) o is = unit_still name o is
   is_still ask.unnamed o is = is
-  is_still (ask.stats lang) o is = counts_still lang o is
+  is_still (ask.stats name) o is = counts_still name o is
 
 -- ---- one message more
 

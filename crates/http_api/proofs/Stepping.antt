@@ -2,7 +2,7 @@
 use Rattle.std.proofs.Common.{◌≡◌, ◌+◌, List, [], ℕ, Bool, true, false, Option, Result, Ok, Err, MatchResult, refl, sym, subst}
 use Rattle.std.specs.Prelude.{◌||◌, IfOk, OnOk, IsErrAnd, drop}
 use Rattle.request_book.specs.Book.{OfficeWithBook}
-use Rattle.commands.specs.Writers.{Writer, TakesAll}
+use Rattle.office.specs.Writers.{Writer, TakesAll}
 use Rattle.http_messages.specs.declared.refusal.Refusal.{Refusal}
 use Rattle.http_api.specs.Answers.{refusal_text}
 use Rattle.http_messages.specs.Asked.{Asked, Asking, ending}

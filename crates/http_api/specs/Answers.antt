@@ -2,6 +2,7 @@
 -- and `: ` stands between a name and its value. Which fields an answer has is this project's own rule.
 use Rattle.std.specs.Prelude.{ℕ, List, [], ◌∷◌, ◌++◌, length, codes, decimal, Bool, if◌then◌else◌}
 use Rattle.hex.specs.Hex.{encode_lower}
+use Rattle.http.specs.StatusCode.{code_digits}
 use Rattle.http_api.specs.declared.answer_bytes.Content.{Content}
 use Rattle.http_api.specs.declared.answer_bytes.Content.TheVariants.{Json, PoText}
 use Rattle.http_api.specs.declared.answer_bytes.AnswerHead.{AnswerHead}
@@ -13,7 +14,7 @@ abbrev pub line_end : List ℕ
 line_end = 13 ∷ 10 ∷ []
 
 abbrev pub status_line : ℕ → List ℕ
-status_line status = codes "HTTP/1.1 " ++ (decimal status ++ (codes " " ++ (phrase status ++ line_end)))
+status_line status = codes "HTTP/1.1 " ++ (code_digits status ++ (codes " " ++ (phrase status ++ line_end)))
 
 abbrev pub field_line : List ℕ → List ℕ → List ℕ
 field_line name value = name ++ (codes ": " ++ (value ++ line_end))

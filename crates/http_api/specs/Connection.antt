@@ -7,7 +7,7 @@ use Rattle.request_book.specs.Book.{OfficeWithBook}
 use Rattle.http_messages.specs.Asked.{Asked}
 use Rattle.http_messages.specs.Streams.{Item, first_step, items_of}
 use Rattle.http_messages.specs.Arrivals.{HoldsFirst, piece_limit}
-use Rattle.commands.specs.Writers.{Writer, TakesAll, TakesPart}
+use Rattle.office.specs.Writers.{Writer, TakesAll, TakesPart}
 use Rattle.http_api.specs.declared.faults.ServeFault.{ServeFault}
 use Rattle.http_api.specs.declared.faults.ServeFault.TheVariants.{Read, Write, Memory, Disk}
 use Rattle.http_api.specs.Outcomes.{Outcome, IsExported, outcome_answer}

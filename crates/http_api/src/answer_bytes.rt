@@ -6,6 +6,7 @@ ghost use Rattle.http_api.specs.Answers.{line_end, media_type, digest_line, clos
 ghost use Rattle.http_api.specs.declared.answer_bytes.Content.TheVariants.{Json};
 
 use crate::refusals::phrase;
+use http::StatusCode;
 use itoa::Buffer;
 use po_write::send;
 use units::{ByteSink, SinkFault};
@@ -22,7 +23,7 @@ pub(crate) enum Content {
 /// What the head of an answer says.
 #[derive(Clone, Copy, Drop)]
 pub(crate) struct AnswerHead {
-    pub status: u16,
+    pub status: StatusCode,
     pub content: Content,
     /// How many bytes the body has.
     pub length: u64,
@@ -87,11 +88,10 @@ fn head_end(last: bool) -> &'static [u8]
 pub(crate) fn write_head<W: ByteSink>(w: &mut W, head: AnswerHead) -> Result<(), SinkFault>
     ensures { Sends W.taken W.failed w.old w.new (head_text head) result }
 {
-    let mut status = Buffer::new();
     let mut length = Buffer::new();
     let texts = [
         "HTTP/1.1 ",
-        status.format(head.status),
+        head.status.as_str(),
         " ",
         phrase(head.status),
         "\r\nContent-Type: ",
@@ -108,7 +108,7 @@ pub(crate) fn write_head<W: ByteSink>(w: &mut W, head: AnswerHead) -> Result<(),
 /// Writes an answer with a body in JSON.
 pub(crate) fn write_json<W: ByteSink>(
     w: &mut W,
-    status: u16,
+    status: StatusCode,
     body: &str,
     last: bool,
 ) -> Result<(), SinkFault>

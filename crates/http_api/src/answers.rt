@@ -1,16 +1,16 @@
 //! What a message is answered.
 ghost use Rattle.std.specs.Prelude.{◌≡◌, [], ◌∷◌, List, ℕ, Result, true};
-ghost use Rattle.request_book.specs.Replies.{Reply};
+ghost use Rattle.request_book.specs.Replies.{Reply as ReplyValue};
 ghost use Rattle.tables.specs.declared.faults.Lost.{Lost};
 ghost use Rattle.http_api.specs.Answers.{answer_text, refusal_text};
 ghost use Rattle.http_api.specs.declared.answer_bytes.Content.TheVariants.{Json};
 ghost use Rattle.http_messages.specs.Values.{AreValues};
 ghost use Rattle.http_messages.specs.Asked.{Asked as AskedValue, request, unit, stats};
-ghost use Rattle.http_messages.specs.Askings.{IsAsked};
+ghost use Rattle.http_messages.specs.Askings.{IsAsked, language_at};
 ghost use Rattle.http_messages.specs.Pairs.{name_of};
-ghost use Rattle.commands.specs.Exchanges.{Exchange, asked, Delivers};
-ghost use Rattle.commands.specs.Writers.{writer_at};
-ghost use Rattle.http_api.specs.Outcomes.{Outcome, posted, lost_refusal, result_answer, exchange_answer, outcome_answer};
+ghost use Rattle.office.specs.Exchanges.{Exchange, asked, Delivers};
+ghost use Rattle.office.specs.Writers.{writer_at};
+ghost use Rattle.http_api.specs.Outcomes.{Outcome, posted, lost_refusal, reply_answer, result_answer, exchange_answer, outcome_answer};
 ghost use Rattle.http_api.specs.Answering.{ComesTo, Tells, Writes, TellsFailures, query_refusal};
 
 use crate::answer_bytes::write_json;
@@ -18,12 +18,13 @@ use crate::exports::answer_export;
 use crate::faults::ServeFault;
 use crate::posts::request_of;
 use crate::refusals::{refusal_body, refusal_status};
-use http_messages::{Asked, Refusal, RequestParts, UnitName};
+use http::StatusCode;
+use http_messages::{Asked, LanguageName, Refusal, RequestParts, UnitName};
 use office::{Desk, QueryFault};
-use request_book::{Request, RequestFault};
+use request_book::{Reply, Request, RequestFault};
 use std::alloc::Global;
 use tables::{Lost, Tables};
-use units::{ByteSink, Lang};
+use units::ByteSink;
 
 fn lost_refusal(lost: Lost) -> Refusal
     ensures { result ≡ lost_refusal lost }
@@ -46,7 +47,12 @@ fn query_refusal(fault: QueryFault) -> Refusal
 }
 
 /// Writes an answer with a body in JSON.
-fn send_json<W: ByteSink>(w: &mut W, status: u16, body: &str, last: bool) -> Result<(), ServeFault>
+fn send_json<W: ByteSink>(
+    w: &mut W,
+    status: StatusCode,
+    body: &str,
+    last: bool,
+) -> Result<(), ServeFault>
     ensures { Tells (writer_at W.taken W.failed w.old) (writer_at W.taken W.failed w.new) (answer_text status Json body.now last) result }
 {
     match write_json(w, status, body, last) {
@@ -66,6 +72,16 @@ pub(crate) fn send_refusal<W: ByteSink>(
     send_json(w, refusal_status(refusal), refusal_body(refusal), last)
 }
 
+/// Writes a reply. One whose number isn't a status of HTTP is answered as the disk's fault: no office has given it.
+fn send_reply<W: ByteSink>(w: &mut W, reply: &Reply, last: bool) -> Result<(), ServeFault>
+    ensures { Tells (writer_at W.taken W.failed w.old) (writer_at W.taken W.failed w.new) (reply_answer reply.now last) result }
+{
+    match StatusCode::from_u16(reply.status()) {
+        Ok(status) => send_json(w, status, reply.body(), last),
+        Err(_) => send_refusal(w, Refusal::Disk, last),
+    }
+}
+
 /// Delivers a request and writes its answer.
 fn answer_request<T: Tables, W: ByteSink>(
     desk: &mut Desk<T>,
@@ -73,12 +89,12 @@ fn answer_request<T: Tables, W: ByteSink>(
     last: bool,
     w: &mut W,
 ) -> Result<(), ServeFault>
-    ensures { (told : Result Reply Lost)
+    ensures { (told : Result ReplyValue Lost)
         × Delivers T.is_honest T.is_whole T.is_stopped T.means desk.old desk.new (asked request.now told ∷ [])
         × Tells (writer_at W.taken W.failed w.old) (writer_at W.taken W.failed w.new) (result_answer told last) result }
 {
     match desk.deliver(request) {
-        Ok(reply) => send_json(w, reply.status(), reply.body(), last),
+        Ok(reply) => send_reply(w, &reply, last),
         Err(lost) => send_refusal(w, lost_refusal(lost), last),
     }
 }
@@ -114,8 +130,8 @@ pub(crate) fn answer_unit<T: Tables, W: ByteSink>(
         × ComesTo T.is_honest T.is_whole T.is_stopped T.means desk.old desk.new (unit (name_of name.now)) o
         × Tells (writer_at W.taken W.failed w.old) (writer_at W.taken W.failed w.new) (outcome_answer o last) result }
 {
-    match desk.unit(&name.lang, &name.key) {
-        Ok(text) => send_json(w, 200, text.as_str(), last),
+    match desk.unit(&name.domain, &name.lang, &name.key) {
+        Ok(text) => send_json(w, StatusCode::OK, text.as_str(), last),
         Err(fault) => send_refusal(w, query_refusal(fault), last),
     }
 }
@@ -123,16 +139,16 @@ pub(crate) fn answer_unit<T: Tables, W: ByteSink>(
 /// Answers with a language's counts.
 pub(crate) fn answer_stats<T: Tables, W: ByteSink>(
     desk: &mut Desk<T>,
-    lang: &Lang,
+    name: &LanguageName,
     last: bool,
     w: &mut W,
 ) -> Result<(), ServeFault>
     ensures { (o : Outcome)
-        × ComesTo T.is_honest T.is_whole T.is_stopped T.means desk.old desk.new (stats lang.now) o
+        × ComesTo T.is_honest T.is_whole T.is_stopped T.means desk.old desk.new (stats (language_at name.now)) o
         × Tells (writer_at W.taken W.failed w.old) (writer_at W.taken W.failed w.new) (outcome_answer o last) result }
 {
-    match desk.stats(lang) {
-        Ok(text) => send_json(w, 200, text.as_str(), last),
+    match desk.stats(&name.domain, &name.lang) {
+        Ok(text) => send_json(w, StatusCode::OK, text.as_str(), last),
         Err(fault) => send_refusal(w, query_refusal(fault), last),
     }
 }
@@ -158,9 +174,9 @@ pub(crate) fn answer<T: Tables, W: ByteSink>(
     match asked {
         Asked::Refused(refusal) => send_refusal(w, refusal, last),
         Asked::Request(parts) => answer_post(alloc, desk, parts, last, w),
-        Asked::Export(lang) => answer_export(desk, &lang, last, w),
+        Asked::Export(name) => answer_export(desk, &name, last, w),
         Asked::Unit(name) => answer_unit(desk, &name, last, w),
         Asked::Unnamed => send_refusal(w, Refusal::Malformed, last),
-        Asked::Stats(lang) => answer_stats(desk, &lang, last, w),
+        Asked::Stats(name) => answer_stats(desk, &name, last, w),
     }
 }

@@ -3,7 +3,7 @@ ghost use Rattle.std.specs.Prelude.{◌≡◌, ◌≤◌, ◌+◌, ◌||◌, [],
 ghost use Rattle.units.specs.Streams.{RoseOrStands};
 ghost use Rattle.http_api.specs.Answers.{refusal_text};
 ghost use Rattle.http_messages.specs.Arrivals.{asking_in};
-ghost use Rattle.commands.specs.Writers.{writer_at, TakesAll};
+ghost use Rattle.office.specs.Writers.{writer_at, TakesAll};
 ghost use Rattle.http_api.specs.declared.connection.Next.TheVariants.{Last};
 ghost use Rattle.http_api.specs.Outcomes.{Outcome, outcome_answer};
 ghost use Rattle.http_api.specs.Answering.{ComesTo, Tells, Writes, WroteBeginning, TellsFailures};
@@ -13,7 +13,7 @@ ghost use Rattle.http_api.specs.Connection.{AllServed, SomeServed, ReadsOn};
 
 use crate::answers::{answer, send_refusal};
 use crate::faults::ServeFault;
-use http_messages::{Arrival, Inbox, Refusal};
+use http_messages::{Arrival, Inbox, Refusal, Routes};
 use office::Desk;
 use std::alloc::Global;
 use tables::Tables;
@@ -77,6 +77,7 @@ fn refuse<W: ByteSink>(refusal: Refusal, w: &mut W) -> Result<Next, ServeFault>
 /// whether the answer is the last one.
 fn answer_front<T: Tables, W: ByteSink>(
     alloc: Global,
+    routes: &Routes,
     desk: &mut Desk<T>,
     inbox: &Inbox,
     head: usize,
@@ -92,7 +93,7 @@ fn answer_front<T: Tables, W: ByteSink>(
     ensures last { IfOk result (λ last. last ≡ ((asking_in inbox.now head body).ends || full)) }
     ensures failures { TellsFailures (T.is_stopped desk.new ≡ true) (W.failed w.old) (W.failed w.new) result }
 {
-    match inbox.asking(alloc, head, body) {
+    match inbox.asking(alloc, routes, head, body) {
         Ok(asking) => {
             let last = is_last(asking.ends, full);
             answer(alloc, desk, asking.asked, last, w).and(Ok(last))
@@ -107,6 +108,7 @@ fn answer_front<T: Tables, W: ByteSink>(
 /// Answers the message at the front, takes it off, and hands the answer on.
 fn serve_message<T: Tables, W: ByteSink>(
     alloc: Global,
+    routes: &Routes,
     desk: &mut Desk<T>,
     inbox: &mut Inbox,
     head: usize,
@@ -124,7 +126,7 @@ fn serve_message<T: Tables, W: ByteSink>(
     ensures handed_on { OnOk result (W.holds_back w.new ≡ false) }
     ensures failures { TellsFailures (T.is_stopped desk.new ≡ true) (W.failed w.old) (W.failed w.new) result }
 {
-    let last = answer_front(alloc, desk, inbox, head, body, full, w)?;
+    let last = answer_front(alloc, routes, desk, inbox, head, body, full, w)?;
     inbox.take_off(head);
     inbox.take_off(body);
     hand_on(w).and(Ok(next_of(last)))
@@ -133,6 +135,7 @@ fn serve_message<T: Tables, W: ByteSink>(
 /// Reads a message and answers it. Nothing is held back of what it wrote.
 fn serve_one<T: Tables, R: ByteSource, W: ByteSink>(
     alloc: Global,
+    routes: &Routes,
     desk: &mut Desk<T>,
     source: &mut R,
     inbox: &mut Inbox,
@@ -156,7 +159,9 @@ fn serve_one<T: Tables, R: ByteSource, W: ByteSink>(
     match inbox.read_message(source)? {
         Arrival::End => Ok(Next::End),
         Arrival::Refused(refusal) => refuse(refusal, w),
-        Arrival::Message { head, body } => serve_message(alloc, desk, inbox, head, body, full, w),
+        Arrival::Message { head, body } => serve_message(
+            alloc, routes, desk, inbox, head, body, full, w,
+        ),
     }
 }
 
@@ -167,8 +172,8 @@ fn serve_one<T: Tables, R: ByteSource, W: ByteSink>(
 ///
 /// Answers how many messages were answered. After a fault the writer has taken a beginning of the answers, and the tables are those of
 /// a beginning of the requests that has each one whose answer was written whole: a request that was recorded and not answered gets its
-/// reply when it is sent again. `Read` and `Write` where the source or the writer failed; `Memory` where a growth was refused, to read
-/// or within an export whose head was written; `Disk` where the disk failed within such an export. Want of memory and a failed disk are
+/// reply when it is sent again. `Read` and `Write` where the source or the writer failed; `Memory` where a growth was refused, for the
+/// routes before anything is read, to read, or within an export whose head was written; `Disk` where the disk failed within such an export. Want of memory and a failed disk are
 /// else answered, by 503 and 507.
 pub fn serve<T: Tables, R: ByteSource, W: ByteSink>(
     alloc: Global,
@@ -196,10 +201,13 @@ pub fn serve<T: Tables, R: ByteSource, W: ByteSink>(
     ensures whole { T.is_honest desk.new → T.is_whole desk.new → T.is_whole desk.old }
     ensures stopped { T.is_stopped desk.old ≡ true → T.is_stopped desk.new ≡ true }
 {
+    let Ok(routes) = Routes::new(alloc) else {
+        return Err(ServeFault::Memory);
+    };
     let mut inbox = Inbox::new(alloc);
     for answered in 0..ANSWER_LIMIT {
         let full = answered + 1 == ANSWER_LIMIT;
-        match serve_one(alloc, desk, source, &mut inbox, full, w)? {
+        match serve_one(alloc, &routes, desk, source, &mut inbox, full, w)? {
             Next::End => return Ok(Served { answered }),
             Next::Last => {
                 return Ok(Served {

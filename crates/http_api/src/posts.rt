@@ -13,19 +13,11 @@ ghost use Rattle.http_messages.specs.Queries.{only_one};
 ghost use Rattle.http_api.specs.Posts.{IsPosted};
 
 use http_messages::{RequestParts, Values};
-use request_book::{Act, Request, RequestFault};
+use office::has_come;
+use request_book::{Act, Request, RequestFault, bytes_fit};
 use std::alloc::{AllocError, Global};
 use units::Name;
 use uuid::Uuid;
-
-// Each byte fits, which a clause cannot say of an array: this walk reads them, and is compiled away.
-fn bytes_fit(bytes: &[u8; 16])
-    ensures { IsNumber bytes.now }
-{
-    'bytes: for i in 0..16 {
-        let _ = bytes[i];
-    }
-}
 
 /// The number that bytes write in one of the forms of UUIDs.
 fn parsed_number(bytes: &[u8]) -> Option<Uuid>
@@ -79,6 +71,7 @@ fn caller_in(alloc: Global, callers: Values<'_>) -> Result<Option<Name>, AllocEr
 /// The act that a body is.
 fn act_in(alloc: Global, body: &[u8]) -> Result<Act, RequestFault>
     ensures ok { IfOk result (λ act. IsUtf8 body.now × IsActText body.now act) }
+    ensures one { IfOk result (λ act. (other : ActValue) → IsActText body.now other → other ≡ act) }
     ensures malformed { result ≡ Err Malformed → (act : ActValue) → IsUtf8 body.now → ¬ IsActText body.now act }
 {
     match str::from_utf8(body) {
@@ -89,7 +82,7 @@ fn act_in(alloc: Global, body: &[u8]) -> Result<Act, RequestFault>
 
 /// The request that a message brings: its number in the path, its caller in the one header, its act in the body.
 ///
-/// `Malformed` where it brings none; `Memory` where a growth was refused.
+/// `Malformed` where it brings none, or one whose act the programs don't take yet; `Memory` where a growth was refused.
 pub(crate) fn request_of(alloc: Global, parts: RequestParts<'_>) -> Result<Request, RequestFault>
     ensures ok { IfOk result (λ request. (callers : List (List ℕ)) → AreValues parts.entry.callers callers
         → IsPosted parts.entry.number.now callers parts.entry.body.now request) }
@@ -103,9 +96,14 @@ pub(crate) fn request_of(alloc: Global, parts: RequestParts<'_>) -> Result<Reque
         return Err(RequestFault::Malformed);
     };
     let act = act_in(alloc, parts.body)?;
-    Ok(Request {
+    let request = Request {
         number,
         caller,
         act,
-    })
+    };
+    if has_come(&request) {
+        Ok(request)
+    } else {
+        Err(RequestFault::Malformed)
+    }
 }

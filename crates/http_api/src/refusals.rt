@@ -3,43 +3,29 @@ ghost use Rattle.std.specs.Prelude.{◌≡◌};
 ghost use Rattle.http_api.specs.Statuses.{phrase};
 ghost use Rattle.http_api.specs.Refusals.{refusal_status, refusal_body};
 
+use http::StatusCode;
 use http_messages::Refusal;
 
-/// The reason phrase of a status; empty where the office answers no such status.
-#[tactic(auto, unfolding(crate::specs::Statuses::phrase))]
-pub(crate) fn phrase(status: u16) -> &'static str
+/// The reason phrase of a status; empty where it has none.
+pub(crate) fn phrase(status: StatusCode) -> &'static str
     ensures { result.now ≡ phrase status }
 {
-    match status {
-        200 => "OK",
-        400 => "Bad Request",
-        403 => "Forbidden",
-        404 => "Not Found",
-        405 => "Method Not Allowed",
-        409 => "Conflict",
-        411 => "Length Required",
-        413 => "Payload Too Large",
-        422 => "Unprocessable Entity",
-        431 => "Request Header Fields Too Large",
-        503 => "Service Unavailable",
-        507 => "Insufficient Storage",
-        _ => "",
-    }
+    status.canonical_reason().unwrap_or("")
 }
 
 /// The status of an error.
-pub(crate) fn refusal_status(refusal: Refusal) -> u16
+pub(crate) fn refusal_status(refusal: Refusal) -> StatusCode
     ensures { result ≡ refusal_status refusal }
 {
     match refusal {
-        Refusal::LongHead => 431,
-        Refusal::Malformed => 400,
-        Refusal::TooLarge => 413,
-        Refusal::NoRoute | Refusal::NoLanguage | Refusal::NoUnit => 404,
-        Refusal::Method => 405,
-        Refusal::NoLength => 411,
-        Refusal::Memory => 503,
-        Refusal::Disk | Refusal::LongExport => 507,
+        Refusal::LongHead => StatusCode::REQUEST_HEADER_FIELDS_TOO_LARGE,
+        Refusal::Malformed => StatusCode::BAD_REQUEST,
+        Refusal::TooLarge => StatusCode::PAYLOAD_TOO_LARGE,
+        Refusal::NoRoute | Refusal::NoLanguage | Refusal::NoUnit => StatusCode::NOT_FOUND,
+        Refusal::Method => StatusCode::METHOD_NOT_ALLOWED,
+        Refusal::NoLength => StatusCode::LENGTH_REQUIRED,
+        Refusal::Memory => StatusCode::SERVICE_UNAVAILABLE,
+        Refusal::Disk | Refusal::LongExport => StatusCode::INSUFFICIENT_STORAGE,
     }
 }
 

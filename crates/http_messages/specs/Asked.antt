@@ -1,10 +1,11 @@
 -- What a message asks: the tests that a message passes, in their order, each with the answer to one that fails it and with whether the
 -- connection ends there; and the question of a message that passes all. This project's own rule.
 use Rattle.std.specs.Prelude.{ℕ, ◌&&◌, nat_lt, not, List, [], ◌∷◌, codes, Option, Some, None, is_none, Bool, true, false, if◌then◌else◌}
-use Rattle.std.specs.Option.{option_and_then}
+use Rattle.std.specs.Option.{option_and_then, option_zip}
 use Rattle.std.specs.Str.{bytes_eq}
 use Rattle.po_read.specs.Texts.{Text}
-use Rattle.units.specs.Limits.{is_lang}
+use Rattle.units.specs.Limits.{is_name, is_lang}
+use Rattle.units.specs.Office.{main}
 use Rattle.http_messages.specs.declared.head.BodyLength.{BodyLength}
 use Rattle.http_messages.specs.declared.head.BodyLength.TheVariants.{Absent, Bad, Given}
 use Rattle.http_messages.specs.Heads.{Head}
@@ -72,10 +73,10 @@ takes_method (Some route) method = bytes_eq method (method_of route.0)
 
 abbrev pub wants_length : Option RoutePart → Bool
 wants_length None = false
-wants_length (Some (Requests, part)) = true
-wants_length (Some (Export, part)) = false
-wants_length (Some (Unit, part)) = false
-wants_length (Some (Stats, part)) = false
+wants_length (Some (Requests, parts)) = true
+wants_length (Some (Export, parts)) = false
+wants_length (Some (Unit, parts)) = false
+wants_length (Some (Stats, parts)) = false
 
 -- those of a head whose body is there: a route, its method, and for a request a length
 abbrev pub route_tests : Head → List Test
@@ -87,23 +88,35 @@ route_tests head =
 
 -- ---- the questions
 
+-- a language by its domain and its code
+abbrev pub LanguageName : Type 0
+LanguageName = Text × Text
+
 pub data Asked : Type 0 where
   refused : Refusal → Asked
   -- the part of the path that numbers a request, the values of `X-Office-Caller`, and the body
   request : List ℕ → List (List ℕ) → List ℕ → Asked
-  export : Text → Asked
+  export : LanguageName → Asked
   unit : UnitName → Asked
   -- a unit, by a query that names none
   unnamed : Asked
-  stats : Text → Asked
+  stats : LanguageName → Asked
 
 -- what is asked of a language, where there is one
-abbrev pub asked_of : (Text → Asked) → Option Text → Asked
+abbrev pub asked_of : (LanguageName → Asked) → Option LanguageName → Asked
 asked_of ask None = refused Malformed
 asked_of ask (Some x) = ask x
 
 abbrev pub lang_in : List ℕ → Option Text
 lang_in part = if is_lang part then Some part else None
+
+-- where the path names none, it is the one that is always there
+abbrev pub domain_in : Option (List ℕ) → Option Text
+domain_in None = Some main
+domain_in (Some part) = if is_name part then Some part else None
+
+abbrev pub language_in : Option (List ℕ) × List ℕ → Option LanguageName
+language_in parts = option_zip (domain_in parts.0) (lang_in parts.1)
 
 abbrev pub named : Option UnitName → Asked
 named None = unnamed
@@ -116,10 +129,10 @@ unit_in_query (Some query) = named (unit_of query)
 
 abbrev pub question : Option RoutePart → Head → List ℕ → Asked
 question None head body = refused NoRoute
-question (Some (Requests, part)) head body = request part (values_of (codes "X-Office-Caller") head.fields) body
-question (Some (Export, part)) head body = asked_of export (lang_in part)
-question (Some (Unit, part)) head body = unit_in_query (query_of head.target)
-question (Some (Stats, part)) head body = asked_of stats (lang_in part)
+question (Some (Requests, parts)) head body = request parts.1 (values_of (codes "X-Office-Caller") head.fields) body
+question (Some (Export, parts)) head body = asked_of export (language_in parts)
+question (Some (Unit, parts)) head body = unit_in_query (query_of head.target)
+question (Some (Stats, parts)) head body = asked_of stats (language_in parts)
 
 -- ---- a message
 

@@ -9,6 +9,7 @@ pub mod Heads
 pub mod Pairs
 pub mod Queries
 pub mod Read
+pub mod Routers
 pub mod Routes
 pub mod Streams
 pub mod Targets

@@ -1,38 +1,103 @@
--- The four routes: which path is of which, the part of the path that it names, the method that it takes, and whether it may have a
--- query. This project's own rule. A path is taken undecoded; a part is one nonempty segment (RFC 3986, section 3.3).
-use Rattle.std.specs.Prelude.{ℕ, ◌==◌, ◌&&◌, nat_lt, not, List, [], length, take, drop, codes, Option, Some, None, Bool, true, false, if◌then◌else◌}
-use Rattle.std.specs.List.{list_any}
+-- The six routes, two of which are those of a language in a domain that the path names: which path is of which, the parts of the path
+-- that it names, the method that it takes, and whether it may have a query. This project's own rule. A path is taken undecoded; a part
+-- is one nonempty segment (RFC 3986, section 3.3).
+use Rattle.std.specs.Prelude.{ℕ, ◌==◌, ◌-◌, nat_lt, List, [], ◌∷◌, ◌++◌, length, take, drop, map, codes, Option, Some, None, option_map, unwrap_or, Bool, true, false, if◌then◌else◌}
 use Rattle.std.specs.Str.{bytes_eq}
 use Rattle.http_messages.specs.declared.route.RouteKind.{RouteKind}
 use Rattle.http_messages.specs.declared.route.RouteKind.TheVariants.{Requests, Export, Unit, Stats}
 
--- a route with the part of the path that it names; a unit's route names none
+-- ---- the texts of the routes
+
+-- each part that a route names stands in braces, by its name
+abbrev pub route_texts : List (List ℕ × RouteKind)
+route_texts =
+    (codes "/v1/domains/{domain}/export/{lang}", Export)
+    ∷ (codes "/v1/domains/{domain}/stats/{lang}", Stats)
+    ∷ (codes "/v1/export/{lang}", Export)
+    ∷ (codes "/v1/requests/{number}", Requests)
+    ∷ (codes "/v1/stats/{lang}", Stats)
+    ∷ (codes "/v1/unit", Unit)
+    ∷ []
+
+-- ---- paths
+
+abbrev pub onto_first : ℕ → List (List ℕ) → List (List ℕ)
+onto_first b [] = (b ∷ []) ∷ []
+onto_first b (segment ∷ segments) = (b ∷ segment) ∷ segments
+
+-- what stands before, between and behind the slashes
+abbrev pub segments : List ℕ → List (List ℕ)
+segments [] = [] ∷ []
+segments (b ∷ bytes) = if b == 47 then [] ∷ segments bytes else onto_first b (segments bytes)
+
+abbrev pub in_braces : List ℕ → Bool
+in_braces [] = false
+in_braces (b ∷ segment) = b == 123
+
+-- what stands in the braces
+abbrev pub name_in : List ℕ → List ℕ
+name_in segment = take (length segment - 2) (drop 1 segment)
+
+-- parts of a path, by their names
+abbrev pub Parts : Type 0
+Parts = List (List ℕ × List ℕ)
+
+-- A path is of a route's text where it has as many segments, nonempty ones for those in braces, and else the same; behind parts that were found
+-- before, its parts are those for the segments in braces.
+abbrev pub parts_in : Parts → List (List ℕ) → List (List ℕ) → Option Parts
+parts_in found [] [] = Some found
+parts_in found [] (s ∷ path) = None
+parts_in found (t ∷ text) [] = None
+parts_in found (t ∷ text) (s ∷ path) =
+    if in_braces t then (if nat_lt 0 (length s) then parts_in (found ++ (name_in t, s) ∷ []) text path else None)
+    else (if bytes_eq s t then parts_in found text path else None)
+
+-- a route, and the parts of a path that it names
+abbrev pub Named : Type 0
+Named = RouteKind × Parts
+
+abbrev pub or_else : Option Named → Option Named → Option Named
+or_else None other = other
+or_else (Some route) other = Some route
+
+-- a text's segments, and the route
+abbrev pub Texts : Type 0
+Texts = List (List (List ℕ) × RouteKind)
+
+-- the first route whose text the path is of
+abbrev pub first_of : Parts → Texts → List (List ℕ) → Option Named
+first_of found [] path = None
+first_of found ((text, kind) ∷ texts) path = or_else (option_map (λ parts. (kind, parts)) (parts_in found text path)) (first_of found texts path)
+
+abbrev pub texts_of : List (List ℕ × RouteKind) → Texts
+texts_of texts = map (λ text. (segments text.0, text.1)) texts
+
+-- ---- the route of a path
+
+abbrev pub part_named : List ℕ → Parts → Option (List ℕ)
+part_named name [] = None
+part_named name (part ∷ parts) = if bytes_eq part.0 name then Some part.1 else part_named name parts
+
+-- the part beside the domain
+abbrev pub part_name : RouteKind → List ℕ
+part_name Requests = codes "number"
+part_name Export = codes "lang"
+part_name Unit = []
+part_name Stats = codes "lang"
+
+-- a route with the domain that its path names, if it names one, and with the part at the end of the path; a unit's route has neither
 abbrev pub RoutePart : Type 0
-RoutePart = RouteKind × List ℕ
+RoutePart = RouteKind × (Option (List ℕ) × List ℕ)
 
--- nonempty and without `/`
-abbrev pub is_part : List ℕ → Bool
-is_part bytes = nat_lt 0 (length bytes) && not (list_any (λ b. b == 47) bytes)
-
--- what follows the text at the front, where it is such a part
-abbrev pub part_behind : List ℕ → List ℕ → Option (List ℕ)
-part_behind front path =
-    if bytes_eq (take (length front) path) front && is_part (drop (length front) path) then Some (drop (length front) path) else None
-
-abbrev pub route_with : RouteKind → Option (List ℕ) → Option RoutePart → Option RoutePart
-route_with kind None other = other
-route_with kind (Some part) other = Some (kind, part)
-
-abbrev pub unit_route : List ℕ → Option RoutePart
-unit_route path = if bytes_eq path (codes "/v1/unit") then Some (Unit, []) else None
+abbrev pub part_of : Named → RoutePart
+part_of route = (route.0, (part_named (codes "domain") route.1, unwrap_or (part_named (part_name route.0) route.1) []))
 
 -- the route of a path
+unfoldable pub named_in : List ℕ → Option Named
+named_in path = first_of [] (texts_of route_texts) (segments path)
+
 abbrev pub route_of : List ℕ → Option RoutePart
-route_of path =
-    route_with Requests (part_behind (codes "/v1/requests/") path)
-    (route_with Export (part_behind (codes "/v1/export/") path)
-    (route_with Stats (part_behind (codes "/v1/stats/") path)
-    (unit_route path)))
+route_of path = option_map part_of (named_in path)
 
 -- only the route of a unit has a query
 abbrev pub may_have_query : RouteKind → Bool

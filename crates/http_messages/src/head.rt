@@ -1,11 +1,12 @@
 //! One whole head of a request.
-ghost use Rattle.std.specs.Prelude.{◌≡◌, ◌≤◌, length, map, take, option_map, IsUtf8, IfSome, IfNone};
+ghost use Rattle.std.specs.Prelude.{◌≡◌, ◌≤◌, length, map, take, option_map, IfSome, IfNone};
 ghost use Rattle.httparse.specs.Grammar.{RequestHead};
 ghost use Rattle.http_messages.specs.Grammar.{IsHead};
 ghost use Rattle.httparse.specs.Spans.{IsRequestAt, IsRequestWithin};
 ghost use Rattle.http_messages.specs.Heads.{head_of};
 
 use crate::lines::{Values, has_value, length_from, values_in};
+use http::Method;
 use httparse::Status;
 use httparse::spans::{EMPTY_HEADER_SPAN, HeaderSpan, RequestSpans, parse_request};
 use std::marker::Model;
@@ -82,11 +83,13 @@ impl<'b> Head<'b> {
     }
 
     /// The target, undecoded.
-    pub(crate) fn target(&self) -> &'b [u8]
-        ensures value { result.now ≡ self.now.target }
-        ensures text { IsUtf8 result.now }
+    pub(crate) fn target(&self) -> &'b str
+        ensures { result.now ≡ self.now.target }
     {
-        self.spans.path.of(self.bytes)
+        match str::from_utf8(self.spans.path.of(self.bytes)) {
+            Ok(target) => target,
+            Err(_) => unreachable!(),
+        }
     }
 
     /// The values of the field lines of this name, in any case of letters, without white space around them.
@@ -119,7 +122,7 @@ impl<'b> Head<'b> {
         ensures { result ≡ closes self.now }
     {
         self.spans.version == 0
-            || self.method() == b"HEAD".as_slice()
+            || self.method() == Method::HEAD.as_str().as_bytes()
             || has_value(
                 self.bytes,
                 &self.lines[..self.spans.headers],

@@ -14,6 +14,7 @@ use crate::cut::head_length;
 use crate::head::Head;
 use crate::message::{Asked, Asking, Unread, asking_of};
 use crate::refusal::Refusal;
+use crate::route::Routes;
 use std::alloc::{AllocError, Global};
 use std::marker::Model;
 use thiserror::Error;
@@ -223,7 +224,13 @@ impl Inbox {
     /// What the message asks that stands at the front with so many bytes of its head and its body.
     ///
     /// An error where a growth was refused: then the message fails no test, but that its query may name no unit.
-    pub fn asking(&self, alloc: Global, head: usize, body: usize) -> Result<Asking<'_>, Unread>
+    pub fn asking(
+        &self,
+        alloc: Global,
+        routes: &Routes,
+        head: usize,
+        body: usize,
+    ) -> Result<Asking<'_>, Unread>
         requires within { head + body ≤ length self.now }
         ensures asking { IfOk result (λ asking. IsAsking asking (asking_in self.now head body)) }
         ensures memory { OnErr result (MayTakeMemory (asking_in self.now head body).asked) }
@@ -231,7 +238,7 @@ impl Inbox {
     {
         let (front, behind) = self.bytes.split_at(head);
         match Head::read(front) {
-            Some(head) => asking_of(alloc, &head, &behind[..body]),
+            Some(head) => asking_of(alloc, routes, &head, &behind[..body]),
             None => Ok(Asking {
                 asked: Asked::Refused(Refusal::Malformed),
                 ends: true,

@@ -7,6 +7,7 @@ mod cut;
 mod head;
 mod inbox;
 mod lang;
+mod laws;
 mod lines;
 mod message;
 mod query;
@@ -15,7 +16,9 @@ mod route;
 mod target;
 
 pub use inbox::{Arrival, Inbox, ReadFault};
+pub use laws::router_finds_by_texts;
 pub use lines::Values;
-pub use message::{Asked, Asking, RequestParts, Unread};
+pub use message::{Asked, Asking, LanguageName, RequestParts, Unread};
 pub use query::UnitName;
 pub use refusal::Refusal;
+pub use route::Routes;

@@ -1,21 +1,21 @@
 //! What a message asks: the tests that it has to pass, in their order, and its question.
-ghost use Rattle.std.specs.Prelude.{◌≡◌, ◌&&◌, Some, true, option_map, IfOk, IfErr, OnErr};
+ghost use Rattle.std.specs.Prelude.{◌≡◌, ◌&&◌, Some, true, is_some, option_map, IfOk, IfErr, OnErr};
 ghost use Rattle.units.specs.Limits.{is_lang};
 ghost use Rattle.http_messages.specs.Pairs.{name_of};
 ghost use Rattle.http_messages.specs.Framing.{body_length};
-ghost use Rattle.http_messages.specs.Asked.{target_route, wants_length, is_absent, asked_of, lang_in, named, unit_in_query, export, stats, question, asking_of};
-ghost use Rattle.http_messages.specs.Askings.{IsAsked, IsAsking, MayTakeMemory, route_at};
+ghost use Rattle.http_messages.specs.Asked.{target_route, wants_length, is_absent, asked_of, lang_in, domain_in, language_in, named, unit_in_query, export, stats, question, asking_of};
+ghost use Rattle.http_messages.specs.Askings.{IsAsked, IsAsking, MayTakeMemory, route_at, language_at};
 
 use crate::head::{BodyLength, Head};
-use crate::lang::is_lang;
+use crate::lang::{is_lang, is_name};
 use crate::lines::Values;
 use crate::query::{UnitName, unit_of};
 use crate::refusal::Refusal;
-use crate::route::{Route, RouteKind, route_of};
+use crate::route::{Route, RouteKind, Routes};
 use crate::target::{Target, split_target};
 use std::alloc::{AllocError, Global};
 use thiserror::Error;
-use units::Lang;
+use units::{Lang, Name};
 
 /// A request as a message brings it, undecoded.
 #[derive(Clone, Copy, Drop)]
@@ -27,6 +27,13 @@ pub struct RequestParts<'b> {
     pub body: &'b [u8],
 }
 
+/// A language by its domain and its code.
+#[derive(Drop)]
+pub struct LanguageName {
+    pub domain: Name,
+    pub lang: Lang,
+}
+
 /// What a message asks.
 #[derive(Drop)]
 pub enum Asked<'b> {
@@ -35,13 +42,13 @@ pub enum Asked<'b> {
     /// To deliver a request.
     Request(RequestParts<'b>),
     /// The text of a language.
-    Export(Lang),
+    Export(LanguageName),
     /// A unit's view.
     Unit(UnitName),
     /// A unit's view, by a query that names no unit.
     Unnamed,
     /// The counts of a language.
-    Stats(Lang),
+    Stats(LanguageName),
 }
 
 /// What a message asks, and whether the connection ends behind it.
@@ -72,11 +79,11 @@ impl Unread {
 }
 
 /// The route of a head's target, if it has no query or may have one.
-fn target_route<'b>(head: &Head<'b>) -> Option<Route<'b>>
+fn target_route<'b>(routes: &Routes, head: &Head<'b>) -> Option<Route<'b>>
     ensures { option_map route_at result ≡ target_route head.now }
 {
     let target = split_target(head.target());
-    match route_of(target.path) {
+    match routes.route_of(target.path) {
         Some(route) if target.query.is_none() || route.kind.may_have_query() => Some(route),
         _ => None,
     }
@@ -93,34 +100,68 @@ fn lacks_length(route: Route<'_>, head: &Head<'_>) -> bool
 }
 
 /// The language that a part names. Where it names none, no memory is taken.
-#[tactic(auto, using(crate::proofs::LangLemmas::no_lang))]
-fn lang_in(alloc: Global, part: &[u8]) -> Result<Option<Lang>, AllocError>
+fn lang_in(alloc: Global, part: &str) -> Result<Option<Lang>, AllocError>
     ensures named { IfOk result (λ lang. lang ≡ lang_in part.now) }
     ensures memory { OnErr result (is_lang part.now ≡ true) }
 {
-    if !is_lang(part) {
-        return Ok(None);
-    }
-    match str::from_utf8(part) {
-        Ok(text) => Lang::try_new(alloc, text),
-        Err(_) => Ok(None),
+    if is_lang(part.as_bytes()) {
+        Lang::try_new(alloc, part)
+    } else {
+        Ok(None)
     }
 }
 
-fn export_of<'b>(lang: Option<Lang>) -> Asked<'b>
-    ensures { IsAsked result (asked_of export lang) }
+/// The domain of a route.
+fn domain_in(alloc: Global, part: Option<&str>) -> Result<Option<Name>, AllocError>
+    ensures { IfOk result (λ domain. domain ≡ domain_in (option_map (λ p. p.now) part.entry)) }
 {
-    match lang {
-        Some(lang) => Asked::Export(lang),
+    match part {
+        Some(part) => Name::try_new(alloc, part),
+        None => Ok(Some(Name::main_domain())),
+    }
+}
+
+/// Whether a route's domain is a name.
+fn names_domain(part: Option<&str>) -> bool
+    ensures { result ≡ is_some (domain_in (option_map (λ p. p.now) part.entry)) }
+{
+    match part {
+        Some(part) => is_name(part.as_bytes()),
+        None => true,
+    }
+}
+
+/// The language of a route. Where its parts name none, no memory is taken.
+fn language_in(alloc: Global, route: Route<'_>) -> Result<Option<LanguageName>, AllocError>
+    ensures named { IfOk result (λ name. option_map language_at name ≡ language_in (route_at route.entry).1) }
+    ensures memory { OnErr result (is_some (language_in (route_at route.entry).1) ≡ true) }
+{
+    if !names_domain(route.domain) {
+        return Ok(None);
+    }
+    let Some(lang) = lang_in(alloc, route.part)? else {
+        return Ok(None);
+    };
+    match domain_in(alloc, route.domain)? {
+        Some(domain) => Ok(Some(LanguageName { domain, lang })),
+        None => Ok(None),
+    }
+}
+
+fn export_of<'b>(name: Option<LanguageName>) -> Asked<'b>
+    ensures { IsAsked result (asked_of export (option_map language_at name)) }
+{
+    match name {
+        Some(name) => Asked::Export(name),
         None => Asked::Refused(Refusal::Malformed),
     }
 }
 
-fn stats_of<'b>(lang: Option<Lang>) -> Asked<'b>
-    ensures { IsAsked result (asked_of stats lang) }
+fn stats_of<'b>(name: Option<LanguageName>) -> Asked<'b>
+    ensures { IsAsked result (asked_of stats (option_map language_at name)) }
 {
-    match lang {
-        Some(lang) => Asked::Stats(lang),
+    match name {
+        Some(name) => Asked::Stats(name),
         None => Asked::Refused(Refusal::Malformed),
     }
 }
@@ -142,7 +183,7 @@ fn unit_asked<'b>(alloc: Global, target: &Target<'_>) -> Result<Asked<'b>, Alloc
     let Some(query) = target.query else {
         return Ok(Asked::Refused(Refusal::Malformed));
     };
-    Ok(named(unit_of(alloc, query)?))
+    Ok(named(unit_of(alloc, query.as_bytes())?))
 }
 
 /// The question of a message whose route and method are right.
@@ -157,13 +198,13 @@ fn question<'b>(
 {
     match route.kind {
         RouteKind::Requests => Ok(Asked::Request(RequestParts {
-            number: route.part,
+            number: route.part.as_bytes(),
             callers: head.values(b"X-Office-Caller"),
             body,
         })),
-        RouteKind::Export => Ok(export_of(lang_in(alloc, route.part)?)),
+        RouteKind::Export => Ok(export_of(language_in(alloc, route)?)),
         RouteKind::Unit => unit_asked(alloc, &split_target(head.target())),
-        RouteKind::Stats => Ok(stats_of(lang_in(alloc, route.part)?)),
+        RouteKind::Stats => Ok(stats_of(language_in(alloc, route)?)),
     }
 }
 
@@ -172,6 +213,7 @@ fn question<'b>(
 /// An error where a growth was refused: then the message fails no test, but that its query may name no unit.
 pub(crate) fn asking_of<'b>(
     alloc: Global,
+    routes: &Routes,
     head: &Head<'b>,
     body: &'b [u8],
 ) -> Result<Asking<'b>, Unread>
@@ -180,13 +222,13 @@ pub(crate) fn asking_of<'b>(
     ensures ends { IfErr result (λ unread. unread.ends ≡ (asking_of head.now body.now).ends) }
 {
     let ends = head.closes();
-    let Some(route) = target_route(head) else {
+    let Some(route) = target_route(routes, head) else {
         return Ok(Asking {
             asked: Asked::Refused(Refusal::NoRoute),
             ends,
         });
     };
-    if head.method() != route.kind.method() {
+    if head.method() != route.kind.method().as_str().as_bytes() {
         return Ok(Asking {
             asked: Asked::Refused(Refusal::Method),
             ends,

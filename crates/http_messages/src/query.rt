@@ -5,8 +5,9 @@ ghost use Rattle.std.specs.Cow.{cow_str_bytes};
 ghost use Rattle.std.specs.Str.{is_utf8};
 ghost use Rattle.percent_encoding.specs.Percent.{percent_decode};
 ghost use Rattle.po_read.specs.Strings.{is_string};
-ghost use Rattle.units.specs.Limits.{is_lang};
-ghost use Rattle.http_messages.specs.Queries.{pairs_of, is_known, values_named, only_one, at_most_one, unit_with, unit_in, unit_of};
+ghost use Rattle.units.specs.Limits.{is_name, is_lang};
+ghost use Rattle.units.specs.Office.{main};
+ghost use Rattle.http_messages.specs.Queries.{pairs_of, is_known, values_named, only_one, one_or, at_most_one, unit_with, unit_in, unit_of};
 ghost use Rattle.http_messages.specs.Pairs.{pairs_at, AreNamed, name_of};
 
 use form_urlencoded::parse;
@@ -15,11 +16,12 @@ use po_read::PoString;
 use std::alloc::{AllocError, Global};
 use std::borrow::CowStr;
 use std::str;
-use units::{Key, Lang};
+use units::{Key, Lang, Name};
 
-/// A unit by its language and its key.
+/// A unit by its domain, its language and its key.
 #[derive(Drop)]
 pub struct UnitName {
+    pub domain: Name,
     pub lang: Lang,
     pub key: Key,
 }
@@ -48,7 +50,7 @@ fn pairs_of(alloc: Global, query: &[u8]) -> Result<Vec<Pair<'_>>, AllocError>
 fn is_known(name: &str) -> bool
     ensures { result ≡ is_known name.now }
 {
-    name == "lang" || name == "id" || name == "ctx"
+    name == "domain" || name == "lang" || name == "id" || name == "ctx"
 }
 
 /// Whether the names are all known.
@@ -77,6 +79,16 @@ fn values_named<'b>(pairs: &'b [Pair<'_>], name: &str) -> Named<'b>
         }
     }
     found
+}
+
+fn one_domain(alloc: Global, pairs: &[Pair<'_>]) -> Result<Option<Name>, AllocError>
+    ensures { IfOk result (λ name. name ≡ one_or is_name main (values_named (codes "domain") (pairs_at pairs.now))) }
+{
+    match values_named(pairs, "domain") {
+        Named::None => Ok(Some(Name::main_domain())),
+        Named::One(text) => Name::try_new(alloc, text),
+        Named::More => Ok(None),
+    }
 }
 
 fn only_lang(alloc: Global, pairs: &[Pair<'_>]) -> Result<Option<Lang>, AllocError>
@@ -111,18 +123,20 @@ fn context(alloc: Global, pairs: &[Pair<'_>]) -> Result<Option<Option<PoString>>
 }
 
 fn unit_with(
+    domain: Option<Name>,
     lang: Option<Lang>,
     id: Option<PoString>,
     ctx: Option<Option<PoString>>,
 ) -> Option<UnitName>
-    ensures { option_map name_of result ≡ unit_with lang id ctx }
+    ensures { option_map name_of result ≡ unit_with domain lang id ctx }
 {
-    match (lang, id, ctx) {
-        (Some(lang), Some(id), Some(ctx)) => Some(UnitName {
+    match (domain, lang, id, ctx) {
+        (Some(domain), Some(lang), Some(id), Some(ctx)) => Some(UnitName {
+            domain,
             lang,
             key: Key { ctx, id },
         }),
-        (_, _, _) => None,
+        (_, _, _, _) => None,
     }
 }
 
@@ -143,8 +157,9 @@ fn is_text(alloc: Global, query: &[u8]) -> Result<bool, AllocError>
     Ok(is_utf8(bytes.as_slice()))
 }
 
-/// The unit that a query names: `lang` and `id` once each, `ctx` at most once, no other name, in any order and decoded as forms
-/// are. `None` where it names none, or isn't UTF-8 once it is decoded; an error where a growth was refused.
+/// The unit that a query names: `lang` and `id` once each, `domain` and `ctx` at most once, no other name, in any order and decoded as
+/// forms are; without `domain` it is in `main`. `None` where it names none, or isn't UTF-8 once it is decoded; an error where a growth
+/// was refused.
 pub(crate) fn unit_of(alloc: Global, query: &[u8]) -> Result<Option<UnitName>, AllocError>
     ensures { IfOk result (λ name. option_map name_of name ≡ unit_of query.now) }
 {
@@ -156,8 +171,9 @@ pub(crate) fn unit_of(alloc: Global, query: &[u8]) -> Result<Option<UnitName>, A
     if !all_known(pairs) {
         return Ok(None);
     }
+    let domain = one_domain(alloc, pairs)?;
     let lang = only_lang(alloc, pairs)?;
     let id = only_id(alloc, pairs)?;
     let ctx = context(alloc, pairs)?;
-    Ok(unit_with(lang, id, ctx))
+    Ok(unit_with(domain, lang, id, ctx))
 }

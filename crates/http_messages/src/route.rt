@@ -1,37 +1,45 @@
-//! The four routes.
-ghost use Rattle.std.specs.Prelude.{◌≡◌, ◌==◌, option_map};
-ghost use Rattle.std.specs.List.{list_any};
-ghost use Rattle.http_messages.specs.Routes.{is_part, part_behind, route_of, may_have_query, method_of};
+//! The six routes.
+ghost use Rattle.std.specs.Prelude.{◌≡◌, option_map, IfOk};
+ghost use Rattle.http_messages.specs.Routes.{route_of, part_name, may_have_query, method_of};
+ghost use Rattle.http_messages.specs.Routers.{office_rows};
+ghost use Rattle.http_messages.specs.Askings.{route_at};
+
+use http::Method;
+use matchit::{InsertError, Router};
+use std::alloc::{AllocError, Global};
+use std::marker::Model;
 
 /// Which route it is.
 #[derive(Clone, Copy, Drop)]
 pub(crate) enum RouteKind {
     /// `POST /v1/requests/{number}`
     Requests,
-    /// `GET /v1/export/{lang}`
+    /// `GET /v1/export/{lang}` and `GET /v1/domains/{domain}/export/{lang}`
     Export,
-    /// `GET /v1/unit?lang=&id=&ctx=`
+    /// `GET /v1/unit?domain=&lang=&id=&ctx=`
     Unit,
-    /// `GET /v1/stats/{lang}`
+    /// `GET /v1/stats/{lang}` and `GET /v1/domains/{domain}/stats/{lang}`
     Stats,
 }
 
-/// A route, with the part of the path that it names.
+/// A route, with the parts of the path that it names.
 #[derive(Clone, Copy, Drop)]
 pub(crate) struct Route<'b> {
     pub kind: RouteKind,
-    /// What stands at the place in braces; empty where the route has none.
-    pub part: &'b [u8],
+    /// The domain, where the path names one.
+    pub domain: Option<&'b str>,
+    /// What stands at the last place in braces; empty where the route has none.
+    pub part: &'b str,
 }
 
 impl RouteKind {
     /// The method that the route takes.
-    pub(crate) fn method(self) -> &'static [u8]
-        ensures { result.now ≡ method_of self }
+    pub(crate) fn method(self) -> Method
+        ensures { result ≡ method_of self }
     {
         match self {
-            RouteKind::Requests => b"POST",
-            RouteKind::Export | RouteKind::Unit | RouteKind::Stats => b"GET",
+            RouteKind::Requests => Method::POST,
+            RouteKind::Export | RouteKind::Unit | RouteKind::Stats => Method::GET,
         }
     }
 
@@ -44,56 +52,74 @@ impl RouteKind {
             RouteKind::Requests | RouteKind::Export | RouteKind::Stats => false,
         }
     }
+
+    /// The name of the part beside the domain, if the route has one.
+    fn part_name(self) -> &'static str
+        ensures { result.now ≡ part_name self }
+    {
+        match self {
+            RouteKind::Requests => "number",
+            RouteKind::Export | RouteKind::Stats => "lang",
+            RouteKind::Unit => "",
+        }
+    }
 }
 
-fn has_slash(bytes: &[u8]) -> bool
-    ensures { result ≡ list_any (λ b. b == 47) bytes.now }
+/// A router that takes the routes' texts. An error where a growth was refused.
+fn router(alloc: Global) -> Result<Router<RouteKind>, InsertError>
+    ensures { IfOk result (λ router. router ≡ office_rows) }
 {
-    bytes.iter().any(|b| *b == b'/')
+    let mut router = Router::new(alloc);
+    router.insert("/v1/requests/{number}", RouteKind::Requests)?;
+    router.insert("/v1/export/{lang}", RouteKind::Export)?;
+    router.insert("/v1/domains/{domain}/export/{lang}", RouteKind::Export)?;
+    router.insert("/v1/unit", RouteKind::Unit)?;
+    router.insert("/v1/stats/{lang}", RouteKind::Stats)?;
+    router.insert("/v1/domains/{domain}/stats/{lang}", RouteKind::Stats)?;
+    Ok(router)
 }
 
-/// Whether there are bytes, and no slash among them.
-fn is_part(bytes: &[u8]) -> bool
-    ensures { result ≡ is_part bytes.now }
-{
-    !bytes.is_empty() && !has_slash(bytes)
+/// The routes of the office, ready to tell that of a path.
+#[derive(Drop)]
+pub struct Routes {
+    router: Router<RouteKind>,
 }
 
-/// What follows the text at the front, where it is one part of a path.
-fn part_behind<'b>(front: &[u8], path: &'b [u8]) -> Option<&'b [u8]>
-    ensures { option_map (λ part. part.now) result ≡ part_behind front.now path.now }
-{
-    let part = path.strip_prefix(front)?;
-    if is_part(part) { Some(part) } else { None }
+impl Model for Routes {
+    ghost use Rattle.std.specs.Prelude.{◌≡◌};
+    ghost use Rattle.matchit.specs.Rows.{RowsOf};
+    ghost use Rattle.matchit.specs.Router.{RouteOf};
+    ghost use Rattle.http_messages.specs.declared.route.RouteKind.{RouteKind};
+    ghost use Rattle.http_messages.specs.Routers.{office_rows};
+
+    ghost Value = { RowsOf (RouteOf RouteKind) };
+
+    ghost view = { λ routes. routes.router };
+
+    ghost invariant = { λ routes. routes.router ≡ office_rows };
 }
 
-/// The route of a path, which is taken undecoded.
-pub(crate) fn route_of(path: &[u8]) -> Option<Route<'_>>
-    ensures { option_map (λ route. (route.kind, route.part.now)) result ≡ route_of path.now }
-{
-    if let Some(part) = part_behind(b"/v1/requests/", path) {
-        return Some(Route {
-            kind: RouteKind::Requests,
-            part,
-        });
+impl Routes {
+    /// The routes of the office. An error where a growth was refused.
+    pub fn new(alloc: Global) -> Result<Routes, AllocError> {
+        match router(alloc) {
+            Ok(router) => Ok(Routes { router }),
+            Err(_) => Err(AllocError),
+        }
     }
-    if let Some(part) = part_behind(b"/v1/export/", path) {
-        return Some(Route {
-            kind: RouteKind::Export,
-            part,
-        });
+
+    /// The route of a path, which is taken undecoded.
+    pub(crate) fn route_of<'b>(&self, path: &'b str) -> Option<Route<'b>>
+        ensures { option_map route_at result ≡ route_of path.now }
+    {
+        let Ok(found) = self.router.at(path) else {
+            return None;
+        };
+        let kind = *found.value;
+        Some(Route {
+            kind,
+            domain: found.params.get("domain"),
+            part: found.params.get(kind.part_name()).unwrap_or(""),
+        })
     }
-    if let Some(part) = part_behind(b"/v1/stats/", path) {
-        return Some(Route {
-            kind: RouteKind::Stats,
-            part,
-        });
-    }
-    if path == b"/v1/unit".as_slice() {
-        return Some(Route {
-            kind: RouteKind::Unit,
-            part: b"",
-        });
-    }
-    None
 }

@@ -3,7 +3,7 @@ use Rattle.std.proofs.Common.{◌≡◌, ◌∙◌, sym, ap, subst, Option, Some
 use Rattle.std.specs.Prelude.{is_none, option_map, [], ◌∷◌, IfOk, OnOk}
 use Rattle.std.specs.FinMap as maps
 use Rattle.po_read.specs.Texts.{Text}
-use Rattle.units.specs.Office.{Office}
+use Rattle.units.specs.Office.{Office, project_in}
 use Rattle.units.specs.declared.unit.Key.{Key}
 use Rattle.units.specs.declared.unit.UnitAct.{UnitAct}
 use Rattle.units.specs.declared.unit.UnitView.{UnitView}
@@ -14,8 +14,8 @@ use Rattle.request_book.specs.Replies.{Reply}
 use Rattle.request_book.specs.Acts.{IsRequest, content_text}
 use Rattle.request_book.specs.Book.{OfficeWithBook, Recorded, with_record}
 use Rattle.replies.specs.Bodies.{Stepped}
-use Rattle.deliveries.specs.declared.values.Found.{Found}
-use Rattle.deliveries.specs.UnitAccess.{found_of, with_view}
+use Rattle.deliveries.specs.declared.values.ActContext.{ActContext}
+use Rattle.deliveries.specs.UnitAccess.{found_of, with_view_in}
 use Rattle.deliveries.specs.UnitOutcomes.{outcome_of}
 use Rattle.deliveries.specs.OfficeChanges.{changed_by}
 use Rattle.deliveries.specs.OfficeRules.{KeepsRules}
@@ -24,8 +24,8 @@ use Rattle.deliveries.specs.Deliveries.{first_delivered, left_by, reply_from}
 use Rattle.deliveries.proofs.acts.UnitActs.{recorded_unit_act}
 use Rattle.deliveries.proofs.retries.Delivered.{first_time, IsDelivery}
 use Rattle.deliveries.proofs.rules.KeptRules.{kept_rules}
-use Rattle.office_acts.specs.declared.outcome.OfficeOutcome.{OfficeOutcome}
-use Rattle.office_acts.specs.Settled.{IsSettled}
+use Rattle.outcomes.specs.declared.outcome.OfficeOutcome.{OfficeOutcome}
+use Rattle.outcomes.specs.Settled.{IsSettled}
 
 -- ---- a new number
 
@@ -48,25 +48,25 @@ handed_on (Err e) reply now Left delivered is left leads = tt
 -- ---- an act on a unit
 
 -- what was found, decided and committed is the step with its record
-pub unit_act_delivered : (old mid new : OfficeWithBook) (request : Request) (lang : Text) (key : Key) (act : UnitAct) (found : Option Found) (view : Option UnitView) (reply : Reply) (content : Text) (row : Record) →
-    request.act ≡ OnUnit lang key act → mid ≡ old → found ≡ found_of old.office lang key request.caller →
+pub unit_act_delivered : (old mid new : OfficeWithBook) (request : Request) (domain lang : Text) (key : Key) (act : UnitAct) (found : Option ActContext) (view : Option UnitView) (reply : Reply) (content : Text) (row : Record) →
+    request.act ≡ OnUnit domain lang key act → mid ≡ old → found ≡ found_of (project_in old.office domain) lang key request.caller →
     record { view = view; reply = reply } ≡ outcome_of found request.caller request.number act →
     content ≡ content_text request → row ≡ record { number = request.number; content = content; reply = reply } →
-    new ≡ record { office = with_view mid.office lang key view; book = with_record mid.book row } →
+    new ≡ record { office = with_view_in mid.office domain lang key view; book = with_record mid.book row } →
     ◌≡◌ {A = OfficeWithBook × Reply} (new, reply) (first_delivered old request)
-unit_act_delivered old mid new request lang key act found view reply content row is same answer decides text made commits =
-    recorded_unit_act old mid new request lang key act found view reply reply content is same answer decides refl text
-    (commits ∙ ap (λ (r : Record). record { office = with_view mid.office lang key view; book = with_record mid.book r }) made)
+unit_act_delivered old mid new request domain lang key act found view reply content row is same answer decides text made commits =
+    recorded_unit_act old mid new request domain lang key act found view reply reply content is same answer decides refl text
+    (commits ∙ ap (λ (r : Record). record { office = with_view_in mid.office domain lang key view; book = with_record mid.book r }) made)
 
 -- and keeps the rules
-pub unit_act_keeps : (old mid : OfficeWithBook) (request : Request) (lang : Text) (key : Key) (act : UnitAct) (found : Option Found) (view : Option UnitView) (reply : Reply) (content : Text) (row : Record) →
-    request.act ≡ OnUnit lang key act → mid ≡ old → found ≡ found_of old.office lang key request.caller →
+pub unit_act_keeps : (old mid : OfficeWithBook) (request : Request) (domain lang : Text) (key : Key) (act : UnitAct) (found : Option ActContext) (view : Option UnitView) (reply : Reply) (content : Text) (row : Record) →
+    request.act ≡ OnUnit domain lang key act → mid ≡ old → found ≡ found_of (project_in old.office domain) lang key request.caller →
     record { view = view; reply = reply } ≡ outcome_of found request.caller request.number act →
     content ≡ content_text request → row ≡ record { number = request.number; content = content; reply = reply } →
     IsRequest request → IsTrue (is_none (maps.get old.book request.number)) → KeepsRules old →
-    KeepsRules (record { office = with_view mid.office lang key view; book = with_record mid.book row })
-unit_act_keeps old mid request lang key act found view reply content row is same answer decides text made given fresh start =
-    subst KeepsRules (sym (ap (λ (p : OfficeWithBook × Reply). p.0) (unit_act_delivered old mid _ request lang key act found view reply content row is same answer decides text made refl)))
+    KeepsRules (record { office = with_view_in mid.office domain lang key view; book = with_record mid.book row })
+unit_act_keeps old mid request domain lang key act found view reply content row is same answer decides text made given fresh start =
+    subst KeepsRules (sym (ap (λ (p : OfficeWithBook × Reply). p.0) (unit_act_delivered old mid _ request domain lang key act found view reply content row is same answer decides text made refl)))
     (first_keeps old request given fresh start)
 
 -- ---- an act on the office
@@ -79,7 +79,7 @@ pub office_act_delivered : (old mid new : OfficeWithBook) (office : Office) (req
     ◌≡◌ {A = OfficeWithBook × Reply} (new, outcome.reply) (first_delivered old request)
 office_act_delivered old mid new office request outcome content row same at_hand settles text made commits =
     let was : office ≡ old.office = at_hand ∙ ap (λ (m : OfficeWithBook). m.office) same in
-    let steps : ◌≡◌ {A = Stepped} (changed_by old.office outcome.change, outcome.reply) (step old.office request) =
+    let steps : ◌≡◌ {A = Stepped Office} (changed_by old.office outcome.change, outcome.reply) (step old.office request) =
     IsSettled.is (subst (λ (o : Office). IsSettled o outcome (step o request)) was settles) in
     let now : new ≡ record { office = (step old.office request).0; book = with_record old.book (record { number = request.number; content = content_text request; reply = (step old.office request).1 }) } =
     commits ∙ ((λ i. record { office = changed_by (same i).office outcome.change; book = with_record (same i).book (made i) })

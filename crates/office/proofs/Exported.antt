@@ -6,7 +6,7 @@ use Rattle.std.proofs.lemmas.Bool.{false≢true}
 use Rattle.std.specs.FinMap as maps
 use Rattle.sha2.specs.Hashers.{Holds256}
 use Rattle.sha2.specs.Sha256.{sha256}
-use Rattle.units.specs.Office.{Office}
+use Rattle.units.specs.Project.{Project}
 use Rattle.units.specs.Streams.{TookBeginning, RoseOrStands}
 use Rattle.units.proofs.Taking.{append_known-nil}
 use Rattle.po_read.specs.declared.entry.Entry.{Entry}
@@ -46,11 +46,11 @@ text_by [] = None
 text_by (e ∷ es) = Some (added_text false (e ∷ es))
 
 -- a language that is there has entries, the first of which is its header
-pub text_there : (office : Office) (lang : Text) → export_text office lang ≡ text_by (entries_of office lang)
+pub text_there : (project : Project) (lang : Text) → export_text project lang ≡ text_by (entries_of project lang)
 unfolding catalogue_of
-text_there office lang = by (maps.get office.headers lang)
+text_there project lang = by (maps.get project.headers lang)
   where
-    by : (header : Option Entry) → option_map (λ h. text_of (catalogue_of office lang h)) header ≡ text_by (option_map_or (catalogue_of office lang) header [])
+    by : (header : Option Entry) → option_map (λ h. text_of (catalogue_of project lang h)) header ≡ text_by (option_map_or (catalogue_of project lang) header [])
     by None = refl
     by (Some header) = ap (λ text. Some text) (text_added header _)
 

@@ -5,3 +5,5 @@ pub mod Ran
 pub mod Sent
 pub mod Exported
 pub mod Spelled
+pub mod Going
+pub mod Streaming

@@ -3,3 +3,5 @@ pub mod Checksums
 pub mod Sendings
 pub mod Faults
 pub mod Exports
+pub mod Exchanges
+pub mod Writers

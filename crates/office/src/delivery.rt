@@ -1,31 +1,32 @@
 //! One delivery over any tables: a look into the book, and for a new number the decision and its commit.
-ghost use Rattle.std.specs.Prelude.{◌≡◌, if◌then◌else◌, true, IfOk, IfSome, OnOk, OnErr, IsTrue, is_none, option_map};
+ghost use Rattle.std.specs.Prelude.{◌≡◌, if◌then◌else◌, false, IfOk, IfSome, OnOk, OnErr, IsTrue, is_none, option_map};
 ghost use Rattle.std.specs.FinMap as maps;
 ghost use Rattle.po_read.specs.Texts.{text_eq};
 ghost use Rattle.replies.specs.Bodies.{number_used};
+ghost use Rattle.units.specs.Office.{project_in};
 ghost use Rattle.request_book.specs.Acts.{IsRequest, content_text};
 ghost use Rattle.request_book.specs.Book.{with_record};
-ghost use Rattle.request_book.specs.Clash.{is_office_act};
+ghost use Rattle.request_book.specs.Clash.{is_unit_act};
 ghost use Rattle.request_book.specs.declared.act.Act.TheVariants.{OnUnit};
 ghost use Rattle.deliveries.specs.Deliveries.{reply_from, first_delivered};
 ghost use Rattle.deliveries.specs.Step.{step};
-ghost use Rattle.deliveries.specs.UnitAccess.{found_of, with_view};
+ghost use Rattle.deliveries.specs.UnitAccess.{found_of, with_view_in};
 ghost use Rattle.deliveries.specs.UnitOutcomes.{outcome_of};
 ghost use Rattle.deliveries.specs.OfficeChanges.{changed_by, IsPossibleChange};
 ghost use Rattle.deliveries.specs.OfficeRules.{KeepsRules};
-ghost use Rattle.office_acts.specs.Settled.{IsSettled};
+ghost use Rattle.outcomes.specs.Settled.{IsSettled};
 ghost use Rattle.request_book.specs.Contents.{IsContent};
 ghost use Rattle.tables.specs.Stops.{Nothing};
 ghost use Rattle.tables.specs.Kept.{IsKept};
 ghost use Rattle.tables.specs.declared.faults.Lost.TheVariants.{Disk};
 
 use deliveries::{Change, Outcome};
-use office_acts::{OfficeOutcome, office_outcome, unit_outcome, used};
+use outcomes::{OfficeOutcome, office_outcome, unit_outcome, used};
 use po_read::{Duplicate, Text};
 use request_book::{Act, Class, Record, Reply, Request, classify};
 use std::alloc::{AllocError, Global};
 use tables::{Lost, Tables};
-use units::{Key, Lang, Refusal, Role, UnitAct, UnitView};
+use units::{Key, Lang, Name, Refusal, Role, UnitAct, UnitView};
 
 /// The reply to a request with this content, by what is recorded under its number, if anything is.
 fn reply_by(
@@ -82,16 +83,17 @@ fn read_and_decide<T: Tables>(
     alloc: Global,
     tables: &mut T,
     request: &Request,
+    domain: &Name,
     lang: &Lang,
     key: &Key,
     act: &UnitAct,
 ) -> Result<Outcome, Lost>
     ensures answer { T.is_honest tables.new → IfOk result (λ outcome. outcome
-        ≡ outcome_of (found_of (T.means tables.old).office lang.now key.now request.now.caller) request.now.caller request.now.number act.now) }
+        ≡ outcome_of (found_of (project_in (T.means tables.old).office domain.now) lang.now key.now request.now.caller) request.now.caller request.now.number act.now) }
     ensures same { T.is_honest tables.new → T.is_whole tables.new → T.means tables.new ≡ T.means tables.old }
     ensures kept { IsKept T.is_honest T.is_whole T.means T.may_leave T.is_stopped tables.old tables.new result Disk Nothing }
 {
-    let found = tables.view_of(lang, key, &request.caller)?;
+    let found = tables.view_of(domain, lang, key, &request.caller)?;
     let outcome = unit_outcome(alloc, found, request, act);
     Ok(outcome?)
 }
@@ -100,6 +102,7 @@ fn read_and_decide<T: Tables>(
 fn commit_unit_act<T: Tables>(
     tables: &mut T,
     row: Record,
+    domain: &Name,
     lang: &Lang,
     key: &Key,
     view: Option<UnitView>,
@@ -107,15 +110,15 @@ fn commit_unit_act<T: Tables>(
 ) -> Result<Reply, Lost>
     requires new { T.is_honest tables.old → IsTrue (is_none (maps.get (T.means tables.old).book row.number)) }
     requires content { IsContent row.content }
-    requires rules { T.is_honest tables.old → KeepsRules (record { office = with_view (T.means tables.old).office lang.now key.now view; book = with_record (T.means tables.old).book row }) }
+    requires rules { T.is_honest tables.old → KeepsRules (record { office = with_view_in (T.means tables.old).office domain.now lang.now key.now view; book = with_record (T.means tables.old).book row }) }
     ensures handed_on { IfOk result (λ r. r ≡ reply) }
     ensures done { T.is_honest tables.new → OnOk result
-        (T.means tables.new ≡ record { office = with_view (T.means tables.old).office lang.now key.now view; book = with_record (T.means tables.old).book row }) }
+        (T.means tables.new ≡ record { office = with_view_in (T.means tables.old).office domain.now lang.now key.now view; book = with_record (T.means tables.old).book row }) }
     ensures same { T.is_honest tables.new → T.is_whole tables.new → OnErr result (T.means tables.new ≡ T.means tables.old) }
     ensures kept { IsKept T.is_honest T.is_whole T.means T.may_leave T.is_stopped tables.old tables.new result Disk
-        (λ m. m ≡ record { office = with_view (T.means tables.old).office lang.now key.now view; book = with_record (T.means tables.old).book row }) }
+        (λ m. m ≡ record { office = with_view_in (T.means tables.old).office domain.now lang.now key.now view; book = with_record (T.means tables.old).book row }) }
 {
-    tables.commit_unit(row, lang, key, view)?;
+    tables.commit_unit(row, domain, lang, key, view)?;
     Ok(reply)
 }
 
@@ -126,11 +129,12 @@ fn deliver_unit_act<T: Tables>(
     tables: &mut T,
     request: &Request,
     content: Text,
+    domain: &Name,
     lang: &Lang,
     key: &Key,
     act: &UnitAct,
 ) -> Result<Reply, Lost>
-    requires act { request.now.act ≡ OnUnit lang.now key.now act.now }
+    requires act { request.now.act ≡ OnUnit domain.now lang.now key.now act.now }
     requires new { T.is_honest tables.old → IsTrue (is_none (maps.get (T.means tables.old).book request.now.number)) }
     requires content { content ≡ content_text request.now }
     requires limits { IsRequest request.now }
@@ -140,7 +144,7 @@ fn deliver_unit_act<T: Tables>(
     ensures kept { IsKept T.is_honest T.is_whole T.means T.may_leave T.is_stopped tables.old tables.new result Disk
         (λ m. m ≡ (first_delivered (T.means tables.old) request.now).0) }
 {
-    let Outcome { view, reply } = read_and_decide(alloc, tables, request, lang, key, act)?;
+    let Outcome { view, reply } = read_and_decide(alloc, tables, request, domain, lang, key, act)?;
     let row = match record_with(request, content, &reply) {
         Some(row) => row,
         None => {
@@ -149,7 +153,7 @@ fn deliver_unit_act<T: Tables>(
             return Err(Lost::Memory);
         }
     };
-    commit_unit_act(tables, row, lang, key, view, reply)
+    commit_unit_act(tables, row, domain, lang, key, view, reply)
 }
 
 /// What an act on the office comes to, over the office that is read for it.
@@ -158,7 +162,7 @@ fn read_office_and_decide<T: Tables>(
     tables: &mut T,
     request: &Request,
 ) -> Result<OfficeOutcome, Lost>
-    requires act { is_office_act request.now.act ≡ true }
+    requires act { is_unit_act request.now.act ≡ false }
     ensures answer { T.is_honest tables.new → IfOk result
         (λ outcome. IsSettled (T.means tables.old).office outcome (step (T.means tables.old).office request.now)) }
     ensures same { T.is_honest tables.new → T.is_whole tables.new → T.means tables.new ≡ T.means tables.old }
@@ -175,7 +179,7 @@ fn ask_role_and_decide<T: Tables>(
     tables: &mut T,
     request: &Request,
 ) -> Result<OfficeOutcome, Lost>
-    requires act { is_office_act request.now.act ≡ true }
+    requires act { is_unit_act request.now.act ≡ false }
     ensures answer { T.is_honest tables.new → IfOk result
         (λ outcome. IsSettled (T.means tables.old).office outcome (step (T.means tables.old).office request.now)) }
     ensures same { T.is_honest tables.new → T.is_whole tables.new → T.means tables.new ≡ T.means tables.old }
@@ -219,7 +223,7 @@ fn deliver_office_act<T: Tables>(
     request: &Request,
     content: Text,
 ) -> Result<Reply, Lost>
-    requires act { is_office_act request.now.act ≡ true }
+    requires act { is_unit_act request.now.act ≡ false }
     requires new { T.is_honest tables.old → IsTrue (is_none (maps.get (T.means tables.old).book request.now.number)) }
     requires content { content ≡ content_text request.now }
     requires limits { IsRequest request.now }
@@ -258,8 +262,8 @@ pub(crate) fn deliver_first<T: Tables>(
         (λ m. m ≡ (first_delivered (T.means tables.old) request.now).0) }
 {
     match &request.act {
-        Act::OnUnit(lang, key, act) => {
-            deliver_unit_act(alloc, tables, request, content, lang, key, act)
+        Act::OnUnit(domain, lang, key, act) => {
+            deliver_unit_act(alloc, tables, request, content, domain, lang, key, act)
         }
         _ => deliver_office_act(alloc, tables, request, content),
     }

@@ -4,6 +4,7 @@ ghost use Rattle.std.specs.Prelude.{◌≡◌, ◌≢◌, ◌⊎◌, Err, IfOk, 
 ghost use Rattle.deliveries.specs.AnyOrder.{ExportsTheSame};
 ghost use Rattle.deliveries.specs.ExportSpelled.{TookCatalogue};
 ghost use Rattle.deliveries.specs.ExportText.{export_text};
+ghost use Rattle.units.specs.Office.{project_in};
 ghost use Rattle.tables.specs.Kept.{IsKept};
 ghost use Rattle.tables.specs.Stops.{Nothing};
 ghost use Rattle.units.specs.Streams.{RoseOrStands};
@@ -16,7 +17,7 @@ use crate::faults::ExportFault;
 use sha2::Digest;
 use std::alloc::Global;
 use tables::Tables;
-use units::{ByteSink, Lang};
+use units::{ByteSink, Lang, Name};
 
 /// What was exported: how many bytes, and their SHA-256 digest.
 #[derive(Clone, Copy, Debug, PartialEq, Eq)]
@@ -39,24 +40,25 @@ fn told(fault: ExportFault, before: u64, after: u64) -> ExportFault
     }
 }
 
-/// Writes a language's text. The text of one entry is in memory at a time.
+/// Writes the text of a domain's language. The text of one entry is in memory at a time.
 pub(crate) fn export<T: Tables, W: ByteSink>(
     alloc: Global,
     tables: &mut T,
+    domain: &Name,
     lang: &Lang,
     w: &mut W,
 ) -> Result<ExportReceipt, ExportFault>
     ensures text { T.is_honest tables.new → IfOk result
-        (WasExported (export_text (T.means tables.old).office lang.now) (W.taken w.old) (W.taken w.new)) }
+        (WasExported (export_text (project_in (T.means tables.old).office domain.now) lang.now) (W.taken w.old) (W.taken w.new)) }
     ensures err { T.is_honest tables.new → IfErr result
-        (WasCut (export_text (T.means tables.old).office lang.now) (W.taken w.old) (W.taken w.new) (W.failed w.old) (W.failed w.new)) }
+        (WasCut (export_text (project_in (T.means tables.old).office domain.now) lang.now) (W.taken w.old) (W.taken w.new) (W.failed w.old) (W.failed w.new)) }
     ensures same { T.is_honest tables.new → T.is_whole tables.new → T.means tables.new ≡ T.means tables.old }
     // The text spells the language's catalogue and no other.
     ensures spelled { T.is_honest tables.new → OnOk result
-        (TookCatalogue (T.means tables.old).office lang.now (W.taken w.old) (W.taken w.new)) }
+        (TookCatalogue (project_in (T.means tables.old).office domain.now) lang.now (W.taken w.old) (W.taken w.new)) }
     // Offices that alike lists lead to export equal bytes.
     ensures commuting { T.is_honest tables.new → OnOk result
-        (ExportsTheSame (T.means tables.old).office lang.now (W.taken w.old) (W.taken w.new)) }
+        (ExportsTheSame (T.means tables.old).office domain.now lang.now (W.taken w.old) (W.taken w.new)) }
     // No write failed.
     ensures count { T.is_honest tables.new → OnOk result (W.failed w.new ≡ W.failed w.old) }
     // The same of any tables; and only a writer that failed is told as one.
@@ -74,7 +76,7 @@ pub(crate) fn export<T: Tables, W: ByteSink>(
         begun: false,
         checksum: Checksum::new(),
     };
-    let sent = tables.each_entry(lang, &mut sink);
+    let sent = tables.each_entry(domain, lang, &mut sink);
     let ExportSink {
         begun,
         checksum,

@@ -4,6 +4,7 @@
 mod checksum;
 mod delivery;
 mod desk;
+mod exchanges;
 mod export;
 mod export_sink;
 mod faults;
@@ -11,5 +12,6 @@ mod questions;
 mod strings;
 
 pub use desk::Desk;
+pub use exchanges::has_come;
 pub use export::ExportReceipt;
 pub use faults::{ExportFault, QueryFault};

@@ -3,13 +3,14 @@ ghost use Rattle.std.specs.Prelude.{◌≡◌, ◌≢◌, ◌⊎◌, Err, Some, 
 ghost use Rattle.std.specs.FinMap as maps;
 ghost use Rattle.views.specs.UnitTexts.{unit_text_of, unit_text_at};
 ghost use Rattle.views.specs.CountsTexts.{counts_text_at};
+ghost use Rattle.units.specs.Office.{project_in};
 ghost use Rattle.tables.specs.Stops.{Nothing};
 ghost use Rattle.tables.specs.Kept.{IsKept};
 ghost use Rattle.office.specs.declared.faults.QueryFault.TheVariants.{NoLanguage, NoUnit, Memory, Disk};
 
 use crate::desk::Desk;
 use crate::faults::QueryFault;
-use deliveries::Found;
+use deliveries::ActContext;
 use std::alloc::Global;
 use tables::Tables;
 use units::{Key, Lang, Name};
@@ -26,7 +27,7 @@ fn reader(alloc: Global) -> Result<Name, QueryFault>
 }
 
 /// The text of the unit that was found.
-fn text_of(alloc: Global, found: &Found) -> Result<String, QueryFault>
+fn text_of(alloc: Global, found: &ActContext) -> Result<String, QueryFault>
     ensures ok { IfOk result
         (λ text. option_map (λ view. unit_text_of view found.now.rule) found.now.view ≡ Some (string_bytes text)) }
     ensures no_unit { result ≡ Err NoUnit → found.now.view ≡ None }
@@ -42,14 +43,15 @@ fn text_of(alloc: Global, found: &Found) -> Result<String, QueryFault>
 fn unit_of<T: Tables>(
     alloc: Global,
     tables: &mut T,
+    domain: &Name,
     lang: &Lang,
     key: &Key,
 ) -> Result<String, QueryFault>
     ensures ok { T.is_honest tables.new → IfOk result
-        (λ text. unit_text_at (T.means tables.old).office lang.now key.now ≡ Some (string_bytes text)) }
-    ensures no_language { T.is_honest tables.new → result ≡ Err NoLanguage → maps.get (T.means tables.old).office.headers lang.now ≡ None }
+        (λ text. unit_text_at (project_in (T.means tables.old).office domain.now) lang.now key.now ≡ Some (string_bytes text)) }
+    ensures no_language { T.is_honest tables.new → result ≡ Err NoLanguage → maps.get (project_in (T.means tables.old).office domain.now).headers lang.now ≡ None }
     ensures no_unit { T.is_honest tables.new → result ≡ Err NoUnit
-        → IsSome (maps.get (T.means tables.old).office.headers lang.now) × (maps.get (T.means tables.old).office.units (lang.now, key.now) ≡ None) }
+        → IsSome (maps.get (project_in (T.means tables.old).office domain.now).headers lang.now) × (maps.get (project_in (T.means tables.old).office domain.now).units (lang.now, key.now) ≡ None) }
     // What isn't there is told by tables that aren't shut.
     ensures open_still { T.is_honest tables.new → (result ≡ Err NoLanguage) ⊎ (result ≡ Err NoUnit) → T.is_whole tables.new }
     ensures same { T.is_honest tables.new → T.is_whole tables.new → T.means tables.new ≡ T.means tables.old }
@@ -59,7 +61,7 @@ fn unit_of<T: Tables>(
         return Err(QueryFault::Disk);
     }
     let name = reader(alloc)?;
-    match tables.view_of(lang, key, &name)? {
+    match tables.view_of(domain, lang, key, &name)? {
         None => Err(QueryFault::NoLanguage),
         Some(found) => {
             let text = text_of(alloc, &found);
@@ -70,52 +72,57 @@ fn unit_of<T: Tables>(
 }
 
 /// The text of a language's counts.
-fn counts_of<T: Tables>(alloc: Global, tables: &mut T, lang: &Lang) -> Result<String, QueryFault>
+fn counts_of<T: Tables>(
+    alloc: Global,
+    tables: &mut T,
+    domain: &Name,
+    lang: &Lang,
+) -> Result<String, QueryFault>
     ensures ok { T.is_honest tables.new → IfOk result
-        (λ text. counts_text_at (T.means tables.old).office lang.now ≡ Some (string_bytes text)) }
-    ensures no_language { T.is_honest tables.new → result ≡ Err NoLanguage → maps.get (T.means tables.old).office.headers lang.now ≡ None }
+        (λ text. counts_text_at (project_in (T.means tables.old).office domain.now) lang.now ≡ Some (string_bytes text)) }
+    ensures no_language { T.is_honest tables.new → result ≡ Err NoLanguage → maps.get (project_in (T.means tables.old).office domain.now).headers lang.now ≡ None }
     ensures no_unit { result ≢ Err NoUnit }
     // What isn't there is told by tables that aren't shut.
     ensures open_still { T.is_honest tables.new → result ≡ Err NoLanguage → T.is_whole tables.new }
     ensures same { T.is_honest tables.new → T.is_whole tables.new → T.means tables.new ≡ T.means tables.old }
     ensures kept { IsKept T.is_honest T.is_whole T.means T.may_leave T.is_stopped tables.old tables.new result Disk Nothing }
 {
-    match tables.counts(lang)? {
+    match tables.counts(domain, lang)? {
         None => Err(QueryFault::NoLanguage),
         Some(counts) => Ok(counts_text(alloc, counts)?),
     }
 }
 
 impl<T: Tables> Desk<T> {
-    /// A unit as callers see it, as compact JSON (RFC 8259): its key, forms, comment and suggestions, its state, and what the checks
+    /// A domain's unit as callers see it, as compact JSON (RFC 8259): its key, forms, comment and suggestions, its state, and what the checks
     /// find in its forms. The tables mean what they meant.
     ///
-    /// `NoLanguage` where the language isn't there, and `NoUnit` where the language is there without the unit; `Memory` where a growth
+    /// `NoLanguage` where the domain or its language isn't there, and `NoUnit` where the language is there without the unit; `Memory` where a growth
     /// was refused, and `Disk` where the disk failed, after which the desk answers `Disk` until the tables are opened again.
-    pub fn unit(&mut self, lang: &Lang, key: &Key) -> Result<String, QueryFault>
+    pub fn unit(&mut self, domain: &Name, lang: &Lang, key: &Key) -> Result<String, QueryFault>
         ensures ok { T.is_honest self.new → IfOk result
-            (λ text. unit_text_at (T.means self.old).office lang.now key.now ≡ Some (string_bytes text)) }
-        ensures no_language { T.is_honest self.new → result ≡ Err NoLanguage → maps.get (T.means self.old).office.headers lang.now ≡ None }
+            (λ text. unit_text_at (project_in (T.means self.old).office domain.now) lang.now key.now ≡ Some (string_bytes text)) }
+        ensures no_language { T.is_honest self.new → result ≡ Err NoLanguage → maps.get (project_in (T.means self.old).office domain.now).headers lang.now ≡ None }
         ensures no_unit { T.is_honest self.new → result ≡ Err NoUnit
-            → IsSome (maps.get (T.means self.old).office.headers lang.now) × (maps.get (T.means self.old).office.units (lang.now, key.now) ≡ None) }
+            → IsSome (maps.get (project_in (T.means self.old).office domain.now).headers lang.now) × (maps.get (project_in (T.means self.old).office domain.now).units (lang.now, key.now) ≡ None) }
         // What isn't there is told by tables that aren't shut.
         ensures open_still { T.is_honest self.new → (result ≡ Err NoLanguage) ⊎ (result ≡ Err NoUnit) → T.is_whole self.new }
         ensures same { T.is_honest self.new → T.is_whole self.new → T.means self.new ≡ T.means self.old }
         // Nothing is written, and only a failed disk answers `Disk`.
         ensures kept { IsKept T.is_honest T.is_whole T.means T.may_leave T.is_stopped self.old self.new result Disk Nothing }
     {
-        unit_of(self.alloc, &mut self.tables, lang, key)
+        unit_of(self.alloc, &mut self.tables, domain, lang, key)
     }
 
-    /// A language's counts as compact JSON (RFC 8259): how many of its units callers see in each state, how many are obsolete, and how
+    /// The counts of a domain's language as compact JSON (RFC 8259): how many of its units callers see in each state, how many are obsolete, and how
     /// many suggestions there are. The tables mean what they meant.
     ///
-    /// `NoLanguage` where the language isn't there; `Memory` where a growth was refused, and `Disk` where the disk failed, after which
+    /// `NoLanguage` where the domain or its language isn't there; `Memory` where a growth was refused, and `Disk` where the disk failed, after which
     /// the desk answers `Disk` until the tables are opened again.
-    pub fn stats(&mut self, lang: &Lang) -> Result<String, QueryFault>
+    pub fn stats(&mut self, domain: &Name, lang: &Lang) -> Result<String, QueryFault>
         ensures ok { T.is_honest self.new → IfOk result
-            (λ text. counts_text_at (T.means self.old).office lang.now ≡ Some (string_bytes text)) }
-        ensures no_language { T.is_honest self.new → result ≡ Err NoLanguage → maps.get (T.means self.old).office.headers lang.now ≡ None }
+            (λ text. counts_text_at (project_in (T.means self.old).office domain.now) lang.now ≡ Some (string_bytes text)) }
+        ensures no_language { T.is_honest self.new → result ≡ Err NoLanguage → maps.get (project_in (T.means self.old).office domain.now).headers lang.now ≡ None }
         ensures no_unit { result ≢ Err NoUnit }
         // What isn't there is told by tables that aren't shut.
         ensures open_still { T.is_honest self.new → result ≡ Err NoLanguage → T.is_whole self.new }
@@ -123,6 +130,6 @@ impl<T: Tables> Desk<T> {
         // Nothing is written, and only a failed disk answers `Disk`.
         ensures kept { IsKept T.is_honest T.is_whole T.means T.may_leave T.is_stopped self.old self.new result Disk Nothing }
     {
-        counts_of(self.alloc, &mut self.tables, lang)
+        counts_of(self.alloc, &mut self.tables, domain, lang)
     }
 }

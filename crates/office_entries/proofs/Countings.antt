@@ -8,13 +8,13 @@ use Rattle.std.specs.BTreeMap.{get_by}
 use Rattle.po_read.specs.Texts.{Text, text_cmp}
 use Rattle.units.specs.Limits.{suggestion_limit, unit_limit}
 use Rattle.units.specs.Units.{shown_state}
-use Rattle.units.specs.Office.{entry_of, units_of}
+use Rattle.units.specs.Project.{entry_of, units_of}
 use Rattle.units.specs.declared.unit.Unit.{Unit}
 use Rattle.units.specs.declared.unit.ShownState.{ShownState}
 use Rattle.units.specs.declared.unit.ShownState.TheVariants.{Untranslated, NeedsEditing, Translated, Approved, ReadOnly}
 use Rattle.deliveries.specs.declared.values.Language.{Language}
-use Rattle.office_maps.specs.declared.office_maps.OfficeMaps.{OfficeMaps}
-use Rattle.office_maps.specs.OfficeIn.{office_in}
+use Rattle.office_maps.specs.declared.project_maps.ProjectMaps.{ProjectMaps}
+use Rattle.office_maps.specs.OfficeIn.{lent_project}
 use Rattle.office_maps.proofs.OfficeViews.{header_at}
 use Rattle.tables.specs.declared.counts.Counts.{Counts}
 use Rattle.tables.specs.Counts.{current, shown_in, is_state, counts_in, counts_of}
@@ -167,9 +167,9 @@ map_either : {A B C : Type 0} (f : A → B) (x : C) (o : Option A) → option_ma
 map_either f x None = refl
 map_either f x (Some a) = refl
 
-pub counts_by : (t : OfficeMaps) (lang : Text) (found : Option Language) → found ≡ get_by (λ k. text_cmp lang (string_bytes k)) t.languages.rows
-    → option_map (λ (language : Language). counts_in t.template.catalogue (units_of (office_in t) lang)) found ≡ counts_of (office_in t) lang
+pub counts_by : (t : ProjectMaps) (lang : Text) (found : Option Language) → found ≡ get_by (λ k. text_cmp lang (string_bytes k)) t.domain.now.languages.rows
+    → option_map (λ (language : Language). counts_in t.domain.now.template.catalogue (units_of (lent_project t) lang)) found ≡ counts_of (lent_project t) lang
 counts_by t lang found e =
-    map_either (λ (language : Language). language.header) (counts_in t.template.catalogue (units_of (office_in t) lang)) found
-    ∙ ap (option_map (λ (header : Entry). counts_in t.template.catalogue (units_of (office_in t) lang)))
+    map_either (λ (language : Language). language.header) (counts_in t.domain.now.template.catalogue (units_of (lent_project t) lang)) found
+    ∙ ap (option_map (λ (header : Entry). counts_in t.domain.now.template.catalogue (units_of (lent_project t) lang)))
     (ap (option_map (λ (language : Language). language.header)) e ∙ sym (header_at t lang))

@@ -3,3 +3,4 @@ pub mod Handings
 pub mod LanguageUnits
 pub mod Countings
 pub mod OfficeUnits
+pub mod UnknownDomains

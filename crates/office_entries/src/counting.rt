@@ -2,16 +2,18 @@
 
 ghost use Rattle.std.specs.Prelude.{◌≡◌, ◌+◌, ◌<◌, ◌^◌, [], ◌∷◌, IfOk};
 ghost use Rattle.units.specs.Units as spec;
-ghost use Rattle.units.specs.Office.{entry_of, units_of};
+ghost use Rattle.units.specs.Office.{project_in};
 ghost use Rattle.units.specs.Offices.{IsOffice};
-ghost use Rattle.office_maps.specs.OfficeIn.{office_in};
+ghost use Rattle.units.specs.Project.{entry_of, units_of};
+ghost use Rattle.units.specs.Projects.{IsProject};
+ghost use Rattle.office_maps.specs.OfficeIn.{lent_project, office_in};
 ghost use Rattle.tables.specs.Counts.{counts_in, counts_of};
 ghost use Rattle.office_entries.specs.Counting.{none_counted, plus, one_more, AreWithin};
 
-use office_maps::{OfficeMaps, OrderedKey, Place, Template};
+use office_maps::{OfficeMaps, OrderedKey, Place, ProjectMaps, Template};
 use std::alloc::{AllocError, Global};
 use tables::Counts;
-use units::{Lang, ShownState, Unit, has_flag};
+use units::{Lang, Name, ShownState, Unit, has_flag};
 
 fn none_counted() -> Counts
     ensures { result ≡ none_counted }
@@ -81,30 +83,48 @@ fn add(counts: &mut Counts, template: &Template, place: &Place, unit: &Unit)
 }
 
 /// The counts of a language's units.
-fn count_units(alloc: Global, office: &OfficeMaps, lang: &Lang) -> Result<Counts, AllocError>
-    ensures { IsOffice (office_in office.now) → IfOk result
-        (λ counts. counts ≡ counts_in (office_in office.now).template (units_of (office_in office.now) lang.now)) }
+fn count_units(alloc: Global, project: &ProjectMaps<'_>, lang: &Lang) -> Result<Counts, AllocError>
+    ensures { IsProject (lent_project project.now) → IfOk result
+        (λ counts. counts ≡ counts_in (lent_project project.now).template (units_of (lent_project project.now) lang.now)) }
 {
     let first = Place::first_of(alloc, lang)?;
     let mut counts = none_counted();
-    for (place, unit) in office.units.range(first..) {
+    for (place, unit) in project.domain.units.range(first..) {
         if *lang != place.lang {
             break;
         }
-        add(&mut counts, &office.template, place, unit);
+        add(&mut counts, &project.domain.template, place, unit);
     }
     Ok(counts)
 }
 
-/// How many units of a language callers see in each state, of an office that keeps its rules; nothing where the language isn't there.
-/// It is one walk over the language's units, and copies none.
+fn project_counts(
+    alloc: Global,
+    project: &ProjectMaps<'_>,
+    lang: &Lang,
+) -> Result<Option<Counts>, AllocError>
+    ensures { IsProject (lent_project project.now) → IfOk result (λ counts. counts ≡ counts_of (lent_project project.now) lang.now) }
+{
+    match project.domain.languages.get(lang) {
+        None => Ok(None),
+        Some(_) => Ok(Some(count_units(alloc, project, lang)?)),
+    }
+}
+
+/// How many units of a domain's language callers see in each state, of an office that keeps its rules; nothing where the domain or its
+/// language isn't there. It is one walk over the language's units, and copies none.
 ///
 /// `AllocError` where a growth was refused.
-pub fn counts(alloc: Global, office: &OfficeMaps, lang: &Lang) -> Result<Option<Counts>, AllocError>
-    ensures { IsOffice (office_in office.now) → IfOk result (λ counts. counts ≡ counts_of (office_in office.now) lang.now) }
+pub fn counts_in(
+    alloc: Global,
+    office: &OfficeMaps,
+    domain: &Name,
+    lang: &Lang,
+) -> Result<Option<Counts>, AllocError>
+    ensures { IsOffice (office_in office.now) → IfOk result (λ r. r ≡ counts_of (project_in (office_in office.now) domain.now) lang.now) }
 {
-    match office.languages.get(lang) {
+    match office.project(domain) {
+        Some(project) => project_counts(alloc, &project, lang),
         None => Ok(None),
-        Some(_) => Ok(Some(count_units(alloc, office, lang)?)),
     }
 }

@@ -1,9 +1,10 @@
 -- What an office in maps stands for, read at one key and changed at one key.
 use Rattle.std.proofs.Common.{◌≡◌, Option, Some, None, option_map, unwrap_or, string_bytes, refl, sym, ap, ◌∙◌}
 use Rattle.std.specs.FinMap as maps
-use Rattle.std.specs.BTreeMap.{get_by}
+use Rattle.std.specs.Prelude.{String}
+use Rattle.std.specs.BTreeMap.{BTreeMap, get_by}
 use Rattle.po_read.specs.Texts.{Text, text_cmp}
-use Rattle.units.specs.Office.{Place as OfficePlace, place_cmp, role_of, view_of, entry_of}
+use Rattle.units.specs.Project.{Place as OfficePlace, place_cmp, role_in, role_of, view_of, entry_of}
 use Rattle.units.specs.declared.unit.Role.{Role}
 use Rattle.units.specs.declared.unit.Role.TheVariants.{Guest}
 use Rattle.units.specs.declared.unit.Unit.{Unit}
@@ -11,11 +12,12 @@ use Rattle.units.specs.declared.unit.Key.{Key}
 use Rattle.units.specs.declared.unit.UnitView.{UnitView}
 use Rattle.units.specs.Orders.{text_total, place_total}
 use Rattle.plural_expr.specs.Values.{Rule}
-use Rattle.deliveries.specs.declared.values.Found.{Found}
+use Rattle.deliveries.specs.declared.values.ActContext.{ActContext}
 use Rattle.deliveries.specs.UnitAccess.{found_of}
-use Rattle.office_maps.specs.declared.office_maps.OfficeMaps.{OfficeMaps}
+use Rattle.office_maps.specs.declared.project_maps.ProjectMaps.{ProjectMaps}
 use Rattle.deliveries.specs.declared.values.Language.{Language}
-use Rattle.office_maps.specs.OfficeIn.{office_in, place_of}
+use Rattle.office_maps.specs.OfficeIn.{lent_project, place_of}
+use Rattle.office_maps.specs.Rows.{team_in}
 use Rattle.office_maps.proofs.Views.{get-viewed}
 use Rattle.office_maps.proofs.FoundLemmas as lemmas
 
@@ -23,25 +25,28 @@ map_self : {X : Type 0} (o : Option X) → option_map (λ x. x) o ≡ o
 map_self None = refl
 map_self (Some x) = refl
 
-pub header_at : (t : OfficeMaps) (lang : Text) → maps.get (office_in t).headers lang ≡ option_map (λ language. language.header) (get_by (λ k. text_cmp lang (string_bytes k)) t.languages.rows)
-header_at t lang = get-viewed text_cmp string_bytes (λ language. language.header) text_total t.languages.rows lang
+pub header_at : (t : ProjectMaps) (lang : Text) → maps.get (lent_project t).headers lang ≡ option_map (λ language. language.header) (get_by (λ k. text_cmp lang (string_bytes k)) t.domain.now.languages.rows)
+header_at t lang = get-viewed text_cmp string_bytes (λ language. language.header) text_total t.domain.now.languages.rows lang
 
-pub unit_at : (t : OfficeMaps) (place : OfficePlace) → maps.get (office_in t).units place ≡ get_by (λ k. place_cmp place (place_of k)) t.units
-unit_at t place = get-viewed place_cmp place_of (λ unit. unit) place_total t.units place ∙ map_self _
+pub unit_at : (t : ProjectMaps) (place : OfficePlace) → maps.get (lent_project t).units place ≡ get_by (λ k. place_cmp place (place_of k)) t.domain.now.units
+unit_at t place = get-viewed place_cmp place_of (λ unit. unit) place_total t.domain.now.units place ∙ map_self _
 
-pub role_at : (t : OfficeMaps) (name : Text) (found : Option Role) → found ≡ get_by (λ k. text_cmp name (string_bytes k)) t.team → unwrap_or found Guest ≡ role_of (office_in t) name
-role_at t name found e = ap (λ o. unwrap_or o Guest) (e ∙ sym (get-viewed text_cmp string_bytes (λ role. role) text_total t.team name ∙ map_self _))
+pub role_found : {A : Type 0} (team : BTreeMap (String A) Role) (name : Text) (found : Option Role) → found ≡ get_by (λ k. text_cmp name (string_bytes k)) team → unwrap_or found Guest ≡ role_in (team_in team) name
+role_found team name found e = ap (λ o. unwrap_or o Guest) (e ∙ sym (get-viewed text_cmp string_bytes (λ role. role) text_total team name ∙ map_self _))
 
-pub view_at : (t : OfficeMaps) (place : OfficePlace) (found : Option Unit) → found ≡ get_by (λ k. place_cmp place (place_of k)) t.units
-    → option_map (λ unit. record { unit = unit; source = entry_of t.template.catalogue place.1 }) found ≡ view_of (office_in t) place
-view_at t place found e = ap (option_map (λ unit. record { unit = unit; source = entry_of t.template.catalogue place.1 })) (e ∙ sym (unit_at t place))
+pub role_at : (t : ProjectMaps) (name : Text) (found : Option Role) → found ≡ get_by (λ k. text_cmp name (string_bytes k)) t.team.now → unwrap_or found Guest ≡ role_of (lent_project t) name
+role_at t name found e = ap (λ o. unwrap_or o Guest) (e ∙ sym (get-viewed text_cmp string_bytes (λ role. role) text_total t.team.now name ∙ map_self _))
+
+pub view_at : (t : ProjectMaps) (place : OfficePlace) (found : Option Unit) → found ≡ get_by (λ k. place_cmp place (place_of k)) t.domain.now.units
+    → option_map (λ unit. record { unit = unit; source = entry_of t.domain.now.template.catalogue place.1 }) found ≡ view_of (lent_project t) place
+view_at t place found e = ap (option_map (λ unit. record { unit = unit; source = entry_of t.domain.now.template.catalogue place.1 })) (e ∙ sym (unit_at t place))
 
 -- a unit put in
 -- what is found where the language is there, and where it isn't
-pub found_there : (t : OfficeMaps) (lang : Text) (key : Key) (name : Text) (language : Language) → Some language ≡ get_by (λ k. text_cmp lang (string_bytes k)) t.languages.rows
-    → (rule : Rule) (role : Role) (view : Option UnitView) → rule ≡ language.rule → role ≡ role_of (office_in t) name → view ≡ view_of (office_in t) (lang, key)
-    → ◌≡◌ {A = Option Found} (Some (record { rule = rule; policy = t.policy; role = role; view = view })) (found_of (office_in t) lang key name)
-found_there t lang key name language e = lemmas.found_there (office_in t) lang key name language (ap (option_map (λ l. l.header)) e ∙ sym (header_at t lang))
+pub found_there : (t : ProjectMaps) (lang : Text) (key : Key) (name : Text) (language : Language) → Some language ≡ get_by (λ k. text_cmp lang (string_bytes k)) t.domain.now.languages.rows
+    → (rule : Rule) (role : Role) (view : Option UnitView) → rule ≡ language.rule → role ≡ role_of (lent_project t) name → view ≡ view_of (lent_project t) (lang, key)
+    → ◌≡◌ {A = Option ActContext} (Some (record { rule = rule; policy = t.policy; role = role; view = view })) (found_of (lent_project t) lang key name)
+found_there t lang key name language e = lemmas.found_there (lent_project t) lang key name language (ap (option_map (λ l. l.header)) e ∙ sym (header_at t lang))
 
-pub nothing_found : (t : OfficeMaps) (lang : Text) (key : Key) (name : Text) → None ≡ get_by (λ k. text_cmp lang (string_bytes k)) t.languages.rows → None ≡ found_of (office_in t) lang key name
-nothing_found t lang key name e = lemmas.nothing_found (office_in t) lang key name (ap (option_map (λ l. l.header)) e ∙ sym (header_at t lang))
+pub nothing_found : (t : ProjectMaps) (lang : Text) (key : Key) (name : Text) → None ≡ get_by (λ k. text_cmp lang (string_bytes k)) t.domain.now.languages.rows → None ≡ found_of (lent_project t) lang key name
+nothing_found t lang key name e = lemmas.nothing_found (lent_project t) lang key name (ap (option_map (λ l. l.header)) e ∙ sym (header_at t lang))

@@ -1,4 +1,4 @@
-//! The languages of an office, by their codes.
+//! The languages of a domain, by their codes.
 
 ghost use Rattle.std.specs.Prelude.{◌≡◌, [], OnOk, OnErr, true, string_bytes};
 ghost use Rattle.std.specs.List.{list_all};
@@ -14,7 +14,7 @@ use std::alloc::{AllocError, Global};
 use std::collections::BTreeMap;
 use units::Lang;
 
-/// The languages of an office, each under its code.
+/// The languages of a domain, each under its code.
 #[derive(Drop)]
 pub struct Languages {
     pub(crate) rows: BTreeMap<String, Language>,

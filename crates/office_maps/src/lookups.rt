@@ -1,14 +1,14 @@
-//! What acts on the office need to know of it.
+//! What acts on a template and a language need to know of their domain.
 
 ghost use Rattle.std.specs.Prelude.{◌≡◌, true, Some, IfOk, option_map};
 ghost use Rattle.std.specs.FinMap as maps;
 ghost use Rattle.units.specs.Limits.{is_lang};
-ghost use Rattle.units.specs.Office.{units_of};
+ghost use Rattle.units.specs.Project.{units_of};
 ghost use Rattle.units.specs.Rules.{rule_at};
 ghost use Rattle.template_update.specs.Updates.{plan_of};
-ghost use Rattle.deliveries.specs.OfficeActs.{plan_at, plans};
+ghost use Rattle.deliveries.specs.ProjectActs.{plan_at, plans};
 
-use crate::office_maps::OfficeMaps;
+use crate::project_maps::ProjectMaps;
 use crate::unit_rows::units_of;
 use deliveries::Language;
 use po_read::Catalogue;
@@ -27,14 +27,14 @@ pub(crate) fn lang_of(alloc: Global, code: &str) -> Result<Lang, AllocError>
     }
 }
 
-impl OfficeMaps {
-    ghost use Rattle.office_maps.specs.OfficeIn.{office_in};
+impl<'a> ProjectMaps<'a> {
+    ghost use Rattle.office_maps.specs.OfficeIn.{lent_project};
 
     /// How many languages there are.
     pub fn language_count(&self) -> usize
-        ensures { result ≡ maps.len (office_in self.now).headers }
+        ensures { result ≡ maps.len (lent_project self.now).headers }
     {
-        self.languages.rows.len()
+        self.domain.languages.rows.len()
     }
 
     /// What a new template makes of a language.
@@ -45,13 +45,13 @@ impl OfficeMaps {
         language: &Language,
         next: &Catalogue,
     ) -> Result<Option<Plan>, Memory>
-        ensures { Some language.now.header ≡ maps.get (office_in self.now).headers lang.now
-            → IfOk result (λ found. found ≡ plan_of (office_in self.now).template (units_of (office_in self.now) lang.now) next.now (rule_at (office_in self.now) lang.now)) }
+        ensures { Some language.now.header ≡ maps.get (lent_project self.now).headers lang.now
+            → IfOk result (λ found. found ≡ plan_of (lent_project self.now).template (units_of (lent_project self.now) lang.now) next.now (rule_at (lent_project self.now) lang.now)) }
     {
-        let units = units_of(alloc, &self.units, lang)?;
+        let units = units_of(alloc, &self.domain.units, lang)?;
         let planned = plan(
             alloc,
-            &self.template.catalogue,
+            &self.domain.template.catalogue,
             units.as_slice(),
             next,
             &language.rule,
@@ -69,8 +69,8 @@ impl OfficeMaps {
         next: &Catalogue,
     ) -> Result<Option<(Lang, Plan)>, Memory>
         requires { is_lang code.now ≡ true }
-        ensures { Some language.now.header ≡ maps.get (office_in self.now).headers code.now
-            → IfOk result (λ found. found ≡ plan_at (office_in self.now) next.now code.now) }
+        ensures { Some language.now.header ≡ maps.get (lent_project self.now).headers code.now
+            → IfOk result (λ found. found ≡ plan_at (lent_project self.now) next.now code.now) }
     {
         let lang = lang_of(alloc, code)?;
         match self.plan_at(alloc, &lang, language, next)? {
@@ -85,10 +85,10 @@ impl OfficeMaps {
         alloc: Global,
         next: &Catalogue,
     ) -> Result<Option<Vec<(Lang, Plan)>>, Memory>
-        ensures { IfOk result (λ found. option_map (λ all. all.items) found ≡ plans (office_in self.now) next.now) }
+        ensures { IfOk result (λ found. option_map (λ all. all.items) found ≡ plans (lent_project self.now) next.now) }
     {
         let mut all = Vec::new(alloc);
-        for (code, language) in self.languages.rows.iter() {
+        for (code, language) in self.domain.languages.rows.iter() {
             let Some(planned) = self.planned(alloc, code.as_str(), language, next)? else {
                 return Ok(None);
             };

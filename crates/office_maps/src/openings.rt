@@ -2,11 +2,15 @@
 
 ghost use Rattle.std.specs.Prelude.{◌≡◌, [], ◌∷◌, Ok, true, codes, IfOk, OnOk};
 ghost use Rattle.plural_expr.specs.Faults.{reading_of};
-ghost use Rattle.office_maps.specs.OfficeIn.{office_in};
+ghost use Rattle.office_maps.specs.OfficeIn.{domain_in, domains_in, office_in};
+ghost use Rattle.std.specs.FinMap as maps;
+ghost use Rattle.units.specs.Office.{empty_domain, main};
+ghost use Rattle.units.specs.declared.unit.Role.TheVariants.{Manager};
 ghost use Rattle.po_read.specs.Strings.{is_string};
 ghost use Rattle.units.specs.Openings as opens;
 
-use crate::changes::add_member;
+use crate::changes::{add_member, put_domain};
+use crate::domain_maps::DomainMaps;
 use crate::languages::Languages;
 use crate::lookups::lang_of;
 use crate::office_maps::OfficeMaps;
@@ -140,7 +144,7 @@ fn demo_language(alloc: Global) -> Result<Language, AllocError>
 }
 
 fn demo_catalogue(alloc: Global) -> Result<Catalogue, AllocError>
-    ensures { IfOk result (λ catalogue. catalogue ≡ opens.demo.template) }
+    ensures { IfOk result (λ catalogue. catalogue ≡ opens.demo_domain.template) }
 {
     let entry = plain_entry(alloc, "Hello", "")?;
     let mut entries = Vec::new(alloc);
@@ -152,14 +156,56 @@ fn demo_catalogue(alloc: Global) -> Result<Catalogue, AllocError>
     }
 }
 
-/// An office with one manager and nothing else.
-fn opened(alloc: Global, manager: &str) -> Result<OfficeMaps, Memory>
-    ensures { IfOk result (λ office. office_in office ≡ opens.opening manager.now) }
+/// Makes an empty domain that of the demo office, whose language is this one.
+fn put_demo(alloc: Global, domain: &mut DomainMaps, lang: &Lang) -> Result<(), AllocError>
+    requires empty { domain_in domain.old ≡ empty_domain }
+    requires lang { lang.now ≡ codes "de" }
+    ensures { OnOk result (domain_in domain.new ≡ opens.demo_domain) }
 {
+    add_unit(&mut domain.units, lang, demo_unit(alloc)?)?;
+    domain.languages.insert(alloc, lang, demo_language(alloc)?)?;
+    let template = Template::of(alloc, demo_catalogue(alloc)?)?;
+    drop(replace(&mut domain.template, template));
+    Ok(())
+}
+
+fn demo_domain(alloc: Global, lang: &Lang) -> Result<DomainMaps, AllocError>
+    requires { lang.now ≡ codes "de" }
+    ensures { IfOk result (λ domain. domain_in domain ≡ opens.demo_domain) }
+{
+    let mut domain = DomainMaps::empty(alloc)?;
+    match put_demo(alloc, &mut domain, lang) {
+        Ok(()) => Ok(domain),
+        Err(refused) => {
+            drop(domain);
+            Err(refused)
+        }
+    }
+}
+
+/// The domain `main` alone.
+fn main_alone(alloc: Global, domain: DomainMaps) -> Result<BTreeMap<String, DomainMaps>, AllocError>
+    ensures { IfOk result (λ domains. domains_in domains ≡ maps.insert maps.empty main (domain_in domain)) }
+{
+    let mut domains = BTreeMap::new(alloc);
+    match put_domain(alloc, &mut domains, "main", domain) {
+        Ok(()) => Ok(domains),
+        Err(refused) => {
+            drop(domains);
+            Err(refused)
+        }
+    }
+}
+
+/// An office with one manager, and with this domain for its one.
+fn opened(alloc: Global, manager: &str, domain: DomainMaps) -> Result<OfficeMaps, AllocError>
+    ensures domains { IfOk result (λ office. (office_in office).domains ≡ maps.insert maps.empty main (domain_in domain)) }
+    ensures team { IfOk result (λ office. (office_in office).team ≡ maps.insert maps.empty manager.now Manager) }
+    ensures policy { IfOk result (λ office. (office_in office).policy ≡ opens.closed_policy) }
+{
+    let domains = main_alone(alloc, domain)?;
     let mut office = OfficeMaps {
-        template: Template::of(alloc, Catalogue::empty(alloc))?,
-        languages: Languages::new(alloc),
-        units: BTreeMap::new(alloc),
+        domains,
         team: BTreeMap::new(alloc),
         policy: closed_policy(),
     };
@@ -167,35 +213,22 @@ fn opened(alloc: Global, manager: &str) -> Result<OfficeMaps, Memory>
         Ok(()) => Ok(office),
         Err(refused) => {
             drop(office);
-            Err(Memory::from(refused))
+            Err(refused)
         }
     }
 }
 
-/// Makes an office with the manager `root` the demo office, whose language is this one.
-fn put_demo(alloc: Global, office: &mut OfficeMaps, lang: &Lang) -> Result<(), AllocError>
-    requires opened { office_in office.old ≡ opens.opening (codes "root") }
-    requires lang { lang.now ≡ codes "de" }
-    ensures { OnOk result (office_in office.new ≡ opens.demo) }
-{
-    add_member(alloc, &mut office.team, "ann", Role::Translator)?;
-    add_unit(&mut office.units, lang, demo_unit(alloc)?)?;
-    office.languages.insert(alloc, lang, demo_language(alloc)?)?;
-    let template = Template::of(alloc, demo_catalogue(alloc)?)?;
-    drop(replace(&mut office.template, template));
-    Ok(())
-}
-
-fn demo_in(alloc: Global, lang: &Lang) -> Result<OfficeMaps, Memory>
+fn demo_in(alloc: Global, lang: &Lang) -> Result<OfficeMaps, AllocError>
     requires { lang.now ≡ codes "de" }
     ensures { IfOk result (λ office. office_in office ≡ opens.demo) }
 {
-    let mut office = opened(alloc, "root")?;
-    match put_demo(alloc, &mut office, lang) {
+    let domain = demo_domain(alloc, lang)?;
+    let mut office = opened(alloc, "root", domain)?;
+    match add_member(alloc, &mut office.team, "ann", Role::Translator) {
         Ok(()) => Ok(office),
         Err(refused) => {
             drop(office);
-            Err(Memory::from(refused))
+            Err(refused)
         }
     }
 }
@@ -207,7 +240,8 @@ impl OfficeMaps {
     pub fn opening(alloc: Global, manager: &Name) -> Result<OfficeMaps, Memory>
         ensures { IfOk result (λ office. office_in office ≡ opens.opening manager.now) }
     {
-        opened(alloc, manager.as_str())
+        let domain = DomainMaps::empty(alloc)?;
+        Ok(opened(alloc, manager.as_str(), domain)?)
     }
 
     /// The demo office: the manager `root` and the translator `ann`, and the language `de` with the message `Hello`, which has no
@@ -220,6 +254,6 @@ impl OfficeMaps {
         let lang = lang_of(alloc, "de")?;
         let made = demo_in(alloc, &lang);
         drop(lang);
-        made
+        Ok(made?)
     }
 }

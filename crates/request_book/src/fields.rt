@@ -1,12 +1,12 @@
 //! Readers of single fields, and of the first member of an object in the order of its keys.
-ghost use Rattle.std.specs.Prelude.{◌≡◌, ◌++◌, List, ℕ, true, Err, IfOk, Some, None, codes, option_map};
+ghost use Rattle.std.specs.Prelude.{◌≡◌, ◌≢◌, ◌++◌, List, ℕ, true, Err, IfOk, Some, None, codes, option_map};
 ghost use Rattle.std.specs.List.{list_all};
 ghost use Rattle.uuid.specs.Text.{parsed};
 ghost use Rattle.po_read.specs.Strings.{is_string};
 ghost use Rattle.request_book.specs.Acts.{IsNumber};
 ghost use Rattle.serde_json.specs.Find.{as_bool, as_str};
 ghost use Rattle.serde_json.specs.View.{view, items_view, members_view};
-ghost use Rattle.request_book.specs.Fields.{text_of, name_of, lang_of, revision_of, accept_at_of, role_named, role_of, each_of, forms_of, lines_of, vote_of, number_of, take, take_as, take_optional, take_optional_as, optional_as, is_over};
+ghost use Rattle.request_book.specs.Fields.{text_of, name_of, lang_of, revision_of, accept_at_of, role_named, role_of, each_of, forms_of, lines_of, vote_of, number_of, take, take_as, take_optional, take_optional_as, take_domain, optional_as, is_over};
 ghost use Rattle.request_book.specs.declared.fault.RequestFault.TheVariants.{Malformed};
 
 use crate::fault::RequestFault;
@@ -257,6 +257,35 @@ pub(crate) fn take_caller<'v>(
     }
 }
 
+fn take_written_domain<'v>(
+    alloc: Global,
+    fields: &'v [(String, Value)],
+) -> Result<(Option<Name>, &'v [(String, Value)]), RequestFault>
+    ensures ok { IfOk result
+        (λ p. take_optional_as name_of (codes "domain") (members_view fields.now) ≡ Some (p.0, members_view p.1.now)) }
+    ensures malformed { result ≡ Err Malformed
+        → take_optional_as name_of (codes "domain") (members_view fields.now) ≡ None }
+{
+    match take_optional(fields, "domain") {
+        (Some(value), rest) => Ok((Some(name_from(alloc, value)?), rest)),
+        (None, rest) => Ok((None, rest)),
+    }
+}
+
+pub(crate) fn take_domain<'v>(
+    alloc: Global,
+    fields: &'v [(String, Value)],
+) -> Result<(Name, &'v [(String, Value)]), RequestFault>
+    ensures ok { IfOk result (λ p. take_domain (members_view fields.now) ≡ Some (p.0, members_view p.1.now)) }
+    ensures malformed { result ≡ Err Malformed → take_domain (members_view fields.now) ≡ None }
+{
+    let (domain, rest) = take_written_domain(alloc, fields)?;
+    match domain {
+        Some(domain) => Ok((domain, rest)),
+        None => Ok((Name::main_domain(), rest)),
+    }
+}
+
 pub(crate) fn take_context<'v>(
     alloc: Global,
     fields: &'v [(String, Value)],
@@ -369,8 +398,8 @@ fn parsed_number(text: &str) -> Option<Uuid>
     }
 }
 
-// Each byte fits, which a clause cannot say of an array: this walk reads them, and is compiled away.
-pub(crate) fn bytes_fit(bytes: &[u8; 16])
+/// Each byte fits, which a clause cannot say of an array: this walk reads them, and is compiled away.
+pub fn bytes_fit(bytes: &[u8; 16])
     ensures { IsNumber bytes.now }
 {
     'bytes: for i in 0..16 {

@@ -13,5 +13,6 @@ mod written;
 pub use act::{Act, Request};
 pub use book::{Class, Record, classify};
 pub use fault::RequestFault;
+pub use fields::bytes_fit;
 pub use reply::Reply;
 pub use request::canon;

@@ -4,7 +4,7 @@ use Rattle.std.proofs.lemmas.List.{length-map}
 use Rattle.std.specs.Prelude.{[], IfSome, IfOk}
 use Rattle.request_book.specs.Book.{OfficeWithBook}
 use Rattle.http_messages.specs.Streams.{items_of}
-use Rattle.commands.specs.Writers.{Writer}
+use Rattle.office.specs.Writers.{Writer}
 use Rattle.http_api.specs.declared.connection.Served.{Served}
 use Rattle.http_api.specs.declared.faults.ServeFault.{ServeFault}
 use Rattle.http_api.specs.Connection.{questions, AllServed, SomeServed}

@@ -4,7 +4,7 @@ use Rattle.std.specs.Prelude.{⊤}
 use Rattle.sqlite.specs.State.{State, HasCleanDisk, Survives}
 use Rattle.sqlite.proofs.StateLemmas.{survives_weaker}
 use Rattle.sql_streams.specs.Walks.{StaysPut}
-use Rattle.office_sql.specs.Whole.{IsIdle, IsLookUp}
+use Rattle.sql_schema.specs.Whole.{IsIdle, IsLookUp}
 
 pub walk_looks_up : {A E : Type 0} (old new : State) (r : Result A E) → IsIdle old → (HasCleanDisk new → IsTrue new.is_open → StaysPut old new) → (HasCleanDisk new → OnOk r (IsTrue new.is_open))
     → new.in_transaction ≡ false → Survives old new (λ _. ⊥) → IsLookUp old new r (λ _ _. ⊤)

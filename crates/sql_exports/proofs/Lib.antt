@@ -1,6 +1,3 @@
-pub mod OnePassing
-pub mod MessageQuery
-pub mod ObsoleteQuery
 pub mod Idle
 pub mod Handed
 pub mod LookedUp

@@ -11,28 +11,28 @@ use Rattle.sqlite.specs.Order.{Row}
 use Rattle.sqlite.specs.Effect.{Database}
 use Rattle.sqlite_trees.proofs.ListLemmas.{map-map}
 use Rattle.sqlite_rules.specs.Lists.{Has}
-use Rattle.keyed.specs.RowMaps.{OneEach}
-use Rattle.keyed.proofs.RowMaps.{get-is}
-use Rattle.keyed.proofs.RemovedRows.{from_mapped, has_permuted}
+use Rattle.sql_laws.specs.RowMaps.{OneEach}
+use Rattle.sql_laws.proofs.RowMaps.{get-is}
+use Rattle.sql_laws.proofs.RemovedRows.{from_mapped, has_permuted}
 use Rattle.po_read.specs.declared.entry.Entry.{Entry}
 use Rattle.po_read.specs.Texts.{Text}
 use Rattle.units.specs.Units.{key_of}
-use Rattle.units.specs.Office.{Place, place_cmp}
+use Rattle.units.specs.Project.{Place, place_cmp}
 use Rattle.units.specs.Orders.{place_total, place_IsAntisymmetric}
 use Rattle.deliveries.specs.ExportedEntries.{translated}
-use Rattle.office_sql.specs.Schema.{template_tree, unit_tree}
-use Rattle.office_sql.specs.Keys.{second_text, columns, text_at}
-use Rattle.office_sql.specs.Inside.{AreOfficeTables}
-use Rattle.office_sql.proofs.Steps.{table_apart}
-use Rattle.office_sql.proofs.TableRows.{units, one_unit}
-use Rattle.office_in_rows.specs.Meaning.{template_in, units_in, unit_of_row, place_of_row, key_at}
-use Rattle.office_in_rows.specs.Shown.{shown_entry}
-use Rattle.office_in_rows.proofs.Units.{by_place}
-use Rattle.office_scans.specs.Tables.{by_columns, ShowsTemplate}
-use Rattle.office_at_hand.proofs.OfficeTables.{whole_template}
-use Rattle.row_values.specs.Readings.{key_parts}
-use Rattle.sql_exports.specs.Queries.{AreUnits, ShowsMessages, entry_places, unit_places}
-use Rattle.shown_rows.specs.ShownEntries.{message_shown}
+use Rattle.sql_schema.specs.Schema.{template_tree, unit_tree}
+use Rattle.sql_schema.specs.Keys.{second_text, columns, text_at}
+use Rattle.sql_schema.specs.Inside.{AreOfficeTables}
+use Rattle.sql_schema.proofs.Steps.{table_apart}
+use Rattle.sql_schema.proofs.TableRows.{units, one_unit}
+use Rattle.sql_meaning.specs.Meaning.{template_in, units_in, unit_of_row, place_of_row, key_at}
+use Rattle.sql_meaning.specs.Shown.{shown_entry}
+use Rattle.sql_meaning.proofs.Units.{by_place}
+use Rattle.sql_statements.specs.Tables.{by_columns, ShowsTemplate}
+use Rattle.sql_meaning.proofs.OfficeTables.{whole_template}
+use Rattle.sql_columns.specs.Readings.{key_parts}
+use Rattle.sql_statements.specs.Queries.{AreUnits, ShowsMessages, entry_places, unit_places}
+use Rattle.sql_decoding.specs.ShownEntries.{message_shown}
 
 mapped_alike : {A B : Type 0} (f g : A → B) (xs : List A) → ((x : A) → Has xs x → f x ≡ g x) → map f xs ≡ map g xs
 mapped_alike f g [] same = refl

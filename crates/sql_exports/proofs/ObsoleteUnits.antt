@@ -23,32 +23,32 @@ use Rattle.sqlite_rules.specs.Edit.{id_in}
 use Rattle.sqlite_trees.proofs.ListLemmas.{map-map, all-map, filter-map, ascending-filter}
 use Rattle.sqlite_rules.specs.Lists.{Has}
 use Rattle.sqlite_rules.proofs.ListLemmas.{all_has, all_from, has_filtered, has_kept}
-use Rattle.keyed.specs.RowMaps.{OneEach, IsFound}
-use Rattle.keyed.specs.ApartRows.{AreOnce}
-use Rattle.keyed.proofs.RowMaps.{get-found, get-is, texts_are_one, text_ties_itself}
-use Rattle.keyed.proofs.RemovedRows.{from_mapped, to_mapped, has_permuted}
+use Rattle.sql_laws.specs.RowMaps.{OneEach, IsFound}
+use Rattle.sql_laws.specs.ApartRows.{AreOnce}
+use Rattle.sql_laws.proofs.RowMaps.{get-found, get-is, texts_are_one, text_ties_itself}
+use Rattle.sql_laws.proofs.RemovedRows.{from_mapped, to_mapped, has_permuted}
 use Rattle.po_read.specs.declared.entry.Entry.{Entry}
 use Rattle.po_read.specs.Texts.{Text, text_cmp, text_eq}
 use Rattle.units.specs.Units.{key_text, key_cmp, all_empty}
-use Rattle.units.specs.Office.{Place, place_cmp, units_of}
+use Rattle.units.specs.Project.{Place, place_cmp, units_of}
 use Rattle.units.specs.Orders.{text_total, text_IsAntisymmetric, key_total, place_total, place_IsAntisymmetric}
 use Rattle.units.specs.declared.unit.Key.{Key}
 use Rattle.units.specs.declared.unit.Unit.{Unit}
 use Rattle.deliveries.specs.ExportedEntries.{obsolete_entry}
-use Rattle.row_values.specs.Readings.{key_parts}
-use Rattle.row_values.proofs.Keys.{text_of_parts}
-use Rattle.office_sql.specs.Schema.{unit_tree}
-use Rattle.office_sql.specs.Keys.{text_at, has_text, columns}
-use Rattle.office_sql.specs.Inside.{AreOfficeTables, IsInOrder}
-use Rattle.office_sql.proofs.Steps.{table_apart}
-use Rattle.office_sql.proofs.TextKeys.{holds_int}
-use Rattle.office_sql.proofs.TableRows.{units, units_listed, unit_keys, one_unit}
-use Rattle.office_in_rows.specs.Values.{flag_at}
-use Rattle.office_in_rows.specs.Meaning.{office_of_rows, units_in, unit_of_row, place_of_row}
-use Rattle.office_in_rows.proofs.MapEntries.{true_of, below_has, get_entry, entry_of_get}
-use Rattle.office_in_rows.proofs.Units.{by_place}
-use Rattle.sql_exports.specs.Queries.{ShowsObsolete, is_obsolete_of}
-use Rattle.shown_rows.specs.ShownEntries.{obsolete_shown, is_translated_row}
+use Rattle.sql_columns.specs.Readings.{key_parts}
+use Rattle.sql_columns.proofs.Keys.{text_of_parts}
+use Rattle.sql_schema.specs.Schema.{unit_tree}
+use Rattle.sql_schema.specs.Keys.{text_at, has_text, columns}
+use Rattle.sql_schema.specs.Inside.{AreOfficeTables, IsInOrder}
+use Rattle.sql_schema.proofs.Steps.{table_apart}
+use Rattle.sql_schema.proofs.TextKeys.{holds_int}
+use Rattle.sql_schema.proofs.TableRows.{units, units_listed, unit_keys, one_unit}
+use Rattle.sql_meaning.specs.Values.{flag_at}
+use Rattle.sql_meaning.specs.Meaning.{project_of_rows, units_in, unit_of_row, place_of_row}
+use Rattle.sql_meaning.proofs.MapEntries.{true_of, below_has, get_entry, entry_of_get}
+use Rattle.sql_meaning.proofs.Units.{by_place}
+use Rattle.sql_statements.specs.Queries.{ShowsObsolete, is_obsolete_of}
+use Rattle.sql_decoding.specs.ShownEntries.{obsolete_shown, is_translated_row}
 use Rattle.sql_exports.proofs.OneOrder.{Below, same_list, ascending_mapped, twice}
 
 -- a flag that is set is 1
@@ -294,7 +294,7 @@ module _ (db : Database) (office : AreOfficeTables db) (lang : Text) (rows : Lis
   kept entry = not (all_empty entry.forms)
 
   pub obsolete_are : map obsolete_shown (filter is_translated_row rows)
-      ≡ map obsolete_entry (filter (λ unit. unit.obsolete && not (all_empty unit.forms)) (units_of (office_of_rows db.trees) lang))
+      ≡ map obsolete_entry (filter (λ unit. unit.obsolete && not (all_empty unit.forms)) (units_of (project_of_rows db.trees) lang))
   obsolete_are =
       sym (map-map (λ (x : Text × Entry). x.1) of_shown (filter is_translated_row rows))
       ∙ sym (ap (map (λ (x : Text × Entry). x.1)) (filter-map (λ x. kept x.1) of_shown rows))

@@ -8,8 +8,8 @@ use Rattle.po_read.specs.declared.entry.Entry.{Entry}
 use Rattle.tables.specs.declared.faults.EachFault.{EachFault}
 use Rattle.tables.specs.declared.faults.EachFault.TheVariants.{NoTables, NoSink}
 use Rattle.tables.specs.Sinks.{WasCutShort}
-use Rattle.office_sql.specs.Inside.{AreOfficeTables}
-use Rattle.office_sql.specs.Whole.{IsIdle, IsLookUp}
+use Rattle.sql_schema.specs.Inside.{AreOfficeTables}
+use Rattle.sql_schema.specs.Whole.{IsIdle, IsLookUp}
 use Rattle.sql_exports.specs.Handing.{Gives, TookAllBut}
 
 module _ {S R : Type 0} (Took : S → List Entry → S → Type 0) (Refuses : S → Entry → R → S → Type 0) where

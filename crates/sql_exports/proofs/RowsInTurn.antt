@@ -5,7 +5,7 @@ use Rattle.std.specs.List.{filter_map, cons_option}
 use Rattle.std.specs.FinMap as maps
 use Rattle.po_read.specs.declared.entry.Entry.{Entry}
 use Rattle.po_read.specs.Texts.{Text}
-use Rattle.units.specs.Office.{Office}
+use Rattle.units.specs.Project.{Project}
 use Rattle.deliveries.specs.ExportedEntries.{catalogue_of}
 use Rattle.tables.specs.Entries.{entries_of}
 use Rattle.sql_exports.specs.Entries.{messages_of, obsolete_of}
@@ -22,12 +22,12 @@ those_that_pass p f (x ∷ xs) = ap (cons_option (cond (p x) (Some (f x)) None))
     by true = refl
     by false = refl
 
-catalogue_is : (office : Office) (lang : Text) (header : Entry) → catalogue_of office lang header ≡ header ∷ messages_of office lang ++ obsolete_of office lang
+catalogue_is : (project : Project) (lang : Text) (header : Entry) → catalogue_of project lang header ≡ header ∷ messages_of project lang ++ obsolete_of project lang
 unfolding catalogue_of
-catalogue_is office lang header = refl
+catalogue_is project lang header = refl
 
-pub entries_are : (office : Office) (lang : Text) (header : Entry) → Some header ≡ maps.get office.headers lang → entries_of office lang ≡ header ∷ messages_of office lang ++ obsolete_of office lang
-entries_are office lang header is = ap (λ o. option_map_or (catalogue_of office lang) o []) (sym is) ∙ catalogue_is office lang header
+pub entries_are : (project : Project) (lang : Text) (header : Entry) → Some header ≡ maps.get project.headers lang → entries_of project lang ≡ header ∷ messages_of project lang ++ obsolete_of project lang
+entries_are project lang header is = ap (λ o. option_map_or (catalogue_of project lang) o []) (sym is) ∙ catalogue_is project lang header
 
-pub no_entries : (office : Office) (lang : Text) → None ≡ maps.get office.headers lang → entries_of office lang ≡ []
-no_entries office lang none = ap (λ o. option_map_or (catalogue_of office lang) o []) (sym none)
+pub no_entries : (project : Project) (lang : Text) → None ≡ maps.get project.headers lang → entries_of project lang ≡ []
+no_entries project lang none = ap (λ o. option_map_or (catalogue_of project lang) o []) (sym none)

@@ -10,25 +10,25 @@ use Rattle.sqlite.specs.declared.types.Value.TheVariants.{Null, Text as Words}
 use Rattle.sqlite.specs.Order.{Row}
 use Rattle.sqlite.specs.Effect.{Database}
 use Rattle.sqlite_rules.specs.Lists.{Has}
-use Rattle.keyed.specs.RowMaps.{IsFound}
-use Rattle.keyed.proofs.RowMaps.{get-found, texts_are_one, text_ties_itself}
+use Rattle.sql_laws.specs.RowMaps.{IsFound}
+use Rattle.sql_laws.proofs.RowMaps.{get-found, texts_are_one, text_ties_itself}
 use Rattle.po_read.specs.declared.entry.Entry.{Entry}
 use Rattle.po_read.specs.Texts.{Text}
 use Rattle.units.specs.Units.{key_cmp, key_of}
-use Rattle.units.specs.Office.{place_cmp, entry_of}
-use Rattle.units.specs.Offices.{IsOffice}
+use Rattle.units.specs.Project.{place_cmp, entry_of}
+use Rattle.units.specs.Projects.{IsProject}
 use Rattle.units.specs.Orders.{key_total, place_total, place_IsAntisymmetric}
-use Rattle.office_sql.specs.Schema.{template_tree, unit_tree}
-use Rattle.office_sql.specs.Keys.{first_texts, second_text, has_text, text_at}
-use Rattle.office_sql.specs.Inside.{AreOfficeTables}
-use Rattle.office_sql.proofs.Steps.{table_apart}
-use Rattle.office_sql.proofs.TableRows.{entries}
-use Rattle.office_in_rows.specs.Values.{integer_at}
-use Rattle.office_in_rows.specs.Meaning.{office_of_rows, headers_in, template_in, unit_of_row, place_of_row, entry_of_row, key_at}
-use Rattle.office_in_rows.proofs.MapValues.{row_has_value}
-use Rattle.office_in_rows.proofs.Rowids.{one_rowid}
-use Rattle.office_in_rows.proofs.Units.{by_place}
-use Rattle.sql_exports.specs.Queries.{AreUnits}
+use Rattle.sql_schema.specs.Schema.{template_tree, unit_tree}
+use Rattle.sql_schema.specs.Keys.{first_texts, second_text, has_text, text_at}
+use Rattle.sql_schema.specs.Inside.{AreOfficeTables}
+use Rattle.sql_schema.proofs.Steps.{table_apart}
+use Rattle.sql_schema.proofs.TableRows.{entries}
+use Rattle.sql_meaning.specs.Values.{integer_at}
+use Rattle.sql_meaning.specs.Meaning.{project_of_rows, headers_in, template_in, unit_of_row, place_of_row, entry_of_row, key_at}
+use Rattle.sql_meaning.proofs.MapValues.{row_has_value}
+use Rattle.sql_meaning.proofs.Rowids.{one_rowid}
+use Rattle.sql_meaning.proofs.Units.{by_place}
+use Rattle.sql_statements.specs.Queries.{AreUnits}
 
 -- the first that passes passes, and is one of them
 found : {X : Type 0} (test : X → Bool) (xs : List X) (x : X) → Has xs x → test x ≡ true → (y : X) × (find test xs ≡ Some y) × Has xs y × (test y ≡ true)
@@ -42,7 +42,7 @@ found test (z ∷ xs) x there passes = by (test z) refl (found test xs x)
       | inr behind ↦ let it = later behind passes in (it.0, ap (λ b. cond b (Some z) (find test xs)) e ∙ it.1, inr it.2, it.3)
     ]
 
-module _ (db : Database) (office : AreOfficeTables db) (rules : IsOffice (office_of_rows db.trees)) (lang : Text) (there : IsSome (maps.get (headers_in db.trees) lang)) where
+module _ (db : Database) (office : AreOfficeTables db) (rules : IsProject (project_of_rows db.trees)) (lang : Text) (there : IsSome (maps.get (headers_in db.trees) lang)) where
   abbrev is_its : Row → Row → Bool
   is_its row unit = has_text 1 lang unit && has_text 2 (second_text row) unit
 

@@ -6,23 +6,23 @@ use Rattle.std.specs.FinMap as maps
 use Rattle.sqlite.specs.Order.{Row}
 use Rattle.sqlite.specs.Effect.{Database}
 use Rattle.po_read.specs.Texts.{Text}
-use Rattle.units.specs.Offices.{IsOffice}
-use Rattle.office_sql.specs.Inside.{AreOfficeTables}
-use Rattle.office_in_rows.specs.Meaning.{office_of_rows, headers_in}
-use Rattle.sql_exports.specs.Queries.{ShowsMessages, ShowsObsolete}
-use Rattle.shown_rows.specs.ShownEntries.{message_shown, obsolete_shown, is_translated_row}
+use Rattle.units.specs.Projects.{IsProject}
+use Rattle.sql_schema.specs.Inside.{AreOfficeTables}
+use Rattle.sql_meaning.specs.Meaning.{project_of_rows, headers_in}
+use Rattle.sql_statements.specs.Queries.{ShowsMessages, ShowsObsolete}
+use Rattle.sql_decoding.specs.ShownEntries.{message_shown, obsolete_shown, is_translated_row}
 use Rattle.sql_exports.specs.Entries.{messages_of, obsolete_of}
 use Rattle.sql_exports.proofs.Messages.{messages_are}
 use Rattle.sql_exports.proofs.ObsoleteUnits.{obsolete_are}
 use Rattle.sql_exports.proofs.RowsInTurn.{each_one, those_that_pass}
 use Rattle.sql_exports.proofs.UnitsThere.{unit_at, units_there}
 
-pub messages_read : (db : Database) (office : AreOfficeTables db) (rules : IsOffice (office_of_rows db.trees)) (lang : Text) (there : IsSome (maps.get (headers_in db.trees) lang)) (rows : List Row)
-    → ShowsMessages (unit_at db office rules lang there) db rows → filter_map (λ row. Some (message_shown row)) rows ≡ messages_of (office_of_rows db.trees) lang
+pub messages_read : (db : Database) (office : AreOfficeTables db) (rules : IsProject (project_of_rows db.trees)) (lang : Text) (there : IsSome (maps.get (headers_in db.trees) lang)) (rows : List Row)
+    → ShowsMessages (unit_at db office rules lang there) db rows → filter_map (λ row. Some (message_shown row)) rows ≡ messages_of (project_of_rows db.trees) lang
 messages_read db office rules lang there rows shows =
     each_one message_shown rows ∙ messages_are db office lang (unit_at db office rules lang there) (units_there db office rules lang there) rows shows
 
 pub obsolete_read : (db now : Database) → now ≡ db → AreOfficeTables db → (lang : Text) (rows : List Row) → ShowsObsolete lang now rows
-    → filter_map (λ row. cond (is_translated_row row) (Some (obsolete_shown row)) None) rows ≡ obsolete_of (office_of_rows db.trees) lang
+    → filter_map (λ row. cond (is_translated_row row) (Some (obsolete_shown row)) None) rows ≡ obsolete_of (project_of_rows db.trees) lang
 obsolete_read db now same office lang rows shows =
     those_that_pass is_translated_row obsolete_shown rows ∙ obsolete_are db office lang rows (subst (λ d. ShowsObsolete lang d rows) same shows)

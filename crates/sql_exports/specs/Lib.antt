@@ -1,4 +1,3 @@
-pub mod Queries
 pub mod RowEntries
 pub mod Sinks
 pub mod Handing

@@ -9,13 +9,13 @@ ghost use Rattle.po_read.specs.declared.entry.Entry.{Entry as EntryValue};
 ghost use Rattle.sqlite.specs.declared.error.Error.TheVariants.{SqliteFailure};
 ghost use Rattle.sqlite.specs.declared.error.ErrorCode.TheVariants.{OutOfMemory};
 ghost use Rattle.tables.specs.declared.faults.Lost.TheVariants.{Memory};
-ghost use Rattle.office_sql.specs.Whole.{IsIdle, IsLookUp};
-ghost use Rattle.sql_exports.specs.Queries.{AreUnits, ShowsMessages, ShowsObsolete};
+ghost use Rattle.sql_schema.specs.Whole.{IsIdle, IsLookUp};
+ghost use Rattle.sql_statements.specs.Queries.{AreUnits, ShowsMessages, ShowsObsolete};
 ghost use Rattle.sql_exports.specs.Handing.{GivesAllBut, IsTold};
 
 use crate::entry_rows::{EntryReader, EntryRows};
-use crate::queries::{walk_messages, walk_obsolete};
 use po_read::Entry;
+use sql_statements::queries::{walk_messages, walk_obsolete};
 use sql_streams::WalkFault;
 use sqlite::{Alter, Connection, Error, ErrorCode};
 use tables::{EachFault, EntrySink, Lost};

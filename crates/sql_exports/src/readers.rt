@@ -1,10 +1,10 @@
 //! What reads the entries of an export off rows.
 ghost use Rattle.std.specs.Prelude.{◌≡◌, Some, None, if◌then◌else◌};
-ghost use Rattle.shown_rows.specs.ShownEntries.{message_shown, obsolete_shown, is_translated_row};
+ghost use Rattle.sql_decoding.specs.ShownEntries.{message_shown, obsolete_shown, is_translated_row};
 
 use crate::entry_rows::EntryReader;
 use po_read::Entry;
-use shown_rows::{message_in, obsolete_in};
+use sql_decoding::{message_in, obsolete_in};
 use sqlite::Row;
 use std::alloc::Global;
 use tables::Lost;

@@ -13,7 +13,7 @@ use Rattle.sqlite_sql.specs.Term.{Env}
 use Rattle.sqlite.specs.Query.{Query, IsAnswer, Output, output, output_cmp}
 use Rattle.sqlite_rules.specs.Lists.{Has}
 use Rattle.sqlite_rules.proofs.ListLemmas.{has_at}
-use Rattle.keyed.proofs.RemovedRows.{from_mapped, has_permuted}
+use Rattle.sql_laws.proofs.RemovedRows.{from_mapped, has_permuted}
 use Rattle.sql_streams.specs.Joins.{joined_query, pass, show}
 
 twice : {A B C : Type 0} (g : B → C) (f : A → B) (xs : List A) → map g (map f xs) ≡ map (λ x. g (f x)) xs

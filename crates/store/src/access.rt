@@ -3,8 +3,9 @@
 ghost use Rattle.std.specs.Prelude.{◌≡◌, false, ⊤};
 
 use crate::plain::PlainTables;
-use deliveries::{Change, Found};
-use office_entries::{counts, hand_entries};
+use crate::reads::hand_in;
+use deliveries::{ActContext, Change};
+use office_entries::counts_in;
 use office_maps::OfficeMaps;
 use request_book::Record;
 use tables::{Counts, EachFault, EntrySink, Lost, Tables};
@@ -42,8 +43,14 @@ impl Tables for PlainTables {
         Ok(self.maps.office.role_of(name))
     }
 
-    fn view_of(&mut self, lang: &Lang, key: &Key, name: &Name) -> Result<Option<Found>, Lost> {
-        self.maps.view_of(lang, key, name)
+    fn view_of(
+        &mut self,
+        domain: &Name,
+        lang: &Lang,
+        key: &Key,
+        name: &Name,
+    ) -> Result<Option<ActContext>, Lost> {
+        self.maps.view_of(domain, lang, key, name)
     }
 
     fn office_rows(&mut self) -> Result<(), Lost> {
@@ -57,11 +64,12 @@ impl Tables for PlainTables {
     fn commit_unit(
         &mut self,
         row: Record,
+        domain: &Name,
         lang: &Lang,
         key: &Key,
         view: Option<UnitView>,
     ) -> Result<(), Lost> {
-        self.maps.commit_unit(row, lang, key, view)
+        self.maps.commit_unit(row, domain, lang, key, view)
     }
 
     fn commit_office(&mut self, row: Record, change: Option<Change>) -> Result<(), Lost> {
@@ -70,13 +78,14 @@ impl Tables for PlainTables {
 
     fn each_entry<S: EntrySink>(
         &mut self,
+        domain: &Name,
         lang: &Lang,
         sink: &mut S,
     ) -> Result<(), EachFault<S::Refusal>> {
-        hand_entries(self.alloc, &self.maps.office, lang, sink)
+        hand_in(self.alloc, &self.maps.office, domain, lang, sink)
     }
 
-    fn counts(&mut self, lang: &Lang) -> Result<Option<Counts>, Lost> {
-        Ok(counts(self.alloc, &self.maps.office, lang)?)
+    fn counts(&mut self, domain: &Name, lang: &Lang) -> Result<Option<Counts>, Lost> {
+        Ok(counts_in(self.alloc, &self.maps.office, domain, lang)?)
     }
 }

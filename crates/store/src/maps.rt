@@ -6,11 +6,13 @@ ghost use Rattle.std.specs.FinMap as maps;
 ghost use Rattle.std.specs.BTreeMap.{insert_entry};
 ghost use Rattle.po_read.specs.Texts.{text_cmp};
 ghost use Rattle.request_book.specs.Book.{row_of, with_record};
-ghost use Rattle.units.specs.Office.{with_unit};
+ghost use Rattle.units.specs.Project.{with_unit};
+ghost use Rattle.units.specs.Office.{project_in, with_project};
 ghost use Rattle.office_maps.specs.OfficeIn.{office_in};
 ghost use Rattle.tables.specs.declared.faults.Lost.TheVariants.{Memory};
 
-use deliveries::{Change, Found};
+use crate::reads::found_in;
+use deliveries::{ActContext, Change};
 use office_maps::{OfficeMaps, Place};
 use po_read::{Duplicate, Text};
 use request_book::{Record, Reply};
@@ -79,7 +81,7 @@ pub(crate) struct Maps {
 
 impl Maps {
     ghost use Rattle.store.specs.Meanings.{meaning, place_of};
-    ghost use Rattle.deliveries.specs.UnitAccess.{found_of, with_view};
+    ghost use Rattle.deliveries.specs.UnitAccess.{found_of, with_view_in};
     ghost use Rattle.deliveries.specs.OfficeChanges.{changed, changed_by, IsPossible, IsPossibleChange};
 
     /// An office of which nothing is recorded.
@@ -103,31 +105,38 @@ impl Maps {
         }
     }
 
-    /// What a unit act needs to know; nothing where the language isn't there.
-    pub(crate) fn view_of(&self, lang: &Lang, key: &Key, name: &Name) -> Result<Option<Found>, Lost>
-        ensures answer { IfOk result (λ r. r ≡ found_of (meaning self.now).office lang.now key.now name.now) }
+    /// What a unit act needs to know; nothing where the domain or its language isn't there.
+    pub(crate) fn view_of(
+        &self,
+        domain: &Name,
+        lang: &Lang,
+        key: &Key,
+        name: &Name,
+    ) -> Result<Option<ActContext>, Lost>
+        ensures answer { IfOk result (λ r. r ≡ found_of (project_in (meaning self.now).office domain.now) lang.now key.now name.now) }
         ensures memory { IfErr result (λ e. e ≡ Memory) }
     {
-        Ok(self.office.view_of(lang, key, name)?)
+        Ok(found_in(&self.office, domain, lang, key, name)?)
     }
 
     /// Writes a unit's new view, if there is one, and the request's record. What can fail comes first.
     pub(crate) fn commit_unit(
         &mut self,
         row: Record,
+        domain: &Name,
         lang: &Lang,
         key: &Key,
         view: Option<UnitView>,
     ) -> Result<(), Lost>
         requires new { IsTrue (is_none (maps.get (meaning self.old).book row.number)) }
         ensures ok { OnOk result (meaning self.new
-            ≡ record { office = with_view (meaning self.old).office lang.now key.now view; book = with_record (meaning self.old).book row }) }
+            ≡ record { office = with_view_in (meaning self.old).office domain.now lang.now key.now view; book = with_record (meaning self.old).book row }) }
         ensures err { OnErr result (meaning self.new ≡ meaning self.old) }
         ensures memory { IfErr result (λ e. e ≡ Memory) }
     {
         match view {
             Some(view) => match Place::of(lang, key) {
-                Ok(place) => self.commit_both(row, place, unit_of(view)),
+                Ok(place) => self.commit_both(row, domain, place, unit_of(view)),
                 Err(AllocError) => {
                     drop(row);
                     drop(view);
@@ -148,11 +157,17 @@ impl Maps {
         keep(&mut self.records, row.number, Kept::of(row))
     }
 
-    /// Writes a unit and a record, or neither.
-    fn commit_both(&mut self, row: Record, place: Place, unit: Unit) -> Result<(), Lost>
+    /// Writes a unit, if its domain is there, and a record; or neither.
+    fn commit_both(
+        &mut self,
+        row: Record,
+        domain: &Name,
+        place: Place,
+        unit: Unit,
+    ) -> Result<(), Lost>
         requires new { IsTrue (is_none (maps.get (meaning self.old).book row.number)) }
         ensures ok { OnOk result (meaning self.new
-            ≡ record { office = with_unit (meaning self.old).office (place_of place) unit; book = with_record (meaning self.old).book row }) }
+            ≡ record { office = with_project (meaning self.old).office domain.now (with_unit (project_in (meaning self.old).office domain.now) (place_of place) unit); book = with_record (meaning self.old).book row }) }
         ensures err { OnErr result (meaning self.new ≡ meaning self.old) }
         ensures memory { IfErr result (λ e. e ≡ Memory) }
     {
@@ -162,7 +177,7 @@ impl Maps {
             drop(unit);
             return Err(lost);
         }
-        match self.office.put_unit(place, unit) {
+        match self.office.put_unit(domain, place, unit) {
             Ok(()) => Ok(()),
             Err(_) => {
                 drop(self.records.remove(&number));

@@ -11,11 +11,11 @@ use Rattle.tables.specs.Kept.{IsKept}
 use Rattle.tables.specs.Stops.{Nothing}
 use Rattle.tables.specs.declared.faults.Lost.{Lost}
 use Rattle.tables.specs.declared.faults.Lost.TheVariants.{Disk}
-use Rattle.office_sql.specs.Inside.{AreOfficeTables}
-use Rattle.office_sql.specs.Whole.{StaysIdle, IsLookUp, IsCommit}
-use Rattle.office_in_rows.specs.Meaning.{meaning_in, AreNumbered}
-use Rattle.office_files.specs.Files.{MakesFiles}
-use Rattle.office_files.proofs.Stops.{look_up_keeps, look_up_leaves, commit_keeps, commit_leaves}
+use Rattle.sql_schema.specs.Inside.{AreOfficeTables}
+use Rattle.sql_schema.specs.Whole.{StaysIdle, IsLookUp, IsCommit}
+use Rattle.sql_meaning.specs.Meaning.{meaning_in, AreNumbered}
+use Rattle.sql_files.specs.Files.{MakesFiles}
+use Rattle.sql_files.proofs.Stops.{look_up_keeps, look_up_leaves, commit_keeps, commit_leaves}
 use Rattle.store_sql.specs.Kept.{KeepsOffice, LeavesItsOwn, is_honest, is_whole, means, may_leave, is_stopped}
 
 module _ {S : Type 0} (g : store.Ghosts S) where

@@ -1,13 +1,13 @@
 //! What types keep of the values that a commit writes, for clauses: each is looked at, and nothing is done with it.
 ghost use Rattle.std.specs.Prelude.{IfSome};
-ghost use Rattle.keepable.specs.Keepable.{IsKeepableUnit};
-ghost use Rattle.office_files.specs.Files.{IsKeepable};
+ghost use Rattle.sql_keepable.specs.Keepable.{IsKeepableUnit};
+ghost use Rattle.sql_files.specs.Files.{IsKeepable};
 ghost use Rattle.request_book.specs.Contents.{IsContent};
-ghost use Rattle.store_sql.specs.Changes.{IsKeepableChange};
+ghost use Rattle.store_sql.specs.Changes.{IsKeepableChange, IsKeepableDomainChange};
 
-use deliveries::Change;
-use keepable::{entries_fit, language_fits, name_fits, plans_fit, unit_fits, units_fit};
+use deliveries::{Change, DomainChange};
 use request_book::Record;
+use sql_keepable::{entries_fit, language_fits, name_fits, plans_fit, unit_fits, units_fit};
 use units::{Lang, UnitView};
 
 /// The record of a request can be read back of its row.
@@ -15,7 +15,7 @@ pub(crate) fn record_fits(row: &Record)
     requires content { IsContent row.now.content }
     ensures { IsKeepable row.now }
 {
-    keepable::record_fits(row);
+    sql_keepable::record_fits(row);
 }
 
 /// So can a view's unit, if there is a view.
@@ -27,20 +27,29 @@ pub(crate) fn view_fits(lang: &Lang, view: &Option<UnitView>)
     }
 }
 
+/// So can what a change of a domain writes.
+fn domain_change_fits(change: &DomainChange)
+    ensures { IsKeepableDomainChange change.now }
+{
+    match change {
+        DomainChange::NewLanguage(lang, language, plan) => {
+            language_fits(lang, &language.header);
+            units_fit(lang, plan.units.as_slice());
+        }
+        DomainChange::NewTemplate(template, plans) => {
+            entries_fit(template.entries());
+            plans_fit(plans.as_slice());
+        }
+    }
+}
+
 /// So can what a change of the office writes, if there is one.
 pub(crate) fn change_fits(change: &Option<Change>)
     ensures { IfSome change.now IsKeepableChange }
 {
     match change {
-        None | Some(Change::NewPolicy(_)) => {}
+        None | Some(Change::NewPolicy(_) | Change::NewDomain(_)) => {}
         Some(Change::OneRole(name, _)) => name_fits(name),
-        Some(Change::NewLanguage(lang, language, plan)) => {
-            language_fits(lang, &language.header);
-            units_fit(lang, plan.units.as_slice());
-        }
-        Some(Change::NewTemplate(template, plans)) => {
-            entries_fit(template.entries());
-            plans_fit(plans.as_slice());
-        }
+        Some(Change::InDomain(_, change)) => domain_change_fits(change),
     }
 }

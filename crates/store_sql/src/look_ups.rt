@@ -1,17 +1,20 @@
 //! Whole transactions that read. Each ends by a commit, since only that tells that the connection is still open.
 ghost use Rattle.std.specs.Prelude.{◌≡◌, false};
 ghost use Rattle.sqlite.specs.Held.{state};
-ghost use Rattle.office_sql.specs.Answers.{ShowsMember, ShowsRecord};
-ghost use Rattle.office_sql.specs.Inside.{IsSteady, IsRead};
-ghost use Rattle.office_sql.specs.UnitRows.{ShowsOfficeRows, ShowsUnitRows, ShowsViewRows, ShowsWithVotes, ShowsEachWithVotes};
-ghost use Rattle.office_sql.specs.Whole.{IsIdle, IsLookUp};
+ghost use Rattle.sql_statements.specs.Answers.{ShowsMember, ShowsPolicy, ShowsRecord};
+ghost use Rattle.sql_schema.specs.Inside.{IsSteady, IsRead};
+ghost use Rattle.sql_statements.specs.UnitRows.{ShowsOfficeRows, ShowsUnitRows, ShowsViewRows, ShowsWithVotes, ShowsEachWithVotes};
+ghost use Rattle.sql_schema.specs.Whole.{IsIdle, IsLookUp};
 
-use crate::office_reads::find_member;
-use crate::record_reads::find_record;
-use crate::unit_reads::{find_entry, find_unit, suggestions_of, votes_on};
-use office_sql::look_ups::{OfficeRows, SuggestionRows, UnitRows, ViewRows};
-use office_sql::office_reads::find_policy;
-use sql_exports::find_language;
+use sql_statements::languages::find_language;
+use sql_statements::policy::find_policy;
+use sql_statements::records::find_record;
+use sql_statements::suggestions::suggestions_of;
+use sql_statements::team::find_member;
+use sql_statements::template::find_entry;
+use sql_statements::unit_rows::{OfficeRows, SuggestionRows, UnitRows, ViewRows};
+use sql_statements::units::find_unit;
+use sql_statements::votes::votes_on;
 use sqlite::{Alter, Connection, Error, Row, Transaction};
 
 /// The record of a request. None, where no record has the number.
@@ -41,6 +44,18 @@ pub(crate) fn look_up_member<S: Alter>(
 {
     let mut tx = connection.transaction();
     let found = find_member(&mut tx, name)?;
+    tx.commit().and(Ok(found))
+}
+
+/// The policy. None, where it wasn't written.
+pub(crate) fn look_up_policy<S: Alter>(connection: &mut Connection<S>) -> Result<Option<Row>, Error>
+    requires autocommit { connection.old.in_transaction ≡ false }
+    requires idle { IsIdle (state S.Store connection.old) }
+    ensures found { IsLookUp (state S.Store connection.old) (state S.Store connection.new) result
+        ShowsPolicy }
+{
+    let mut tx = connection.transaction();
+    let found = find_policy(&mut tx)?;
     tx.commit().and(Ok(found))
 }
 

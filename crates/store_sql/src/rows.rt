@@ -4,7 +4,7 @@ ghost use Rattle.std.specs.Coded.{coded×, coded_bool};
 ghost use Rattle.std.specs.FinMap as maps;
 ghost use Rattle.sqlite.specs.Held.{Held, held_code, state};
 ghost use Rattle.request_book.specs.Book.{row_of, with_record};
-ghost use Rattle.deliveries.specs.UnitAccess.{found_of, with_view};
+ghost use Rattle.deliveries.specs.UnitAccess.{found_of, with_view_in};
 ghost use Rattle.deliveries.specs.OfficeChanges.{changed_by};
 ghost use Rattle.deliveries.specs.OfficeRules.{KeepsRules};
 ghost use Rattle.request_book.specs.Contents.{IsContent};
@@ -14,34 +14,35 @@ ghost use Rattle.tables.specs.Sinks.{WasCutShort};
 ghost use Rattle.tables.specs.Entries.{entries_of};
 ghost use Rattle.tables.specs.Counts.{counts_of};
 ghost use Rattle.tables.specs.declared.faults.EachFault.TheVariants.{NoTables};
-ghost use Rattle.units.specs.Office.{role_of as role_in};
+ghost use Rattle.units.specs.Project.{role_in};
+ghost use Rattle.units.specs.Office.{project_in};
 ghost use Rattle.units.specs.Offices.{IsOffice};
 ghost use Rattle.office_maps.specs.OfficeIn.{office_in};
 ghost use Rattle.tables.specs.declared.faults.Lost.TheVariants.{Disk};
 ghost use Rattle.sqlite.specs.State.{HasCleanDisk};
-ghost use Rattle.office_sql.specs.Schema.{no_schema};
-ghost use Rattle.office_adoption.specs.Adoption.{Refuses, StaysAsItWas};
-ghost use Rattle.office_files.specs.Files.{IsOfficeFile, IsLost, KeepsFile, LeavesFiles};
+ghost use Rattle.sql_schema.specs.Schema.{no_schema};
+ghost use Rattle.sql_adoption.specs.Adoption.{Refuses, StaysAsItWas};
+ghost use Rattle.sql_files.specs.Files.{IsOfficeFile, IsLost, KeepsFile, LeavesFiles};
 ghost use Rattle.sqlite.specs.Effect.{IsDatabase};
 ghost use Rattle.store_sql.specs.Adopting.{AreAdopted};
 ghost use Rattle.store_sql.specs.Faults.{RefusesIn};
 ghost use Rattle.store_sql.specs.Kept.{KeepsOffice, KeepsOwnRules, LeavesItsOwn, IsAtHand, is_honest, is_whole, means, may_leave, is_stopped, is_loaded};
 ghost use Rattle.store_sql.specs.Making.{AreMade, IsHandedBack};
 
+use crate::domains::{hand_in, view_in};
 use crate::keepable_values::{change_fits, record_fits, view_fits};
 use crate::making::make;
 use crate::records::read_record;
-use crate::views::{read_role, read_view};
+use crate::views::read_role;
 use crate::whole_office::{forget, keep, let_go, read_office};
-use deliveries::{Change, Found};
-use keepable::key_fits;
-use office_adoption::{OpenFault, adopted_office};
-use office_commits::{commit_act, commit_change};
-use office_entries::counts;
+use deliveries::{ActContext, Change};
+use office_entries::counts_in;
 use office_maps::OfficeMaps;
 use request_book::Record;
-use shown_rows::{Failure, KeptRule};
-use sql_exports::export_entries;
+use sql_adoption::{OpenFault, adopted_office};
+use sql_commits::{commit_act, commit_change};
+use sql_decoding::{Failure, KeptRule};
+use sql_keepable::key_fits;
 use sqlite::{Alter, Connection};
 use std::alloc::Global;
 use std::marker::Model;
@@ -208,7 +209,7 @@ impl<S: Alter> Rows<S> {
 
     /// A caller's role: who isn't in the team is a guest.
     pub(crate) fn role_of(&mut self, name: &Name) -> Result<Role, Lost>
-        ensures answer { is_honest S.Store self.new → IfOk result (λ role. role ≡ role_in (means S.Store self.old).office name.now) }
+        ensures answer { is_honest S.Store self.new → IfOk result (λ role. role ≡ role_in (means S.Store self.old).office.team name.now) }
         ensures same { is_honest S.Store self.new → is_whole S.Store self.new → means S.Store self.new ≡ means S.Store self.old }
         ensures kept { IsKept (is_honest S.Store) (is_whole S.Store) (means S.Store) (may_leave S.Store) (is_stopped S.Store) self.old self.new result Disk Nothing }
     {
@@ -225,23 +226,25 @@ impl<S: Alter> Rows<S> {
     }
 
     /// What an act on a unit needs to know: the language's plural rule, the policy, the caller's role, and the unit's view, if there
-    /// is one. Nothing where the language isn't there.
+    /// is one. Nothing where the domain or its language isn't there.
     pub(crate) fn view_of(
         &mut self,
+        domain: &Name,
         lang: &Lang,
         key: &Key,
         name: &Name,
-    ) -> Result<Option<Found>, Lost>
-        ensures answer { is_honest S.Store self.new → IfOk result (λ r. r ≡ found_of (means S.Store self.old).office lang.now key.now name.now) }
+    ) -> Result<Option<ActContext>, Lost>
+        ensures answer { is_honest S.Store self.new → IfOk result (λ r. r ≡ found_of (project_in (means S.Store self.old).office domain.now) lang.now key.now name.now) }
         ensures same { is_honest S.Store self.new → is_whole S.Store self.new → means S.Store self.new ≡ means S.Store self.old }
         ensures kept { IsKept (is_honest S.Store) (is_whole S.Store) (means S.Store) (may_leave S.Store) (is_stopped S.Store) self.old self.new result Disk Nothing }
     {
         if self.stopped {
             return Err(Lost::Disk);
         }
-        match read_view(
+        match view_in(
             &mut self.connection,
             self.alloc,
+            domain,
             lang,
             key,
             name,
@@ -255,7 +258,7 @@ impl<S: Alter> Rows<S> {
         }
     }
 
-    /// Reads what acts on the office need: team, policy, template, headers and units. `office` then shows it.
+    /// Reads what acts on the office need: team, policy, and the template, headers and units of `main`. `office` then shows it.
     pub(crate) fn office_rows(&mut self) -> Result<(), Lost>
         ensures loaded { OnOk result (is_loaded S.Store self.new) }
         ensures same { is_honest S.Store self.new → is_whole S.Store self.new → means S.Store self.new ≡ means S.Store self.old }
@@ -289,23 +292,24 @@ impl<S: Alter> Rows<S> {
         }
     }
 
-    /// Hands the entries of a language to a sink: its header, the template's entries in order, each with its unit, and the obsolete
+    /// Hands the entries of a domain's language to a sink: its header, the template's entries in order, each with its unit, and the obsolete
     /// units that have a translation, in the order of their keys. None where the language isn't there. After a fault the sink has
     /// taken a beginning of them. They are read row by row; the office need not be at hand, and isn't read.
     pub(crate) fn each_entry<K: EntrySink>(
         &mut self,
+        domain: &Name,
         lang: &Lang,
         sink: &mut K,
     ) -> Result<(), EachFault<K::Refusal>>
-        ensures all { is_honest S.Store self.new → OnOk result (K.Took sink.old (entries_of (means S.Store self.old).office lang.now) sink.new) }
-        ensures cut { is_honest S.Store self.new → IfErr result (WasCutShort K.Took K.Refuses sink.old sink.new (entries_of (means S.Store self.old).office lang.now)) }
+        ensures all { is_honest S.Store self.new → OnOk result (K.Took sink.old (entries_of (project_in (means S.Store self.old).office domain.now) lang.now) sink.new) }
+        ensures cut { is_honest S.Store self.new → IfErr result (WasCutShort K.Took K.Refuses sink.old sink.new (entries_of (project_in (means S.Store self.old).office domain.now) lang.now)) }
         ensures same { is_honest S.Store self.new → is_whole S.Store self.new → means S.Store self.new ≡ means S.Store self.old }
         ensures kept { IsKept (is_honest S.Store) (is_whole S.Store) (means S.Store) (may_leave S.Store) (is_stopped S.Store) self.old self.new result (NoTables Disk) Nothing }
     {
         if self.stopped {
             return Err(EachFault::NoTables(Lost::Disk));
         }
-        match export_entries(&mut self.connection, self.alloc, lang, sink) {
+        match hand_in(&mut self.connection, self.alloc, domain, lang, sink) {
             Ok(()) => Ok(()),
             Err(fault) => {
                 forget(self.alloc, &mut self.office);
@@ -314,33 +318,34 @@ impl<S: Alter> Rows<S> {
         }
     }
 
-    /// How many units of a language callers see in each state; nothing where the language isn't there.
-    pub(crate) fn counts(&mut self, lang: &Lang) -> Result<Option<Counts>, Lost>
-        ensures answer { is_honest S.Store self.new → IfOk result (λ r. r ≡ counts_of (means S.Store self.old).office lang.now) }
+    /// How many units of a domain's language callers see in each state; nothing where the domain or its language isn't there.
+    pub(crate) fn counts(&mut self, domain: &Name, lang: &Lang) -> Result<Option<Counts>, Lost>
+        ensures answer { is_honest S.Store self.new → IfOk result (λ r. r ≡ counts_of (project_in (means S.Store self.old).office domain.now) lang.now) }
         ensures same { is_honest S.Store self.new → is_whole S.Store self.new → means S.Store self.new ≡ means S.Store self.old }
         ensures kept { IsKept (is_honest S.Store) (is_whole S.Store) (means S.Store) (may_leave S.Store) (is_stopped S.Store) self.old self.new result Disk Nothing }
     {
         match self.office_rows() {
-            Ok(()) => Ok(counts(self.alloc, self.at_hand(), lang)?),
+            Ok(()) => Ok(counts_in(self.alloc, self.at_hand(), domain, lang)?),
             Err(lost) => Err(lost),
         }
     }
 
-    /// Writes a request's record and its unit's new view, if it has one; or neither. The number must be new, the content a
+    /// Writes a request's record and its unit's new view, if it has one and the domain is there; or neither. The number must be new, the content a
     /// request's, and what the commit leaves must keep the rules.
     pub(crate) fn commit_unit(
         &mut self,
         row: &Record,
+        domain: &Name,
         lang: &Lang,
         key: &Key,
         view: &Option<UnitView>,
     ) -> Result<(), Lost>
         requires content { IsContent row.now.content }
-        requires rules { is_honest S.Store self.old → KeepsRules (record { office = with_view (means S.Store self.old).office lang.now key.now view.now; book = with_record (means S.Store self.old).book row.now }) }
-        ensures done { is_honest S.Store self.new → OnOk result (means S.Store self.new ≡ record { office = with_view (means S.Store self.old).office lang.now key.now view.now; book = with_record (means S.Store self.old).book row.now }) }
+        requires rules { is_honest S.Store self.old → KeepsRules (record { office = with_view_in (means S.Store self.old).office domain.now lang.now key.now view.now; book = with_record (means S.Store self.old).book row.now }) }
+        ensures done { is_honest S.Store self.new → OnOk result (means S.Store self.new ≡ record { office = with_view_in (means S.Store self.old).office domain.now lang.now key.now view.now; book = with_record (means S.Store self.old).book row.now }) }
         ensures same { is_honest S.Store self.new → is_whole S.Store self.new → OnErr result (means S.Store self.new ≡ means S.Store self.old) }
         ensures kept { IsKept (is_honest S.Store) (is_whole S.Store) (means S.Store) (may_leave S.Store) (is_stopped S.Store) self.old self.new result Disk
-            (λ m. m ≡ record { office = with_view (means S.Store self.old).office lang.now key.now view.now; book = with_record (means S.Store self.old).book row.now }) }
+            (λ m. m ≡ record { office = with_view_in (means S.Store self.old).office domain.now lang.now key.now view.now; book = with_record (means S.Store self.old).book row.now }) }
     {
         if self.stopped {
             return Err(Lost::Disk);
@@ -349,7 +354,7 @@ impl<S: Alter> Rows<S> {
         view_fits(lang, view);
         record_fits(row);
         forget(self.alloc, &mut self.office);
-        match commit_act(&mut self.connection, self.alloc, row, lang, view) {
+        match commit_act(&mut self.connection, self.alloc, row, domain, lang, view) {
             Ok(()) => Ok(()),
             Err(failure) => Err(self.lost(failure)),
         }

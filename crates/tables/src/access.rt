@@ -1,9 +1,10 @@
 //! Tables of an office with its book.
 ghost use Rattle.std.specs.Prelude.{◌≡◌, Bool, IfOk, OnOk, OnErr, IfErr, IsTrue, option_map, is_none};
 ghost use Rattle.std.specs.FinMap as maps;
-ghost use Rattle.units.specs.Office.{role_of as role_in};
 ghost use Rattle.request_book.specs.Book.{OfficeWithBook, row_of, with_record};
-ghost use Rattle.deliveries.specs.UnitAccess.{found_of, with_view};
+ghost use Rattle.units.specs.Project.{role_in};
+ghost use Rattle.units.specs.Office.{project_in};
+ghost use Rattle.deliveries.specs.UnitAccess.{found_of, with_view_in};
 ghost use Rattle.deliveries.specs.OfficeChanges.{changed_by, IsPossibleChange};
 ghost use Rattle.deliveries.specs.OfficeRules.{KeepsRules};
 ghost use Rattle.request_book.specs.Contents.{IsContent};
@@ -19,7 +20,7 @@ ghost use Rattle.tables.specs.declared.faults.EachFault.TheVariants.{NoTables};
 use crate::counts::Counts;
 use crate::faults::{EachFault, Lost};
 use crate::sink::EntrySink;
-use deliveries::{Change, Found};
+use deliveries::{ActContext, Change};
 use office_maps::OfficeMaps;
 use request_book::Record;
 use units::{Key, Lang, Name, Role, UnitView};
@@ -62,18 +63,24 @@ pub trait Tables: Drop {
 
     /// A caller's role: who isn't in the team is a guest.
     fn role_of(&mut self, name: &Name) -> Result<Role, Lost>
-        ensures answer { is_honest self.new → IfOk result (λ role. role ≡ role_in (means self.old).office name.now) }
+        ensures answer { is_honest self.new → IfOk result (λ role. role ≡ role_in (means self.old).office.team name.now) }
         ensures same { is_honest self.new → is_whole self.new → means self.new ≡ means self.old }
         ensures kept { IsKept is_honest is_whole means may_leave is_stopped self.old self.new result Disk Nothing };
 
     /// What an act on a unit needs to know: the language's plural rule, the policy, the caller's role, and the unit's view, if there
-    /// is one. Nothing where the language isn't there.
-    fn view_of(&mut self, lang: &Lang, key: &Key, name: &Name) -> Result<Option<Found>, Lost>
-        ensures answer { is_honest self.new → IfOk result (λ r. r ≡ found_of (means self.old).office lang.now key.now name.now) }
+    /// is one. Nothing where the domain or its language isn't there.
+    fn view_of(
+        &mut self,
+        domain: &Name,
+        lang: &Lang,
+        key: &Key,
+        name: &Name,
+    ) -> Result<Option<ActContext>, Lost>
+        ensures answer { is_honest self.new → IfOk result (λ r. r ≡ found_of (project_in (means self.old).office domain.now) lang.now key.now name.now) }
         ensures same { is_honest self.new → is_whole self.new → means self.new ≡ means self.old }
         ensures kept { IsKept is_honest is_whole means may_leave is_stopped self.old self.new result Disk Nothing };
 
-    /// Reads what acts on the office need: team, policy, template, headers and units. `office` then shows it.
+    /// Reads what acts on the office need: team, policy, and each domain's template, headers and units. `office` then shows it.
     fn office_rows(&mut self) -> Result<(), Lost>
         ensures loaded { OnOk result (is_loaded self.new) }
         ensures same { is_honest self.new → is_whole self.new → means self.new ≡ means self.old }
@@ -84,22 +91,23 @@ pub trait Tables: Drop {
         requires loaded { is_loaded self.now }
         ensures { is_honest self.now → is_whole self.now → office_in result.now ≡ (means self.now).office };
 
-    /// Writes a request's record and its unit's new view, if it has one; or neither. The number must be new, the content a request's,
-    /// and what the commit leaves must keep the rules.
+    /// Writes a request's record and its unit's new view, if it has one and the domain is there; or neither. The number must be new, the
+    /// content a request's, and what the commit leaves must keep the rules.
     fn commit_unit(
         &mut self,
         row: Record,
+        domain: &Name,
         lang: &Lang,
         key: &Key,
         view: Option<UnitView>,
     ) -> Result<(), Lost>
         requires new { is_honest self.old → IsTrue (is_none (maps.get (means self.old).book row.number)) }
         requires content { IsContent row.content }
-        requires rules { is_honest self.old → KeepsRules (record { office = with_view (means self.old).office lang.now key.now view; book = with_record (means self.old).book row }) }
-        ensures done { is_honest self.new → OnOk result (means self.new ≡ record { office = with_view (means self.old).office lang.now key.now view; book = with_record (means self.old).book row }) }
+        requires rules { is_honest self.old → KeepsRules (record { office = with_view_in (means self.old).office domain.now lang.now key.now view; book = with_record (means self.old).book row }) }
+        ensures done { is_honest self.new → OnOk result (means self.new ≡ record { office = with_view_in (means self.old).office domain.now lang.now key.now view; book = with_record (means self.old).book row }) }
         ensures same { is_honest self.new → is_whole self.new → OnErr result (means self.new ≡ means self.old) }
         ensures kept { IsKept is_honest is_whole means may_leave is_stopped self.old self.new result Disk
-            (λ m. m ≡ record { office = with_view (means self.old).office lang.now key.now view; book = with_record (means self.old).book row }) };
+            (λ m. m ≡ record { office = with_view_in (means self.old).office domain.now lang.now key.now view; book = with_record (means self.old).book row }) };
 
     /// Writes a request's record and what its act changes, if it changes anything; or neither. The number must be new, the content a
     /// request's, the change possible, and what the commit leaves must keep the rules.
@@ -113,22 +121,23 @@ pub trait Tables: Drop {
         ensures kept { IsKept is_honest is_whole means may_leave is_stopped self.old self.new result Disk
             (λ m. m ≡ record { office = changed_by (means self.old).office change; book = with_record (means self.old).book row }) };
 
-    /// Hands the entries of a language to a sink: its header, the template's entries in order, each with its unit, and the obsolete
-    /// units that have a translation, in the order of their keys. None where the language isn't there. After a fault the sink has
+    /// Hands the entries of a domain's language to a sink: its header, the template's entries in order, each with its unit, and the obsolete
+    /// units that have a translation, in the order of their keys. None where the domain or its language isn't there. After a fault the sink has
     /// taken a beginning of them.
     fn each_entry<S: EntrySink>(
         &mut self,
+        domain: &Name,
         lang: &Lang,
         sink: &mut S,
     ) -> Result<(), EachFault<S::Refusal>>
-        ensures all { is_honest self.new → OnOk result (S.Took sink.old (entries_of (means self.old).office lang.now) sink.new) }
-        ensures cut { is_honest self.new → IfErr result (WasCutShort S.Took S.Refuses sink.old sink.new (entries_of (means self.old).office lang.now)) }
+        ensures all { is_honest self.new → OnOk result (S.Took sink.old (entries_of (project_in (means self.old).office domain.now) lang.now) sink.new) }
+        ensures cut { is_honest self.new → IfErr result (WasCutShort S.Took S.Refuses sink.old sink.new (entries_of (project_in (means self.old).office domain.now) lang.now)) }
         ensures same { is_honest self.new → is_whole self.new → means self.new ≡ means self.old }
         ensures kept { IsKept is_honest is_whole means may_leave is_stopped self.old self.new result (NoTables Disk) Nothing };
 
-    /// How many units of a language callers see in each state; nothing where the language isn't there.
-    fn counts(&mut self, lang: &Lang) -> Result<Option<Counts>, Lost>
-        ensures answer { is_honest self.new → IfOk result (λ r. r ≡ counts_of (means self.old).office lang.now) }
+    /// How many units of a domain's language callers see in each state; nothing where the domain or its language isn't there.
+    fn counts(&mut self, domain: &Name, lang: &Lang) -> Result<Option<Counts>, Lost>
+        ensures answer { is_honest self.new → IfOk result (λ r. r ≡ counts_of (project_in (means self.old).office domain.now) lang.now) }
         ensures same { is_honest self.new → is_whole self.new → means self.new ≡ means self.old }
         ensures kept { IsKept is_honest is_whole means may_leave is_stopped self.old self.new result Disk Nothing };
 

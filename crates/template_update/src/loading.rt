@@ -4,7 +4,7 @@ ghost use Rattle.std.specs.Prelude.{◌≡◌, ◌≤◌, ◌++◌, List, length
 ghost use Rattle.std.specs.Option.{option_copied};
 ghost use Rattle.po_read.specs.declared.entry.Entry.{Entry as EntryValue};
 ghost use Rattle.units.specs.Units.{key_of};
-ghost use Rattle.units.specs.Office.{entry_of};
+ghost use Rattle.units.specs.Project.{entry_of};
 ghost use Rattle.template_update.specs.Loads as spec;
 ghost use Rattle.template_update.specs.Templates.{is_fuzzy};
 ghost use Rattle.template_update.specs.Views.{IsIndexOf};

@@ -5,7 +5,7 @@ ghost use Rattle.po_read.specs.declared.entry.Entry.{Entry as EntryValue};
 ghost use Rattle.units.specs.declared.unit.Unit.{Unit as UnitValue};
 ghost use Rattle.units.specs.Limits.{unit_limit};
 ghost use Rattle.units.specs.Units.{key_of};
-ghost use Rattle.units.specs.Office.{entry_of};
+ghost use Rattle.units.specs.Project.{entry_of};
 ghost use Rattle.template_update.specs.Units.{new_unit};
 ghost use Rattle.template_update.specs.Updates.{added, plan_of};
 ghost use Rattle.template_update.specs.Moves.{updated_within};

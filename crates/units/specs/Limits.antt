@@ -1,6 +1,6 @@
 -- Which texts are a name or a language, which numbers a revision or a threshold, and how large the parts of an office may
 -- be: this project's own rules.
-use Rattle.std.specs.Prelude.{ℕ, ◌==◌, ◌&&◌, ◌||◌, List, [], ◌∷◌, length, Bool, false, nat_le}
+use Rattle.std.specs.Prelude.{ℕ, ◌==◌, ◌&&◌, ◌||◌, List, [], ◌∷◌, length, codes, Bool, false, nat_le}
 use Rattle.std.specs.List.{list_all}
 use Rattle.po_lex.specs.Lines.{is_comment_text}
 use Rattle.po_read.specs.Texts.{Text}
@@ -25,6 +25,10 @@ starts p (b ∷ bs) = p b
 -- 1 to 32 of these, the first a letter
 abbrev pub is_name : Text → Bool
 is_name s = starts is_small_letter s && nat_le (length s) 32 && list_all is_name_byte s
+
+-- the name of the domain that is always there, and that a request is in if it names none
+abbrev pub main : Text
+main = codes "main"
 
 -- a letter, a digit, `_`, `-` or `@`
 abbrev pub is_lang_byte : ℕ → Bool
@@ -58,7 +62,10 @@ is_comment_line line = nat_le (length line) comment_line_limit && is_comment_tex
 abbrev pub is_comment_lines : List Text → Bool
 is_comment_lines lines = nat_le (length lines) comment_limit && list_all is_comment_line lines
 
--- how many languages an office has at most, names its team, units (obsolete ones included) a language
+-- how many domains an office has at most, languages a domain, names the team, units (obsolete ones included) a language
+abbrev pub domain_limit : ℕ
+domain_limit = 8
+
 abbrev pub language_limit : ℕ
 language_limit = 32
 

@@ -1,56 +1,75 @@
--- The office: what a project's template, languages, units, team and policy are, with no row, record or cached sum.
--- Units are those of Weblate's documentation ("Translation workflows"), entries those of the GNU gettext manual ("The
--- Format of PO Files").
-use Rattle.std.specs.Prelude.{List, Bool, Option, unwrap_or, find, filter, option_map, map}
+-- The office: its domains, each with its own template, languages and units, and the team and the policy that all domains share.
+-- Domains are those of the GNU gettext manual ("Ambiguities": a text domain has its own messages); that `main` is always there is
+-- this project's own rule.
+use Rattle.std.specs.Prelude.{List, [], Bool, unwrap_or, if◌then◌else◌}
 use Rattle.std.specs.declared.cmp.Ordering.{Ordering}
 use Rattle.std.specs.Ordering.{on, then_cmp, eq_by_cmp}
 use Rattle.std.specs.FinMap as maps
 use Rattle.po_read.specs.declared.entry.Entry.{Entry}
-use Rattle.units.specs.declared.unit.Key.{Key}
+use Rattle.po_read.specs.Texts.{Text, text_cmp}
+use Rattle.units.specs.Project.{Place, place_cmp, Project}
+pub use Rattle.units.specs.Limits.{main}
 use Rattle.units.specs.declared.unit.Unit.{Unit}
-use Rattle.units.specs.declared.unit.UnitView.{UnitView}
 use Rattle.units.specs.declared.unit.Policy.{Policy}
 use Rattle.units.specs.declared.unit.Role.{Role}
-use Rattle.units.specs.declared.unit.Role.TheVariants.{Guest}
-use Rattle.po_read.specs.Texts.{Text, text_cmp, text_eq}
-use Rattle.units.specs.Units.{key_cmp, key_of}
 
--- a unit's place: its language and its key
-abbrev pub Place : Type 0
-Place = Text × Key
+-- ---- domains
 
--- by language, then by key
-abbrev pub place_cmp : Place → Place → Ordering
-place_cmp = then_cmp (on (λ place. place.0) text_cmp) (on (λ place. place.1) key_cmp)
+-- what a domain has of its own
+pub record Domain : Type 0 where
+  pub template : List Entry
+  pub headers : maps.FinMap text_cmp Entry
+  pub units : maps.FinMap place_cmp Unit
 
-abbrev pub place_eq : Place → Place → Bool
-place_eq = eq_by_cmp place_cmp
+-- a new domain has no message and no language
+abbrev pub empty_domain : Domain
+empty_domain = record { template = []; headers = maps.empty; units = maps.empty }
+
+abbrev pub same_domain : Text → Text → Bool
+same_domain = eq_by_cmp text_cmp
+
+-- ---- the office
 
 pub record Office : Type 0 where
-  pub template : List Entry  -- in the template's order
-  pub headers : maps.FinMap text_cmp Entry  -- each language's header entry
-  pub units : maps.FinMap place_cmp Unit  -- with their suggestions and votes
+  pub domains : maps.FinMap text_cmp Domain  -- by their names
   pub team : maps.FinMap text_cmp Role
   pub policy : Policy
 
--- a caller who isn't in the team is a guest
-abbrev pub role_of : Office → Text → Role
-role_of office name = unwrap_or (maps.get office.team name) Guest
+abbrev pub has_domain : Office → Text → Bool
+has_domain office domain = maps.contains_key office.domains domain
 
--- the entry of a list that has a key
-abbrev pub entry_of : List Entry → Key → Option Entry
-entry_of entries key = find (λ entry. eq_by_cmp key_cmp key (key_of entry)) entries
+-- ---- one domain of it
 
-abbrev pub view_of : Office → Place → Option UnitView
-view_of office place = option_map (λ unit. record { unit = unit; source = entry_of office.template place.1 }) (maps.get office.units place)
+-- a domain with the team and the policy of the office
+abbrev pub as_project : Office → Domain → Project
+as_project office domain = record {
+  template = domain.template;
+  headers = domain.headers;
+  units = domain.units;
+  team = office.team;
+  policy = office.policy;
+}
 
-abbrev pub languages : Office → List Text
-languages office = maps.keys office.headers
+-- the project of a domain; where there is no such domain, one with no message and no language
+abbrev pub project_in : Office → Text → Project
+project_in office domain = as_project office (unwrap_or (maps.get office.domains domain) empty_domain)
 
--- a language's units, in the order of their keys
-abbrev pub units_of : Office → Text → List Unit
-units_of office lang = map (λ e. e.1) (filter (λ e. text_eq lang e.0.0) (maps.entries office.units))
+abbrev pub domain_of : Project → Domain
+domain_of project = record { template = project.template; headers = project.headers; units = project.units }
 
--- the office with a unit at its place
-abbrev pub with_unit : Office → Place → Unit → Office
-with_unit office place unit = record office { units = maps.insert office.units place unit }
+-- The office with a project in its domain; where there is no such domain, as it is. Team and policy stay.
+abbrev pub with_project : Office → Text → Project → Office
+with_project office domain project =
+    record office { domains = if maps.contains_key office.domains domain then maps.insert office.domains domain (domain_of project) else office.domains }
+
+-- ---- places
+
+-- a unit's place in the office: its domain, and its place there
+abbrev pub OfficePlace : Type 0
+OfficePlace = Text × Place
+
+abbrev pub office_place_cmp : OfficePlace → OfficePlace → Ordering
+office_place_cmp = then_cmp (on (λ place. place.0) text_cmp) (on (λ place. place.1) place_cmp)
+
+abbrev pub office_place_eq : OfficePlace → OfficePlace → Bool
+office_place_eq = eq_by_cmp office_place_cmp

@@ -42,6 +42,16 @@ impl Name {
         }
     }
 
+    /// `main`, the domain that a request is in if it names none. It takes no memory.
+    pub fn main_domain() -> Name
+        ensures { result ≡ limits.main }
+    {
+        match ArrayString::from("main") {
+            Ok(name) => Name { name },
+            Err(_) => unreachable!(),
+        }
+    }
+
     /// The text of the name.
     pub fn as_str(&self) -> &str
         ensures value { result.now ≡ self.now }

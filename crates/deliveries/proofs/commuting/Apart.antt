@@ -1,36 +1,36 @@
--- Acts on different units give the same office and the same replies in either order.
+-- Acts on different units give the same project and the same replies in either order.
 use Rattle.std.proofs.Common.{◌≡◌, Bool, true, false, cond, refl, sym, ◌∙◌, ap, Option, Some, None}
 use Rattle.std.specs.Prelude.{option_map}
 use Rattle.std.specs.FinMap as maps
 use Rattle.std.specs.Cmp.{eq_by_cmp_equiv}
 use Rattle.po_read.specs.Texts.{Text}
-use Rattle.units.specs.Office.{Office, Place, place_cmp, place_eq, role_of, entry_of}
+use Rattle.units.specs.Project.{Project, Place, place_cmp, place_eq, role_of, entry_of}
 use Rattle.units.specs.Rules.{rule_at}
 use Rattle.units.specs.declared.unit.Unit.{Unit}
 use Rattle.units.specs.declared.unit.UnitAct.{UnitAct}
 use Rattle.units.specs.declared.unit.UnitView.{UnitView}
 use Rattle.units.specs.Orders.{place_total, place_IsAntisymmetric}
-use Rattle.deliveries.specs.declared.values.Found.{Found}
+use Rattle.deliveries.specs.declared.values.ActContext.{ActContext}
 use Rattle.deliveries.specs.declared.values.Outcome.{Outcome}
 use Rattle.deliveries.specs.UnitAccess.{found_of, with_view}
 use Rattle.deliveries.specs.UnitOutcomes.{outcome_of}
 use Rattle.replies.specs.Bodies.{Stepped}
-use Rattle.deliveries.specs.Step.{unit_act_step}
+use Rattle.deliveries.specs.ProjectActs.{unit_act_step}
 use Rattle.deliveries.proofs.acts.UnitActs.{unit_act_step-is, settled}
 
 -- what another act finds is as it was
-found_elsewhere : (office : Office) (place other : Place) (view : Option UnitView) (caller : Text) → place_eq other place ≡ false →
-    found_of (with_view office place.0 place.1 view) other.0 other.1 caller ≡ found_of office other.0 other.1 caller
+found_elsewhere : (project : Project) (place other : Place) (view : Option UnitView) (caller : Text) → place_eq other place ≡ false →
+    found_of (with_view project place.0 place.1 view) other.0 other.1 caller ≡ found_of project other.0 other.1 caller
 unfolding rule_at
-found_elsewhere office place other None caller apart = refl
-found_elsewhere office place other (Some v) caller apart =
+found_elsewhere project place other None caller apart = refl
+found_elsewhere project place other (Some v) caller apart =
     ap (λ (unit : Option Unit). option_map (λ header. record {
-      rule = rule_at office other.0;
-      policy = office.policy;
-      role = role_of office caller;
-      view = option_map (λ u. record { unit = u; source = entry_of office.template other.1 }) unit;
-    }) (maps.get office.headers other.0))
-    (maps.get-insert place_total office.units place v.unit other ∙ ap (λ c. cond c (Some v.unit) (maps.get office.units other)) apart)
+      rule = rule_at project other.0;
+      policy = project.policy;
+      role = role_of project caller;
+      view = option_map (λ u. record { unit = u; source = entry_of project.template other.1 }) unit;
+    }) (maps.get project.headers other.0))
+    (maps.get-insert place_total project.units place v.unit other ∙ ap (λ c. cond c (Some v.unit) (maps.get project.units other)) apart)
 
 -- changes of two units go in either order
 swapped : {A : Type 0} (a b : Bool) (x y z : A) → (a ≡ true → b ≡ true → ⊥) → cond a x (cond b y z) ≡ cond b y (cond a x z)
@@ -51,34 +51,34 @@ inserted units place other u v apart = maps.same_map place_total place_IsAntisym
     ∙ (swapped (place_eq q other) (place_eq q place) (Some v) (Some u) (maps.get units q) (not_both place other q apart)
     ∙ sym (maps.get-insert place_total (maps.insert units other v) place u q ∙ ap (λ r. cond (place_eq q place) (Some u) r) (maps.get-insert place_total units other v q)))))
 
-both_written : (office : Office) (place other : Place) (u v : Option UnitView) → place_eq other place ≡ false →
-    with_view (with_view office place.0 place.1 u) other.0 other.1 v ≡ with_view (with_view office other.0 other.1 v) place.0 place.1 u
-both_written office place other None v apart = refl
-both_written office place other (Some u) None apart = refl
-both_written office place other (Some u) (Some v) apart = ap (λ units. record office { units = units }) (inserted office.units place other u.unit v.unit apart)
+both_written : (project : Project) (place other : Place) (u v : Option UnitView) → place_eq other place ≡ false →
+    with_view (with_view project place.0 place.1 u) other.0 other.1 v ≡ with_view (with_view project other.0 other.1 v) place.0 place.1 u
+both_written project place other None v apart = refl
+both_written project place other (Some u) None apart = refl
+both_written project place other (Some u) (Some v) apart = ap (λ units. record project { units = units }) (inserted project.units place other u.unit v.unit apart)
 
-abbrev outcome_at : Office → Text → Text → Place → UnitAct → Outcome
-outcome_at office caller number place act = outcome_of (found_of office place.0 place.1 caller) caller number act
+abbrev outcome_at : Project → Text → Text → Place → UnitAct → Outcome
+outcome_at project caller number place act = outcome_of (found_of project place.0 place.1 caller) caller number act
 
 -- an act after one on another unit
-after_other : (office : Office) (x y a b : Text) (place other : Place) (act action : UnitAct) → place_eq other place ≡ false →
-    unit_act_step (unit_act_step office x a place act).0 y b other action
-    ≡ (with_view (with_view office place.0 place.1 (outcome_at office x a place act).view) other.0 other.1 (outcome_at office y b other action).view, (outcome_at office y b other action).reply)
-after_other office x y a b place other act action apart =
-    let o : Office = with_view office place.0 place.1 (outcome_at office x a place act).view in
-    ap (λ (s : Stepped). unit_act_step s.0 y b other action) (unit_act_step-is office x a place.0 place.1 act)
+after_other : (project : Project) (x y a b : Text) (place other : Place) (act action : UnitAct) → place_eq other place ≡ false →
+    unit_act_step (unit_act_step project x a place act).0 y b other action
+    ≡ (with_view (with_view project place.0 place.1 (outcome_at project x a place act).view) other.0 other.1 (outcome_at project y b other action).view, (outcome_at project y b other action).reply)
+after_other project x y a b place other act action apart =
+    let o : Project = with_view project place.0 place.1 (outcome_at project x a place act).view in
+    ap (λ (s : Stepped Project). unit_act_step s.0 y b other action) (unit_act_step-is project x a place.0 place.1 act)
     ∙ (unit_act_step-is o y b other.0 other.1 action
-    ∙ ap (λ (f : Option Found). settled o other.0 other.1 (outcome_of f y b action)) (found_elsewhere office place other (outcome_at office x a place act).view y apart))
+    ∙ ap (λ (f : Option ActContext). settled o other.0 other.1 (outcome_of f y b action)) (found_elsewhere project place other (outcome_at project x a place act).view y apart))
 
--- the office and the replies of two acts on different units, in either order
-pub either_order : (office : Office) (x y a b : Text) (place other : Place) (act action : UnitAct) → place_eq other place ≡ false → place_eq place other ≡ false →
-    ((unit_act_step (unit_act_step office x a place act).0 y b other action).0 ≡ (unit_act_step (unit_act_step office y b other action).0 x a place act).0)
-    × ((unit_act_step (unit_act_step office x a place act).0 y b other action).1 ≡ (unit_act_step office y b other action).1)
-    × ((unit_act_step (unit_act_step office y b other action).0 x a place act).1 ≡ (unit_act_step office x a place act).1)
-either_order office x y a b place other act action apart apart' =
-    let one = after_other office x y a b place other act action apart in
-    let two = after_other office y x b a other place action act apart' in (
-      ap (λ (s : Stepped). s.0) one ∙ (both_written office place other (outcome_at office x a place act).view (outcome_at office y b other action).view apart ∙ sym (ap (λ (s : Stepped). s.0) two)),
-      ap (λ (s : Stepped). s.1) one ∙ sym (ap (λ (s : Stepped). s.1) (unit_act_step-is office y b other.0 other.1 action)),
-      ap (λ (s : Stepped). s.1) two ∙ sym (ap (λ (s : Stepped). s.1) (unit_act_step-is office x a place.0 place.1 act)),
+-- the project and the replies of two acts on different units, in either order
+pub either_order : (project : Project) (x y a b : Text) (place other : Place) (act action : UnitAct) → place_eq other place ≡ false → place_eq place other ≡ false →
+    ((unit_act_step (unit_act_step project x a place act).0 y b other action).0 ≡ (unit_act_step (unit_act_step project y b other action).0 x a place act).0)
+    × ((unit_act_step (unit_act_step project x a place act).0 y b other action).1 ≡ (unit_act_step project y b other action).1)
+    × ((unit_act_step (unit_act_step project y b other action).0 x a place act).1 ≡ (unit_act_step project x a place act).1)
+either_order project x y a b place other act action apart apart' =
+    let one = after_other project x y a b place other act action apart in
+    let two = after_other project y x b a other place action act apart' in (
+      ap (λ (s : Stepped Project). s.0) one ∙ (both_written project place other (outcome_at project x a place act).view (outcome_at project y b other action).view apart ∙ sym (ap (λ (s : Stepped Project). s.0) two)),
+      ap (λ (s : Stepped Project). s.1) one ∙ sym (ap (λ (s : Stepped Project). s.1) (unit_act_step-is project y b other.0 other.1 action)),
+      ap (λ (s : Stepped Project). s.1) two ∙ sym (ap (λ (s : Stepped Project). s.1) (unit_act_step-is project x a place.0 place.1 act)),
     )

@@ -1,9 +1,9 @@
--- What the office acts do where the demo office's one unit is approved and has the last revision, by the definitions alone: no
--- test reaches such an office by requests.
-use Rattle.std.specs.Prelude.{◌≡◌, ℕ, List, [], ◌∷◌, ◌++◌, flat_map, length, Bool, true, false, ◌&&◌, if◌then◌else◌, Option, Some, None, option_map, Ok, Err, codes, refl}
+-- What a policy and a template do where the demo office's one unit is approved and has the last revision, by the definitions alone:
+-- no test reaches such an office by requests.
+use Rattle.std.specs.Prelude.{◌≡◌, ℕ, List, [], ◌∷◌, Bool, true, false, ◌&&◌, if◌then◌else◌, Option, Some, None, option_map, Ok, Err, codes, refl}
 use Rattle.std.specs.Option.{option_map_or}
 use Rattle.std.specs.Str.{is_utf8, chars}
-use Rattle.std.proofs.Common.{◌∙◌, ap, sym}
+use Rattle.std.proofs.Common.{◌∙◌, ap}
 use Rattle.std.specs.FinMap as maps
 use Rattle.plural_expr.specs.Values.{Rule}
 use Rattle.po_lex.specs.declared.fault.FaultKind.TheVariants as kinds
@@ -16,8 +16,9 @@ use Rattle.po_read.specs.Plain.{reading_of, entries_of, entry_of}
 use Rattle.po_read.specs.Spells.{limits}
 use Rattle.po_read.specs.Texts.{Text, text_cmp}
 use Rattle.units.specs.Limits.{revision_limit}
-use Rattle.units.specs.Office.{Office, Place, place_cmp, with_unit}
-use Rattle.units.specs.Openings.{demo, demo_unit, demo_header, plain_entry, closed_policy}
+use Rattle.units.specs.Project.{Project, Place, place_cmp, with_unit}
+use Rattle.units.specs.Office.{Office}
+use Rattle.units.specs.Openings.{demo_unit, demo_header, plain_entry, closed_policy}
 use Rattle.units.specs.Rules.{by_result, rule_at}
 use Rattle.units.specs.declared.unit.Policy.{Policy}
 use Rattle.units.specs.declared.unit.Unit.{Unit}
@@ -30,8 +31,12 @@ use Rattle.template_update.specs.Units.{has_revision}
 use Rattle.template_update.specs.Updates.{plan_of, update_of, updated_unit, counts_of}
 use Rattle.template_update.proofs.Moving.{updated_by-moved}
 use Rattle.replies.specs.Bodies.{Stepped, refuse, refused_with, reply, po_fault_fields, template_fields, policy_fields}
-use Rattle.deliveries.specs.OfficeActs.{LanguagePlan, plans, all_some, updated, template_step, policy_step, managed}
-use Rattle.deliveries.proofs.rows.DemoRequests.{role_ann, de, hello, ann}
+use Rattle.deliveries.specs.MainAlone.{main_alone}
+use Rattle.deliveries.specs.ProjectActs.{LanguagePlan, plans, all_some, updated, template_step}
+use Rattle.deliveries.specs.OfficeActs.{policy_step, managed}
+use Rattle.deliveries.proofs.domains.MainAlone.{entries-main}
+use Rattle.deliveries.proofs.rules.DomainNumbers.{no_entries}
+use Rattle.deliveries.proofs.rows.DemoRequests.{demo_project, lines, role_ann, de, hello, ann}
 
 abbrev place : Place
 place = (de, hello)
@@ -40,79 +45,68 @@ place = (de, hello)
 abbrev approved_unit : ℕ → Unit
 approved_unit revision = record demo_unit { forms = codes "Hallo" ∷ []; state = Approved; revision = revision }
 
--- the demo office with reviews, and with that unit for its one
-abbrev approved_at : ℕ → Office
-approved_at revision = record (with_unit demo place (approved_unit revision)) { policy = record closed_policy { reviews = true } }
+-- the demo office's project with reviews, and with that unit for its one
+abbrev approved_at : ℕ → Project
+approved_at revision = record (with_unit demo_project place (approved_unit revision)) { policy = record closed_policy { reviews = true } }
 
 -- with the last revision
-abbrev pub at_last : Office
+abbrev pub at_last : Project
 at_last = approved_at revision_limit
 
 -- with the one before it
-abbrev pub before_last : Office
+abbrev pub before_last : Project
 before_last = approved_at 8999999999999999
 
 -- ---- what stands there
 
-none_of_length : {A : Type 0} (xs : List A) → length xs ≡ 0 → xs ≡ []
-none_of_length [] e = refl
-none_of_length (x ∷ xs) e = absurd cc
-
-no_units : maps.entries (maps.empty {X = Unit} {R = place_cmp}) ≡ []
-no_units = none_of_length _ (sym (maps.len-entries (maps.empty {X = Unit} {R = place_cmp})) ∙ maps.len-empty place_cmp Unit)
-
-no_headers : maps.entries (maps.empty {X = Entry} {R = text_cmp}) ≡ []
-no_headers = none_of_length _ (sym (maps.len-entries (maps.empty {X = Entry} {R = text_cmp})) ∙ maps.len-empty text_cmp Entry)
-
 -- the one unit
 units_there : (revision : ℕ) → maps.entries (approved_at revision).units ≡ (place, approved_unit revision) ∷ []
 units_there revision =
-    maps.entries-insert place_total demo.units place (approved_unit revision)
+    maps.entries-insert place_total demo_project.units place (approved_unit revision)
     ∙ (ap (maps.put place_cmp place (approved_unit revision)) (maps.entries-insert place_total maps.empty place demo_unit)
-    ∙ ap (λ es. maps.put place_cmp place (approved_unit revision) (maps.put place_cmp place demo_unit es)) no_units)
+    ∙ ap (λ es. maps.put place_cmp place (approved_unit revision) (maps.put place_cmp place demo_unit es)) (no_entries place_cmp))
 
 -- the one language
-headers_there : maps.entries demo.headers ≡ (de, plain_entry [] demo_header) ∷ []
-headers_there = maps.entries-insert text_total maps.empty de (plain_entry [] demo_header) ∙ ap (maps.put text_cmp de (plain_entry [] demo_header)) no_headers
+headers_there : maps.entries demo_project.headers ≡ (de, plain_entry [] demo_header) ∷ []
+headers_there = maps.entries-insert text_total maps.empty de (plain_entry [] demo_header) ∙ ap (maps.put text_cmp de (plain_entry [] demo_header)) (no_entries text_cmp)
 
 -- ---- the policy
 
+abbrev pub office_at_last : Office
+office_at_last = main_alone at_last
+
 -- without reviews the unit would become translated, past the last revision
-pub policy_at_last : policy_step at_last closed_policy ≡ refuse at_last PastLimit
-policy_at_last = rw (units_there revision_limit) refl
+pub policy_at_last : policy_step office_at_last closed_policy ≡ refuse office_at_last PastLimit
+policy_at_last = rw (entries-main at_last, units_there revision_limit) refl
 
 -- a translator is refused for the role first
-pub below_comes_first : managed at_last ann (policy_step at_last closed_policy) ≡ refuse at_last BelowRole
+pub below_comes_first : managed office_at_last ann (policy_step office_at_last closed_policy) ≡ refuse office_at_last BelowRole
 below_comes_first = rw role_ann refl
 
 -- the unit translated, with the last revision, in an office without reviews
-abbrev pub after_policy : Office
+abbrev pub after_policy : Project
 after_policy = record before_last {
   policy = closed_policy;
   units = maps.insert maps.empty place (record (approved_unit revision_limit) { state = Translated });
 }
 
 -- one revision earlier the same policy is taken, and changes one unit
-pub policy_before_last : policy_step before_last closed_policy ≡ (after_policy, reply 200 (policy_fields 1))
-policy_before_last = rw (units_there 8999999999999999) refl
+pub policy_before_last : policy_step (main_alone before_last) closed_policy ≡ (main_alone after_policy, reply 200 (policy_fields 1))
+policy_before_last = rw (entries-main before_last, units_there 8999999999999999) refl
 
 -- with reviews
 abbrev pub reviewed : Policy
 reviewed = record closed_policy { reviews = true }
 
 -- with the last revision, and its unit put in anew
-abbrev pub at_last_anew : Office
+abbrev pub at_last_anew : Project
 at_last_anew = record at_last { units = maps.insert maps.empty place (approved_unit revision_limit) }
 
 -- a policy with reviews changes no unit, and is taken
-pub reviews_at_last : policy_step at_last reviewed ≡ (at_last_anew, reply 200 (policy_fields 0))
-reviews_at_last = rw (units_there revision_limit) refl
+pub reviews_at_last : policy_step office_at_last reviewed ≡ (main_alone at_last_anew, reply 200 (policy_fields 0))
+reviews_at_last = rw (entries-main at_last, units_there revision_limit) refl
 
 -- ---- texts of templates
-
--- lines of a text
-abbrev lines : List Text → Text
-lines ls = flat_map (λ line. line ++ 10 ∷ []) ls
 
 abbrev pub two_messages : Text
 two_messages = lines (codes "msgid \"Hello\"" ∷ codes "msgstr \"\"" ∷ [] ∷ codes "msgid \"Bye\"" ∷ codes "msgstr \"\"" ∷ [])
@@ -125,7 +119,7 @@ hellos = lines (codes "msgid \"Hello\"" ∷ codes "msgid_plural \"Hellos\"" ∷ 
 abbrev pub id_alone : Text
 id_alone = lines (codes "msgid \"Hello\"" ∷ [])
 
-abbrev message : Entry
+abbrev pub message : Entry
 message = plain_entry hello.id []
 
 abbrev bye : Entry
@@ -154,8 +148,8 @@ not_read = refl
 -- ---- the template
 
 -- what is answered to a template, by its plans
-abbrev by_plans : Office → List Entry → Option (List LanguagePlan) → Stepped
-by_plans office template all = option_map_or (updated office template) all (refuse office PastLimit)
+abbrev by_plans : Project → List Entry → Option (List LanguagePlan) → Stepped Project
+by_plans project template all = option_map_or (updated project template) all (refuse project PastLimit)
 
 -- without its entry the unit would become obsolete, past the last revision
 pub no_plans : plans at_last [] ≡ None
@@ -210,7 +204,7 @@ added_at_last = ap (by_result _ _) two_read ∙ ap (by_plans at_last (message �
 -- ---- one revision earlier the first is taken, and then the other refused
 
 units_anew : (unit : Unit) → maps.entries (maps.insert (maps.empty {X = Unit} {R = place_cmp}) place unit) ≡ (place, unit) ∷ []
-units_anew unit = maps.entries-insert place_total maps.empty place unit ∙ ap (maps.put place_cmp place unit) no_units
+units_anew unit = maps.entries-insert place_total maps.empty place unit ∙ ap (maps.put place_cmp place unit) (no_entries place_cmp)
 
 -- a policy, then a template
 no_plans_after : plans after_policy [] ≡ None
@@ -224,7 +218,7 @@ template_after_policy = ap (by_result _ _) empty_reading ∙ ap (by_plans after_
 abbrev gone : Unit
 gone = record (approved_unit revision_limit) { obsolete = true }
 
-abbrev pub after_template : Office
+abbrev pub after_template : Project
 after_template = record before_last { template = []; units = maps.insert maps.empty place gone }
 
 one_gone : plans before_last [] ≡ Some ((de, record { units = gone ∷ []; counts = counted.Updated 0 0 0 1 0 }) ∷ [])
@@ -234,5 +228,5 @@ one_gone = rw (headers_there, units_there 8999999999999999) refl
 pub template_before_last : template_step before_last [] ≡ (after_template, reply 200 (template_fields ((de, counted.Updated 0 0 0 1 0) ∷ [])))
 template_before_last = ap (by_result _ _) empty_reading ∙ ap (by_plans before_last []) one_gone
 
-pub policy_after_template : policy_step after_template closed_policy ≡ refuse after_template PastLimit
-policy_after_template = rw (units_anew gone) refl
+pub policy_after_template : policy_step (main_alone after_template) closed_policy ≡ refuse (main_alone after_template) PastLimit
+policy_after_template = rw (entries-main after_template, units_anew gone) refl

@@ -1,9 +1,10 @@
 -- Worked rows from the demo office, by the definitions alone.
-use Rattle.std.specs.Prelude.{◌≡◌, ℕ, [], ◌∷◌, None, codes, refl}
+use Rattle.std.specs.Prelude.{◌≡◌, [], ◌∷◌, None, codes, refl}
 use Rattle.std.proofs.Common.{ap, ◌∙◌}
 use Rattle.std.specs.Fmt.{digits}
 use Rattle.std.specs.FinMap as maps
 use Rattle.po_read.specs.Texts.{Text, text_cmp}
+use Rattle.units.specs.Office.{Office}
 use Rattle.units.specs.Openings.{demo}
 use Rattle.units.specs.declared.unit.UnitAction.TheVariants.{Translate}
 use Rattle.request_book.specs.Replies.{Reply}
@@ -15,10 +16,7 @@ use Rattle.review.specs.UnitStep.{unit_step, refusals, unit_after}
 use Rattle.replies.specs.Bodies.{Stepped, number_used}
 use Rattle.deliveries.specs.Step.{step, act_step}
 use Rattle.deliveries.specs.Deliveries.{reply_at, answers_of, first_of}
-use Rattle.deliveries.proofs.rows.DemoRequests.{begun, first_line, header_de, unit_hello, role_ann, role_zed, act_on, hello, ann, root}
-
-abbrev pub told : ℕ → Text → Reply
-told status body = record { status = status; body = body }
+use Rattle.deliveries.proofs.rows.DemoRequests.{begun, told, first_line, domain_main, left_alone, header_de, unit_hello, role_ann, role_zed, act_on, hello, ann, root}
 
 no_record : (number : Text) → maps.get begun.book number ≡ None
 no_record number = maps.get-empty text_cmp number
@@ -28,9 +26,9 @@ no_record number = maps.get-empty text_cmp number
 abbrev pub first_reply : Reply
 first_reply = told 200 (codes "{\"revision\":2,\"state\":\"translated\"}")
 
-first_line_step : (step demo first_line).1 ≡ first_reply
+pub first_line_step : (step demo first_line).1 ≡ first_reply
 unfolding act_step unit_step refusals unit_after result_state serde_json_on_literals digits
-first_line_step = rw (header_de, unit_hello, role_ann) refl
+first_line_step = rw (domain_main, header_de, unit_hello, role_ann) refl
 
 first_line_reply : reply_at begun [] first_line ≡ first_reply
 unfolding reply_at content_text serde_json_on_literals digits
@@ -62,19 +60,19 @@ stale_reply = told 409 (codes "{\"refusal\":\"stale\",\"rule\":5}")
 
 stale_step : step demo stale ≡ (demo, stale_reply)
 unfolding act_step unit_step refusals unit_after result_state serde_json_on_literals digits
-stale_step = rw (header_de, unit_hello, role_ann) refl
+stale_step = left_alone demo stale stale_reply (rw (domain_main, header_de, unit_hello, role_ann) refl)
 
 stale_is_refused : reply_at begun [] stale ≡ stale_reply
 unfolding reply_at content_text serde_json_on_literals digits
-stale_is_refused = rw (maps.get-empty text_cmp) (ap (λ (s : Stepped). s.1) stale_step)
+stale_is_refused = rw (maps.get-empty text_cmp) (ap (λ (s : Stepped Office). s.1) stale_step)
 
 first_line_after_stale : reply_at begun (stale ∷ []) first_line ≡ first_reply
 unfolding reply_at content_text serde_json_on_literals digits
-first_line_after_stale = rw (no_record first_line.number, no_record stale.number) (ap (λ (s : Stepped). (step s.0 first_line).1) stale_step ∙ first_line_step)
+first_line_after_stale = rw (no_record first_line.number, no_record stale.number) (ap (λ (s : Stepped Office). (step s.0 first_line).1) stale_step ∙ first_line_step)
 
 stale_again : reply_at begun (stale ∷ first_line ∷ []) stale ≡ stale_reply
 unfolding reply_at content_text serde_json_on_literals digits
-stale_again = rw (maps.get-empty text_cmp) (ap (λ (s : Stepped). s.1) stale_step)
+stale_again = rw (maps.get-empty text_cmp) (ap (λ (s : Stepped Office). s.1) stale_step)
 
 pub stale_refusal_repeated : answers_of begun (stale ∷ first_line ∷ stale ∷ []) ≡ stale_reply ∷ first_reply ∷ stale_reply ∷ []
 stale_refusal_repeated = λ i. stale_is_refused i ∷ first_line_after_stale i ∷ stale_again i ∷ []
@@ -118,14 +116,14 @@ number_used_by_another_caller = λ i. first_line_reply i ∷ other_caller_reply 
 -- a caller who isn't in the team
 pub role_is_refused : (step demo (act_on hello (codes "zed") 4 1 (Translate (codes "Hallo" ∷ [])))).1 ≡ told 403 (codes "{\"refusal\":\"role\",\"rule\":3}")
 unfolding act_step unit_step refusals unit_after result_state serde_json_on_literals digits
-role_is_refused = rw (header_de, unit_hello, role_zed) refl
+role_is_refused = rw (domain_main, header_de, unit_hello, role_zed) refl
 
 -- nothing would change
 pub same_is_refused : (step demo (act_on hello ann 5 1 (Translate ([] ∷ [])))).1 ≡ told 409 (codes "{\"refusal\":\"same\",\"rule\":12}")
 unfolding act_step unit_step refusals unit_after result_state serde_json_on_literals digits
-same_is_refused = rw (header_de, unit_hello, role_ann) refl
+same_is_refused = rw (domain_main, header_de, unit_hello, role_ann) refl
 
 -- two forms where one is needed
 pub plural_count_is_refused : (step demo (act_on hello ann 5 1 (Translate (codes "a" ∷ codes "b" ∷ [])))).1 ≡ told 422 (codes "{\"refusal\":\"plural-count\",\"rule\":7}")
 unfolding act_step unit_step refusals unit_after result_state serde_json_on_literals digits
-plural_count_is_refused = rw (header_de, unit_hello, role_ann) refl
+plural_count_is_refused = rw (domain_main, header_de, unit_hello, role_ann) refl

@@ -1,6 +1,6 @@
 -- Both openings, with nothing recorded, keep the rules of an office with its book.
-use Rattle.std.proofs.Common.{◌≡◌, ◌≤◌, ◌<◌, ℕ, ◌+◌, zero, suc, List, [], ◌∷◌, Bool, true, false, cond, not, ◌&&◌, Some, None, Result, Ok, Err, refl, sym, ◌∙◌, ap, subst, length, map, All, arith}
-use Rattle.std.specs.Prelude.{IsSome, IsOk, is_some, nat_lt, filter, flat_map, codes, IsUtf8, slice_index}
+use Rattle.std.proofs.Common.{◌≡◌, ◌≤◌, ◌<◌, ℕ, ◌+◌, zero, suc, List, [], ◌∷◌, ◌++◌, Bool, true, false, cond, not, ◌&&◌, Option, Some, None, Result, Ok, Err, refl, sym, ◌∙◌, ap, subst, length, map, All, arith}
+use Rattle.std.specs.Prelude.{IsSome, IsOk, is_some, unwrap_or, nat_lt, filter, flat_map, codes, IsUtf8, slice_index}
 use Rattle.std.specs.List.{list_any, list_all, IsDistinct}
 use Rattle.std.specs.declared.cmp.Ordering.{Ordering}
 use Rattle.std.specs.declared.cmp.Ordering.TheVariants.{Less, Equal, Greater}
@@ -20,38 +20,36 @@ use Rattle.po_read.specs.Valid.{IsValid, IsValidEntry, HasHeaderKey}
 use Rattle.plural_expr.specs.Values.{Rule}
 use Rattle.plural_expr.specs.Faults.{reading_of}
 use Rattle.plural_expr.specs.declared.fault.PluralFault.{PluralFault}
+use Rattle.units.specs.Limits.{unit_limit}
 use Rattle.units.specs.Units.{is_below, is_approved, key_cmp}
-use Rattle.units.specs.Office.{Place, place_cmp, place_eq, entry_of}
-use Rattle.units.specs.Offices.{IsUnit, IsTemplateEntry}
-use Rattle.units.specs.Openings.{demo, opening, plain_entry, demo_header, demo_unit}
+use Rattle.units.specs.Project.{Place, place_cmp, place_eq, entry_of}
+use Rattle.units.specs.Office.{Domain, empty_domain, same_domain, main, Office, as_project, project_in}
+use Rattle.units.specs.Projects.{IsUnit, IsTemplateEntry, IsProject}
+use Rattle.units.specs.Offices.{IsOffice}
+use Rattle.units.specs.Openings.{demo, demo_domain, opening, plain_entry, demo_header, demo_unit}
 use Rattle.units.specs.Rules.{rule_in}
 use Rattle.units.specs.declared.unit.Key.{Key}
 use Rattle.units.specs.declared.unit.Unit.{Unit}
 use Rattle.units.specs.declared.unit.Role.{Role}
 use Rattle.units.specs.declared.unit.Role.TheVariants.{Guest, Translator, Manager}
 use Rattle.units.specs.Orders.{text_total, place_total}
-use Rattle.deliveries.specs.OfficeRules.{KeepsRules}
+use Rattle.deliveries.specs.OfficeRules.{numbers_in, all_numbers, KeepsRules}
+use Rattle.deliveries.proofs.domains.InDomains.{Domains, its_own_domain}
+use Rattle.deliveries.proofs.rules.DomainNumbers.{no_entries, no_numbers}
 use Rattle.deliveries.proofs.rules.Demo.{no_fault, ruled}
-use Rattle.deliveries.proofs.rows.DemoRequests.{begun, de, hello, ann, root}
-use Rattle.deliveries.proofs.commuting.Swaps.{same_place}
+use Rattle.deliveries.proofs.rows.DemoRequests.{begun, demo_project, de, hello, ann, root}
+use Rattle.deliveries.proofs.domains.Places.{same_place}
 use Rattle.deliveries.proofs.retries.Running.{one_all}
 
 -- ---- maps of no entry and of one
 
-none_of_length : {A : Type 0} (xs : List A) → length xs ≡ 0 → xs ≡ []
-none_of_length [] e = refl
-none_of_length (x ∷ xs) e = absurd (omega arith)
-
 module _ {K X : Type 0} (R : K → K → Ordering) where
-  no_entries : maps.entries (maps.empty {X = X} {R = R}) ≡ []
-  no_entries = none_of_length _ (sym (maps.len-entries (maps.empty {X = X} {R = R})) ∙ maps.len-empty R X)
-
   nothing_there : {A : Type 0} (q : K) (u : X) → maps.get (maps.empty {X = X} {R = R}) q ≡ Some u → A
   nothing_there q u e = let wrong : None ≡ Some u = sym (maps.get-empty R q) ∙ e in cc
 
   module _ (o : IsTotalOrder R) (k : K) (v : X) where
     one_entry : maps.entries (maps.insert (maps.empty {R = R}) k v) ≡ (k, v) ∷ []
-    one_entry = maps.entries-insert o maps.empty k v ∙ ap (maps.put R k v) no_entries
+    one_entry = maps.entries-insert o maps.empty k v ∙ ap (maps.put R k v) (no_entries R)
 
     one_long : maps.len (maps.insert (maps.empty {R = R}) k v) ≡ 1
     one_long = maps.len-entries _ ∙ ap length one_entry
@@ -77,27 +75,62 @@ tied Greater e = cc
 
 -- ---- an office with one manager
 
+-- an office with one domain
+one_domain : (office : Office) (domain : Domain) → office.domains ≡ maps.insert maps.empty main domain → IsProject (as_project office domain) → IsOffice office
+one_domain office domain is kept = record {
+  has_main = ap is_some (get-main main) ∙ ap (λ c. is_some (cond c (Some domain) None)) (its_own_domain main);
+  few_domains = rw is (rw (one_long text_cmp text_total main domain) (omega arith));
+  projects = λ name there. by name (same_domain name main) refl (subst IsSome (get-main name) there);
+}
+  where
+    get-main : (name : Text) → maps.get office.domains name ≡ cond (same_domain name main) (Some domain) None
+    get-main name = ap (λ (m : Domains). maps.get m name) is ∙ (maps.get-insert text_total maps.empty main domain name ∙ ap (λ g. cond (same_domain name main) (Some domain) g) (maps.get-empty text_cmp name))
+
+    by : (name : Text) (tie : Bool) → same_domain name main ≡ tie → IsSome (cond tie (Some domain) None) → IsProject (project_in office name)
+    by name true t there = subst (λ o. IsProject (as_project office (unwrap_or o empty_domain))) (sym (get-main name ∙ ap (λ c. cond c (Some domain) None) t)) kept
+    by name false t there = cc
+
+-- its numbers are those of its domain
+one_numbers : (office : Office) (domain : Domain) → office.domains ≡ maps.insert maps.empty main domain → numbers_in domain ≡ [] → all_numbers office ≡ []
+one_numbers office domain is none =
+    ap (λ (m : Domains). flat_map (λ d. numbers_in d.1) (maps.entries m)) is
+    ∙ (ap (λ (es : List (Text × Domain)). flat_map (λ d. numbers_in d.1) es) (one_entry text_cmp text_total main domain) ∙ ap (λ ns. ns ++ []) none)
+
+opening_project : (name : Text) → IsProject (as_project (opening name) empty_domain)
+opening_project name = record {
+  managed = ap (λ es. list_any (λ role. not (is_below role Manager)) (map (λ e. e.1) es)) (one_entry text_cmp text_total name Manager);
+  members = λ n role e. ap (is_below Guest) (sym (only text_cmp text_total name Manager n role e).1);
+  accepting = refl;
+  template_valid = record { each = tt; unique = tt; header = tt };
+  template_plain = All-nil IsTemplateEntry;
+  ruled = λ lang header e. nothing_there text_cmp lang header e;
+  placed = λ place unit e. nothing_there place_cmp place unit e;
+  complete = λ lang key entry there is. cc;
+  exact = λ place unit e current. nothing_there place_cmp place unit e;
+  each = λ place unit e. nothing_there place_cmp place unit e;
+  reviewed = λ off place unit e. nothing_there place_cmp place unit e;
+  few_languages = rw (maps.len-empty text_cmp Entry) (omega arith);
+  few_names = rw (one_long text_cmp text_total name Manager) (omega arith);
+  few_units = λ lang. subst (λ (es : List (Place × Unit)). length (map (λ e. e.1) (filter (λ e. text_eq lang e.0.0) es)) ≤ unit_limit) (sym (no_entries place_cmp)) (omega arith);
+}
+
+-- what one domain or none has
+in_one : (office : Office) (domain : Domain) → office.domains ≡ maps.insert maps.empty main domain → (name : Text) (place : Place) (unit : Unit) → maps.get (project_in office name).units place ≡ Some unit → maps.get domain.units place ≡ Some unit
+in_one office domain is name place unit e = by (same_domain name main) (subst (λ (o : Option Domain). maps.get (unwrap_or o empty_domain).units place ≡ Some unit) get-name e)
+  where
+    get-name : maps.get office.domains name ≡ cond (same_domain name main) (Some domain) None
+    get-name = ap (λ (m : Domains). maps.get m name) is ∙ (maps.get-insert text_total maps.empty main domain name ∙ ap (λ g. cond (same_domain name main) (Some domain) g) (maps.get-empty text_cmp name))
+
+    by : (tie : Bool) → maps.get (unwrap_or (cond tie (Some domain) None) empty_domain).units place ≡ Some unit → maps.get domain.units place ≡ Some unit
+    by true h = h
+    by false h = nothing_there place_cmp place unit h
+
 pub opening_starts : (name : Text) → KeepsRules (record { office = opening name; book = maps.empty })
 unfolding IsDistinct
 opening_starts name = record {
-  office = record {
-    managed = ap (λ es. list_any (λ role. not (is_below role Manager)) (map (λ e. e.1) es)) (one_entry text_cmp text_total name Manager);
-    members = λ n role e. ap (is_below Guest) (sym (only text_cmp text_total name Manager n role e).1);
-    accepting = refl;
-    template_valid = record { each = tt; unique = tt; header = tt };
-    template_plain = All-nil IsTemplateEntry;
-    ruled = λ lang header e. nothing_there text_cmp lang header e;
-    placed = λ place unit e. nothing_there place_cmp place unit e;
-    complete = λ lang key entry there is. cc;
-    exact = λ place unit e current. nothing_there place_cmp place unit e;
-    each = λ place unit e. nothing_there place_cmp place unit e;
-    reviewed = λ off place unit e. nothing_there place_cmp place unit e;
-    few_languages = rw (maps.len-empty text_cmp Entry) (omega arith);
-    few_names = rw (one_long text_cmp text_total name Manager) (omega arith);
-    few_units = λ lang. subst (λ (es : List (Place × Unit)). length (map (λ e. e.1) (filter (λ e. text_eq lang e.0.0) es)) ≤ 150000) (sym (no_entries place_cmp)) (omega arith);
-  };
-  recorded = λ place unit e. nothing_there place_cmp place unit e;
-  own_numbers = subst (λ (es : List (Place × Unit)). IsDistinct text_eq (flat_map (λ e. map (λ s. s.number) e.1.suggestions) es)) (sym (no_entries place_cmp)) tt;
+  office = one_domain (opening name) empty_domain refl (opening_project name);
+  recorded = λ domain place unit e. nothing_there place_cmp place unit (in_one (opening name) empty_domain refl domain place unit e);
+  own_numbers = subst (IsDistinct text_eq) (sym (one_numbers (opening name) empty_domain refl no_numbers)) tt;
   statuses = λ number recorded e. nothing_there text_cmp number recorded e;
 }
 
@@ -185,7 +218,7 @@ hello_unit rule = record {
 }
 
 -- what stands in the demo office's one place
-hello_only : (place : Place) (unit : Unit) → maps.get demo.units place ≡ Some unit → (place ≡ (de, hello)) × (demo_unit ≡ unit)
+hello_only : (place : Place) (unit : Unit) → maps.get demo_domain.units place ≡ Some unit → (place ≡ (de, hello)) × (demo_unit ≡ unit)
 hello_only place unit e =
     let h = only place_cmp place_total (de, hello) demo_unit place unit e in
     (same_place place (de, hello) h.0, h.1)
@@ -209,12 +242,12 @@ few_members = rw (maps.len-insert text_total (maps.insert maps.empty root Manage
     by_test true n e = omega arith
     by_test false n e = omega arith
 
-one_or_none : (c : Bool) → length (map (λ (e : Place × Unit). e.1) (cond c (((de, hello), demo_unit) ∷ []) [])) ≤ 150000
+one_or_none : (c : Bool) → length (map (λ (e : Place × Unit). e.1) (cond c (((de, hello), demo_unit) ∷ []) [])) ≤ unit_limit
 one_or_none true = omega arith
 one_or_none false = omega arith
 
-hello_in : (lang : Text) (key : Key) (entry : Entry) → IsSome (maps.get demo.headers lang) → (t : Bool) → eq_by_cmp key_cmp key hello ≡ t → cond t (Some (plain_entry (codes "Hello") [])) None ≡ Some entry →
-    (unit : Unit) × (maps.get demo.units (lang, key) ≡ Some unit) × (unit.obsolete ≡ false) × (unit.plural ≡ entry.plural)
+hello_in : (lang : Text) (key : Key) (entry : Entry) → IsSome (maps.get demo_domain.headers lang) → (t : Bool) → eq_by_cmp key_cmp key hello ≡ t → cond t (Some (plain_entry (codes "Hello") [])) None ≡ Some entry →
+    (unit : Unit) × (maps.get demo_domain.units (lang, key) ≡ Some unit) × (unit.obsolete ≡ false) × (unit.plural ≡ entry.plural)
 hello_in lang key entry there_is true t e =
     let a : text_cmp lang de ≡ Equal = tied (text_cmp lang de) (there text_cmp text_total de (plain_entry [] demo_header) lang there_is) in
     let b : key_cmp key hello ≡ Equal = tied (key_cmp key hello) t in
@@ -223,30 +256,38 @@ hello_in lang key entry there_is true t e =
     (demo_unit, maps.get-insert place_total maps.empty (de, hello) demo_unit (lang, key) ∙ ap (λ c. cond c (Some demo_unit) (maps.get (maps.empty {X = Unit} {R = place_cmp}) (lang, key))) same, refl, ap (λ (x : Entry). x.plural) is)
 hello_in lang key entry there_is false t e = cc
 
+demo_project_kept : IsProject demo_project
+demo_project_kept = record {
+  managed = ap (λ es. list_any (λ role. not (is_below role Manager)) (map (λ e. e.1) es))
+      (maps.entries-insert text_total (maps.insert maps.empty root Manager) ann Translator ∙ ap (maps.put text_cmp ann Translator) (one_entry text_cmp text_total root Manager));
+  members = a_member;
+  accepting = refl;
+  template_valid = valid_template;
+  template_plain = one_all IsTemplateEntry (plain_entry (codes "Hello") []) plain_hello;
+  ruled = λ lang header e.
+      subst (λ (h : Entry). (is_header h ≡ true) × IsValid (h ∷ []) × IsOk (rule_in (Some h))) (only text_cmp text_total de (plain_entry [] demo_header) lang header e).1 (refl, header_catalogue, has_rule);
+  placed = λ place unit e.
+      let h = hello_only place unit e in
+      (ap (λ (u : Unit). u.key) (sym h.1) ∙ ap (λ (p : Place). p.1) (sym h.0), subst (λ (p : Place). IsSome (maps.get demo_domain.headers p.0)) (sym h.0) (ap is_some (maps.get-insert text_total maps.empty de (plain_entry [] demo_header) de)));
+  complete = λ lang key entry there_is is. hello_in lang key entry there_is (eq_by_cmp key_cmp key hello) refl is;
+  exact = λ place unit e current. subst (λ (p : Place). IsSome (entry_of demo_domain.template p.1)) (sym (hello_only place unit e).0) refl;
+  each = λ place unit e. subst (IsUnit _) (hello_only place unit e).1 (hello_unit _);
+  reviewed = λ off place unit e. ap (λ (u : Unit). is_approved u.state) (sym (hello_only place unit e).1);
+  few_languages = rw (one_long text_cmp text_total de (plain_entry [] demo_header)) (omega arith);
+  few_names = few_members;
+  few_units = λ lang. subst (λ (es : List (Place × Unit)). length (map (λ e. e.1) (filter (λ e. text_eq lang e.0.0) es)) ≤ unit_limit) (sym (one_entry place_cmp place_total (de, hello) demo_unit)) (one_or_none (text_eq lang de));
+}
+
+-- no unit has a suggestion
+demo_numbers : numbers_in demo_domain ≡ []
+demo_numbers = ap (λ (es : List (Place × Unit)). flat_map (λ e. map (λ s. s.number) e.1.suggestions) es) (one_entry place_cmp place_total (de, hello) demo_unit)
+
 pub demo_starts : KeepsRules begun
 unfolding IsDistinct
 demo_starts = record {
-  office = record {
-    managed = ap (λ es. list_any (λ role. not (is_below role Manager)) (map (λ e. e.1) es))
-        (maps.entries-insert text_total (maps.insert maps.empty root Manager) ann Translator ∙ ap (maps.put text_cmp ann Translator) (one_entry text_cmp text_total root Manager));
-    members = a_member;
-    accepting = refl;
-    template_valid = valid_template;
-    template_plain = one_all IsTemplateEntry (plain_entry (codes "Hello") []) plain_hello;
-    ruled = λ lang header e.
-        subst (λ (h : Entry). (is_header h ≡ true) × IsValid (h ∷ []) × IsOk (rule_in (Some h))) (only text_cmp text_total de (plain_entry [] demo_header) lang header e).1 (refl, header_catalogue, has_rule);
-    placed = λ place unit e.
-        let h = hello_only place unit e in
-        (ap (λ (u : Unit). u.key) (sym h.1) ∙ ap (λ (p : Place). p.1) (sym h.0), subst (λ (p : Place). IsSome (maps.get demo.headers p.0)) (sym h.0) (ap is_some (maps.get-insert text_total maps.empty de (plain_entry [] demo_header) de)));
-    complete = λ lang key entry there_is is. hello_in lang key entry there_is (eq_by_cmp key_cmp key hello) refl is;
-    exact = λ place unit e current. subst (λ (p : Place). IsSome (entry_of demo.template p.1)) (sym (hello_only place unit e).0) refl;
-    each = λ place unit e. subst (IsUnit _) (hello_only place unit e).1 (hello_unit _);
-    reviewed = λ off place unit e. ap (λ (u : Unit). is_approved u.state) (sym (hello_only place unit e).1);
-    few_languages = rw (one_long text_cmp text_total de (plain_entry [] demo_header)) (omega arith);
-    few_names = few_members;
-    few_units = λ lang. subst (λ (es : List (Place × Unit)). length (map (λ e. e.1) (filter (λ e. text_eq lang e.0.0) es)) ≤ 150000) (sym (one_entry place_cmp place_total (de, hello) demo_unit)) (one_or_none (text_eq lang de));
-  };
-  recorded = λ place unit e. subst (λ (u : Unit). All (λ s. IsSome (maps.get begun.book s.number)) u.suggestions) (hello_only place unit e).1 (All-nil _);
-  own_numbers = subst (λ (es : List (Place × Unit)). IsDistinct text_eq (flat_map (λ e. map (λ s. s.number) e.1.suggestions) es)) (sym (one_entry place_cmp place_total (de, hello) demo_unit)) tt;
+  office = one_domain demo demo_domain refl demo_project_kept;
+  recorded = λ domain place unit e.
+      subst (λ (u : Unit). All (λ s. IsSome (maps.get begun.book s.number)) u.suggestions) (hello_only place unit (in_one demo demo_domain refl domain place unit e)).1 (All-nil _);
+  own_numbers = subst (IsDistinct text_eq) (sym (one_numbers demo demo_domain refl demo_numbers)) tt;
   statuses = λ number recorded e. nothing_there text_cmp number recorded e;
 }

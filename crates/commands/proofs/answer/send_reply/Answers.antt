@@ -1,6 +1,6 @@
 use Rattle.std.proofs.Common.{◌≡◌, ◌++◌, refl}
 use Rattle.std.specs.Prelude.{codes, decimal}
-use Rattle.commands.specs.Exchanges.{reply_line}
+use Rattle.office.specs.Exchanges.{reply_line}
 use Rattle.po_write.proofs.Sent.{begin, more, stopped, outcome}
 use Rattle.commands.proofs.answer.send_reply.Goals as goal
 

@@ -3,7 +3,7 @@ use Rattle.std.specs.Prelude.{option_map}
 use Rattle.office.specs.declared.export.ExportReceipt.{ExportReceipt}
 use Rattle.office.specs.declared.faults.ExportFault.{ExportFault}
 use Rattle.commands.specs.DeliverLines.{unnamed, written, faulted}
-use Rattle.commands.proofs.Streaming.{took_none}
+use Rattle.office.proofs.Streaming.{took_none}
 use Rattle.commands.proofs.Exporting.{still_exported, text_taken}
 use Rattle.commands.proofs.export.export_named.Goals as goal
 
@@ -14,7 +14,7 @@ pub returns-in-Ok-clause-exported : goal.returns-in-Ok-clause-exported
 returns-in-Ok-clause-exported g c =
     let done = c.in-Ok.ensures in
     written c.in-Some.lang.now (ap (option_map _) c.in-Some.is) done.kept.open_still
-    (λ h. text_taken _ _ _ _ (still_exported _ _ (g.T.Tables.means c.args.desk.now) (g.T.Tables.means c.export.new.self) c.in-Some.lang.now _ _ _ done.kept.open_still done.same done.text h))
+    (λ h. text_taken _ _ _ _ (still_exported _ _ (g.T.Tables.means c.args.desk.now) (g.T.Tables.means c.export.new.self) c.args.domain.now c.in-Some.lang.now _ _ _ done.kept.open_still done.same done.text h))
     (took_none _ _) refl
 
 pub returns-in-Err-clause-exported : goal.returns-in-Err-clause-exported

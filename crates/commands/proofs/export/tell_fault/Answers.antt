@@ -1,4 +1,4 @@
-use Rattle.commands.proofs.Streaming.{all_or_part}
+use Rattle.office.proofs.Streaming.{all_or_part}
 use Rattle.commands.proofs.export.tell_fault.Goals as goal
 
 pub returns-clause-told : goal.returns-clause-told

@@ -1,4 +1,4 @@
-use Rattle.commands.specs.Writers.{writer_at}
+use Rattle.office.specs.Writers.{writer_at}
 use Rattle.file_commands.proofs.Telling.{broke_off, handed_on}
 use Rattle.file_commands.proofs.faults.send_line.Goals as goal
 

@@ -1,8 +1,8 @@
 use Rattle.std.proofs.Common.{refl, sym, subst}
 use Rattle.sqlite.specs.Held.{state}
 use Rattle.tables.specs.Starts.{started}
-use Rattle.commands.proofs.Streaming.{took_none}
-use Rattle.office_files.specs.Files.{KeepsFile, LeavesFiles}
+use Rattle.office.proofs.Streaming.{took_none}
+use Rattle.sql_files.specs.Files.{KeepsFile, LeavesFiles}
 use Rattle.store_sql.specs.Tables.{held_by}
 use Rattle.file_commands.specs.Opening.{Holds}
 use Rattle.file_commands.specs.Init.{made, refused}

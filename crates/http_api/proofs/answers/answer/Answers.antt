@@ -1,9 +1,9 @@
 use Rattle.std.proofs.Common.{◌≡◌, true, inl, refl, subst}
-use Rattle.commands.specs.Writers.{writer_at}
+use Rattle.office.specs.Writers.{writer_at}
 use Rattle.http_messages.specs.declared.refusal.Refusal.TheVariants.{Malformed}
 use Rattle.http_messages.specs.declared.message.Asked.{Asked as AskedValue}
 use Rattle.http_messages.specs.Asked as ask
-use Rattle.http_messages.specs.Askings.{IsAsked}
+use Rattle.http_messages.specs.Askings.{IsAsked, language_at}
 use Rattle.http_messages.specs.Pairs.{name_of}
 use Rattle.http_api.specs.Outcomes.{posted, failed, outcome_answer}
 use Rattle.http_api.specs.Answers.{refusal_text}
@@ -36,7 +36,7 @@ pub returns-in-Export-clause-answered : goal.returns-in-Export-clause-answered
 returns-in-Export-clause-answered g c = λ question is.
     let P : AskedValue → Type 0 = λ asked. IsAsked asked question in
     let came = c.answer_export.ensures.answered in
-    (came.0, asked_so _ _ _ _ _ _ _ _ question (ask.export c.in-Export.lang) came.0 (subst P c.in-Export.is is) came.1, came.2)
+    (came.0, asked_so _ _ _ _ _ _ _ _ question (ask.export (language_at c.in-Export.name)) came.0 (subst P c.in-Export.is is) came.1, came.2)
 
 pub returns-in-Unit-clause-answered : goal.returns-in-Unit-clause-answered
 returns-in-Unit-clause-answered g c = λ question is.
@@ -61,7 +61,7 @@ returns-in-Stats-clause-answered g c = λ question is.
     let P : AskedValue → Type 0 = λ asked. IsAsked asked question in
     let came = c.answer_stats.ensures in (
       came.0,
-      asked_so _ _ _ _ _ _ _ _ question (ask.stats c.in-Stats.lang) came.0 (subst P c.in-Stats.is is) came.1,
+      asked_so _ _ _ _ _ _ _ _ question (ask.stats (language_at c.in-Stats.name)) came.0 (subst P c.in-Stats.is is) came.1,
       tells_writes _ _ (writer_at g.W.ByteSink.taken g.W.ByteSink.failed c.args.w.now) (writer_at g.W.ByteSink.taken g.W.ByteSink.failed c.answer_stats.new.w) came.0 c.args.last c.answer_stats.result came.2,
     )
 

@@ -1,4 +1,4 @@
-use Rattle.commands.specs.Writers.{writer_at}
+use Rattle.office.specs.Writers.{writer_at}
 use Rattle.http_api.proofs.Coming.{json_same}
 use Rattle.http_api.proofs.answers.send_refusal.Goals as goal
 

@@ -1,6 +1,6 @@
 use Rattle.std.proofs.Common.{◌≡◌, true, refl}
 use Rattle.http_api.specs.Answers.{refusal_text}
-use Rattle.commands.specs.Writers.{writer_at, TakesAll, TakesPart}
+use Rattle.office.specs.Writers.{writer_at, TakesAll, TakesPart}
 use Rattle.http_api.specs.declared.connection.Next.{Next}
 use Rattle.http_api.specs.declared.connection.Next.TheVariants.{Last}
 use Rattle.http_api.specs.declared.faults.ServeFault.TheVariants as fault

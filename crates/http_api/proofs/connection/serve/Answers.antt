@@ -1,8 +1,12 @@
 use Rattle.std.proofs.Common.{◌≡◌, true, refl, arith}
-use Rattle.commands.specs.Writers.{writer_at}
+use Rattle.office.specs.Writers.{writer_at}
 use Rattle.http_api.proofs.Counting.{writes_on, one_more_handed, handed_on_first, read_failed, write_failed, disk_failed}
-use Rattle.http_api.proofs.Looping.{serving, one_more, lasts_here, lasts_read_here, ends_here, ends_read_here, gives_up_here, full_here, full_read_here}
+use Rattle.http_api.proofs.Looping.{no_routes, serving, one_more, lasts_here, lasts_read_here, ends_here, ends_read_here, gives_up_here, full_here, full_read_here}
 use Rattle.http_api.proofs.connection.serve.Goals as goal
+
+pub returns-in_default-clause-served : goal.returns-in_default-clause-served
+returns-in_default-clause-served g c = no_routes g.T.Tables.is_honest g.T.Tables.is_whole g.T.Tables.means g.T.Tables.is_stopped (λ w. writer_at g.W.ByteSink.taken g.W.ByteSink.failed w)
+    c.args.desk.now c.args.w.now (g.R.ByteSource.left c.args.source.now) (g.R.ByteSource.failed c.args.source.now)
 
 pub loop-answered-init : goal.loop-answered-init
 loop-answered-init g c = (

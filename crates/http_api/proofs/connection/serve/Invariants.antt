@@ -1,4 +1,4 @@
-use Rattle.commands.specs.Writers.{writer_at}
+use Rattle.office.specs.Writers.{writer_at}
 use Rattle.http_api.proofs.Counting.{WroteOn}
 use Rattle.http_api.proofs.Looping.{Serving}
 use Rattle.http_api.proofs.connection.serve.Given as goal

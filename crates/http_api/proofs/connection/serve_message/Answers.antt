@@ -2,7 +2,7 @@ use Rattle.std.proofs.Common.{◌≡◌, ℕ, List, [], true, refl, ap, ◌∙�
 use Rattle.std.specs.Prelude.{◌||◌}
 use Rattle.std.proofs.Math.Seq.{drop-drop}
 use Rattle.http_messages.specs.Arrivals.{asking_in}
-use Rattle.commands.specs.Writers.{writer_at}
+use Rattle.office.specs.Writers.{writer_at}
 use Rattle.http_api.specs.declared.connection.Next.{Next}
 use Rattle.http_api.specs.Steps.{next_of}
 use Rattle.http_api.proofs.Counting.{tells_failures, failures_and, failures_then, on_ok_and}

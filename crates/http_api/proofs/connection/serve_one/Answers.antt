@@ -1,5 +1,5 @@
 use Rattle.std.proofs.Common.{◌≡◌, true, refl}
-use Rattle.commands.specs.Writers.{writer_at}
+use Rattle.office.specs.Writers.{writer_at}
 use Rattle.http_api.specs.Answering.{WroteBeginning}
 use Rattle.http_api.specs.Answers.{refusal_text}
 use Rattle.http_api.proofs.Counting.{tells_failures, hands_still, hands_on, answered_step, unread_step}

@@ -1,7 +1,7 @@
 use Rattle.std.proofs.Common.{◌≡◌, true, ap, Result, Err, ◌∙◌}
 use Rattle.http_api.specs.declared.faults.ServeFault.{ServeFault}
 use Rattle.http_api.specs.declared.faults.ServeFault.TheVariants as fault
-use Rattle.commands.specs.Writers.{writer_at}
+use Rattle.office.specs.Writers.{writer_at}
 use Rattle.http_api.specs.Answering.{AnswerFailed}
 use Rattle.http_api.proofs.Handing.{passed_on}
 use Rattle.http_api.proofs.Exporting.{text_written, text_broke_off, head_broke_off, export_failed}

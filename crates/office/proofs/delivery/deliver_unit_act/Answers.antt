@@ -14,7 +14,7 @@ commit_unit_act-requires-clause-rules g c = λ honest.
     let whole = c.in_ok-view.ensures.kept.open_still honest in
     let was = c.read_and_decide.ensures.kept.honest honest in
     unit_act_keeps (g.T.Tables.means c.args.tables.now) (g.T.Tables.means c.read_and_decide.new.tables)
-    c.args.request.now c.args.lang.now c.args.key.now c.args.act.now _ c.in_ok-view.field-0.view c.in_ok-view.field-0.reply c.args.content c.in-Some.row
+    c.args.request.now c.args.domain.now c.args.lang.now c.args.key.now c.args.act.now _ c.in_ok-view.field-0.view c.in_ok-view.field-0.reply c.args.content c.in-Some.row
     c.requires.act (c.read_and_decide.ensures.same honest whole) refl (c.in_ok-view.ensures.answer honest) c.requires.content c.in-Some.ensures
     c.requires.limits (c.requires.new was) (g.met.T.Tables.rules c.args.tables.now was (c.read_and_decide.ensures.kept.whole honest whole))
 
@@ -24,7 +24,7 @@ returns-clause-ok g c = λ honest.
     let whole = c.in_ok-view.ensures.kept.open_still was in
     handed_on c.commit_unit_act.result c.in_ok-view.field-0.reply _ _ _ c.commit_unit_act.ensures.handed_on (c.commit_unit_act.ensures.done honest)
     (unit_act_delivered (g.T.Tables.means c.args.tables.now) (g.T.Tables.means c.read_and_decide.new.tables) _
-    c.args.request.now c.args.lang.now c.args.key.now c.args.act.now _ c.in_ok-view.field-0.view c.in_ok-view.field-0.reply c.args.content c.in-Some.row
+    c.args.request.now c.args.domain.now c.args.lang.now c.args.key.now c.args.act.now _ c.in_ok-view.field-0.view c.in_ok-view.field-0.reply c.args.content c.in-Some.row
     c.requires.act (c.read_and_decide.ensures.same was whole) refl (c.in_ok-view.ensures.answer was) c.requires.content c.in-Some.ensures)
 
 pub returns-clause-kept : goal.returns-clause-kept
@@ -34,5 +34,5 @@ returns-clause-kept g c =
     let was = c.commit_unit_act.ensures.kept.honest honest in
     let whole = c.in_ok-view.ensures.kept.open_still was in
     ap (λ (p : OfficeWithBook × Reply). p.0) (unit_act_delivered (g.T.Tables.means c.args.tables.now) (g.T.Tables.means c.read_and_decide.new.tables) m
-    c.args.request.now c.args.lang.now c.args.key.now c.args.act.now _ c.in_ok-view.field-0.view c.in_ok-view.field-0.reply c.args.content c.in-Some.row
+    c.args.request.now c.args.domain.now c.args.lang.now c.args.key.now c.args.act.now _ c.in_ok-view.field-0.view c.in_ok-view.field-0.reply c.args.content c.in-Some.row
     c.requires.act (c.read_and_decide.ensures.same was whole) refl (c.in_ok-view.ensures.answer was) c.requires.content c.in-Some.ensures is))

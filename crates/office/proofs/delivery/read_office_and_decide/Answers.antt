@@ -3,7 +3,7 @@ use Rattle.std.proofs.lemmas.Result.{err_from_is_err_and}
 use Rattle.units.specs.Office.{Office}
 use Rattle.request_book.specs.Book.{OfficeWithBook}
 use Rattle.deliveries.specs.Step.{step}
-use Rattle.office_acts.specs.Settled.{IsSettled}
+use Rattle.outcomes.specs.Settled.{IsSettled}
 use Rattle.office.proofs.Stopped.{read_done, read_failed, read_then_memory}
 use Rattle.office.proofs.delivery.read_office_and_decide.Goals as goal
 

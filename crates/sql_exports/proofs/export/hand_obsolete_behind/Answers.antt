@@ -2,7 +2,7 @@ use Rattle.std.proofs.Common.{[], ◌∷◌, refl, subst, arith}
 use Rattle.std.proofs.lemmas.List.{append-nil}
 use Rattle.sqlite.specs.Held.{state}
 use Rattle.sqlite.specs.State.{HasCleanDisk}
-use Rattle.office_in_rows.specs.Meaning.{office_of_rows}
+use Rattle.sql_meaning.specs.Meaning.{project_of_rows}
 use Rattle.sql_exports.specs.Entries.{obsolete_of}
 use Rattle.sql_exports.specs.Handing.{Gives}
 use Rattle.sql_exports.proofs.Pieces.{given_behind}
@@ -15,7 +15,7 @@ returns-in-Ok-clause-handed g c clean =
     let lang = c.args.lang.now in
     let early : HasCleanDisk old = omega (arith, clean, c.hand_obsolete.ensures.looked.survives.clean) in
     let office = c.requires.idle.ready early (c.requires.is_open early) in
-    let obsolete = obsolete_of (office_of_rows old.now.trees) lang in
+    let obsolete = obsolete_of (project_of_rows old.now.trees) lang in
     let one = c.in-Ok.ensures.handed obsolete (obsolete_read old.now old.now refl office lang) clean in
     subst (λ es. Gives g.K.EntrySink.Took g.K.EntrySink.Refuses c.args.sink.now c.hand.new.sink es c.hand.result) (append-nil (c.args.held ∷ obsolete))
     (given_behind g.K.EntrySink.Took g.K.EntrySink.Refuses g.met.K.EntrySink.more c.args.sink.now c.hand_obsolete.new.sink c.hand.new.sink (c.args.held ∷ obsolete) [] c.hand_obsolete.new.held one c.hand.result c.hand.ensures)
@@ -25,4 +25,4 @@ returns-in-Err-clause-handed g c clean =
     let old = state g.S.Store c.args.connection.now in
     let early : HasCleanDisk old = omega (arith, clean, c.hand_obsolete.ensures.looked.survives.clean) in
     let office = c.requires.idle.ready early (c.requires.is_open early) in
-    c.in-Err.ensures.handed (obsolete_of (office_of_rows old.now.trees) c.args.lang.now) (obsolete_read old.now old.now refl office c.args.lang.now) clean
+    c.in-Err.ensures.handed (obsolete_of (project_of_rows old.now.trees) c.args.lang.now) (obsolete_read old.now old.now refl office c.args.lang.now) clean

@@ -1,6 +1,6 @@
-use Rattle.std.proofs.Common.{rules, ◌≡◌, ◌∷◌}
+use Rattle.std.proofs.Common.{rules}
 use Rattle.sqlite.specs.Held.{state}
-use Rattle.sql_exports.specs.Queries.{ShowsObsolete}
+use Rattle.sql_statements.specs.Queries.{ShowsObsolete}
 use Rattle.sql_exports.proofs.Handed.{all_given, cut_given, cut_same}
 use Rattle.sql_exports.proofs.handing.hand_obsolete.Goals as goal
 

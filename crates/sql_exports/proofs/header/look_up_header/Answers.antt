@@ -2,8 +2,8 @@ use Rattle.std.proofs.Common.{rules, ◌≡◌, Some, None, ap, ◌∙◌}
 use Rattle.std.specs.FinMap as maps
 use Rattle.sqlite.specs.Held.{state}
 use Rattle.sqlite.specs.declared.error.Error.{Error}
-use Rattle.office_sql.specs.Answers.{ShowsLanguage}
-use Rattle.office_in_rows.specs.Meaning.{headers_in}
+use Rattle.sql_statements.specs.Answers.{ShowsLanguage}
+use Rattle.sql_meaning.specs.Meaning.{headers_in}
 use Rattle.sql_exports.proofs.HeaderRead.{header_read}
 use Rattle.sql_exports.proofs.Results.{look_up_mapped}
 use Rattle.sql_exports.proofs.header.look_up_header.Goals as goal

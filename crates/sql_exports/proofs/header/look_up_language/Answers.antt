@@ -1,5 +1,5 @@
 use Rattle.std.proofs.Common.{rules}
-use Rattle.office_sql.specs.Answers.{ShowsLanguage}
+use Rattle.sql_statements.specs.Answers.{ShowsLanguage}
 use Rattle.sql_exports.proofs.LookedUp.{look_up_undone, look_up_ended}
 use Rattle.sql_exports.proofs.header.look_up_language.Goals as goal
 

@@ -1,5 +1,5 @@
 use Rattle.std.proofs.Common.{rules}
-use Rattle.office_sql.specs.Answers.{ShowsMember}
+use Rattle.sql_statements.specs.Answers.{ShowsMember}
 use Rattle.sql_exports.proofs.LookedUp.{look_up_undone, look_up_ended}
 use Rattle.store_sql.proofs.look_ups.look_up_member.Goals as goal
 

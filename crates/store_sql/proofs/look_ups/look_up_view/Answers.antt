@@ -1,9 +1,9 @@
 use Rattle.std.proofs.Common.{rules, Result, Err, refl}
 use Rattle.sqlite.specs.declared.error.Error.{Error}
 use Rattle.sqlite.specs.Held.{state}
-use Rattle.office_sql.specs.UnitRows.{ShowsViewRows}
-use Rattle.office_sql.specs.declared.look_ups.ViewRows.{ViewRows}
-use Rattle.office_sql.proofs.Sequences.{reads_both, read_mapped, read_failed, steady_read, fails_after}
+use Rattle.sql_statements.specs.UnitRows.{ShowsViewRows}
+use Rattle.sql_statements.specs.declared.unit_rows.ViewRows.{ViewRows}
+use Rattle.sql_schema.proofs.Sequences.{reads_both, read_mapped, read_failed, steady_read, fails_after}
 use Rattle.sql_exports.proofs.LookedUp.{look_up_undone, look_up_ended}
 use Rattle.store_sql.proofs.look_ups.look_up_view.Goals as goal
 

@@ -3,8 +3,8 @@ use Rattle.std.specs.FinMap as maps
 use Rattle.sqlite.specs.Held.{state}
 use Rattle.sqlite.specs.declared.error.Error.{Error}
 use Rattle.request_book.specs.Book.{row_of}
-use Rattle.office_sql.specs.Answers.{ShowsRecord}
-use Rattle.office_in_rows.specs.Meaning.{book_in}
+use Rattle.sql_statements.specs.Answers.{ShowsRecord}
+use Rattle.sql_meaning.specs.Meaning.{book_in}
 use Rattle.sql_exports.proofs.Results.{look_up_mapped}
 use Rattle.store_sql.proofs.RecordsRead.{reads_record}
 use Rattle.store_sql.proofs.records.read_record.Goals as goal

@@ -1,10 +1,10 @@
 use Rattle.std.proofs.Common.{◌≡◌}
 use Rattle.sqlite.specs.Held.{state}
 use Rattle.sqlite.specs.declared.error.Error.{Error}
-use Rattle.units.specs.Office.{role_of}
-use Rattle.office_sql.specs.Answers.{ShowsMember}
-use Rattle.office_in_rows.specs.Meaning.{office_of_rows}
-use Rattle.shown_rows.specs.ShownFound.{shown_role}
+use Rattle.units.specs.Project.{role_of}
+use Rattle.sql_statements.specs.Answers.{ShowsMember}
+use Rattle.sql_meaning.specs.Meaning.{project_of_rows}
+use Rattle.sql_decoding.specs.ShownFound.{shown_role}
 use Rattle.sql_exports.proofs.Results.{look_up_answered}
 use Rattle.store_sql.proofs.ViewsRead.{reads_role}
 use Rattle.store_sql.proofs.views.read_role.Goals as goal
@@ -15,6 +15,6 @@ returns g c =
     record {
       found = look_up_answered old (state g.S.Store c.look_up_member.new.connection) {E = Error} c.in_ok-row.row _
           (ShowsMember c.as_str.result.now) (λ role. role ≡ shown_role c.in_ok-row.row)
-          (λ db role. role ≡ role_of (office_of_rows db.trees) c.args.name.now) c.in_ok-row.ensures.found c.role_in-role.ensures.shown
+          (λ db role. role ≡ role_of (project_of_rows db.trees) c.args.name.now) c.in_ok-row.ensures.found c.role_in-role.ensures.shown
           (λ clean is_open shows role shown. reads_role old c.args.name.now c.as_str.result.now c.in_ok-row.row role c.requires.keeps c.as_str.ensures.value clean is_open shown shows);
     }

@@ -2,6 +2,8 @@ use Rattle.std.specs.Prelude.{is_some, ⊤}
 use Rattle.std.proofs.Common.{Bool, Ok, sym, subst}
 use Rattle.sqlite.specs.Held.{Held, state}
 use Rattle.sqlite.specs.State.{HasCleanDisk}
+use Rattle.units.specs.Office.{project_in}
+use Rattle.deliveries.specs.MainAlone.{main_alone}
 use Rattle.tables.specs.Entries.{entries_of}
 use Rattle.tables.specs.Kept.{IsKept}
 use Rattle.tables.specs.Sinks.{WasCutShort}
@@ -9,7 +11,7 @@ use Rattle.tables.specs.Stops.{Nothing}
 use Rattle.tables.specs.declared.faults.EachFault.{EachFault}
 use Rattle.tables.specs.declared.faults.EachFault.TheVariants.{NoTables}
 use Rattle.tables.specs.declared.faults.Lost.TheVariants.{Disk}
-use Rattle.office_in_rows.specs.Meaning.{office_of_rows}
+use Rattle.sql_meaning.specs.Meaning.{project_of_rows}
 use Rattle.store_sql.specs.Kept.{is_honest, is_whole, means, may_leave, is_stopped}
 use Rattle.store_sql.proofs.StillKept.{kept_looked_up_or}
 use Rattle.store_sql.proofs.rows.Rows.each_entry.Goals as goal
@@ -18,15 +20,15 @@ pub returns-in-Ok-clause-kept : goal.returns-in-Ok-clause-kept
 returns-in-Ok-clause-kept g c =
     let flags : Bool × Bool = (c.self.inside.stopped, is_some c.self.inside.office) in
     subst (λ old. IsKept {A = Unit {0}} {E = EachFault g.row.K-Refusal.Denot} (is_honest g.S.Store) (is_whole g.S.Store) (means g.S.Store) (may_leave g.S.Store) (is_stopped g.S.Store) old
-    (c.export_entries.new.connection, flags) (Ok (tt {0})) (NoTables Disk) Nothing)
+    (c.hand_in.new.connection, flags) (Ok (tt {0})) (NoTables Disk) Nothing)
     c.self.view_is
-    (kept_looked_up_or g.S.Store c.self.inside.connection c.export_entries.new.connection (Ok (tt {0})) (λ _ _. ⊤) c.self.invariant.1 c.in-Ok.ensures.looked (NoTables Disk) (Ok (tt {0})) flags flags
+    (kept_looked_up_or g.S.Store c.self.inside.connection c.hand_in.new.connection (Ok (tt {0})) (λ _ _. ⊤) c.self.invariant.1 c.in-Ok.ensures.looked (NoTables Disk) (Ok (tt {0})) flags flags
     (λ h db is_open left. g.met.S.Store.settled h.store db is_open left) (λ h is_open. g.met.S.Store.stays h.store is_open) c.if-self.false (λ is_open. is_open) tt (λ stopped. absurd (let no = c.if-self.false in let yes = stopped in cc)))
 
 pub returns-in-Err-clause-cut : goal.returns-in-Err-clause-cut
 returns-in-Err-clause-cut g c clean =
-    let late : HasCleanDisk (state g.S.Store c.export_entries.new.connection) = subst (λ h. HasCleanDisk (state g.S.Store h)) c.cut_off.ensures.connection clean in
-    subst (λ (old : Held g.row.S.Denot × (Bool × Bool)). WasCutShort g.K.EntrySink.Took g.K.EntrySink.Refuses c.args.sink.now c.export_entries.new.sink
-    (entries_of (office_of_rows (state g.S.Store old.0).now.trees) c.args.lang.now) c.cut_off.result) c.self.view_is
-    (subst (WasCutShort g.K.EntrySink.Took g.K.EntrySink.Refuses c.args.sink.now c.export_entries.new.sink (entries_of (office_of_rows (state g.S.Store c.self.inside.connection).now.trees) c.args.lang.now))
+    let late : HasCleanDisk (state g.S.Store c.hand_in.new.connection) = subst (λ h. HasCleanDisk (state g.S.Store h)) c.cut_off.ensures.connection clean in
+    subst (λ (old : Held g.row.S.Denot × (Bool × Bool)). WasCutShort g.K.EntrySink.Took g.K.EntrySink.Refuses c.args.sink.now c.hand_in.new.sink
+    (entries_of (project_in (main_alone (project_of_rows (state g.S.Store old.0).now.trees)) c.args.domain.now) c.args.lang.now) c.cut_off.result) c.self.view_is
+    (subst (WasCutShort g.K.EntrySink.Took g.K.EntrySink.Refuses c.args.sink.now c.hand_in.new.sink (entries_of (project_in (main_alone (project_of_rows (state g.S.Store c.self.inside.connection).now.trees)) c.args.domain.now) c.args.lang.now))
     (sym c.cut_off.ensures.result) (c.in-Err.ensures.handed late))

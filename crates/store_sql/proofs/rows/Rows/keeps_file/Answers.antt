@@ -1,6 +1,6 @@
 use Rattle.std.proofs.Common.{Bool, subst}
 use Rattle.sqlite.specs.Held.{Held, state}
-use Rattle.office_files.specs.Files.{KeepsFile, LeavesFiles}
+use Rattle.sql_files.specs.Files.{KeepsFile, LeavesFiles}
 use Rattle.store_sql.proofs.rows.Rows.keeps_file.Goals as goal
 
 pub returns-clause-file : goal.returns-clause-file

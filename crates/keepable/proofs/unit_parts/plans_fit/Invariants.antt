@@ -1,7 +1,0 @@
-use Rattle.std.proofs.Common.{take}
-use Rattle.std.specs.Prelude.{All}
-use Rattle.keepable.specs.Keepable.{IsKeepablePlan}
-use Rattle.keepable.proofs.unit_parts.plans_fit.Given as goal
-
-abbrev pub invariant-loop-plan : goal.invariant-loop-plan
-invariant-loop-plan l = All IsKeepablePlan (take l.plan-index l.plans)

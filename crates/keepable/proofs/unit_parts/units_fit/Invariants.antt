@@ -1,7 +1,0 @@
-use Rattle.std.proofs.Common.{take}
-use Rattle.std.specs.Prelude.{All}
-use Rattle.keepable.specs.Keepable.{IsKeepableUnit}
-use Rattle.keepable.proofs.unit_parts.units_fit.Given as goal
-
-abbrev pub invariant-loop-unit : goal.invariant-loop-unit
-invariant-loop-unit l = All (IsKeepableUnit l.lang) (take l.unit-index l.units)

@@ -1,7 +1,0 @@
-use Rattle.std.proofs.Common.{◌≡◌, true}
-use Rattle.std.specs.List.{list_all}
-use Rattle.po_read.specs.Strings.{is_string}
-use Rattle.model_rows.proofs.catalogue_rows.entries.forms.Given as goal
-
-abbrev pub invariant-loop-item : goal.invariant-loop-item
-invariant-loop-item l = list_all is_string l.strings.items ≡ true

@@ -1,5 +1,0 @@
-use Rattle.std.proofs.Common.{rules}
-use Rattle.office_adoption.proofs.faults.OpenFault.unread.Goals as goal
-
-pub returns-in-Disk : goal.returns-in-Disk
-returns-in-Disk c = search rules

@@ -1,9 +1,0 @@
-use Rattle.std.proofs.Common.{ap, leb}
-use Rattle.office_maps.specs.OfficeIn.{office_in}
-use Rattle.office_adoption.proofs.OfficeTests.{frame_told}
-use Rattle.office_adoption.proofs.office_rules.keeps_frame.Goals as goal
-
-pub returns : goal.returns
-returns c =
-    frame_told (office_in c.args.office.now) c.entries-entries.result.now c.hold_all.result c.is_team.result c.are_template_entries.result (leb c.language_count.result 32) c.entries-entries.ensures.value
-    c.entries-entries.ensures.valid c.number.ensures.fits c.hold_all.ensures c.is_team.ensures c.are_template_entries.ensures (ap (λ n. leb n 32) c.language_count.ensures)

@@ -1,4 +1,0 @@
-pub mod RowsInTurn
-pub mod OfficeTables
-pub mod UnitTables
-pub mod WholeOffice

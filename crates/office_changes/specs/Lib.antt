@@ -1,4 +1,0 @@
-pub mod Taken
-pub mod Renewed
-pub mod Added
-pub mod Emptied

@@ -1,4 +1,0 @@
-pub mod WritesInTurn
-pub mod PlannedWrites
-pub mod WholeTransactions
-pub mod ActsWritten

@@ -1,5 +1,0 @@
-use Rattle.office_files.proofs.Listed.{schema_read}
-use Rattle.office_files.proofs.laws.listed_schemas_are_read.Goals as goal
-
-pub returns : goal.returns
-returns c = schema_read

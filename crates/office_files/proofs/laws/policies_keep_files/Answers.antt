@@ -1,5 +1,0 @@
-use Rattle.office_files.proofs.PolicyKept.{policy_keeps}
-use Rattle.office_files.proofs.laws.policies_keep_files.Goals as goal
-
-pub returns : goal.returns
-returns c = policy_keeps

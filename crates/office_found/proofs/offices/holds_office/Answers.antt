@@ -1,7 +1,0 @@
-use Rattle.sqlite.specs.Held.{state}
-use Rattle.office_found.proofs.WholeTest.{office_told}
-use Rattle.office_found.proofs.offices.holds_office.Goals as goal
-
-pub returns-clause-found : goal.returns-clause-found
-returns-clause-found g c =
-    office_told (state g.S.Store c.args.tx.now.conn.now) (state g.S.Store c.are_tables_apart.new.tx.conn.now) c.requires.over c.are_tables_apart.result c.are_tables_apart.ensures.found

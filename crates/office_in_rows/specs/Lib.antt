@@ -1,6 +1,0 @@
-pub mod Values
-pub mod Meaning
-pub mod Cells
-pub mod Written
-pub mod Shown
-pub mod Beginnings

@@ -1,0 +1,13 @@
+pub mod MainAlone
+pub mod Tests
+pub mod UnitTests
+pub mod TemplateTests
+pub mod ContentTests
+pub mod MapRows
+pub mod MainRules
+pub mod PlaceTests
+pub mod TeamTests
+pub mod LanguageTests
+pub mod ProjectTests
+pub mod BookTests
+pub mod GivenLemmas

@@ -1,2 +1,0 @@
-pub mod TableQueries
-pub mod TableTexts

@@ -1,9 +1,0 @@
-pub mod Schema
-pub mod Keys
-pub mod Rows
-pub mod Inside
-pub mod Cleared
-pub mod Whole
-pub mod Creation
-pub mod Answers
-pub mod UnitRows

@@ -1,0 +1,10 @@
+use Rattle.std.proofs.Common.{◌≡◌, ◌+◌}
+use Rattle.std.specs.Prelude.{sum_by}
+use Rattle.std.specs.Map.{values_of}
+use Rattle.deliveries.specs.OfficeActs.{turned}
+use Rattle.office_maps.specs.OfficeIn.{domain_in}
+use Rattle.outcomes.proofs.policy_act.count_all.Given as goal
+
+-- what is counted, and what is left to count
+abbrev pub invariant-loop-domain : goal.invariant-loop-domain
+invariant-loop-domain l = l.count + sum_by (λ d. turned l.fn.policy (domain_in d)) l.domain-iterator ≡ sum_by (λ d. turned l.fn.policy (domain_in d)) (values_of l.fn.office.domains.entries)

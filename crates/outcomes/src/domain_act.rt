@@ -1,0 +1,74 @@
+//! What a new domain comes to, and what an act in a domain comes to for the office.
+
+ghost use Rattle.std.specs.Prelude.{◌≡◌, IfOk, true};
+ghost use Rattle.std.specs.FinMap as maps;
+ghost use Rattle.units.specs.Project.{Project};
+ghost use Rattle.units.specs.Office.{Office, project_in, with_project};
+ghost use Rattle.replies.specs.Bodies.{Stepped};
+ghost use Rattle.deliveries.specs.OfficeActs.{domain_step};
+ghost use Rattle.outcomes.specs.Settled.{IsSettled, IsSettledIn};
+ghost use Rattle.office_maps.specs.OfficeIn.{office_in};
+
+use crate::bodies::domain_added;
+use crate::outcome::{DomainOutcome, OfficeOutcome};
+use deliveries::Change;
+use office_maps::OfficeMaps;
+use po_read::Duplicate;
+use std::alloc::Global;
+use units::{Memory, Name, Refusal};
+
+/// How many domains an office has at most.
+const MAX_DOMAINS: usize = 8;
+
+/// What a new domain comes to.
+pub(crate) fn domain_outcome(
+    alloc: Global,
+    office: &OfficeMaps,
+    domain: &Name,
+) -> Result<OfficeOutcome, Memory>
+    ensures { IfOk result
+        (λ outcome. IsSettled (office_in office.now) outcome (domain_step (office_in office.now) domain.now)) }
+{
+    if office.has_domain(domain) {
+        return OfficeOutcome::refused(alloc, Refusal::DomainExists);
+    }
+    if office.domain_count() >= MAX_DOMAINS {
+        return OfficeOutcome::refused(alloc, Refusal::PastLimit);
+    }
+    let own = domain.duplicate()?;
+    match domain_added(alloc, domain) {
+        Ok(reply) => Ok(OfficeOutcome {
+            change: Some(Change::NewDomain(own)),
+            reply,
+        }),
+        Err(refused) => {
+            drop(own);
+            Err(Memory::from(refused))
+        }
+    }
+}
+
+/// What an act in a domain comes to, as a change of the office.
+pub(crate) fn in_domain(domain: &Name, outcome: DomainOutcome) -> Result<OfficeOutcome, Memory>
+    ensures { IfOk result (λ whole. (office : Office) (stepped : Stepped Project) → maps.contains_key office.domains domain.now ≡ true →
+        IsSettledIn (project_in office domain.now) outcome stepped → IsSettled office whole (with_project office domain.now stepped.0, stepped.1)) }
+{
+    let DomainOutcome { change, reply } = outcome;
+    match change {
+        None => Ok(OfficeOutcome {
+            change: None,
+            reply,
+        }),
+        Some(change) => match domain.duplicate() {
+            Ok(own) => Ok(OfficeOutcome {
+                change: Some(Change::InDomain(own, change)),
+                reply,
+            }),
+            Err(refused) => {
+                drop(change);
+                drop(reply);
+                Err(Memory::from(refused))
+            }
+        },
+    }
+}

@@ -1,0 +1,172 @@
+//! What a language with its text comes to.
+
+ghost use Rattle.std.specs.Prelude.{◌≡◌, Ok, Some, IfOk, false};
+ghost use Rattle.std.specs.FinMap as maps;
+ghost use Rattle.units.specs.Project.{Project};
+ghost use Rattle.units.specs.Rules.{rule_in};
+ghost use Rattle.replies.specs.Bodies.{count_fields, reply as reply_of};
+ghost use Rattle.deliveries.specs.ProjectActs as spec;
+ghost use Rattle.outcomes.specs.Settled.{IsSettledIn};
+ghost use Rattle.office_maps.specs.OfficeIn.{lent_project};
+
+use crate::bodies::language_added;
+use crate::outcome::DomainOutcome;
+use crate::po_text::{header_of, read_text, rule_of};
+use deliveries::{DomainChange, Language};
+use office_maps::ProjectMaps;
+use plural_expr::PluralForms;
+use po_read::{Catalogue, Duplicate, Entry, Text};
+use request_book::Reply;
+use std::alloc::{AllocError, Global};
+use template_update::{Counts, Plan, load};
+use units::{Lang, Memory, Refusal};
+
+/// How many languages a project has at most.
+const MAX_LANGUAGES: usize = 32;
+
+/// What tells of a language that comes: copies of its code and its header, and the reply.
+#[derive(Drop)]
+struct Coming {
+    lang: Lang,
+    header: Entry,
+    reply: Reply,
+}
+
+fn coming_of(
+    alloc: Global,
+    lang: &Lang,
+    header: &Entry,
+    counts: Counts,
+) -> Result<Coming, AllocError>
+    ensures lang { IfOk result (λ coming. coming.lang ≡ lang.now) }
+    ensures header { IfOk result (λ coming. coming.header ≡ header.now) }
+    ensures reply { IfOk result (λ coming. coming.reply ≡ reply_of 200 (count_fields counts)) }
+{
+    Ok(Coming {
+        lang: lang.duplicate()?,
+        reply: language_added(alloc, counts)?,
+        header: header.duplicate()?,
+    })
+}
+
+/// A language comes with its header, its rule and its units.
+fn with_plan(
+    alloc: Global,
+    lang: &Lang,
+    header: &Entry,
+    rule: PluralForms,
+    plan: Plan,
+) -> Result<DomainOutcome, Memory>
+    requires { rule_in (Some header.now) ≡ Ok rule }
+    ensures { IfOk result (λ outcome. (project : Project) → maps.contains_key project.headers lang.now ≡ false →
+        IsSettledIn project outcome (spec.loaded project lang.now header.now plan)) }
+{
+    match coming_of(alloc, lang, header, plan.counts) {
+        Ok(coming) => {
+            let Coming {
+                lang,
+                header,
+                reply,
+            } = coming;
+            let language = Language { header, rule };
+            Ok(DomainOutcome {
+                change: Some(DomainChange::NewLanguage(lang, language, plan)),
+                reply,
+            })
+        }
+        Err(refused) => {
+            drop(rule);
+            drop(plan);
+            Err(Memory::from(refused))
+        }
+    }
+}
+
+/// A language comes with its header, its rule and the units of its text.
+fn load_language(
+    alloc: Global,
+    project: &ProjectMaps<'_>,
+    lang: &Lang,
+    text: &Catalogue,
+    header: &Entry,
+    rule: PluralForms,
+) -> Result<DomainOutcome, Memory>
+    requires rule { rule_in (Some header.now) ≡ Ok rule }
+    requires new { maps.contains_key (lent_project project.now).headers lang.now ≡ false }
+    ensures { IfOk result
+        (λ outcome. IsSettledIn (lent_project project.now) outcome (spec.with_rule (lent_project project.now) lang.now text.now header.now rule)) }
+{
+    if project.language_count() >= MAX_LANGUAGES {
+        drop(rule);
+        return DomainOutcome::refused(alloc, Refusal::PastLimit);
+    }
+    match load(
+        alloc,
+        &project.domain.template.catalogue,
+        text,
+        &rule,
+        &project.policy,
+    ) {
+        Ok(loaded) => match loaded {
+            Some(plan) => with_plan(alloc, lang, header, rule, plan),
+            None => {
+                drop(rule);
+                DomainOutcome::refused(alloc, Refusal::PastLimit)
+            }
+        },
+        Err(refused) => {
+            drop(rule);
+            Err(refused)
+        }
+    }
+}
+
+/// A language comes with a text that spells a catalogue.
+fn add_language(
+    alloc: Global,
+    project: &ProjectMaps<'_>,
+    lang: &Lang,
+    text: &Catalogue,
+) -> Result<DomainOutcome, Memory>
+    requires new { maps.contains_key (lent_project project.now).headers lang.now ≡ false }
+    ensures { IfOk result
+        (λ outcome. IsSettledIn (lent_project project.now) outcome (spec.of_entries (lent_project project.now) lang.now text.now)) }
+{
+    let header = header_of(text.entries());
+    match rule_of(alloc, header)? {
+        Err(fault) => DomainOutcome::refused_rule(alloc, fault),
+        Ok(rule) => match header {
+            None => {
+                drop(rule);
+                DomainOutcome::refused_rule(alloc, None)
+            }
+            Some(header) => load_language(alloc, project, lang, text, header, rule),
+        },
+    }
+}
+
+/// Whether a language is there.
+fn has_language(project: &ProjectMaps<'_>, lang: &Lang) -> bool
+    ensures { result ≡ maps.contains_key (lent_project project.now).headers lang.now }
+{
+    project.domain.languages.get(lang).is_some()
+}
+
+/// What a language comes to.
+pub(crate) fn language_outcome(
+    alloc: Global,
+    project: &ProjectMaps<'_>,
+    lang: &Lang,
+    po: &Text,
+) -> Result<DomainOutcome, Memory>
+    ensures { IfOk result
+        (λ outcome. IsSettledIn (lent_project project.now) outcome (spec.language_step (lent_project project.now) lang.now po.now)) }
+{
+    if has_language(project, lang) {
+        return DomainOutcome::refused(alloc, Refusal::LanguageExists);
+    }
+    match read_text(alloc, po)? {
+        Ok(text) => add_language(alloc, project, lang, &text),
+        Err(fault) => DomainOutcome::refused_text(alloc, fault),
+    }
+}

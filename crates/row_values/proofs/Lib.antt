@@ -1,5 +1,0 @@
-mod ReadBack
-pub mod Readers
-mod Exact
-pub mod Keys
-pub mod rows

@@ -1,5 +1,0 @@
-use Rattle.std.proofs.Common.{rules}
-use Rattle.row_values.proofs.header.rule_from.Goals as goal
-
-pub returns-then-eq-clause-is_field : goal.returns-then-eq-clause-is_field
-returns-then-eq-clause-is_field c = search rules

@@ -1,5 +1,0 @@
-use Rattle.std.proofs.Common.{rules}
-use Rattle.row_values.proofs.numbers.role_column.Goals as goal
-
-pub returns-in-Guest : goal.returns-in-Guest
-returns-in-Guest c = search rules

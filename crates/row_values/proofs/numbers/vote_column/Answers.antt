@@ -1,5 +1,0 @@
-use Rattle.std.proofs.Common.{rules}
-use Rattle.row_values.proofs.numbers.vote_column.Goals as goal
-
-pub returns-in-For : goal.returns-in-For
-returns-in-For c = search rules

@@ -1,0 +1,14 @@
+pub mod RecordRows
+pub mod WholeBook
+pub mod Looked
+pub mod LookedUp
+pub mod Langs
+pub mod Stand
+pub mod Read
+pub mod Kept
+pub mod Adopted
+pub mod Parts
+pub mod Looks
+pub mod RowidTests
+pub mod RowidQueries
+pub mod WholeTest

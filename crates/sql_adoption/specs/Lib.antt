@@ -1,0 +1,11 @@
+pub mod BookShown
+pub mod Adoption
+pub mod Faults
+pub mod Reading
+pub mod Found
+pub mod Looks
+pub mod Shapes
+pub mod Checks
+pub mod Tables
+pub mod RisingRows
+pub mod RowidQueries

@@ -1,0 +1,87 @@
+//! The book of the rows, beside an office that was read.
+ghost use Rattle.std.specs.Prelude.{◌≡◌, ◌↔◌, true, false, IfOk, IfErr, OnOk};
+ghost use Rattle.sqlite.specs.Held.{state};
+ghost use Rattle.sqlite.specs.State.{HasCleanDisk};
+ghost use Rattle.request_book.specs.Book.{Book};
+ghost use Rattle.deliveries.specs.OfficeRules.{KeepsRules};
+ghost use Rattle.office_maps.specs.OfficeIn.{office_in};
+ghost use Rattle.sql_schema.specs.Whole.{IsIdle, IsLookUp};
+ghost use Rattle.office_rules.specs.Given.{AreStatusesOf};
+ghost use Rattle.sql_adoption.specs.Reading.{AreStatusesIn, HoldsMain, KeepsBook, RefusesWith, RefusesBook, RefusesKept};
+
+use crate::faults::{Mismatch, OpenFault};
+use crate::look_ups::look_up_records;
+use crate::office_read::ReadOffice;
+use crate::statuses::statuses_in;
+use office_rules::keeps_rules;
+use sqlite::{Alter, Connection};
+use std::alloc::{AllocError, Global};
+use std::collections::BTreeMap;
+use units::Name;
+use uuid::Uuid;
+
+/// The statuses of all records.
+fn read_statuses<S: Alter>(
+    connection: &mut Connection<S>,
+    alloc: Global,
+) -> Result<BTreeMap<Uuid, u16>, OpenFault>
+    requires autocommit { connection.old.in_transaction ≡ false }
+    requires idle { IsIdle (state S.Store connection.old) }
+    ensures found { IsLookUp (state S.Store connection.old) (state S.Store connection.new) result AreStatusesIn }
+    ensures refused { IfErr result (λ fault. HasCleanDisk (state S.Store connection.new) → RefusesBook (state S.Store connection.old).now fault) }
+{
+    let rows = look_up_records(connection)?;
+    match statuses_in(alloc, rows.as_slice()) {
+        Ok(statuses) => Ok(statuses),
+        Err(failure) => Err(OpenFault::unread(failure)),
+    }
+}
+
+/// Whether the rules hold, for a book of whose records these are the statuses.
+fn holds_rules(
+    alloc: Global,
+    read: &ReadOffice,
+    statuses: &BTreeMap<Uuid, u16>,
+) -> Result<bool, AllocError>
+    requires holds { HoldsMain read.now }
+    ensures { (book : Book) → AreStatusesOf book statuses.now
+        → IfOk result (λ holds. (holds ≡ true) ↔ KeepsRules (record { office = office_in read.now.maps; book = book })) }
+{
+    match read.maps.project(&Name::main_domain()) {
+        Some(project) => keeps_rules(alloc, &project, read.langs.as_slice(), statuses),
+        None => Ok(false),
+    }
+}
+
+/// Tests the rules, for a book of whose records these are the statuses.
+fn keep_rules(
+    alloc: Global,
+    read: &ReadOffice,
+    statuses: &BTreeMap<Uuid, u16>,
+) -> Result<(), OpenFault>
+    requires holds { HoldsMain read.now }
+    ensures kept { (book : Book) → AreStatusesOf book statuses.now → OnOk result (KeepsRules (record { office = office_in read.now.maps; book = book })) }
+    ensures refused { (book : Book) → AreStatusesOf book statuses.now → IfErr result (RefusesWith (record { office = office_in read.now.maps; book = book })) }
+{
+    if holds_rules(alloc, read, statuses)? {
+        Ok(())
+    } else {
+        Err(OpenFault::Foreign(Mismatch::BrokenRules))
+    }
+}
+
+/// Tests the rules of an office that was read, with the book of the rows.
+pub fn keep_book<S: Alter>(
+    connection: &mut Connection<S>,
+    alloc: Global,
+    read: &ReadOffice,
+) -> Result<(), OpenFault>
+    requires autocommit { connection.old.in_transaction ≡ false }
+    requires idle { IsIdle (state S.Store connection.old) }
+    requires holds { HoldsMain read.now }
+    ensures found { IsLookUp (state S.Store connection.old) (state S.Store connection.new) result (λ db _. KeepsBook (office_in read.now.maps) db) }
+    ensures refused { IfErr result (λ fault. HasCleanDisk (state S.Store connection.new) → RefusesKept (office_in read.now.maps) (state S.Store connection.old).now fault) }
+{
+    let statuses = read_statuses(connection, alloc)?;
+    keep_rules(alloc, read, &statuses)
+}

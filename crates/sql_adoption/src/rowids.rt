@@ -1,0 +1,94 @@
+//! Whether the rowids of each table are integers, no two the same.
+ghost use Rattle.std.specs.Prelude.{◌≡◌, ◌↔◌, true, None, ℕ};
+ghost use Rattle.sqlite.specs.Held.{state};
+ghost use Rattle.sqlite.specs.Order.{column};
+ghost use Rattle.sql_laws.specs.ApartRows.{AreApart};
+ghost use Rattle.sql_schema.specs.Inside.{AreTables};
+ghost use Rattle.sql_adoption.specs.Looks.{IsOver, IsLook, HasSchema};
+ghost use Rattle.sql_adoption.specs.RisingRows as spec;
+ghost use Rattle.sql_adoption.specs.RowidQueries.{IsRowidQuery};
+
+use sqlite::types::ValueRef;
+use sqlite::{Alter, Error, Row, Transaction};
+
+/// The rowids of each table, upwards.
+const ROWIDS: [&str; 8] = [
+    "SELECT rowid FROM record ORDER BY rowid",
+    "SELECT rowid FROM team ORDER BY rowid",
+    "SELECT rowid FROM policy ORDER BY rowid",
+    "SELECT rowid FROM template ORDER BY rowid",
+    "SELECT rowid FROM language ORDER BY rowid",
+    "SELECT rowid FROM unit ORDER BY rowid",
+    "SELECT rowid FROM suggestion ORDER BY rowid",
+    "SELECT rowid FROM vote ORDER BY rowid",
+];
+
+/// The integer that a row shows first.
+fn integer_of(row: &Row) -> Option<i64>
+    ensures { result ≡ spec.integer_in (column row.now 0) }
+{
+    match row.get_ref(0) {
+        Ok(ValueRef::Int(id)) => Some(id),
+        _ => None,
+    }
+}
+
+/// Whether a number is above the last one, if there is one.
+fn is_above(last: Option<i64>, id: i64) -> bool
+    ensures { result ≡ spec.is_above last id }
+{
+    match last {
+        Some(before) => before.cmp(&id).is_lt(),
+        None => true,
+    }
+}
+
+/// The integer that a row shows first, if it is above the last one.
+fn next_integer(last: Option<i64>, row: &Row) -> Option<i64>
+    ensures { result ≡ spec.follows last (spec.integer_in (column row.now 0)) }
+{
+    let id = integer_of(row)?;
+    if is_above(last, id) { Some(id) } else { None }
+}
+
+/// Whether the rows show integers, each above the one before.
+fn are_rising(rows: &[Row]) -> bool
+    ensures { result ≡ spec.are_rising None rows.now }
+{
+    let mut last = None;
+    for row in rows {
+        let next = next_integer(last, row);
+        match next {
+            Some(_) => last = next,
+            None => return false,
+        }
+    }
+    true
+}
+
+/// Whether the rowids that a query shows are integers, no two the same.
+fn is_apart<S: Alter>(tx: &mut Transaction<'_, S>, query: &str) -> Result<bool, Error>
+    requires over { IsOver HasSchema (state S.Store tx.old.conn.now) }
+    ensures same_reference { tx.new.conn.ghost_name ≡ tx.old.conn.ghost_name }
+    ensures found { (tree : ℕ) → IsRowidQuery query.now tree
+        → IsLook (state S.Store tx.old.conn.now) (state S.Store tx.new.conn.now) result
+        (λ db apart. (apart ≡ true) ↔ AreApart (db.trees tree)) }
+{
+    let rows = tx.query_all(query, &[])?;
+    Ok(are_rising(&rows))
+}
+
+/// Whether the rowids of each of the eight tables are integers, no two the same.
+pub(crate) fn are_tables_apart<S: Alter>(tx: &mut Transaction<'_, S>) -> Result<bool, Error>
+    requires over { IsOver HasSchema (state S.Store tx.old.conn.now) }
+    ensures same_reference { tx.new.conn.ghost_name ≡ tx.old.conn.ghost_name }
+    ensures found { IsLook (state S.Store tx.old.conn.now) (state S.Store tx.new.conn.now) result
+        (λ db apart. (apart ≡ true) ↔ AreTables db.trees) }
+{
+    for query in &ROWIDS {
+        if !is_apart(tx, query)? {
+            return Ok(false);
+        }
+    }
+    Ok(true)
+}

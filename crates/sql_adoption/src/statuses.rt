@@ -1,0 +1,90 @@
+//! The statuses of all records, as the rows of a read of them all show them.
+ghost use Rattle.std.specs.Prelude.{◌≡◌, true, Some, All, IfOk, IfErr, OnOk};
+ghost use Rattle.std.specs.FinMap as maps;
+ghost use Rattle.request_book.specs.Book.{Book, row_of, with_record};
+ghost use Rattle.sql_columns.specs.Readings.{number_read};
+ghost use Rattle.sql_schema.specs.Keys.{text_at};
+ghost use Rattle.sql_meaning.specs.Meaning.{number_at};
+ghost use Rattle.sql_meaning.specs.Shown.{shown_record};
+ghost use Rattle.request_book.specs.Contents.{IsContent};
+ghost use Rattle.office_rules.specs.Given.{AreStatusesOf};
+ghost use Rattle.sql_decoding.specs.RowTests.{holds_text, is_number, is_record_row, IsUnread};
+ghost use Rattle.tables.specs.declared.faults.Lost.TheVariants.{Disk};
+ghost use Rattle.sql_adoption.specs.BookShown.{book_shown, IsRecordRow};
+
+use office_rules::{is_content, note_status};
+use request_book::{Record, bytes_fit};
+use sql_columns::number_from;
+use sql_decoding::{Failure, record_in};
+use sqlite::Row;
+use std::alloc::Global;
+use std::collections::BTreeMap;
+use tables::Lost;
+use uuid::Uuid;
+
+/// The number of a row's record.
+fn number_of(row: &Row) -> Result<Uuid, Failure>
+    ensures shown { IfOk result (λ number. number_read (text_at 3 row.now) ≡ Some number) }
+    ensures stands { OnOk result (holds_text is_number 3 row.now ≡ true) }
+    ensures unread { IfErr result (IsUnread (holds_text is_number 3 row.now)) }
+{
+    let column: String = row.get(3)?;
+    let number = number_from(column.as_str())?;
+    bytes_fit(number.as_bytes());
+    Ok(number)
+}
+
+/// The record of a row.
+fn record_of(row: &Row) -> Result<Record, Failure>
+    ensures value { IfOk result (λ r. r ≡ row_of (number_at 3 row.now) (shown_record row.now)) }
+    ensures stands { OnOk result (is_record_row row.now ≡ true) }
+    ensures unread { IfErr result (IsUnread (is_record_row row.now)) }
+{
+    let number = number_of(row)?;
+    record_in(number, row)
+}
+
+/// Notes a record's status, where its content is a request's.
+fn note_record(
+    alloc: Global,
+    statuses: &mut BTreeMap<Uuid, u16>,
+    known: &Record,
+) -> Result<(), Failure>
+    ensures noted { (book : Book) → AreStatusesOf book statuses.old → OnOk result (AreStatusesOf (with_record book known.now) statuses.new) }
+    ensures content { OnOk result (IsContent known.now.content) }
+    ensures refused { IfErr result (λ failure. failure.lost ≡ Disk → ¬ IsContent known.now.content) }
+{
+    if !is_content(alloc, known.content.as_str())? {
+        return Err(Failure { lost: Lost::Disk });
+    }
+    note_status(statuses, known)?;
+    Ok(())
+}
+
+/// Notes the status of a row's record.
+fn note_row(alloc: Global, statuses: &mut BTreeMap<Uuid, u16>, row: &Row) -> Result<(), Failure>
+    ensures noted { (book : Book) → AreStatusesOf book statuses.old
+        → OnOk result (AreStatusesOf (maps.insert book (number_at 3 row.now) (shown_record row.now)) statuses.new) }
+    ensures stands { OnOk result (IsRecordRow row.now) }
+    ensures unread { IfErr result (λ failure. failure.lost ≡ Disk → ¬ IsRecordRow row.now) }
+{
+    let record = record_of(row)?;
+    let done = note_record(alloc, statuses, &record);
+    drop(record);
+    done
+}
+
+/// The statuses of the replies that all rows of the table of records show, by their numbers.
+///
+/// `Memory` where a growth was refused, and `Disk` exactly where a row stands for no record or its content is no request's.
+pub(crate) fn statuses_in(alloc: Global, rows: &[Row]) -> Result<BTreeMap<Uuid, u16>, Failure>
+    ensures statuses { IfOk result (AreStatusesOf (book_shown rows.now)) }
+    ensures stand { IfOk result (λ _. All IsRecordRow rows.now) }
+    ensures unread { IfErr result (λ failure. failure.lost ≡ Disk → ¬ All IsRecordRow rows.now) }
+{
+    let mut statuses = BTreeMap::new(alloc);
+    for row in rows {
+        note_row(alloc, &mut statuses, row)?;
+    }
+    Ok(statuses)
+}

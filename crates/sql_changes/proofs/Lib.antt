@@ -1,0 +1,14 @@
+pub mod Changed
+pub mod Team
+pub mod RoleCommits
+pub mod Policy
+pub mod States
+pub mod Units
+pub mod PolicyCommits
+pub mod AddedSuggestions
+pub mod UnitCommits
+pub mod PlannedUnits
+pub mod LanguageCommits
+pub mod Template
+pub mod TemplateCommits
+pub mod DomainCommits

@@ -1,0 +1,38 @@
+-- What the commit of a role makes of the office with its book.
+use Rattle.std.proofs.Common.{◌≡◌, ℤ, Option, Some, None, refl, sym, ap, subst, ◌∙◌}
+use Rattle.sqlite.specs.Effect.{Database}
+use Rattle.po_read.specs.Texts.{Text}
+use Rattle.units.specs.Changes.{set_role, with_team}
+use Rattle.units.specs.Project.{Project}
+use Rattle.units.specs.declared.unit.Role.{Role}
+use Rattle.request_book.specs.Book.{with_record}
+use Rattle.request_book.specs.declared.book.Record.{Record}
+use Rattle.sql_columns.specs.Numbers.{role_number}
+use Rattle.sql_laws.specs.RowMaps.{OneEach}
+use Rattle.sql_schema.specs.Inside.{AreOfficeTables}
+use Rattle.sql_schema.specs.Keys.{first_text}
+use Rattle.sql_schema.specs.Schema.{team_tree}
+use Rattle.sql_schema.proofs.Steps.{table_apart}
+use Rattle.sql_schema.proofs.TableRows.{members, one_member}
+use Rattle.sql_meaning.specs.Meaning.{AreNumbered, book_in, team_in, project_of_rows, meaning_in}
+use Rattle.sql_meaning.proofs.CommitLaws.{same_project}
+use Rattle.sql_changes.specs.Commits.{WritesRole, MakesRole}
+use Rattle.sql_changes.proofs.Changed.{Spares, another_team, commits_change}
+use Rattle.sql_changes.proofs.Team.{team_changed}
+
+abbrev with_role : Text → Role → Project → Project
+with_role name role project = record project { team = set_role name role project.team }
+
+spares_others : (name : Text) (role : Option ℤ) (old new : Database) → WritesRole name role old new → Spares team_tree old new
+spares_others name None old new taken = taken.others
+spares_others name (Some n) old new put = put.others
+
+pub commits_role : (old after : Database) (row : Record) (name : Text) (role : Role) → AreOfficeTables old → AreNumbered old.trees → MakesRole row name role old after
+    → (meaning_in after.trees ≡ record { office = with_team (meaning_in old.trees).office (set_role name role (team_in old.trees)); book = with_record (book_in old.trees) row })
+    × AreNumbered after.trees
+commits_role old after row name role ready numbered (mid, put, written) =
+    let others = spares_others name (role_number role) mid after written in
+    let was = put.0.others.1.0 (λ e. cc) in
+    let one : OneEach first_text (mid.trees team_tree) = subst (OneEach first_text) (sym was) (one_member old ready.schema ready.sound (table_apart old.trees 1 members refl ready.tables)) in
+    commits_change old mid after row (with_role name role (project_of_rows old.trees)) ready numbered put (others.0 (λ e. cc))
+    (another_team mid after (set_role name role (team_in mid.trees)) others (team_changed mid after name one role written) ∙ ap (with_role name role) (same_project old mid row put.0))

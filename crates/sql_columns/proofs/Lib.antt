@@ -1,0 +1,5 @@
+pub mod ReadBack
+pub mod Readers
+pub mod Exact
+pub mod Keys
+pub mod rows

@@ -1,0 +1,110 @@
+//! Columns that are a list of texts: comment lines, references, flags and forms.
+ghost use Rattle.std.specs.Prelude.{◌≡◌, List, true, false, Err, Some, None, IfOk, option_and_then};
+ghost use Rattle.po_read.specs.Strings.{is_forms};
+ghost use Rattle.request_book.specs.Words.{strings};
+ghost use Rattle.serde_json.specs.Read.{read};
+ghost use Rattle.serde_json.specs.View.{view};
+ghost use Rattle.sql_columns.specs.Faults.{Gives};
+ghost use Rattle.sql_columns.specs.Readings.{texts_of, texts_read};
+ghost use Rattle.sql_columns.specs.Written.{texts_text};
+ghost use Rattle.sql_columns.specs.declared.fault.RowFault.TheVariants.{Malformed};
+
+use crate::fault::RowFault;
+use crate::names::string_from;
+use crate::values::{compact, texts_in, texts_value, value_from};
+use po_read::{Forms, Items, Text};
+use serde_json::Value;
+use std::alloc::{AllocError, Global};
+
+/// The column of a list of texts: a compact JSON list.
+pub fn texts_column(alloc: Global, texts: &Items<Text>) -> Result<Text, AllocError>
+    ensures { IfOk result (λ column. column ≡ texts_text texts.now) }
+{
+    let value = texts_value(alloc, texts.as_slice())?;
+    compact(alloc, &value)
+}
+
+/// The list of texts that a column stands for.
+pub fn texts_from(alloc: Global, column: &str) -> Result<Items<Text>, RowFault>
+    ensures ok { IfOk result (λ texts. column.now ≡ texts_text texts) }
+    ensures back { (texts : List Text) → column.now ≡ texts_text texts → Gives result texts }
+{
+    texts_read_from(alloc, column)
+}
+
+fn texts_read_from(alloc: Global, column: &str) -> Result<Items<Text>, RowFault>
+    ensures ok { IfOk result (λ texts. texts_read column.now ≡ Some texts) }
+    ensures malformed { result ≡ Err Malformed → texts_read column.now ≡ None }
+{
+    let texts = texts_parsed(alloc, column)?;
+    match texts_column(alloc, &texts) {
+        Ok(written) => {
+            let same = written.as_str() == column;
+            drop(written);
+            if same {
+                Ok(texts)
+            } else {
+                drop(texts);
+                Err(RowFault::Malformed)
+            }
+        }
+        Err(_) => {
+            drop(texts);
+            Err(RowFault::Memory)
+        }
+    }
+}
+
+/// The texts in the JSON of a column, which may be written in another way.
+fn texts_parsed(alloc: Global, column: &str) -> Result<Items<Text>, RowFault>
+    ensures ok { IfOk result (λ texts. option_and_then texts_of (read column.now) ≡ Some texts) }
+    ensures malformed { result ≡ Err Malformed → option_and_then texts_of (read column.now) ≡ None }
+{
+    let value = value_from(alloc, column)?;
+    let texts = texts_in(alloc, &value);
+    drop(value);
+    texts
+}
+
+/// The column of forms: a compact JSON list, form 0 first.
+pub fn forms_column(alloc: Global, forms: &Forms) -> Result<Text, AllocError>
+    ensures { IfOk result (λ column. column ≡ texts_text forms.now) }
+{
+    let value = forms_value(alloc, forms)?;
+    compact(alloc, &value)
+}
+
+fn forms_value(alloc: Global, forms: &Forms) -> Result<Value, AllocError>
+    ensures { IfOk result (λ v. view v ≡ strings forms.now) }
+{
+    let mut list = Vec::new(alloc);
+    for form in forms.as_slice() {
+        list.push(Value::try_from_str(alloc, form.as_str())?)?;
+    }
+    Ok(Value::Array(list))
+}
+
+/// The forms that a column stands for.
+pub fn forms_from(alloc: Global, column: &str) -> Result<Forms, RowFault>
+    ensures ok { IfOk result (λ forms. column.now ≡ texts_text forms) }
+    ensures fits { IfOk result (λ forms. is_forms forms ≡ true) }
+    ensures back { (forms : Forms) → is_forms forms ≡ true → column.now ≡ texts_text forms → Gives result forms }
+{
+    let texts = texts_from(alloc, column)?;
+    forms_of(alloc, texts.as_slice())
+}
+
+fn forms_of(alloc: Global, texts: &[Text]) -> Result<Forms, RowFault>
+    ensures ok { IfOk result (λ forms. texts.now ≡ forms) }
+    ensures fits { IfOk result (λ forms. is_forms forms ≡ true) }
+    ensures malformed { result ≡ Err Malformed → is_forms texts.now ≡ false }
+{
+    let mut strings = Vec::new(alloc);
+    for text in texts {
+        strings.push(string_from(alloc, text.as_str())?)?;
+    }
+    match Forms::try_new(strings) {
+        Some(forms) => Ok(forms),
+        None => Err(RowFault::Malformed),
+    }
+}

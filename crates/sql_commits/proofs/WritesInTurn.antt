@@ -1,0 +1,153 @@
+-- Writes one after the other, and rows of a list that are put in its order.
+use Rattle.std.proofs.Common.{◌≡◌, inl, inr, ℕ, ℤ, pos, ◌+◌, List, [], ◌∷◌, ◌++◌, length, map, take, get_or, ◌<◌, Some, w64, to_z, of_z, Result, Ok, Err, OnOk, IsTrue, refl, sym, ap, subst, ◌∙◌, arith}
+use Rattle.std.proofs.lemmas.List.{take_more, length-take, map-append}
+use Rattle.std.specs.FinMap as maps
+use Rattle.std.specs.Prelude.{MatchResult, IsErrAnd}
+use Rattle.sqlite.specs.declared.types.Value.TheVariants.{Int, Text as Words}
+use Rattle.sqlite.specs.Effect.{Database}
+use Rattle.sqlite.specs.Order.{Row}
+use Rattle.sqlite.specs.State.{State, HasCleanDisk, Survives, KeepsCommit}
+use Rattle.sqlite_rules.proofs.ListLemmas.{has_either}
+use Rattle.po_read.specs.Texts.{Text}
+use Rattle.units.specs.Units.{key_text}
+use Rattle.units.specs.declared.unit.Suggestion.{Suggestion}
+use Rattle.units.specs.declared.unit.Unit.{Unit}
+use Rattle.request_book.specs.Words.{number_text}
+use Rattle.sql_columns.specs.Written.{texts_text}
+use Rattle.sql_schema.specs.Cleared.{ClearsUnit}
+use Rattle.sql_schema.specs.Keys.{first_text, first_texts}
+use Rattle.sql_schema.specs.Schema.{unit_tree, suggestion_tree, vote_tree}
+use Rattle.sql_meaning.specs.Cells.{unit_cells, suggestion_cells, vote_cells}
+use Rattle.units.specs.declared.votes.VoteValue.{VoteValue}
+use Rattle.units.specs.declared.votes.VoteValue.TheVariants.{For, Against}
+use Rattle.request_book.specs.Acts.{IsNumber, vote_number}
+use Rattle.sql_schema.specs.Inside.{IsSteady, IsInside, PutsRow, HoldsValues, Then}
+use Rattle.sql_schema.proofs.Sequences.{writes_both}
+use Rattle.sql_statements.specs.Added.{AddsRow}
+use Rattle.sql_meaning.specs.Written.{PutsRows}
+use Rattle.sql_changes.specs.UnitWrites.{HaveNumbers, AddsSuggestion, AddsSuggestions, AddsNumberedSuggestion, AddsNumberedSuggestions, WritesNumberedUnit}
+
+module _ (a b : State) where
+  -- a write that succeeded, with another result, and what it made told in other words
+  pub write_told : {A B E F : Type 0} (x : A) (y : B) (P Q : Database → Database → Type 0) → (P a.now b.now → Q a.now b.now) → IsInside {E = E} a b (Ok x) P → IsInside {E = F} a b (Ok y) Q
+  write_told x y P Q tells it = record { made = λ clean. tells (it.made clean); ready = it.ready; stays = it.stays; kept = it.kept; survives = it.survives }
+
+  -- a write whose error is told as another, and what it made told in other words
+  pub write_mapped : {A E F : Type 0} (r : Result A E) (told : Result A F) (Tells : E → F → Type 0) (P Q : Database → Database → Type 0)
+      → MatchResult r (λ x. told ≡ Ok x) (λ e. IsErrAnd told (Tells e)) → (P a.now b.now → Q a.now b.now) → IsInside a b r P → IsInside a b told Q
+  write_mapped {A} {E} {F} (Ok x) told Tells P Q is tells it = subst (λ t. IsInside a b t Q) (sym is) (write_told {A = A} {B = A} {E = E} {F = F} x x P Q tells it)
+  write_mapped (Err e) (Ok x) Tells P Q is tells it = absurd is
+  write_mapped (Err e) (Err f) Tells P Q is tells it = record { made = λ clean. tt; ready = λ clean. tt; stays = λ clean. tt; kept = it.kept; survives = it.survives }
+
+module _ (a : State) where
+  keeps_same : KeepsCommit a a
+  keeps_same = record { was_open = λ is_open. is_open; committed = λ is_open. refl }
+
+  survives_same : Survives a a (λ _. ⊥)
+  survives_same = record {
+    clean = omega arith;
+    shield = λ shield. shield;
+    counts = omega arith;
+    limit = refl;
+    closes = λ clean is_open. inl is_open;
+    crash = λ clean db left. inl left;
+  }
+
+  -- nothing to write
+  pub nothing_put : {A E : Type 0} (x : A) (P : Database → Database → Type 0) → IsSteady a → (HasCleanDisk a → IsTrue a.is_open) → P a.now a.now → IsInside {E = E} a a (Ok x) P
+  nothing_put x P steady is_open made = record {
+    made = λ clean. made;
+    ready = λ clean. steady.ready clean (is_open clean);
+    stays = λ clean. record { inside = steady.inside clean; is_open = is_open clean; committed = refl };
+    kept = λ clean. keeps_same;
+    survives = survives_same;
+  }
+
+module _ (a b c : State) where
+  on_ok : {X E : Type 0} {A B : Type 0} (r : Result X E) → (A → B) → OnOk r A → OnOk r B
+  on_ok (Ok x) f h = f h
+  on_ok (Err e) f h = h
+
+  -- a write after a write, and what both made told in other words
+  pub write_then : {A B E F : Type 0} (x : A) (r : Result B F) (P Q R : Database → Database → Type 0) → (P a.now b.now → Q b.now c.now → R a.now c.now)
+      → IsInside {E = E} a b (Ok x) P → IsInside b c r Q → IsInside a c r R
+  write_then {A} {B} {E} {F} x r P Q R tells one two =
+      let both = writes_both a b c {E = F} x r P Q (write_told a b {F = F} x x P P (λ made. made) one) two in
+      record {
+        made = λ clean. on_ok r (tells (one.made (omega (arith, clean, two.survives.clean)))) (two.made clean);
+        ready = both.ready;
+        stays = both.stays;
+        kept = both.kept;
+        survives = both.survives;
+      }
+
+-- ---- one more at the end
+
+pub puts_row_more : {K : Type 0} (tree : ℕ) (key : Row → K) (all : List Row) (cells : Row) (old mid new : Database)
+    → PutsRows tree key all old mid → PutsRow tree key (HoldsValues cells) mid new → PutsRows tree key (all ++ cells ∷ []) old new
+puts_row_more tree key [] cells old mid new is put = (new, subst (λ d. PutsRow tree key (HoldsValues cells) d new) is put, refl)
+puts_row_more tree key (first ∷ more) cells old mid new (next, one, rest) put = (next, one, puts_row_more tree key more cells next mid new rest put)
+
+pub adds_suggestion_more : (lang key : Text) (place : ℕ) (ss : List Suggestion) (s : Suggestion) (old mid new : Database)
+    → AddsSuggestions lang key place ss old mid → AddsSuggestion lang key (place + length ss) s mid new → AddsSuggestions lang key place (ss ++ s ∷ []) old new
+adds_suggestion_more lang key place [] s old mid new is put =
+    (new, subst (λ n. AddsSuggestion lang key n s old new) (omega arith) (subst (λ d. AddsSuggestion lang key (place + 0) s d new) is put), refl)
+adds_suggestion_more lang key place (t ∷ more) s old mid new (next, one, rest) put =
+    (next, one, adds_suggestion_more lang key (place + 1) more s next mid new rest (subst (λ n. AddsSuggestion lang key n s mid new) (omega arith) put))
+
+pub numbers_more : (ss : List Suggestion) (s : Suggestion) → HaveNumbers ss → IsNumber s.number → HaveNumbers (ss ++ s ∷ [])
+numbers_more ss s all one t there = elim (has_either ss (s ∷ []) t there) [
+  | inl before ↦ all t before
+  | inr last ↦ elim last [ inl is ↦ subst (λ (x : Suggestion). IsNumber x.number) (sym is) one | inr none ↦ absurd none ]
+]
+
+-- as it goes through 64 bits
+pub vote_through : (vote : VoteValue) → to_z w64 (of_z w64 (vote_number (Some vote))) ≡ vote_number (Some vote)
+vote_through For = refl
+vote_through Against = refl
+
+pub puts_vote_next : (number voter : Text) (value : ℤ) (votes : List (Text × VoteValue)) (i : ℕ) (vote : Text × VoteValue) (old mid new : Database)
+    → i < length votes → vote ≡ get_or votes i vote → voter ≡ vote.0 → value ≡ vote_number (Some vote.1)
+    → PutsRows vote_tree first_texts (map (vote_cells number) (take i votes)) old mid
+    → PutsRow vote_tree first_texts (HoldsValues (Words number ∷ Words voter ∷ Int value ∷ [])) mid new
+    → PutsRows vote_tree first_texts (map (vote_cells number) (take (i + 1) votes)) old new
+puts_vote_next number voter value votes i vote old mid new within is is_voter is_value front put =
+    let row : Row = Words number ∷ Words voter ∷ Int value ∷ [] in
+    let cells : row ≡ vote_cells number vote = cc in
+    let taken : take (i + 1) votes ≡ take i votes ++ vote ∷ [] = take_more votes i vote within ∙ ap (λ v. take i votes ++ v ∷ []) (sym is) in
+    let all : map (vote_cells number) (take (i + 1) votes) ≡ map (vote_cells number) (take i votes) ++ vote_cells number vote ∷ [] =
+    ap (map (vote_cells number)) taken ∙ map-append (vote_cells number) (take i votes) (vote ∷ []) in
+    subst (λ rows. PutsRows vote_tree first_texts rows old new) (sym all)
+    (puts_row_more vote_tree first_texts (map (vote_cells number) (take i votes)) (vote_cells number vote) old mid new front (subst (λ c. PutsRow vote_tree first_texts (HoldsValues c) mid new) cells put))
+
+pub adds_suggestion_next : (lang key : Text) (ss : List Suggestion) (i : ℕ) (s : Suggestion) (old mid new : Database)
+    → i < length ss → s ≡ get_or ss i s → AddsNumberedSuggestions lang key (take i ss) old mid → AddsNumberedSuggestion lang key i s mid new → AddsNumberedSuggestions lang key (take (i + 1) ss) old new
+adds_suggestion_next lang key ss i s old mid new within is front put =
+    let taken : take (i + 1) ss ≡ take i ss ++ s ∷ [] = take_more ss i s within ∙ ap (λ v. take i ss ++ v ∷ []) (sym is) in
+    let place : i ≡ 0 + length (take i ss) = omega (arith, length-take i ss) in
+    subst (λ xs. AddsNumberedSuggestions lang key xs old new) (sym taken)
+    (adds_suggestion_more lang key 0 (take i ss) s old mid new front.0 (subst (λ n. AddsSuggestion lang key n s mid new) place put.0), numbers_more (take i ss) s front.1 put.1)
+
+-- ---- what is written, by the columns that are given
+
+pub adds_numbered_suggestion : (lang key number again suggester forms : Text) (at : ℤ) (place : ℕ) (s : Suggestion) (old mid new : Database)
+    → number ≡ number_text s.number → again ≡ number_text s.number → suggester ≡ s.suggester → forms ≡ texts_text s.forms → at ≡ pos place → IsNumber s.number
+    → AddsRow suggestion_tree first_text (HoldsValues (Words number ∷ Words lang ∷ Words key ∷ Int at ∷ Words suggester ∷ Words forms ∷ [])) old mid
+    → PutsRows vote_tree first_texts (map (vote_cells again) (maps.entries s.votes)) mid new → AddsNumberedSuggestion lang key place s old new
+adds_numbered_suggestion lang key number again suggester forms at place s old mid new is_number is_again is_suggester is_forms is_at valid row votes =
+    let same : Words number ∷ Words lang ∷ Words key ∷ Int at ∷ Words suggester ∷ Words forms ∷ [] ≡ suggestion_cells lang key place s = cc in (
+      (
+        mid,
+        subst (λ cells. AddsRow suggestion_tree first_text (HoldsValues cells) old mid) same row,
+        subst (λ n. PutsRows vote_tree first_texts (map (vote_cells n) (maps.entries s.votes)) mid new) is_again votes,
+      ),
+      valid,
+    )
+
+pub writes_numbered_unit : (lang key key_all : Text) (unit : Unit) (ss : List Suggestion) (old mid new : Database)
+    → key ≡ key_text unit.key → key_all ≡ key_text unit.key → ss ≡ unit.suggestions
+    → PutsRow unit_tree first_texts (HoldsValues (unit_cells lang unit)) old mid → Then (ClearsUnit lang key) (AddsNumberedSuggestions lang key_all ss) mid new → WritesNumberedUnit lang unit old new
+writes_numbered_unit lang key key_all unit ss old mid new is_key is_key_all are row (next, cleared, all) =
+    let gone = subst (λ k. ClearsUnit lang k mid next) is_key cleared in
+    let put = subst (λ k. AddsNumberedSuggestions lang k unit.suggestions next new) is_key_all (subst (λ xs. AddsNumberedSuggestions lang key_all xs next new) are all) in
+    (mid, row, (next, gone, put))

@@ -1,0 +1,23 @@
+use Rattle.std.proofs.Common.{Ok, ℕ, ◌+◌, take, ◌∙◌}
+use Rattle.sqlite.specs.Held.{state}
+use Rattle.sqlite.specs.declared.error.Error.{Error}
+use Rattle.sql_decoding.specs.declared.faults.Failure.{Failure}
+use Rattle.sql_changes.specs.UnitWrites.{WritesPlanned, WritesUnits}
+use Rattle.sql_commits.proofs.PlannedWrites.{units_next}
+use Rattle.sql_commits.proofs.WritesInTurn.{write_then, write_told}
+use Rattle.sql_commits.proofs.planned_units.write_units.Goals as goal
+
+pub loop-unit-preserved : goal.loop-unit-preserved
+loop-unit-preserved g c =
+    let old = state g.S.Store c.args.tx.now.conn.now in
+    let mid = state g.S.Store c.loop-unit.tx.conn.now in
+    let new = state g.S.Store c.write_planned.new.tx.conn.now in
+    let lang = c.args.lang.now in
+    let units = c.args.units.now in
+    let i = c.loop-unit.unit-index in
+    let One = WritesPlanned lang c.unit-item.result in (
+      c.in_ok-write_planned.ensures.same_reference ∙ c.loop-unit.invariant.0,
+      write_then old mid new {A = ℕ} {B = ℕ} {E = Error} {F = Error} 0 (Ok 0) (WritesUnits lang (take i units)) One (WritesUnits lang (take (i + 1) units))
+          (units_next lang units i c.unit-item.result old.now mid.now new.now c.loop-unit-test.true c.unit-item.is) c.loop-unit.invariant.1
+          (write_told mid new {E = Failure} c.in_ok-write_planned.field-0 0 One One (λ made. made) c.in_ok-write_planned.ensures.put),
+    )

@@ -1,0 +1,180 @@
+//! Whole transactions, one for acts on a unit and one for acts on the office. The tables hold the domain `main` alone.
+ghost use Rattle.std.specs.Prelude.{◌≡◌, IsTrue, false};
+ghost use Rattle.sqlite.specs.Held.{state};
+ghost use Rattle.sqlite.specs.State.{HasCleanDisk};
+ghost use Rattle.sql_schema.specs.Inside.{IsSteady, IsInside};
+ghost use Rattle.sql_schema.specs.Whole.{IsIdle, IsCommit};
+ghost use Rattle.sql_changes.specs.UnitWrites.{WritesNumberedUnit};
+ghost use Rattle.sql_commits.specs.Acts.{MakesAct, MakesChange};
+ghost use Rattle.sql_commits.specs.Changes.{WritesDomainChange, WritesIn, WritesChange};
+
+use crate::languages::write_language;
+use crate::policies::write_policy;
+use crate::records::put_record_of;
+use crate::roles::write_role;
+use crate::templates::write_template;
+use crate::transactions::finish;
+use crate::unit_writes::write_unit;
+use deliveries::{Change, DomainChange};
+use request_book::Record;
+use sql_decoding::{Failure, is_main};
+use sqlite::{Alter, Connection, Transaction};
+use std::alloc::Global;
+use tables::Lost;
+use units::{Lang, Name, Unit, UnitView};
+
+/// Records a request and writes the unit's new view, if it has one and its domain is `main`: its row and its suggestions, in the place of
+/// those that are there.
+pub fn commit_act<S: Alter>(
+    connection: &mut Connection<S>,
+    alloc: Global,
+    row: &Record,
+    domain: &Name,
+    lang: &Lang,
+    view: &Option<UnitView>,
+) -> Result<(), Failure>
+    requires autocommit { connection.old.in_transaction ≡ false }
+    requires idle { IsIdle (state S.Store connection.old) }
+    ensures committed { IsCommit (state S.Store connection.old) (state S.Store connection.new) result (MakesAct row.now domain.now lang.now view.now) }
+{
+    let mut tx = connection.transaction();
+    let put = put_record_and_view(&mut tx, alloc, row, domain, lang, view);
+    finish(tx, put)
+}
+
+/// Writes a request's record, and the unit's new view, if it has one and its domain is `main`.
+fn put_record_and_view<S: Alter>(
+    tx: &mut Transaction<'_, S>,
+    alloc: Global,
+    row: &Record,
+    domain: &Name,
+    lang: &Lang,
+    view: &Option<UnitView>,
+) -> Result<(), Failure>
+    requires steady { IsSteady (state S.Store tx.old.conn.now) }
+    ensures same_reference { tx.new.conn.ghost_name ≡ tx.old.conn.ghost_name }
+    ensures put { IsInside (state S.Store tx.old.conn.now) (state S.Store tx.new.conn.now) result (MakesAct row.now domain.now lang.now view.now) }
+{
+    put_record_of(tx, alloc, row)?;
+    match view {
+        Some(view) => write_unit_in(tx, alloc, domain, lang, &view.unit),
+        None => Ok(()),
+    }
+}
+
+/// Writes a unit of `main`; of another domain nothing.
+fn write_unit_in<S: Alter>(
+    tx: &mut Transaction<'_, S>,
+    alloc: Global,
+    domain: &Name,
+    lang: &Lang,
+    unit: &Unit,
+) -> Result<(), Failure>
+    requires steady { IsSteady (state S.Store tx.old.conn.now) }
+    requires open { HasCleanDisk (state S.Store tx.old.conn.now) → IsTrue (state S.Store tx.old.conn.now).is_open }
+    ensures same_reference { tx.new.conn.ghost_name ≡ tx.old.conn.ghost_name }
+    ensures put { IsInside (state S.Store tx.old.conn.now) (state S.Store tx.new.conn.now) result (WritesIn domain.now (WritesNumberedUnit lang.now unit.now)) }
+{
+    if is_main(domain) {
+        write_unit(tx, alloc, lang, unit)
+    } else {
+        Ok(())
+    }
+}
+
+/// Records a request and writes what its act on the office changes, if it changes anything. A change of another domain than `main` writes
+/// nothing behind the record: there is no other.
+///
+/// The tables have no place for a new domain. It is refused as want of memory is, and nothing is written: no act asks for one.
+pub fn commit_change<S: Alter>(
+    connection: &mut Connection<S>,
+    alloc: Global,
+    row: &Record,
+    change: &Option<Change>,
+) -> Result<(), Failure>
+    requires autocommit { connection.old.in_transaction ≡ false }
+    requires idle { IsIdle (state S.Store connection.old) }
+    ensures committed { IsCommit (state S.Store connection.old) (state S.Store connection.new) result (MakesChange row.now change.now) }
+{
+    let mut tx = connection.transaction();
+    let put = put_record_and_change(&mut tx, alloc, row, change);
+    finish(tx, put)
+}
+
+/// Writes a request's record, and what its act changes, if it changes anything.
+fn put_record_and_change<S: Alter>(
+    tx: &mut Transaction<'_, S>,
+    alloc: Global,
+    row: &Record,
+    change: &Option<Change>,
+) -> Result<(), Failure>
+    requires steady { IsSteady (state S.Store tx.old.conn.now) }
+    ensures same_reference { tx.new.conn.ghost_name ≡ tx.old.conn.ghost_name }
+    ensures put { IsInside (state S.Store tx.old.conn.now) (state S.Store tx.new.conn.now) result (MakesChange row.now change.now) }
+{
+    put_record_of(tx, alloc, row)?;
+    match change {
+        Some(change) => write_change(tx, alloc, change),
+        None => Ok(()),
+    }
+}
+
+/// Writes a change of the office. For a new domain there is no place, as where memory is wanted.
+fn write_change<S: Alter>(
+    tx: &mut Transaction<'_, S>,
+    alloc: Global,
+    change: &Change,
+) -> Result<(), Failure>
+    requires steady { IsSteady (state S.Store tx.old.conn.now) }
+    requires open { HasCleanDisk (state S.Store tx.old.conn.now) → IsTrue (state S.Store tx.old.conn.now).is_open }
+    ensures same_reference { tx.new.conn.ghost_name ≡ tx.old.conn.ghost_name }
+    ensures put { IsInside (state S.Store tx.old.conn.now) (state S.Store tx.new.conn.now) result (WritesChange change.now) }
+{
+    match change {
+        Change::OneRole(name, role) => {
+            write_role(tx, name.as_str(), *role).map_err(Failure::from)
+        }
+        Change::NewPolicy(policy) => write_policy(tx, policy).map_err(Failure::from),
+        Change::NewDomain(_) => Err(Failure { lost: Lost::Memory }),
+        Change::InDomain(domain, change) => write_change_in(tx, alloc, domain, change),
+    }
+}
+
+/// Writes a change of `main`; of another domain nothing.
+fn write_change_in<S: Alter>(
+    tx: &mut Transaction<'_, S>,
+    alloc: Global,
+    domain: &Name,
+    change: &DomainChange,
+) -> Result<(), Failure>
+    requires steady { IsSteady (state S.Store tx.old.conn.now) }
+    requires open { HasCleanDisk (state S.Store tx.old.conn.now) → IsTrue (state S.Store tx.old.conn.now).is_open }
+    ensures same_reference { tx.new.conn.ghost_name ≡ tx.old.conn.ghost_name }
+    ensures put { IsInside (state S.Store tx.old.conn.now) (state S.Store tx.new.conn.now) result (WritesIn domain.now (WritesDomainChange change.now)) }
+{
+    if is_main(domain) {
+        write_domain_change(tx, alloc, change)
+    } else {
+        Ok(())
+    }
+}
+
+/// Writes a change of `main`.
+fn write_domain_change<S: Alter>(
+    tx: &mut Transaction<'_, S>,
+    alloc: Global,
+    change: &DomainChange,
+) -> Result<(), Failure>
+    requires steady { IsSteady (state S.Store tx.old.conn.now) }
+    ensures same_reference { tx.new.conn.ghost_name ≡ tx.old.conn.ghost_name }
+    ensures put { IsInside (state S.Store tx.old.conn.now) (state S.Store tx.new.conn.now) result (WritesDomainChange change.now) }
+{
+    match change {
+        DomainChange::NewLanguage(lang, language, plan) => {
+            write_language(tx, alloc, lang, &language.header, plan.units.as_slice())
+        }
+        DomainChange::NewTemplate(template, plans) => {
+            write_template(tx, alloc, template.entries(), plans.as_slice())
+        }
+    }
+}

@@ -1,0 +1,92 @@
+//! The template's entries inside a transaction.
+ghost use Rattle.std.specs.Prelude.{◌≡◌, ◌<◌, ◌^◌, IfOk, IsTrue};
+ghost use Rattle.sqlite.specs.Held.{state};
+ghost use Rattle.sqlite.specs.State.{HasCleanDisk};
+ghost use Rattle.units.specs.Units.{key_text, key_of};
+ghost use Rattle.sql_schema.specs.Inside.{IsSteady, IsInside};
+ghost use Rattle.sql_changes.specs.Commits.{PutsEntry, PutsEntries};
+ghost use Rattle.sql_commits.specs.Columns.{columns_of_entry};
+
+use crate::strings::entry_key_fits;
+use po_read::{Entry, Text};
+use sql_columns::{plural_column, texts_column};
+use sql_decoding::Failure;
+use sql_statements::template::put_entry as put_entry_row;
+use sqlite::{Alter, Transaction};
+use std::alloc::{AllocError, Global};
+
+/// Writes entries, from the first place on.
+pub fn put_entries<S: Alter>(
+    tx: &mut Transaction<'_, S>,
+    alloc: Global,
+    entries: &[Entry],
+) -> Result<(), Failure>
+    requires steady { IsSteady (state S.Store tx.old.conn.now) }
+    requires open { HasCleanDisk (state S.Store tx.old.conn.now) → IsTrue (state S.Store tx.old.conn.now).is_open }
+    ensures same_reference { tx.new.conn.ghost_name ≡ tx.old.conn.ghost_name }
+    ensures put { IsInside (state S.Store tx.old.conn.now) (state S.Store tx.new.conn.now) result (PutsEntries 0 entries.now) }
+{
+    for (place, entry) in entries.iter().enumerate() {
+        put_entry(tx, alloc, place, entry)?;
+    }
+    Ok(())
+}
+
+/// The columns of an entry that take memory.
+#[derive(Drop)]
+struct EntryColumns {
+    key: Text,
+    extracted: Text,
+    references: Text,
+    flags: Text,
+}
+
+fn columns_of(alloc: Global, entry: &Entry) -> Result<EntryColumns, AllocError>
+    ensures { IfOk result (λ columns. columns ≡ columns_of_entry entry.now) }
+{
+    Ok(EntryColumns {
+        key: key_column(alloc, entry)?,
+        extracted: texts_column(alloc, &entry.extracted)?,
+        references: texts_column(alloc, &entry.references)?,
+        flags: texts_column(alloc, &entry.flags)?,
+    })
+}
+
+/// The text of an entry's key: the msgid, or the context, U+0004 and the msgid.
+fn key_column(alloc: Global, entry: &Entry) -> Result<Text, AllocError>
+    ensures { IfOk result (λ text. text ≡ key_text (key_of entry.now)) }
+{
+    let mut text = String::new(alloc);
+    if let Some(ctx) = &entry.ctx {
+        text.push_str(ctx.as_str())?;
+        text.push('\u{4}')?;
+    }
+    text.push_str(entry.id.as_str())?;
+    Ok(Text::from_string(text))
+}
+
+/// Writes an entry at its place, where none stands.
+fn put_entry<S: Alter>(
+    tx: &mut Transaction<'_, S>,
+    alloc: Global,
+    place: usize,
+    entry: &Entry,
+) -> Result<(), Failure>
+    requires fits { place < 2 ^ 63 }
+    requires steady { IsSteady (state S.Store tx.old.conn.now) }
+    ensures same_reference { tx.new.conn.ghost_name ≡ tx.old.conn.ghost_name }
+    ensures put { IsInside (state S.Store tx.old.conn.now) (state S.Store tx.new.conn.now) result (PutsEntry place entry.now) }
+{
+    entry_key_fits(entry);
+    let columns = columns_of(alloc, entry)?;
+    put_entry_row(
+        tx,
+        place as i64,
+        columns.key.as_str(),
+        plural_column(&entry.plural),
+        columns.extracted.as_str(),
+        columns.references.as_str(),
+        columns.flags.as_str(),
+    )
+    .map_err(Failure::from)
+}

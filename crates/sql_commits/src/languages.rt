@@ -1,0 +1,58 @@
+//! A new language.
+ghost use Rattle.std.specs.Prelude.{◌≡◌, [], unwrap_or, Some};
+ghost use Rattle.sqlite.specs.Held.{state};
+ghost use Rattle.units.specs.Rules.{plural_field};
+ghost use Rattle.sql_schema.specs.Inside.{IsSteady, IsInside};
+ghost use Rattle.sql_changes.specs.Commits.{PutsLanguage, WritesLanguage};
+
+use crate::planned_units::write_units;
+use crate::strings::header_fits;
+use po_read::Entry;
+use sql_columns::{header_column, rule_column};
+use sql_decoding::Failure;
+use sql_statements::languages::put_language;
+use sqlite::{Alter, Transaction};
+use std::alloc::Global;
+use units::{Lang, Unit};
+
+/// Writes a language, which must be new, with its units.
+pub fn write_language<S: Alter>(
+    tx: &mut Transaction<'_, S>,
+    alloc: Global,
+    lang: &Lang,
+    header: &Entry,
+    units: &[Unit],
+) -> Result<(), Failure>
+    requires steady { IsSteady (state S.Store tx.old.conn.now) }
+    ensures same_reference { tx.new.conn.ghost_name ≡ tx.old.conn.ghost_name }
+    ensures put { IsInside (state S.Store tx.old.conn.now) (state S.Store tx.new.conn.now) result (WritesLanguage lang.now header.now units.now) }
+{
+    put_language_of(tx, alloc, lang, header)?;
+    write_units(tx, alloc, lang, units)
+}
+
+/// Writes a language's row.
+fn put_language_of<S: Alter>(
+    tx: &mut Transaction<'_, S>,
+    alloc: Global,
+    lang: &Lang,
+    header: &Entry,
+) -> Result<(), Failure>
+    requires steady { IsSteady (state S.Store tx.old.conn.now) }
+    ensures same_reference { tx.new.conn.ghost_name ≡ tx.old.conn.ghost_name }
+    ensures put { IsInside (state S.Store tx.old.conn.now) (state S.Store tx.new.conn.now) result (PutsLanguage lang.now header.now) }
+{
+    header_fits(header);
+    let column = header_column(alloc, header)?;
+    put_language(tx, lang.as_str(), column.as_str(), rule_text(header)).map_err(Failure::from)
+}
+
+/// The value of a header's field `Plural-Forms`, empty where it has none.
+fn rule_text(header: &Entry) -> &str
+    ensures { result.now ≡ unwrap_or (plural_field (Some header.now)) [] }
+{
+    match rule_column(header) {
+        Some(rule) => rule,
+        None => "",
+    }
+}

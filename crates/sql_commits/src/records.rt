@@ -1,0 +1,33 @@
+//! A request's record.
+ghost use Rattle.std.specs.Prelude.{◌≡◌};
+ghost use Rattle.sqlite.specs.Held.{state};
+ghost use Rattle.sql_schema.specs.Inside.{IsSteady, IsInside};
+ghost use Rattle.sql_changes.specs.Commits.{PutsNumberedRecord};
+
+use request_book::Record;
+use sql_columns::{number_column, status_column};
+use sql_decoding::Failure;
+use sql_statements::records::put_record;
+use sqlite::{Alter, Transaction};
+use std::alloc::Global;
+
+/// Writes a request's record inside a transaction. Its number must be new.
+pub fn put_record_of<S: Alter>(
+    tx: &mut Transaction<'_, S>,
+    alloc: Global,
+    row: &Record,
+) -> Result<(), Failure>
+    requires steady { IsSteady (state S.Store tx.old.conn.now) }
+    ensures same_reference { tx.new.conn.ghost_name ≡ tx.old.conn.ghost_name }
+    ensures put { IsInside (state S.Store tx.old.conn.now) (state S.Store tx.new.conn.now) result (PutsNumberedRecord row.now) }
+{
+    let number = number_column(alloc, row.number)?;
+    put_record(
+        tx,
+        number.as_str(),
+        row.content.as_str(),
+        status_column(row.reply.status()),
+        row.reply.body(),
+    )
+    .map_err(Failure::from)
+}

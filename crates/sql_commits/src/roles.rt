@@ -1,0 +1,27 @@
+//! A member's role.
+ghost use Rattle.std.specs.Prelude.{◌≡◌};
+ghost use Rattle.sqlite.specs.Held.{state};
+ghost use Rattle.sql_schema.specs.Inside.{IsSteady, IsInside};
+ghost use Rattle.sql_columns.specs.Numbers.{role_number};
+ghost use Rattle.sql_changes.specs.Commits.{WritesRole};
+
+use sql_columns::role_column;
+use sql_statements::team::{remove_member, set_member};
+use sqlite::{Alter, Error, Transaction};
+use units::Role;
+
+/// Writes a member's row: the office's team with that role, where a guest isn't in the team.
+pub fn write_role<S: Alter>(
+    tx: &mut Transaction<'_, S>,
+    name: &str,
+    role: Role,
+) -> Result<(), Error>
+    requires steady { IsSteady (state S.Store tx.old.conn.now) }
+    ensures same_reference { tx.new.conn.ghost_name ≡ tx.old.conn.ghost_name }
+    ensures put { IsInside (state S.Store tx.old.conn.now) (state S.Store tx.new.conn.now) result (WritesRole name.now (role_number role)) }
+{
+    match role_column(role) {
+        Some(column) => set_member(tx, name, column),
+        None => remove_member(tx, name),
+    }
+}

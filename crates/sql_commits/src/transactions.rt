@@ -1,0 +1,15 @@
+//! How a transaction that writes ends.
+ghost use Rattle.std.specs.Prelude.{◌≡◌, false};
+ghost use Rattle.sql_commits.specs.Ends.{Finishes};
+
+use sql_decoding::Failure;
+use sqlite::{Alter, Transaction};
+
+/// Commits what was written. Where a write failed, its failure is handed on, and nothing stays of what was written.
+pub fn finish<S: Alter>(tx: Transaction<'_, S>, written: Result<(), Failure>) -> Result<(), Failure>
+    ensures ended { tx.exit.0.now.in_transaction ≡ false }
+    ensures finished { Finishes S.Store tx.entry.conn.now tx.exit.0.now written result }
+{
+    written?;
+    tx.commit().map_err(Failure::from)
+}

@@ -1,0 +1,177 @@
+//! A unit inside a transaction: its row, its suggestions, and the votes on them.
+ghost use Rattle.std.specs.Prelude.{◌≡◌, ◌<◌, ◌^◌, IfOk, IsTrue, map};
+ghost use Rattle.std.specs.FinMap as maps;
+ghost use Rattle.sqlite.specs.Held.{state};
+ghost use Rattle.sqlite.specs.State.{HasCleanDisk};
+ghost use Rattle.sql_schema.specs.Inside.{IsSteady, IsInside, PutsRow, HoldsValues};
+ghost use Rattle.sql_schema.specs.Keys.{first_texts};
+ghost use Rattle.sql_schema.specs.Schema.{unit_tree, vote_tree};
+ghost use Rattle.sql_meaning.specs.Cells.{unit_cells, vote_cells};
+ghost use Rattle.sql_meaning.specs.Written.{PutsRows};
+ghost use Rattle.sql_changes.specs.UnitWrites.{AddsNumberedSuggestion, AddsNumberedSuggestions, WritesNumberedUnit};
+ghost use Rattle.sql_commits.specs.Columns.{columns_of_unit};
+
+use po_read::Text;
+use sql_columns::{
+    flag_column, forms_column, number_column, plural_column, previous_column, revision_column,
+    state_column, texts_column, vote_column,
+};
+use sql_decoding::Failure;
+use sql_statements::suggestions::{add_suggestion as add_suggestion_row, clear_suggestions};
+use sql_statements::units::put_unit;
+use sql_statements::votes::put_vote;
+use sqlite::{Alter, Transaction};
+use std::alloc::{AllocError, Global};
+use units::{Lang, Suggestion, Unit, Votes};
+
+/// Writes a unit: its row in the place of the one that is there, and its suggestions in the place of those that are there.
+pub fn write_unit<S: Alter>(
+    tx: &mut Transaction<'_, S>,
+    alloc: Global,
+    lang: &Lang,
+    unit: &Unit,
+) -> Result<(), Failure>
+    requires steady { IsSteady (state S.Store tx.old.conn.now) }
+    ensures same_reference { tx.new.conn.ghost_name ≡ tx.old.conn.ghost_name }
+    ensures put { IsInside (state S.Store tx.old.conn.now) (state S.Store tx.new.conn.now) result (WritesNumberedUnit lang.now unit.now) }
+{
+    let columns = columns_of(alloc, unit)?;
+    write_columns(tx, alloc, lang.as_str(), unit, &columns)
+}
+
+/// The columns of a unit that take memory.
+#[derive(Drop)]
+struct UnitColumns {
+    key: Text,
+    forms: Text,
+    comment: Text,
+    previous: Text,
+}
+
+fn columns_of(alloc: Global, unit: &Unit) -> Result<UnitColumns, AllocError>
+    ensures { IfOk result (λ columns. columns ≡ columns_of_unit unit.now) }
+{
+    Ok(UnitColumns {
+        key: unit.key.text(alloc)?,
+        forms: forms_column(alloc, &unit.forms)?,
+        comment: texts_column(alloc, &unit.comment)?,
+        previous: previous_column(alloc, &unit.previous)?,
+    })
+}
+
+/// Writes the row and the suggestions of a unit that has these columns.
+fn write_columns<S: Alter>(
+    tx: &mut Transaction<'_, S>,
+    alloc: Global,
+    lang: &str,
+    unit: &Unit,
+    columns: &UnitColumns,
+) -> Result<(), Failure>
+    requires columns { columns.now ≡ columns_of_unit unit.now }
+    requires steady { IsSteady (state S.Store tx.old.conn.now) }
+    ensures same_reference { tx.new.conn.ghost_name ≡ tx.old.conn.ghost_name }
+    ensures put { IsInside (state S.Store tx.old.conn.now) (state S.Store tx.new.conn.now) result (WritesNumberedUnit lang.now unit.now) }
+{
+    put_row(tx, lang, unit, columns)?;
+    clear_suggestions(tx, lang, columns.key.as_str())?;
+    add_suggestions(
+        tx,
+        alloc,
+        lang,
+        columns.key.as_str(),
+        unit.suggestions.as_slice(),
+    )
+}
+
+/// Writes the row of a unit that has these columns.
+fn put_row<S: Alter>(
+    tx: &mut Transaction<'_, S>,
+    lang: &str,
+    unit: &Unit,
+    columns: &UnitColumns,
+) -> Result<(), Failure>
+    requires columns { columns.now ≡ columns_of_unit unit.now }
+    requires steady { IsSteady (state S.Store tx.old.conn.now) }
+    ensures same_reference { tx.new.conn.ghost_name ≡ tx.old.conn.ghost_name }
+    ensures put { IsInside (state S.Store tx.old.conn.now) (state S.Store tx.new.conn.now) result
+        (PutsRow unit_tree first_texts (HoldsValues (unit_cells lang.now unit.now))) }
+{
+    put_unit(
+        tx,
+        lang,
+        columns.key.as_str(),
+        plural_column(&unit.plural),
+        columns.forms.as_str(),
+        state_column(unit.state),
+        flag_column(unit.obsolete),
+        revision_column(unit.revision),
+        columns.comment.as_str(),
+        columns.previous.as_str(),
+    )
+    .map_err(Failure::from)
+}
+
+/// Adds a unit's suggestions, from the first place on.
+fn add_suggestions<S: Alter>(
+    tx: &mut Transaction<'_, S>,
+    alloc: Global,
+    lang: &str,
+    key: &str,
+    suggestions: &[Suggestion],
+) -> Result<(), Failure>
+    requires steady { IsSteady (state S.Store tx.old.conn.now) }
+    requires open { HasCleanDisk (state S.Store tx.old.conn.now) → IsTrue (state S.Store tx.old.conn.now).is_open }
+    ensures same_reference { tx.new.conn.ghost_name ≡ tx.old.conn.ghost_name }
+    ensures put { IsInside (state S.Store tx.old.conn.now) (state S.Store tx.new.conn.now) result (AddsNumberedSuggestions lang.now key.now suggestions.now) }
+{
+    for (place, suggestion) in suggestions.iter().enumerate() {
+        add_suggestion(tx, alloc, lang, key, place, suggestion)?;
+    }
+    Ok(())
+}
+
+/// Adds a suggestion, whose number must be new, and the votes on it.
+fn add_suggestion<S: Alter>(
+    tx: &mut Transaction<'_, S>,
+    alloc: Global,
+    lang: &str,
+    key: &str,
+    place: usize,
+    suggestion: &Suggestion,
+) -> Result<(), Failure>
+    requires fits { place < 2 ^ 63 }
+    requires steady { IsSteady (state S.Store tx.old.conn.now) }
+    ensures same_reference { tx.new.conn.ghost_name ≡ tx.old.conn.ghost_name }
+    ensures put { IsInside (state S.Store tx.old.conn.now) (state S.Store tx.new.conn.now) result (AddsNumberedSuggestion lang.now key.now place suggestion.now) }
+{
+    let number = number_column(alloc, suggestion.number)?;
+    let forms = forms_column(alloc, &suggestion.forms)?;
+    add_suggestion_row(
+        tx,
+        number.as_str(),
+        lang,
+        key,
+        place as i64,
+        suggestion.suggester.as_str(),
+        forms.as_str(),
+    )?;
+    put_votes(tx, number.as_str(), &suggestion.votes)
+}
+
+/// Writes the votes on the suggestion of this number.
+fn put_votes<S: Alter>(
+    tx: &mut Transaction<'_, S>,
+    number: &str,
+    votes: &Votes,
+) -> Result<(), Failure>
+    requires steady { IsSteady (state S.Store tx.old.conn.now) }
+    requires open { HasCleanDisk (state S.Store tx.old.conn.now) → IsTrue (state S.Store tx.old.conn.now).is_open }
+    ensures same_reference { tx.new.conn.ghost_name ≡ tx.old.conn.ghost_name }
+    ensures put { IsInside (state S.Store tx.old.conn.now) (state S.Store tx.new.conn.now) result
+        (PutsRows vote_tree first_texts (map (vote_cells number.now) (maps.entries votes.now))) }
+{
+    for vote in votes.as_slice() {
+        put_vote(tx, number, vote.0.as_str(), vote_column(vote.1))?;
+    }
+    Ok(())
+}

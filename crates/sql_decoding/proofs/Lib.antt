@@ -1,0 +1,5 @@
+pub mod RowsTold
+pub mod ColumnsTested
+pub mod ColumnsRead
+pub mod ViewsRead
+pub mod RowsSoFar

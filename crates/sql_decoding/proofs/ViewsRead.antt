@@ -1,0 +1,110 @@
+-- What a look at a unit finds of the office.
+use Rattle.std.proofs.Common.{◌≡◌, suc, List, [], ◌∷◌, Option, Some, None, Result, Ok, Err, IfOk, option_map, refl, sym, ap, ◌∙◌, arith}
+use Rattle.std.specs.Prelude.{map, unwrap_or}
+use Rattle.std.specs.FinMap as maps
+use Rattle.std.specs.List.{All}
+use Rattle.sqlite.specs.Order.{Row}
+use Rattle.sqlite.specs.Effect.{Database}
+use Rattle.po_read.specs.Texts.{Text}
+use Rattle.po_read.specs.declared.entry.Entry.{Entry}
+use Rattle.plural_expr.specs.Trees.{number}
+use Rattle.plural_expr.specs.Values.{Rule}
+use Rattle.units.specs.KeyTexts.{HasStrings}
+use Rattle.units.specs.Units.{key_text}
+use Rattle.units.specs.Project.{entry_of, role_of, view_of}
+use Rattle.units.specs.Rules.{by_result, rule_in, rule_at}
+use Rattle.units.specs.declared.unit.Key.{Key}
+use Rattle.units.specs.declared.unit.Role.TheVariants.{Guest}
+use Rattle.units.specs.declared.unit.UnitView.{UnitView}
+use Rattle.deliveries.specs.declared.values.ActContext.{ActContext}
+use Rattle.deliveries.specs.UnitAccess.{found_of}
+use Rattle.sql_statements.specs.declared.unit_rows.SuggestionRows.{SuggestionRows}
+use Rattle.sql_statements.specs.declared.unit_rows.UnitRows.{UnitRows}
+use Rattle.sql_statements.specs.declared.unit_rows.ViewRows.{ViewRows}
+use Rattle.sql_statements.specs.Answers.{ShowsLanguage, ShowsMember, ShowsPolicy}
+use Rattle.sql_schema.specs.Inside.{AreOfficeTables}
+use Rattle.sql_schema.specs.Keys.{text_at}
+use Rattle.sql_statements.specs.UnitRows.{suggestion_of, ShowsVotesOn, ShowsUnitRows, ShowsViewRows}
+use Rattle.sql_schema.proofs.Steps.{table_apart}
+use Rattle.sql_schema.proofs.TableRows.{members, one_member, languages, one_language, units, one_unit}
+use Rattle.sql_meaning.specs.Meaning.{project_of_rows, headers_in, policy_in, suggestions_in, template_in}
+use Rattle.sql_meaning.specs.Shown.{shown_header, shown_suggestion, shown_unit}
+use Rattle.sql_meaning.proofs.OfficeQueries.{policy_found, entry_found, suggestions_found, votes_found}
+use Rattle.sql_meaning.proofs.Team.{finds_role, finds_header}
+use Rattle.sql_meaning.proofs.Units.{finds_unit}
+use Rattle.sql_decoding.specs.ShownFound.{suggestion_shown, rule_of_header, shown_rule, shown_role, shown_source, shown_view, IsShownWith, IsShownFound}
+
+-- ---- the plural rule
+
+-- the rule that is read is that of the header that is shown
+pub rule_shown : {E : Type 0} (row : Row) (header : Entry) (read : Result Rule E) → header ≡ shown_header row → IfOk read (λ rule. rule_in (Some header) ≡ Ok rule)
+    → IfOk read (λ rule. rule ≡ shown_rule row)
+rule_shown row header (Err failure) is none = none
+rule_shown row header (Ok rule) is read = sym (ap rule_of_header (sym is) ∙ ap (by_result (λ fault. record { count = 1; tree = number 0 }) (λ r. r)) read)
+
+module _ (db : Database) (office : AreOfficeTables db) where
+  pub header_found : (lang : Text) (found : Option Row) → ShowsLanguage lang db found → maps.get (headers_in db.trees) lang ≡ option_map shown_header found
+  header_found lang found = finds_header db.trees lang found (one_language db office.schema office.sound (table_apart db.trees 4 languages refl office.tables))
+
+  pub role_found : (name : Text) (found : Option Row) → ShowsMember name db found → role_of (project_of_rows db.trees) name ≡ shown_role found
+  role_found name found shows =
+      ap (λ o. unwrap_or o Guest) (finds_role db.trees name found (one_member db office.schema office.sound (table_apart db.trees 1 members refl office.tables)) shows)
+
+  rule_of_shown : (lang : Text) (language : Row) → ShowsLanguage lang db (Some language) → rule_at (project_of_rows db.trees) lang ≡ shown_rule language
+  unfolding rule_at
+  rule_of_shown lang language shows = ap (λ o. by_result (λ fault. record { count = 1; tree = number 0 }) (λ rule. rule) (rule_in o)) (header_found lang (Some language) shows)
+
+  -- ---- the unit
+
+  each_suggestion : (rows : List SuggestionRows) → All (ShowsVotesOn db) rows → map (shown_suggestion db.trees) (map suggestion_of rows) ≡ map suggestion_shown rows
+  each_suggestion [] votes = refl
+  each_suggestion (r ∷ rows) votes =
+      let first = votes_found db office (text_at 0 r.suggestion) r.votes.items (votes 0 r (omega arith)) in
+      let more = each_suggestion rows (λ k d within. votes (suc k) d (omega (arith, within))) in
+      λ i. record (suggestion_shown r) { votes = first i } ∷ more i
+
+  suggestions_shown : (lang : Text) (key : Key) (rows : UnitRows) → ShowsUnitRows lang (key_text key) db rows
+      → suggestions_in db.trees lang (key_text key) ≡ map suggestion_shown rows.suggestions.items
+  suggestions_shown lang key rows shows =
+      suggestions_found db office lang (key_text key) (map suggestion_of rows.suggestions.items) shows.suggestions ∙ each_suggestion rows.suggestions.items shows.votes
+
+  pub view_found : (lang : Text) (key : Key) (rows : UnitRows) → HasStrings key → ShowsUnitRows lang (key_text key) db rows
+      → view_of (project_of_rows db.trees) (lang, key) ≡ shown_view key rows
+  view_found lang key rows valid shows =
+      let one = one_unit db office.schema office.sound (table_apart db.trees 5 units refl office.tables) in
+      ap (option_map (λ unit. record { unit = unit; source = entry_of (template_in db.trees) key })) (finds_unit db.trees lang key rows.unit one valid shows.unit) ∙ with_parts rows.unit
+    where
+      with_parts : (found : Option Row)
+          → option_map {U = UnitView} (λ unit. record { unit = unit; source = entry_of (template_in db.trees) key }) (option_map (shown_unit key (suggestions_in db.trees lang (key_text key))) found)
+          ≡ option_map (λ unit. record { unit = shown_unit key (map suggestion_shown rows.suggestions.items) unit; source = shown_source key rows.entry }) found
+      with_parts None = refl
+      with_parts (Some unit) =
+          let suggestions = suggestions_shown lang key rows shows in
+          let source = entry_found db office key rows.entry valid shows.entry in
+          λ i. Some (record { unit = shown_unit key (suggestions i) unit; source = source i })
+
+  -- ---- all of it
+
+  pub all_found : (lang : Text) (key : Key) (name : Text) (rows : ViewRows) (found : Option ActContext) → HasStrings key → ShowsViewRows lang (key_text key) name db rows
+      → IsShownFound key rows found → found ≡ found_of (project_of_rows db.trees) lang key name
+  all_found lang key name rows found valid shows is = by rows.office.language rows.office.policy shows.office.language shows.office.policy is
+    where
+      with_header : Entry → ActContext
+      with_header header = record {
+        rule = rule_at (project_of_rows db.trees) lang;
+        policy = policy_in db.trees;
+        role = role_of (project_of_rows db.trees) name;
+        view = view_of (project_of_rows db.trees) (lang, key);
+      }
+
+      by : (language policy : Option Row) → ShowsLanguage lang db language → ShowsPolicy db policy → IsShownWith key rows language policy found
+          → found ≡ found_of (project_of_rows db.trees) lang key name
+      by None policy shows_language shows_policy none =
+          none ∙ sym (ap (option_map with_header) (header_found lang None shows_language))
+      by (Some language) None shows_language shows_policy never = absurd never
+      by (Some language) (Some policy) shows_language shows_policy same =
+          let rule = rule_of_shown lang language shows_language in
+          let of_policy = policy_found db office policy shows_policy in
+          let role = role_found name rows.office.role shows.office.role in
+          let view = view_found lang key rows.unit valid shows.unit in
+          same ∙ sym (ap (option_map with_header) (header_found lang (Some language) shows_language) ∙ (λ i. Some (record { rule = rule i; policy = of_policy i; role = role i; view = view i })))

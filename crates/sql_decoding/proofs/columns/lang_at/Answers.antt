@@ -1,0 +1,23 @@
+use Rattle.std.proofs.Common.{ap, rules, ◌∙◌, ◌≡◌}
+use Rattle.sqlite.specs.declared.types.Value.TheVariants.{Text as Words}
+use Rattle.sqlite.specs.Order.{column}
+use Rattle.units.specs.Limits.{is_lang}
+use Rattle.sql_decoding.specs.RowTests.{holds_text}
+use Rattle.sql_decoding.proofs.RowsTold.{handed_on}
+use Rattle.sql_decoding.proofs.ColumnsTested.{fault_tells, unless, not_given, text_stands, text_falls}
+use Rattle.sql_decoding.proofs.columns.lang_at.Goals as goal
+
+pub returns-in_err-column-clause-unread : goal.returns-in_err-column-clause-unread
+returns-in_err-column-clause-unread c = handed_on c.from_residual.result c.in_err-column.field-0.0 (holds_text is_lang c.args.at c.args.row.now) (holds_text is_lang c.args.at c.args.row.now) c.from_residual.ensures (λ fails. fails) (c.in_err-column.ensures.unread is_lang)
+
+pub returns-in_err-lang_from-clause-unread : goal.returns-in_err-lang_from-clause-unread
+returns-in_err-lang_from-clause-unread c =
+    let t = c.as_str.result.now in
+    let holds : column c.args.row.now c.args.at ≡ Words t = search rules in
+    fault_tells c.from_residual-in_err-lang_from.result (holds_text is_lang c.args.at c.args.row.now) c.in_err-lang_from.field-0.0 c.from_residual-in_err-lang_from.ensures (λ other. text_falls c.args.at c.args.row.now t holds is_lang (unless (is_lang t) (λ fits. not_given c.in_err-lang_from.field-0.0 other t (c.in_err-lang_from.ensures.back fits))))
+
+pub returns-clause-stands : goal.returns-clause-stands
+returns-clause-stands c =
+    let t = c.as_str.result.now in
+    let holds : column c.args.row.now c.args.at ≡ Words t = search rules in
+    text_stands c.args.at c.args.row.now t holds is_lang c.as_str.utf8 (ap is_lang c.in_ok-lang_from.ensures.ok ∙ c.in_ok-lang_from.ensures.fits)

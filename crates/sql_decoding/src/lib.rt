@@ -1,0 +1,26 @@
+//! What one row that a query shows stands for: a record, a caller's role, an entry, a unit with its suggestions, what an act on a unit needs to
+//! know. Each reader answers what the definitions read off its rows, or fails: for want of memory, or exactly where the rows stand for no
+//! value. What a failure comes to is said here too.
+//!
+//! `columns` reads one column, `records` a record, `units_read` a unit with its suggestions and votes and a template's entry, `views` what an
+//! act on a unit needs, `entries_read` the entries of an export; `kept_rule` has the plural rule that was read last, `domains` the one domain
+//! of the tables, `faults` what a failure comes to. The spec `RowTests` says which rows stand for values.
+#![tactic(auto)]
+
+mod columns;
+mod domains;
+mod entries_read;
+mod faults;
+mod kept_rule;
+mod records;
+mod units_read;
+mod views;
+
+pub use columns::{key_at, lang_at, name_text_at, role_at, text_in};
+pub use domains::is_main;
+pub use entries_read::{message_in, obsolete_in};
+pub use faults::Failure;
+pub use kept_rule::KeptRule;
+pub use records::record_in;
+pub use units_read::{entry_in, put_vote, suggestion_with, template_entry, unit_with};
+pub use views::{found_in, header_in, policy_in, role_in};

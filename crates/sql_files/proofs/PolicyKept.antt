@@ -1,0 +1,192 @@
+-- The commit of a policy keeps an office's file one: its row, and the units that it unapproves.
+use Rattle.std.proofs.Common.{◌≡◌, ◌≢◌, ℕ, ◌+◌, ◌≤◌, ◌^◌, ℤ, pos, negsuc, ◌+ℤ◌, inl, inr, List, [], ◌∷◌, Bool, true, false, Some, refl, sym, ap, subst, ◌∙◌, arith}
+use Rattle.std.specs.Prelude.{IsTrue, ◌&&◌, nat_le}
+use Rattle.std.specs.FinMap as maps
+use Rattle.std.proofs.lemmas.Bool.{and_from, and_parts, lt-ltb, le-leb, leb-true}
+use Rattle.sqlite.specs.declared.types.Value.{Value}
+use Rattle.sqlite.specs.declared.types.Value.TheVariants.{Null, Int, Real, Text as Words, Blob}
+use Rattle.sqlite.specs.Order.{Row, column}
+use Rattle.sqlite.specs.Effect.{Database}
+use Rattle.sqlite.specs.Tree.{Trees}
+use Rattle.sqlite_sql.specs.Ops.{fits_i64}
+use Rattle.sqlite_rules.specs.Edit.{id_in}
+use Rattle.sqlite_rules.specs.Lists.{Has}
+use Rattle.sql_laws.specs.ApartRows.{AreApart}
+use Rattle.sql_laws.proofs.RowMaps.{get-is}
+use Rattle.deliveries.specs.OfficeRules.{KeepsRules}
+use Rattle.request_book.specs.declared.book.Record.{Record}
+use Rattle.sql_columns.specs.Numbers.{flag_number}
+use Rattle.units.specs.Limits.{is_accept_at, is_revision, revision_limit}
+use Rattle.units.specs.Project.{place_cmp}
+use Rattle.units.specs.Orders.{place_total, place_IsAntisymmetric}
+use Rattle.units.specs.declared.unit.Policy.{Policy}
+use Rattle.sql_schema.specs.Inside.{AreOfficeTables}
+use Rattle.sql_schema.specs.Keys.{row_number, columns}
+use Rattle.sql_schema.specs.Schema.{record_tree, team_tree, policy_tree, template_tree, language_tree, unit_tree, suggestion_tree, vote_tree}
+use Rattle.sql_schema.proofs.Steps.{table_apart}
+use Rattle.sql_schema.proofs.TableRows.{policies, units, one_unit}
+use Rattle.sql_statements.specs.Renewed.{is_approved_row, unapproved_row, HaveNextRevisions}
+use Rattle.sql_meaning.specs.Meaning.{place_of_row, unit_of_row, units_in, policy_in, project_of_rows, book_in, meaning_in}
+use Rattle.sql_meaning.specs.Values.{natural, natural_at}
+use Rattle.sql_meaning.proofs.Units.{by_place}
+use Rattle.sql_meaning.proofs.WrittenRows.{IsTree, row_spares, suggestions_there, votes_there}
+use Rattle.sql_changes.specs.Commits.{policy_row, PutsPolicy, UnapprovesUnless, MakesPolicy}
+use Rattle.sql_changes.proofs.Changed.{Spares, spares_same}
+use Rattle.sql_changes.proofs.Policy.{policy_put}
+use Rattle.sql_decoding.specs.RowTests.{integer_passes, holds_integer, natural_passes, is_flag, is_state, has_place, has_unit_numbers, has_unit_texts, is_unit, is_policy_row}
+use Rattle.sql_decoding.proofs.ColumnsTested.{integer_is, flag_stands, natural_stands}
+use Rattle.office_rules.proofs.MainAlone.{project_keeps}
+use Rattle.sql_files.specs.Files.{IsOfficeFile, IsKeepable, StandForAll, TellsFirstForm}
+use Rattle.sql_files.proofs.Puts.{all_put, spared, template_same, book_same, records_there, team_there, policy_there, template_there, languages_there, units_there}
+use Rattle.sql_files.proofs.UnitKept.{UnitStands, units_step}
+use Rattle.sql_files.proofs.ActKept.{stand_all, record_step}
+
+-- ---- the policy's row
+
+abbrev PolicyStands : Row → Type 0
+PolicyStands row = row_number row ≡ Int (pos 1) → IsTrue (is_policy_row (columns (2 ∷ 3 ∷ 4 ∷ 5 ∷ 6 ∷ 7 ∷ 8 ∷ []) row))
+
+policy_stands : (policy : Policy) → is_accept_at policy.accept_at ≡ true → is_policy_row (columns (2 ∷ 3 ∷ 4 ∷ 5 ∷ 6 ∷ 7 ∷ 8 ∷ []) (policy_row policy)) ≡ true
+policy_stands policy accepts =
+    let shown : Row = columns (2 ∷ 3 ∷ 4 ∷ 5 ∷ 6 ∷ 7 ∷ 8 ∷ []) (policy_row policy) in
+    let flag : (at : ℕ) (b : Bool) → column shown at ≡ Int (flag_number b) → holds_integer is_flag at shown ≡ true =
+    (λ at b holds. integer_is at shown (flag_number b) holds is_flag true (flag_stands (flag_number b) b refl)) in
+    and_from _ _ (flag 1 policy.reviews refl)
+    (and_from _ _ (flag 2 policy.guests_suggest refl)
+    (and_from _ _ (flag 3 policy.voting refl)
+    (and_from _ _ (integer_is 4 shown (pos policy.accept_at) refl (natural_passes is_accept_at) true (natural_stands is_accept_at (pos policy.accept_at) policy.accept_at accepts refl))
+    (and_from _ _ (flag 5 policy.placeholders refl) (flag 6 policy.line_ends refl)))))
+
+policy_step : (old new : Trees) → ((t : ℕ) → IsTree t → t ≢ policy_tree → new t ≡ old t) → TellsFirstForm new → ((row : Row) → Has (new policy_tree) row → PolicyStands row) → StandForAll old → StandForAll new
+policy_step old new apart form policy it =
+    let template = apart template_tree template_there (λ e. cc) in
+    record {
+      form = form;
+      office = record {
+        members = λ row there. it.office.members row (subst (λ rows. Has rows row) (apart team_tree team_there (λ e. cc)) there);
+        policy = policy;
+        entries = λ row there. it.office.entries row (subst (λ rows. Has rows row) template there);
+        template = template_same old new template it.office.template;
+        languages = λ row there. it.office.languages row (subst (λ rows. Has rows row) (apart language_tree languages_there (λ e. cc)) there);
+        units = λ row there. it.office.units row (subst (λ rows. Has rows row) (apart unit_tree units_there (λ e. cc)) there);
+        suggestions = λ row there. it.office.suggestions row (subst (λ rows. Has rows row) (apart suggestion_tree suggestions_there (λ e. cc)) there);
+        votes = λ row there. it.office.votes row (subst (λ rows. Has rows row) (apart vote_tree votes_there (λ e. cc)) there);
+      };
+      book = book_same old new (apart record_tree records_there (λ e. cc)) it.book;
+    }
+
+put_step : (policy : Policy) → is_accept_at policy.accept_at ≡ true → (old new : Database) → PutsPolicy policy old new → StandForAll old.trees → StandForAll new.trees
+put_step policy accepts old new put it =
+    policy_step old.trees new.trees (λ t is_tree apart. row_spares t is_tree policy_tree row_number _ old new put apart)
+    (put.row, put.put.here, ap row_number put.is_row, ap (λ r. column r 2) put.is_row)
+    (all_put row_number PolicyStands (old.trees policy_tree) (new.trees policy_tree) put.row put.put it.office.policy
+    (λ at_one. ap (λ r. is_policy_row (columns (2 ∷ 3 ∷ 4 ∷ 5 ∷ 6 ∷ 7 ∷ 8 ∷ []) r)) put.is_row ∙ policy_stands policy accepts)) it
+
+-- ---- a unit's row that is unapproved
+
+integer_passed : (p : ℤ → Bool) (v : Value) → integer_passes p v ≡ true → (n : ℤ) × (v ≡ Int n) × (p n ≡ true)
+integer_passed p Null h = absurd cc
+integer_passed p (Int n) h = (n, refl, h)
+integer_passed p (Real x) h = absurd cc
+integer_passed p (Words text) h = absurd cc
+integer_passed p (Blob b) h = absurd cc
+
+natural_passed : (p : ℕ → Bool) (n : ℤ) → natural_passes p n ≡ true → (k : ℕ) × (n ≡ pos k) × (p k ≡ true)
+natural_passed p (pos k) h = (k, refl, h)
+natural_passed p (negsuc k) h = absurd cc
+
+abbrev unit_columns : Row → Row
+unit_columns row = columns (3 ∷ 4 ∷ 5 ∷ 6 ∷ 7 ∷ 8 ∷ 9 ∷ 1 ∷ 2 ∷ []) row
+
+module _ (row : Row) (stands : UnitStands row) where
+  parts : (has_place (unit_columns row) ≡ true) × (is_unit (unit_columns row) ≡ true)
+  parts = and_parts (has_place (unit_columns row)) (is_unit (unit_columns row)) stands
+
+  unit_parts : (has_unit_numbers (unit_columns row) ≡ true) × (has_unit_texts (unit_columns row) ≡ true)
+  unit_parts = and_parts (has_unit_numbers (unit_columns row)) (has_unit_texts (unit_columns row)) parts.1
+
+  numbers : (integer_passes is_flag (column row 6) ≡ true) × (integer_passes (natural_passes is_revision) (column row 7) ≡ true)
+  numbers =
+      and_parts (integer_passes is_flag (column row 6)) (integer_passes (natural_passes is_revision) (column row 7))
+      (and_parts (integer_passes is_state (column row 5)) (integer_passes is_flag (column row 6) && integer_passes (natural_passes is_revision) (column row 7)) unit_parts.0).1
+
+revision_is : (row : Row) → UnitStands row → (k : ℕ) × (column row 7 ≡ Int (pos k)) × (is_revision k ≡ true)
+revision_is row stands =
+    let whole = integer_passed (natural_passes is_revision) (column row 7) (numbers row stands).1 in
+    let it = natural_passed is_revision whole.0 whole.2 in
+    (it.0, whole.1 ∙ ap Int it.1, it.2)
+
+next_fits : (row : Row) → UnitStands row → fits_i64 (id_in (column row 7) +ℤ pos 1) ≡ true
+next_fits row stands =
+    let it = revision_is row stands in
+    let most : it.0 ≤ revision_limit = leb-true it.0 revision_limit (and_parts (nat_le 1 it.0) (nat_le it.0 revision_limit) it.2).1 in
+    subst (λ v. fits_i64 (id_in v +ℤ pos 1) ≡ true) (sym it.1) (lt-ltb (it.0 + 1) (2 ^ 63) (omega (arith, most)))
+
+unapproved_stands : (row : Row) → UnitStands row → is_revision (natural_at 7 (unapproved_row row)) ≡ true → UnitStands (unapproved_row row)
+unapproved_stands row stands revised =
+    let it = revision_is row stands in
+    let next : natural_passes is_revision (id_in (column row 7) +ℤ pos 1) ≡ true =
+    subst (λ v. natural_passes is_revision (id_in v +ℤ pos 1) ≡ true) (sym it.1) (subst (λ v. is_revision (natural (id_in v +ℤ pos 1)) ≡ true) it.1 revised) in
+    and_from _ _ (parts row stands).0 (and_from _ _ (and_from _ _ refl (and_from _ _ (numbers row stands).0 next)) (unit_parts row stands).1)
+
+-- ---- what the rules say of the revision of a unit's row
+
+module _ (db : Database) (ready : AreOfficeTables db) (rules : KeepsRules (meaning_in db.trees)) (row : Row) (there : Has (db.trees unit_tree) row) where
+  stands_at : maps.get (units_in db.trees) (place_of_row row) ≡ Some (unit_of_row db.trees row)
+  stands_at =
+      get-is place_cmp place_total place_IsAntisymmetric place_of_row (unit_of_row db.trees) (db.trees unit_tree) (place_of_row row) (Some (unit_of_row db.trees row))
+      (λ r s in_r in_s e. one_unit db ready.schema ready.sound (table_apart db.trees 5 units refl ready.tables) r s in_r in_s (by_place.back r s tt tt e)) (row, there, refl, refl)
+
+  revised : is_revision (natural_at 7 row) ≡ true
+  revised =
+      let it = ((project_keeps (project_of_rows db.trees) (book_in db.trees) rules).each (place_of_row row) (unit_of_row db.trees row) stands_at).revised in
+      and_from _ _ (le-leb 1 (natural_at 7 row) it.0) (le-leb (natural_at 7 row) revision_limit it.1)
+
+-- ---- all units
+
+next_revisions : (db : Database) → ((row : Row) → Has (db.trees unit_tree) row → UnitStands row) → HaveNextRevisions db
+next_revisions db units row there approved = next_fits row (units row there)
+
+module _ (old new : Database) (units : (row : Row) → Has (old.trees unit_tree) row → UnitStands row) where
+  unapproves_spare : (reviews : Bool) → UnapprovesUnless reviews old new → Spares unit_tree old new
+  unapproves_spare true is = spares_same unit_tree old new is
+  unapproves_spare false unapproves = (unapproves (next_revisions old units)).others
+
+  unapproved_units : (reviews : Bool) → UnapprovesUnless reviews old new → AreOfficeTables new → KeepsRules (meaning_in new.trees) → (row : Row) → Has (new.trees unit_tree) row → UnitStands row
+  unapproved_units true is ready rules row there = units row (subst (λ rows. Has rows row) (ap (λ (d : Database). d.trees unit_tree) is) there)
+  unapproved_units false unapproves ready rules row there = elim ((unapproves (next_revisions old units)).rows.only row there) [
+    | inl was ↦ units row was.0
+    | inr made ↦
+        subst UnitStands (sym made.3)
+        (unapproved_stands made.0 (units made.0 made.1) (subst (λ r. is_revision (natural_at 7 r) ≡ true) made.3 (revised new ready rules row there)))
+  ]
+
+unapproved_step : (old new : Database) (reviews : Bool) → UnapprovesUnless reviews old new → AreOfficeTables new → KeepsRules (meaning_in new.trees) → StandForAll old.trees → StandForAll new.trees
+unapproved_step old new reviews made ready rules it =
+    let same = spared unit_tree old new (unapproves_spare old new it.office.units reviews made) in
+    units_step old.trees new.trees (λ t is_tree no_unit no_suggestion no_vote. same t is_tree no_unit) (unapproved_units old new it.office.units reviews made ready rules)
+    (λ row there. it.office.suggestions row (subst (λ rows. Has rows row) (same suggestion_tree suggestions_there (λ e. cc)) there))
+    (λ row there. it.office.votes row (subst (λ rows. Has rows row) (same vote_tree votes_there (λ e. cc)) there))
+    it
+
+-- ---- the commit
+
+module _ (mid next after : Database) (policy : Policy) (put : PutsPolicy policy mid next) (made : UnapprovesUnless policy.reviews next after)
+    (ready : AreOfficeTables after) (rules : KeepsRules (meaning_in after.trees)) (apart : AreApart (mid.trees policy_tree)) where
+  units_there_next : StandForAll mid.trees → (row : Row) → Has (next.trees unit_tree) row → UnitStands row
+  units_there_next it row there = it.office.units row (subst (λ rows. Has rows row) (row_spares unit_tree units_there policy_tree row_number _ mid next put (λ e. cc)) there)
+
+  accepts : StandForAll mid.trees → is_accept_at policy.accept_at ≡ true
+  accepts it =
+      let same = spared unit_tree next after (unapproves_spare next after (units_there_next it) policy.reviews made) policy_tree policy_there (λ e. cc) in
+      let is : policy_in after.trees ≡ policy = ap (λ (rows : List Row). policy_in (λ tree. rows)) same ∙ policy_put mid next policy apart put in
+      subst (λ (p : Policy). is_accept_at p.accept_at ≡ true) is (project_keeps (project_of_rows after.trees) (book_in after.trees) rules).accepting
+
+  changed_step : StandForAll mid.trees → StandForAll after.trees
+  changed_step it = unapproved_step next after policy.reviews made ready rules (put_step policy (accepts it) mid next put it)
+
+pub policy_keeps : (old new : Database) (row : Record) (policy : Policy) → MakesPolicy row policy old new → AreOfficeTables new
+    → IsKeepable row → KeepsRules (meaning_in new.trees) → IsOfficeFile old.trees → IsOfficeFile new.trees
+policy_keeps old new row policy (mid, recorded, (next, put, made)) ready keepable rules file =
+    let apart : AreApart (mid.trees policy_tree) = subst AreApart (sym (recorded.0.others.1.1.0 (λ e. cc))) (table_apart old.trees 2 policies refl file.tables) in
+    stand_all old new ready rules file (λ all. changed_step mid next new policy put made ready rules apart (record_step old mid row recorded keepable all))

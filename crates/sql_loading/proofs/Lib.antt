@@ -1,0 +1,3 @@
+pub mod TwoTexts
+pub mod PutAnew
+pub mod OfficePut

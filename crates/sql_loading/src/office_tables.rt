@@ -1,0 +1,179 @@
+//! The team, the policy, the template and the languages of whole tables, put into an office whose one domain is `main`.
+ghost use Rattle.std.specs.Prelude.{◌≡◌, true, IfOk, IfErr, OnOk, fold, option_map, unwrap_or};
+ghost use Rattle.std.specs.List.{list_all};
+ghost use Rattle.std.specs.Option.{option_map_or};
+ghost use Rattle.sql_schema.specs.Keys.{text_at};
+ghost use Rattle.sql_meaning.specs.Shown.{shown_header, shown_policy};
+ghost use Rattle.sql_meaning.specs.OfficeShown.{team_shown, template_shown};
+ghost use Rattle.sql_loading.specs.MainChanged.{ChangesMain};
+ghost use Rattle.sql_decoding.specs.RowTests.{is_member_row, is_policy_row, is_entry_row, is_language, is_language_row, IsTemplate, IsUnread};
+ghost use Rattle.tables.specs.declared.faults.Lost.TheVariants.{Disk};
+ghost use Rattle.std.specs.FinMap as finite;
+ghost use Rattle.office_maps.specs.Rows as maps_read;
+ghost use Rattle.sql_meaning.specs.Values as values;
+
+use deliveries::{Change, DomainChange, Language};
+use office_maps::OfficeMaps;
+use po_read::{Catalogue, Entry, Items};
+use sql_columns::rule_from;
+use sql_decoding::{
+    Failure, header_in, lang_at, name_text_at, policy_in, role_at, template_entry, text_in,
+};
+use sqlite::Row;
+use std::alloc::Global;
+use std::collections::BTreeMap;
+use tables::Lost;
+use template_update::{Counts, Plan};
+use units::{Name, Role};
+
+// ---- the team and the policy
+
+/// Puts in the member of a row.
+fn put_member(alloc: Global, team: &mut BTreeMap<String, Role>, row: &Row) -> Result<(), Failure>
+    ensures shown { OnOk result (maps_read.team_in team.new ≡ finite.insert (maps_read.team_in team.old) (text_at 1 row.now) (values.role_at 0 row.now)) }
+    ensures stands { OnOk result (is_member_row row.now ≡ true) }
+    ensures unread { IfErr result (IsUnread (is_member_row row.now)) }
+{
+    let role = role_at(row, 0)?;
+    let name = name_text_at(alloc, row, 1)?;
+    team.insert(name, role)?;
+    Ok(())
+}
+
+/// The team of rows.
+fn team_in(alloc: Global, rows: &[Row]) -> Result<BTreeMap<String, Role>, Failure>
+    ensures shown { IfOk result (λ team. maps_read.team_in team ≡ team_shown rows.now) }
+    ensures stands { OnOk result (list_all is_member_row rows.now ≡ true) }
+    ensures unread { IfErr result (IsUnread (list_all is_member_row rows.now)) }
+{
+    let mut team = BTreeMap::new(alloc);
+    for row in rows {
+        put_member(alloc, &mut team, row)?;
+    }
+    Ok(team)
+}
+
+/// Puts the team of rows in.
+pub(crate) fn put_team(alloc: Global, maps: &mut OfficeMaps, rows: &[Row]) -> Result<(), Failure>
+    ensures shown { OnOk result (ChangesMain maps.old maps.new (λ project. record project { team = team_shown rows.now })) }
+    ensures stands { OnOk result (list_all is_member_row rows.now ≡ true) }
+    ensures unread { IfErr result (IsUnread (list_all is_member_row rows.now)) }
+{
+    maps.team = team_in(alloc, rows)?;
+    Ok(())
+}
+
+/// Puts the policy of a row in the place of the one that is there, which stays without a row.
+pub(crate) fn put_policy(maps: &mut OfficeMaps, row: &Option<Row>) -> Result<(), Failure>
+    ensures shown { OnOk result (ChangesMain maps.old maps.new (λ project. record project { policy = unwrap_or (option_map shown_policy row.now) project.policy })) }
+    ensures stands { OnOk result (option_map_or is_policy_row row.now true ≡ true) }
+    ensures unread { IfErr result (IsUnread (option_map_or is_policy_row row.now true)) }
+{
+    match row {
+        Some(row) => {
+            maps.policy = policy_in(row)?;
+            Ok(())
+        }
+        None => Ok(()),
+    }
+}
+
+/// The template's entries of rows.
+fn entries_in(alloc: Global, rows: &[Row]) -> Result<Vec<Entry>, Failure>
+    ensures shown { IfOk result (λ entries. entries.items ≡ template_shown rows.now) }
+    ensures stands { OnOk result (list_all is_entry_row rows.now ≡ true) }
+    ensures unread { IfErr result (IsUnread (list_all is_entry_row rows.now)) }
+{
+    let mut entries = Vec::new(alloc);
+    for row in rows {
+        entries.push(template_entry(alloc, row)?)?;
+    }
+    Ok(entries)
+}
+
+/// The template of rows.
+fn template_in(alloc: Global, rows: &[Row]) -> Result<Catalogue, Failure>
+    ensures shown { IfOk result (λ template. template ≡ template_shown rows.now) }
+    ensures stands { OnOk result (IsTemplate rows.now) }
+    ensures unread { IfErr result (λ failure. failure.lost ≡ Disk → ¬ IsTemplate rows.now) }
+{
+    let entries = entries_in(alloc, rows)?;
+    match Catalogue::try_new(alloc, entries)? {
+        Some(template) => Ok(template),
+        None => Err(Failure { lost: Lost::Disk }),
+    }
+}
+
+/// Puts the template of rows in, and no unit.
+pub(crate) fn put_template(
+    alloc: Global,
+    maps: &mut OfficeMaps,
+    rows: &[Row],
+) -> Result<(), Failure>
+    ensures shown { OnOk result (ChangesMain maps.old maps.new (λ project. record project { template = template_shown rows.now; units = finite.empty })) }
+    ensures stands { OnOk result (IsTemplate rows.now) }
+    ensures unread { IfErr result (λ failure. failure.lost ≡ Disk → ¬ IsTemplate rows.now) }
+{
+    let template = template_in(alloc, rows)?;
+    let bare = DomainChange::NewTemplate(template, Vec::new(alloc));
+    maps.change(alloc, Change::InDomain(Name::main_domain(), bare))?;
+    Ok(())
+}
+
+// ---- the languages
+
+/// The language of a row.
+fn language_in(alloc: Global, row: &Row) -> Result<Language, Failure>
+    ensures shown { IfOk result (λ language. language.header ≡ shown_header row.now) }
+    ensures stands { OnOk result (is_language row.now ≡ true) }
+    ensures unread { IfErr result (IsUnread (is_language row.now)) }
+{
+    let column = text_in(row, 1)?;
+    let header = header_in(alloc, row)?;
+    match rule_from(alloc, &header, column.as_str()) {
+        Ok(rule) => Ok(Language { header, rule }),
+        Err(fault) => {
+            drop(header);
+            Err(Failure::from(fault))
+        }
+    }
+}
+
+/// Puts the language of a row in, without units.
+fn put_language(alloc: Global, maps: &mut OfficeMaps, row: &Row) -> Result<(), Failure>
+    ensures shown { OnOk result (ChangesMain maps.old maps.new
+        (λ project. record project { headers = finite.insert project.headers (text_at 2 row.now) (shown_header row.now) })) }
+    ensures stands { OnOk result (is_language_row row.now ≡ true) }
+    ensures unread { IfErr result (IsUnread (is_language_row row.now)) }
+{
+    let lang = lang_at(alloc, row, 2)?;
+    let language = language_in(alloc, row)?;
+    let plan = Plan {
+        units: Items::new(alloc),
+        counts: Counts::Loaded {
+            loaded: 0,
+            missing: 0,
+            obsolete: 0,
+        },
+    };
+    let loaded = DomainChange::NewLanguage(lang, language, plan);
+    maps.change(alloc, Change::InDomain(Name::main_domain(), loaded))?;
+    Ok(())
+}
+
+/// Puts the languages of rows in, without units.
+pub(crate) fn put_languages(
+    alloc: Global,
+    maps: &mut OfficeMaps,
+    rows: &[Row],
+) -> Result<(), Failure>
+    ensures shown { OnOk result (ChangesMain maps.old maps.new (λ project.
+        record project { headers = fold (λ headers row. finite.insert headers (text_at 2 row) (shown_header row)) project.headers rows.now })) }
+    ensures stands { OnOk result (list_all is_language_row rows.now ≡ true) }
+    ensures unread { IfErr result (IsUnread (list_all is_language_row rows.now)) }
+{
+    for row in rows {
+        put_language(alloc, maps, row)?;
+    }
+    Ok(())
+}

@@ -1,0 +1,153 @@
+-- What one row makes of the team, the policy, the template, the headers and the units that the tables stand for.
+use Rattle.std.proofs.Common.{◌≡◌, inl, inr, ℤ, pos, List, [], ◌∷◌, length, map, filter, arith, Some, unwrap_or, refl, sym, ap, subst, ◌∙◌}
+use Rattle.std.specs.declared.cmp.Ordering.{Ordering}
+use Rattle.std.specs.Cmp.{IsTotalOrder, int_cmp_total}
+use Rattle.std.specs.Ordering.{int_cmp}
+use Rattle.std.specs.FinMap as maps
+use Rattle.std.specs.FinMap.{IsAntisymmetric, int_cmp-IsAntisymmetric}
+use Rattle.sqlite.specs.declared.types.Value.TheVariants.{Int, Text as Words}
+use Rattle.sqlite.specs.Order.{Row}
+use Rattle.sqlite.specs.Effect.{Database}
+use Rattle.sqlite_rules.specs.Lists.{Has}
+use Rattle.sql_laws.specs.RowMaps.{OneEach, IsPut, map_of}
+use Rattle.sql_laws.proofs.RowMaps.{map_of-put, one_each_put}
+use Rattle.po_read.specs.declared.entry.Entry.{Entry}
+use Rattle.po_read.specs.Texts.{Text, text_cmp}
+use Rattle.units.specs.KeyTexts.{HasStrings}
+use Rattle.units.specs.Project.{place_cmp}
+use Rattle.units.specs.Orders.{text_total, text_IsAntisymmetric, place_total, place_IsAntisymmetric}
+use Rattle.units.specs.Units.{key_text}
+use Rattle.units.specs.Openings.{plain_entry, closed_policy}
+use Rattle.units.specs.declared.unit.Role.{Role}
+use Rattle.units.specs.declared.unit.Role.TheVariants.{Guest, Translator, Reviewer, Manager}
+use Rattle.units.specs.declared.unit.Unit.{Unit}
+use Rattle.sql_columns.specs.Numbers.{role_number}
+use Rattle.sql_columns.specs.Written.{ArePrevious, IsHeaderEntry, header_text}
+use Rattle.sql_columns.proofs.Keys.{parts_of_text}
+use Rattle.sql_columns.proofs.Readers.{header_found}
+use Rattle.sql_schema.specs.Schema.{team_tree, policy_tree, template_tree, language_tree, unit_tree, suggestion_tree, vote_tree}
+use Rattle.sql_schema.specs.Keys.{text_at, first_text, first_texts, row_number, has_text, is_on_unit}
+use Rattle.sql_schema.specs.Inside.{PutsRow, HoldsValues}
+use Rattle.sql_meaning.specs.Cells.{unit_cells}
+use Rattle.sql_meaning.specs.Values.{integer_at, role_at, texts_at, vote_at}
+use Rattle.sql_meaning.specs.Meaning.{number_at, team_in, policy_of, policy_in, entry_of_row, template_in, header_of_row, headers_in, place_of_row, unit_of_row, units_in, suggestions_in}
+use Rattle.sql_meaning.proofs.MapEntries.{map_of-put_agreeing}
+use Rattle.sql_meaning.proofs.Units.{by_place}
+use Rattle.sql_meaning.proofs.UnitValues.{unit_read_back}
+use Rattle.sql_meaning.proofs.WrittenRows.{row_spares, suggestions_there, votes_there}
+
+-- ---- the first row of a table
+
+none_of_length : {A : Type 0} (xs : List A) → length xs ≡ 0 → xs ≡ []
+none_of_length [] e = refl
+none_of_length (x ∷ xs) e = absurd (omega arith)
+
+pub no_entries : {K : Type 0} (R : K → K → Ordering) (X : Type 0) → maps.entries (maps.empty {X = X} {R = R}) ≡ []
+no_entries R X = none_of_length _ (sym (maps.len-entries (maps.empty {X = X} {R = R})) ∙ maps.len-empty R X)
+
+no_row : {A : Type 0} (old : List Row) (x : Row) → old ≡ [] → Has old x → A
+no_row old x none there = absurd (subst (λ rows. Has rows x) none there)
+
+module _ {K Q X : Type 0} (R : Q → Q → Ordering) (total : IsTotalOrder R) (same : IsAntisymmetric R) (key : Row → K) (place : Row → Q) (value : Row → X) where
+  pub first_row : (old new : List Row) (row : Row) → old ≡ [] → IsPut key old new row → map_of R place value new ≡ maps.insert maps.empty (place row) (value row)
+  first_row old new row none it = map_of-put R total same place value [] new row (λ r s in_r in_s e. absurd in_r) (record {
+    only = λ x there. elim (it.only x there) [ inl is ↦ inl is | inr was ↦ no_row old x none was.0 ];
+    here = it.here;
+    kept = λ x there differ. absurd there;
+  })
+
+pub one_of_none : {K : Type 0} (key : Row → K) (rows : List Row) → rows ≡ [] → OneEach key rows
+one_of_none key rows none r s in_r in_s e = no_row rows r none in_r
+
+-- ---- team
+
+role_back : (role : Role) (n : ℤ) → role_number role ≡ Some n → role_at 0 (Int n ∷ []) ≡ role
+role_back Guest n e = absurd cc
+role_back Translator n e = let is : pos 1 ≡ n = cc in ap (λ m. role_at 0 (Int m ∷ [])) (sym is)
+role_back Reviewer n e = let is : pos 2 ≡ n = cc in ap (λ m. role_at 0 (Int m ∷ [])) (sym is)
+role_back Manager n e = let is : pos 3 ≡ n = cc in ap (λ m. role_at 0 (Int m ∷ [])) (sym is)
+
+module _ (old new : Database) (name : Text) (role : Role) (n : ℤ) (written : role_number role ≡ Some n) (one : OneEach first_text (old.trees team_tree))
+    (made : PutsRow team_tree first_text (HoldsValues (Words name ∷ Int n ∷ [])) old new) where
+  pub team_put : team_in new.trees ≡ maps.insert (team_in old.trees) name role
+  team_put =
+      map_of-put text_cmp text_total text_IsAntisymmetric first_text (role_at 2) (old.trees team_tree) (new.trees team_tree) made.row one made.put
+      ∙ ap (λ row. maps.insert (team_in old.trees) (first_text row) (role_at 2 row)) made.is_row.1
+      ∙ ap (maps.insert (team_in old.trees) name) (role_back role n written)
+
+  pub one_member_each : OneEach first_text (new.trees team_tree)
+  one_member_each = one_each_put text_cmp text_total text_IsAntisymmetric first_text (role_at 2) (old.trees team_tree) (new.trees team_tree) made.row one made.put
+
+-- ---- policy
+
+pub policy_first : (old new : Database) (cells : Row) → old.trees policy_tree ≡ [] → integer_at 0 cells ≡ pos 1 → PutsRow policy_tree row_number (λ row. row ≡ cells) old new
+    → policy_in new.trees ≡ policy_of cells
+policy_first old new cells none at_one made =
+    ap (λ m. unwrap_or (maps.get m (pos 1)) closed_policy)
+    (first_row int_cmp int_cmp_total int_cmp-IsAntisymmetric row_number (integer_at 0) policy_of (old.trees policy_tree) (new.trees policy_tree) made.row none made.put
+    ∙ ap (λ row. maps.insert maps.empty (integer_at 0 row) (policy_of row)) made.is_row
+    ∙ ap (λ k. maps.insert maps.empty k (policy_of cells)) at_one)
+    ∙ ap (λ o. unwrap_or o closed_policy) (maps.get-insert int_cmp_total maps.empty (pos 1) (policy_of cells) (pos 1))
+
+-- ---- template
+
+pub template_first : (old new : Database) (cells : Row) → old.trees template_tree ≡ [] → PutsRow template_tree row_number (λ row. row ≡ cells) old new
+    → template_in new.trees ≡ entry_of_row cells ∷ []
+template_first old new cells none made =
+    ap maps.values
+    (first_row int_cmp int_cmp_total int_cmp-IsAntisymmetric row_number (integer_at 0) entry_of_row (old.trees template_tree) (new.trees template_tree) made.row none made.put
+    ∙ ap (λ row. maps.insert maps.empty (integer_at 0 row) (entry_of_row row)) made.is_row)
+    ∙ only_value (integer_at 0 cells) (entry_of_row cells)
+  where
+    only_value : (k : ℤ) (v : Entry) → maps.values (maps.insert (maps.empty {X = Entry} {R = int_cmp}) k v) ≡ v ∷ []
+    only_value k v = ap (λ es. map (λ (e : ℤ × Entry). e.1) es) (maps.entries-insert int_cmp_total maps.empty k v ∙ ap (maps.put int_cmp k v) (no_entries int_cmp Entry))
+
+-- ---- language
+
+pub header_put : (old new : Database) (lang : Text) (header : Entry) (column rule : Text) → IsHeaderEntry header → column ≡ header_text header → OneEach first_text (old.trees language_tree)
+    → PutsRow language_tree first_text (HoldsValues (Words lang ∷ Words column ∷ Words rule ∷ [])) old new → headers_in new.trees ≡ maps.insert (headers_in old.trees) lang header
+header_put old new lang header column rule fits written one made =
+    map_of-put text_cmp text_total text_IsAntisymmetric first_text header_of_row (old.trees language_tree) (new.trees language_tree) made.row one made.put
+    ∙ ap (λ row. maps.insert (headers_in old.trees) (first_text row) (header_of_row row)) made.is_row.1
+    ∙ ap (λ o. maps.insert (headers_in old.trees) lang (unwrap_or o (plain_entry [] []))) (header_found column header fits written)
+
+-- ---- unit
+
+-- the row of a unit whose suggestions are those that stand there already
+module _ (old new : Database) (lang : Text) (unit : Unit) (strings : HasStrings unit.key) (previous : ArePrevious unit.previous)
+    (suggested : suggestions_in old.trees lang (key_text unit.key) ≡ unit.suggestions) (one : OneEach first_texts (old.trees unit_tree))
+    (made : PutsRow unit_tree first_texts (HoldsValues (unit_cells lang unit)) old new) where
+  same_suggestions : new.trees suggestion_tree ≡ old.trees suggestion_tree
+  same_suggestions = row_spares suggestion_tree suggestions_there unit_tree first_texts _ old new made (λ e. cc)
+
+  same_votes : new.trees vote_tree ≡ old.trees vote_tree
+  same_votes = row_spares vote_tree votes_there unit_tree first_texts _ old new made (λ e. cc)
+
+  suggestions_still : (l k : Text) → suggestions_in new.trees l k ≡ suggestions_in old.trees l k
+  suggestions_still l k = λ i.
+      maps.values (map_of int_cmp (integer_at 4) (λ row. record {
+        number = number_at 1 row;
+        suggester = text_at 5 row;
+        forms = texts_at 6 row;
+        votes = map_of text_cmp (text_at 2) (vote_at 3) (filter (has_text 1 (text_at 1 row)) (same_votes i));
+      }) (filter (is_on_unit l k) (same_suggestions i)))
+
+  row_is : unit_of_row new.trees made.row ≡ unit
+  row_is = unit_read_back new.trees lang unit made.row made.is_row strings previous (suggestions_still lang (key_text unit.key) ∙ suggested)
+
+  place_is : place_of_row made.row ≡ (lang, unit.key)
+  place_is = ap place_of_row made.is_row.1 ∙ (λ i. (lang, parts_of_text unit.key strings i))
+
+  at_place : IsPut place_of_row (old.trees unit_tree) (new.trees unit_tree) made.row
+  at_place = record {
+    only = λ x there. elim (made.put.only x there) [ inl is ↦ inl is | inr was ↦ inr (was.0, λ e. was.1 (by_place.back x made.row tt tt e)) ];
+    here = made.put.here;
+    kept = λ x there differ. made.put.kept x there (λ e. differ (by_place.forth x made.row tt tt e));
+  }
+
+  pub unit_put : units_in new.trees ≡ maps.insert (units_in old.trees) (lang, unit.key) unit
+  unit_put =
+      map_of-put_agreeing place_cmp place_total place_IsAntisymmetric place_of_row (unit_of_row old.trees) (unit_of_row new.trees) (old.trees unit_tree) (new.trees unit_tree) made.row
+      (λ r s in_r in_s e. one r s in_r in_s (by_place.back r s tt tt e)) at_place
+      (λ x there differ. λ i. record (unit_of_row new.trees x) { suggestions = suggestions_still (text_at 1 x) (text_at 2 x) i })
+      ∙ (λ i. maps.insert (units_in old.trees) (place_is i) (row_is i))

@@ -1,0 +1,14 @@
+pub mod TablesMade
+pub mod Steps
+pub mod Sequences
+pub mod Insertions
+pub mod TextKeys
+pub mod TableRows
+pub mod RowNumbers
+pub mod UnitKeys
+pub mod Whole
+pub mod Creations
+pub mod TablesInTurn
+pub mod TablesSoFar
+pub mod Queries
+pub mod OrderedQueries

@@ -1,0 +1,7 @@
+pub mod Schema
+pub mod Keys
+pub mod Rows
+pub mod Inside
+pub mod Cleared
+pub mod Whole
+pub mod Creation

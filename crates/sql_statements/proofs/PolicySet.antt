@@ -1,0 +1,92 @@
+-- The row of the policy is set, where there is one or none.
+use Rattle.std.proofs.Common.{◌≡◌, ℕ, ℤ, pos, List, [], ◌∷◌, ◌++◌, codes, true, ◌&&◌, Some, refl, sym, ap, subst, ◌∙◌}
+use Rattle.std.proofs.lemmas.Bool.{and_parts}
+use Rattle.std.specs.Ordering.{is_eq, int_cmp}
+use Rattle.std.specs.Cmp.{Equal-is}
+use Rattle.std.specs.FinMap.{int_cmp-IsAntisymmetric}
+use Rattle.sqlite.specs.declared.types.Value.TheVariants.{Null, Int}
+use Rattle.sqlite.specs.Order.{Row, value_cmp}
+use Rattle.sqlite_value.proofs.OrderLemmas.{value_cmp-Int}
+use Rattle.sqlite_value.specs.Keys.{plain, first_key, joined}
+use Rattle.sqlite.specs.Cast.{cast_row}
+use Rattle.sqlite.specs.Tree.{rowid}
+use Rattle.sqlite.specs.Term.{Term, lit, col}
+use Rattle.sqlite.specs.Rows.{shown}
+use Rattle.sqlite.specs.Listing.{understood}
+use Rattle.sqlite_tied.specs.Compute.{everything}
+use Rattle.sqlite_schema.specs.Names.{same_name}
+use Rattle.sqlite_schema.specs.Rules.{agree}
+use Rattle.sqlite_trees.specs.View.{is_int}
+use Rattle.sqlite_rules.specs.Edit.{with_rowid, id_in}
+use Rattle.sqlite_rules.specs.declared.error.Rowids.TheVariants.{Chosen}
+use Rattle.sqlite_rules.specs.Keys.{conflicts}
+use Rattle.sqlite_rules.proofs.TableLemmas.{int_is}
+use Rattle.sql_laws.specs.PlainQueries.{shows}
+use Rattle.sql_laws.proofs.Comparisons.{ints_compared}
+use Rattle.sql_schema.specs.Schema.{office_schema, policy_tree}
+use Rattle.sql_schema.specs.Keys.{row_number}
+use Rattle.sql_schema.proofs.RowNumbers.{one_row_number}
+use Rattle.sql_schema.proofs.Insertions.{Puts, cast_null, cast_int}
+use Rattle.sql_schema.proofs.TableRows.{policies}
+use Rattle.sql_statements.proofs.Untouched.{none_refers, drop_false}
+use Rattle.sql_statements.proofs.Upserts.{IsUpsert, IsPuttable, puts_or_renews}
+
+-- ---- the text
+
+abbrev pub upsert_text : List ℕ
+upsert_text = codes "INSERT INTO policy (one, schema, reviews, guests_suggest, voting, accept_at, placeholders, line_ends) VALUES (1, ?1, ?2, ?3, ?4, ?5, ?6, ?7) ON CONFLICT (one) DO UPDATE SET schema = excluded.schema, reviews = excluded.reviews, guests_suggest = excluded.guests_suggest, voting = excluded.voting, accept_at = excluded.accept_at, placeholders = excluded.placeholders, line_ends = excluded.line_ends"
+
+abbrev upsert_terms : List Term
+upsert_terms = lit (Int (pos 1)) ∷ lit Null ∷ col 0 0 ∷ col 0 1 ∷ col 0 2 ∷ col 0 3 ∷ col 0 4 ∷ col 0 5 ∷ col 0 6 ∷ []
+
+abbrev becomes : List Term
+becomes = col 1 0 ∷ col 1 0 ∷ lit Null ∷ col 0 10 ∷ col 0 11 ∷ col 0 12 ∷ col 0 13 ∷ col 0 14 ∷ col 0 15 ∷ col 0 16 ∷ []
+
+upsert_is : IsUpsert upsert_text 2 9 7 policies upsert_terms (0 ∷ []) becomes
+unfolding understood same_name joined everything
+upsert_is = record { got = refl; uncounted = refl; is = refl; plain = (refl, refl); stored = λ trees. refl; none = none_refers policy_tree (λ olds news. refl) }
+
+-- ---- the values
+
+module _ (schema reviews guests_suggest voting accept_at placeholders line_ends : ℤ) where
+  abbrev pub values : Row
+  values = Int schema ∷ Int reviews ∷ Int guests_suggest ∷ Int voting ∷ Int accept_at ∷ Int placeholders ∷ Int line_ends ∷ []
+
+  -- the rowid is 1, and the column of that name is null
+  abbrev pub policy_row : Row
+  policy_row = Int (pos 1) ∷ Null ∷ values
+
+  cast_policy : cast_row policies policy_row ≡ policy_row
+  cast_policy = rw (cast_int (pos 1), cast_null, cast_int schema, cast_int reviews, cast_int guests_suggest, cast_int voting, cast_int accept_at, cast_int placeholders, cast_int line_ends) refl
+
+  agrees : (r : Row) → is_int (rowid r) ≡ true → agree plain (0 ∷ []) r (0 ∷ []) policy_row ≡ (is_eq (value_cmp (rowid r) (Int (pos 1))) && true)
+  unfolding first_key
+  agrees r whole = ap (λ b. b && true) (ints_compared (rowid r) (Int (pos 1)) whole refl)
+
+  is_one : (n : ℤ) → is_eq (value_cmp (Int n) (Int (pos 1))) ≡ true → n ≡ pos 1
+  is_one n e = int_cmp-IsAntisymmetric n (pos 1) ((Equal-is (int_cmp n (pos 1))).0 (ap is_eq (sym (value_cmp-Int n (pos 1))) ∙ e))
+
+  same_rowid : (r : Row) → is_int (rowid r) ≡ true → conflicts (Some (0 ∷ [])) office_schema.indexes policies policy_row r ≡ true → rowid r ≡ Int (pos 1)
+  same_rowid r whole h =
+      let agreed : agree plain (0 ∷ []) r (0 ∷ []) policy_row ≡ true = drop_false _ h in
+      let tied = (and_parts _ _ (sym (agrees r whole) ∙ agreed)).0 in
+      let is = int_is (rowid r) whole in
+      is ∙ ap Int (is_one (id_in (rowid r)) (subst (λ v. is_eq (value_cmp v (Int (pos 1))) ≡ true) is tied))
+
+  shows_it : (r : Row) → rowid r ≡ Int (pos 1) → shows (values ++ rowid r ∷ shown policies policy_row) becomes r ≡ rowid r ∷ policy_row
+  shows_it r first = rw first refl
+
+  is_puttable : IsPuttable 7 9 policies upsert_terms (0 ∷ []) becomes values policy_row row_number (λ row. row ≡ policy_row) (λ rows. policy_row) (λ r. policy_row)
+  is_puttable = record {
+    given = refl;
+    follows = λ v rest. refl;
+    new_is = λ rows. ap (with_rowid Chosen rows) cast_policy;
+    new_cast = λ rows. cast_policy;
+    new_fits = λ rows. refl;
+    renewed_cast = λ r whole. cast_policy;
+    renewed_fits = λ r whole. refl;
+    meets = λ db has sound r there whole rows h. let first = same_rowid r whole h in (first, shows_it r first);
+  }
+
+  pub sets_policy : Puts upsert_text values policy_tree row_number (λ row. row ≡ policy_row)
+  sets_policy = puts_or_renews upsert_is is_puttable (λ db has sound. one_row_number (db.trees policy_tree))

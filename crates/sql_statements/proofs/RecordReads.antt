@@ -1,0 +1,20 @@
+-- What is read of the table of records.
+use Rattle.std.proofs.Common.{ℕ, List, [], ◌∷◌, codes, refl}
+use Rattle.sqlite.specs.declared.types.Value.TheVariants.{Text}
+use Rattle.sqlite.specs.Listing.{understood}
+use Rattle.sqlite_tied.specs.Compute.{everything}
+use Rattle.sql_schema.specs.Schema.{record_tree}
+use Rattle.sql_schema.specs.Inside.{ShowsKey}
+use Rattle.sql_schema.specs.Keys.{first_text, columns}
+use Rattle.sql_schema.proofs.Queries.{IsQuery, ReadsLast, is_given, reads_by_text}
+use Rattle.sql_schema.proofs.TableRows.{record_numbers}
+
+abbrev find_text : List ℕ
+find_text = codes "SELECT content, status, body FROM record WHERE number = ?1"
+
+find_is : IsQuery find_text record_tree (is_given 1 0 ∷ []) (2 ∷ 3 ∷ 4 ∷ []) (codes "content" ∷ codes "status" ∷ codes "body" ∷ [])
+unfolding understood everything
+find_is = (refl, refl, (refl, refl))
+
+pub finds_record : (number : List ℕ) → ReadsLast find_text (Text number ∷ []) (ShowsKey record_tree first_text (columns (2 ∷ 3 ∷ 4 ∷ [])) number)
+finds_record number = reads_by_text find_text record_tree 1 (2 ∷ 3 ∷ 4 ∷ []) _ find_is record_numbers number

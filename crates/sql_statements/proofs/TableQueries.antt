@@ -1,0 +1,101 @@
+-- What a query over one table answers inside a transaction, where it has no tests and its rows come by some of the columns that it shows.
+use Rattle.std.proofs.Common.{◌≡◌, ℕ, ◌+◌, ◌<◌, List, [], ◌∷◌, map, filter, length, get_or, false, refl, sym, ap, subst, ◌∙◌, arith}
+use Rattle.std.proofs.Math.Path.{fun_ext}
+use Rattle.std.specs.declared.cmp.Ordering.{Ordering}
+use Rattle.std.specs.Ordering.{is_lt}
+use Rattle.std.specs.List.Sorted.{IsPermutation, IsSorted}
+use Rattle.std.proofs.lemmas.List.{length-map, get_or-map, get_or_default}
+use Rattle.sqlite.specs.Collation.TheVariants.{Binary}
+use Rattle.sqlite.specs.declared.types.Value.TheVariants.{Null}
+use Rattle.sqlite.specs.Order.{Row}
+use Rattle.sqlite.specs.Term.{col}
+use Rattle.sqlite.specs.Command.TheVariants.{Select}
+use Rattle.sqlite.specs.Program.{overlay}
+use Rattle.sqlite.specs.Query.{Query, IsAnswer, Output, output, output_cmp}
+use Rattle.sqlite.specs.Tree.{Trees}
+use Rattle.sqlite.specs.Listing.{understood, reads_listing}
+use Rattle.sqlite.specs.State.{State, Shown}
+use Rattle.sqlite.proofs.Callers.{IsPlain, command_of, reads_as}
+use Rattle.sqlite_rules.specs.Lists.{Has}
+use Rattle.sqlite_rules.proofs.ListLemmas.{has_at}
+use Rattle.sql_laws.specs.PlainQueries.{plain_query, passes}
+use Rattle.sql_laws.proofs.PlainQueries.{outputs_are, ordered_permuted}
+use Rattle.sql_laws.proofs.RemovedRows.{from_mapped, has_permuted}
+use Rattle.sql_schema.specs.Schema.{office_schema}
+use Rattle.sql_schema.specs.Keys.{columns}
+use Rattle.sql_schema.specs.Inside.{IsReady}
+use Rattle.sql_schema.proofs.Queries.{ReadsAll, queries_inside, own_table, shows_columns}
+use Rattle.sql_statements.specs.Tables.{by_columns, ShowsTable}
+
+-- these columns of a table's rows, upwards by some of them, one after the other
+abbrev pub table_query : ℕ → List ℕ → List ℕ → Query
+table_query tree places by =
+    record (plain_query tree [] (map (col 1) places)) { order = map (λ place. (col 1 place, record { collation = Binary; descending = false })) by }
+
+abbrev pub IsTableQuery : List ℕ → ℕ → List ℕ → List ℕ → List (List ℕ) → Type 0
+IsTableQuery text tree places by names =
+    (command_of (understood office_schema text) ≡ Select (record { lets = []; body = table_query tree places by }) names)
+    × (reads_listing office_schema text ≡ false) × IsPlain (understood office_schema text)
+
+-- what is in the order of outputs is in an order of what they show, where the two compare alike
+shown_sorted : (outputs : List Output) (compare : Output → Output → Ordering) (by : Row → Row → Ordering)
+    → ((o p : Output) → Has outputs o → Has outputs p → compare o p ≡ by o.1 p.1) → IsSorted compare outputs
+    → IsSorted by (map (λ (o : Output). o.1) outputs)
+shown_sorted outputs compare by alike sorted k d low high =
+    let pad : Output = ([], d) in
+    let long : length (map (λ (o : Output). o.1) outputs) ≡ length outputs = length-map outputs (λ (o : Output). o.1) in
+    let first = there k (omega arith) in
+    let second = there (k + 1) (omega arith) in
+    rw (get_or-map (λ (o : Output). o.1) outputs (k + 1) pad d (omega arith), get_or-map (λ (o : Output). o.1) outputs k pad d (omega arith))
+    (ap is_lt (sym (alike _ _ second first)) ∙ sorted k pad low (omega arith))
+  where
+    there : (i : ℕ) → i < length outputs → Has outputs (get_or outputs i ([], d))
+    there i below = has_at outputs i _ below (get_or_default outputs i _ _ below)
+
+all_pass : (rows : List Row) → filter (passes [] []) rows ≡ rows
+all_pass [] = refl
+all_pass (row ∷ rows) = ap (λ more. row ∷ more) (all_pass rows)
+
+module _ (text : List ℕ) (tree : ℕ) (places by order : List ℕ) (names : List (List ℕ)) (means : IsTableQuery text tree places by names)
+    (alike : (r s : Row) → output_cmp (table_query tree places by) (output (table_query tree places by) ([] ∷ r ∷ [])) (output (table_query tree places by) ([] ∷ s ∷ []))
+    ≡ by_columns order (columns places r) (columns places s)) where
+  abbrev query : Query
+  query = table_query tree places by
+
+  abbrev of_row : Row → Output
+  of_row row = output query ([] ∷ row ∷ [])
+
+  module _ (db : Trees) (rows : List Row) (answer : IsAnswer query db [] rows) where
+    from_row : (o : Output) → Has answer.ordered o → (row : Row) × (o ≡ of_row row)
+    from_row o there =
+        let kept = subst (λ l. Has l o) (outputs_are tree [] (map (col 1) places) _ db [] rows answer) (has_permuted answer.kept answer.ordered o answer.same there) in
+        let env = from_mapped (output query) _ o kept in
+        let row = from_mapped (λ r. [] ∷ r ∷ []) (filter (passes [] []) (db tree)) env.0 env.1 in
+        (row.0, env.2 ∙ ap (output query) row.2)
+
+    compare_alike : (o p : Output) → Has answer.ordered o → Has answer.ordered p → output_cmp query o p ≡ by_columns order o.1 p.1
+    compare_alike o p at_o at_p =
+        let r = from_row o at_o in
+        let s = from_row p at_p in
+        rw (r.1, s.1) (alike r.0 s.0 ∙ (λ i. by_columns order (sym (shows_columns [] places r.0) i) (sym (shows_columns [] places s.0) i)))
+
+    in_order : IsSorted (by_columns order) rows
+    in_order = subst (IsSorted (by_columns order)) (sym answer.shown) (shown_sorted answer.ordered (output_cmp query) (by_columns order) compare_alike answer.sorted)
+
+    all_shown : IsPermutation (map (columns places) (db tree)) rows
+    all_shown =
+        subst (λ l. IsPermutation l rows) (ap (λ (f : Row → Row). map f (filter (passes [] []) (db tree))) (fun_ext (shows_columns [] places)) ∙ ap (map (columns places)) (all_pass (db tree)))
+        (ordered_permuted tree [] (map (col 1) places) _ db [] rows answer)
+
+  shows_table : (old new : State) (rows : List Row) → IsReady old → Shown text [] old new rows → ShowsTable tree places order old.now rows
+  shows_table old new rows ready h =
+      let read = reads_as text [] old new office_schema ready.schema _ means.0 means.2 means.1 rows h in
+      let answer = read.answer Null in
+      record {
+        all = subst (λ l. IsPermutation (map (columns places) l) rows) (own_table old.now.trees tree) (all_shown (overlay old.now.trees []) rows answer);
+        in_order = in_order (overlay old.now.trees []) rows answer;
+      }
+
+  pub reads_table : ReadsAll text [] (ShowsTable tree places order)
+  reads_table A rows_of old new r =
+      queries_inside text [] old new means.2 rows_of (λ db a. ShowsTable tree places order db (rows_of a)) (λ a ready h. shows_table old new (rows_of a) ready h) r

@@ -1,0 +1,31 @@
+use Rattle.std.proofs.Common.{w64}
+use Rattle.std.proofs.lemmas.Int.{to_z-of_z}
+use Rattle.std.specs.Option.{option_copied}
+use Rattle.sqlite.specs.Held.{state}
+use Rattle.sql_schema.proofs.Steps.{said}
+use Rattle.sql_schema.proofs.Insertions.{bound_text_or_null}
+use Rattle.sql_statements.proofs.UnitPuts.{puts_unit}
+use Rattle.sql_statements.proofs.units.put_unit.Goals as goal
+
+pub returns-clause-put : goal.returns-clause-put
+returns-clause-put g c =
+    said _ _ _ c.and.ensures (
+    puts_unit c.args.lang.now c.args.key.now (option_copied c.args.plural) c.args.forms.now c.args.state c.args.obsolete c.args.revision c.args.comment.now c.args.previous.now
+    (state g.S.Store c.args.tx.now.conn.now) (state g.S.Store c.execute.new.self.conn.now) c.execute.result c.requires.steady
+    (rw (
+      c.params-to_sql.ensures,
+      c.params-to_sql-2.ensures,
+      c.params-to_sql-3.ensures,
+      bound_text_or_null c.args.plural,
+      c.params-to_sql-4.ensures,
+      c.params-to_sql-5.ensures,
+      c.params-to_sql-6.ensures,
+      c.params-to_sql-7.ensures,
+      c.params-to_sql-8.ensures,
+      c.params-to_sql-9.ensures,
+      to_z-of_z w64 c.args.state c.ranges.state,
+      to_z-of_z w64 c.args.obsolete c.ranges.obsolete,
+      to_z-of_z w64 c.args.revision c.ranges.revision,
+    ) at c.execute.ensures.runs)
+    c.execute.ensures.survives
+    )

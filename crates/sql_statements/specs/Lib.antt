@@ -1,0 +1,10 @@
+pub mod Taken
+pub mod Renewed
+pub mod Added
+pub mod Emptied
+pub mod RecordTable
+pub mod Tables
+pub mod WholeOffice
+pub mod Queries
+pub mod Answers
+pub mod UnitRows

@@ -1,0 +1,39 @@
+-- Rows of a table become others where they stand: those of approved units under a policy without reviews.
+use Rattle.std.specs.Prelude.{◌≡◌, ◌≢◌, ◌⊎◌, ℕ, pos, ◌+ℤ◌, Bool, true, false, List, [], ◌∷◌}
+use Rattle.std.specs.List.{AllByRecursion}
+use Rattle.std.specs.Ordering.{is_eq}
+use Rattle.sqlite.specs.declared.types.Value.TheVariants.{Int}
+use Rattle.sqlite.specs.Order.{Row, column, value_cmp}
+use Rattle.sqlite.specs.Effect.{Database}
+use Rattle.sqlite_sql.specs.Ops.{fits_i64}
+use Rattle.sqlite_rules.specs.Edit.{id_in}
+use Rattle.sqlite_rules.specs.Lists.{Has}
+use Rattle.sql_schema.specs.Schema.{office_schema, unit_tree}
+
+-- The rows that pass a test become what they are to become, and the others stay.
+pub record AreRenewed (test : Row → Bool) (renewed : Row → Row) (old new : List Row) : Type 0 where
+  pub only : (x : Row) → Has new x → (Has old x × (test x ≡ false)) ⊎ ((r : Row) × Has old r × (test r ≡ true) × (x ≡ renewed r))
+  pub kept : (x : Row) → Has old x → test x ≡ false → Has new x
+  pub made : (x : Row) → Has old x → test x ≡ true → Has new (renewed x)
+
+-- Those of one table do, and the other tables are as they were.
+pub record RenewsRows (tree : ℕ) (test : Row → Bool) (renewed : Row → Row) (old new : Database) : Type 0 where
+  pub rows : AreRenewed test renewed (old.trees tree) (new.trees tree)
+  pub others : AllByRecursion (λ t. t.tree ≢ tree → new.trees t.tree ≡ old.trees t.tree) office_schema.tables
+
+-- a unit's row whose state is 3: approved
+abbrev pub is_approved_row : Row → Bool
+is_approved_row row = is_eq (value_cmp (column row 5) (Int (pos 3)))
+
+-- it becomes 2, translated, at the next revision
+abbrev pub unapproved_row : Row → Row
+unapproved_row row =
+    column row 0 ∷ column row 1 ∷ column row 2 ∷ column row 3 ∷ column row 4 ∷ Int (pos 2) ∷ column row 6 ∷ Int (id_in (column row 7) +ℤ pos 1) ∷ column row 8 ∷ column row 9 ∷ []
+
+-- 64 bits hold the revision after that of each approved unit
+abbrev pub HaveNextRevisions : Database → Type 0
+HaveNextRevisions db = (row : Row) → Has (db.trees unit_tree) row → is_approved_row row ≡ true → fits_i64 (id_in (column row 7) +ℤ pos 1) ≡ true
+
+-- no unit stays approved
+abbrev pub UnapprovesUnits : Database → Database → Type 0
+UnapprovesUnits old new = HaveNextRevisions old → RenewsRows unit_tree is_approved_row unapproved_row old new

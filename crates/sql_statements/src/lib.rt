@@ -1,0 +1,23 @@
+//! Every statement on the eight tables but those that look at a file that nobody knows yet, one function each, in a module for each table,
+//! and its law beside it.
+//!
+//! - `records`, `team`, `policy`, `template`, `languages`, `units`, `suggestions`, `votes`: one table each
+//! - `queries`: the join that an export walks, and the obsolete units behind it
+//! - `unit_rows`: the rows that a look at a unit shows
+//! - `whole_office`: the rows of all tables, read in one transaction
+//!
+//! A function takes a transaction that is open and leaves it open, but those of `queries` and `whole_office`. What is said of values is said
+//! while the disk returns what was written.
+#![tactic(auto)]
+
+pub mod languages;
+pub mod policy;
+pub mod queries;
+pub mod records;
+pub mod suggestions;
+pub mod team;
+pub mod template;
+pub mod unit_rows;
+pub mod units;
+pub mod votes;
+pub mod whole_office;

@@ -1,0 +1,57 @@
+//! The table of the policy, which has one row.
+ghost use Rattle.std.specs.Prelude.{◌≡◌, ◌∷◌, [], pos};
+ghost use Rattle.sqlite.specs.Held.{state};
+ghost use Rattle.sqlite.specs.declared.types.Value.TheVariants.{Null, Int};
+ghost use Rattle.sql_schema.specs.Inside.{IsSteady, IsInside, PutsRow, IsRead};
+ghost use Rattle.sql_schema.specs.Keys.{row_number};
+ghost use Rattle.sql_schema.specs.Schema.{policy_tree};
+ghost use Rattle.sql_statements.specs.Answers.{ShowsPolicy};
+
+use sqlite::{Alter, Error, Row, Transaction, params};
+
+/// Writes the policy in the place of the one that is there: which form the tables have, and the office's rules, each as a number. `one`
+/// is another name of the rowid, which is 1; the column itself holds NULL.
+pub fn set_policy<S: Alter>(
+    tx: &mut Transaction<'_, S>,
+    schema: i64,
+    reviews: i64,
+    guests_suggest: i64,
+    voting: i64,
+    accept_at: i64,
+    placeholders: i64,
+    line_ends: i64,
+) -> Result<(), Error>
+    requires steady { IsSteady (state S.Store tx.old.conn.now) }
+    ensures same_reference { tx.new.conn.ghost_name ≡ tx.old.conn.ghost_name }
+    ensures put { IsInside (state S.Store tx.old.conn.now) (state S.Store tx.new.conn.now) result
+        (PutsRow policy_tree row_number (λ row. row ≡ Int (pos 1) ∷ Null ∷ Int schema ∷ Int reviews ∷ Int guests_suggest ∷ Int voting ∷ Int accept_at ∷ Int placeholders ∷ Int line_ends ∷ [])) }
+{
+    tx.execute(
+        "INSERT INTO policy (one, schema, reviews, guests_suggest, voting, accept_at, placeholders, line_ends) VALUES (1, ?1, ?2, ?3, ?4, ?5, ?6, ?7) ON CONFLICT (one) DO UPDATE SET schema = excluded.schema, reviews = excluded.reviews, guests_suggest = excluded.guests_suggest, voting = excluded.voting, accept_at = excluded.accept_at, placeholders = excluded.placeholders, line_ends = excluded.line_ends",
+        params![
+            schema,
+            reviews,
+            guests_suggest,
+            voting,
+            accept_at,
+            placeholders,
+            line_ends
+        ],
+    )
+    .and(Ok(()))
+}
+
+/// The policy: the file's schema, whether suggestions are reviewed, whether guests suggest, whether there are votes, how many accept, and
+/// what is checked of placeholders and line ends. None, where it wasn't written.
+pub fn find_policy<S: Alter>(tx: &mut Transaction<'_, S>) -> Result<Option<Row>, Error>
+    requires steady { IsSteady (state S.Store tx.old.conn.now) }
+    ensures same_reference { tx.new.conn.ghost_name ≡ tx.old.conn.ghost_name }
+    ensures found { IsRead (state S.Store tx.old.conn.now) (state S.Store tx.new.conn.now) result
+        ShowsPolicy }
+{
+    let mut rows = tx.query_all(
+        "SELECT schema, reviews, guests_suggest, voting, accept_at, placeholders, line_ends FROM policy WHERE one = 1",
+        &[],
+    )?;
+    Ok(rows.pop())
+}

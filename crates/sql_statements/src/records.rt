@@ -1,0 +1,63 @@
+//! The table of records.
+ghost use Rattle.std.specs.Prelude.{◌≡◌, ◌∷◌, []};
+ghost use Rattle.sqlite.specs.Held.{state};
+ghost use Rattle.sqlite.specs.declared.types.Value.TheVariants.{Int, Text};
+ghost use Rattle.sql_schema.specs.Inside.{IsSteady, IsInside, PutsRow, HoldsValues, IsRead};
+ghost use Rattle.sql_schema.specs.Keys.{first_text};
+ghost use Rattle.sql_schema.specs.Schema.{record_tree};
+ghost use Rattle.sql_statements.specs.RecordTable.{ShowsRecords};
+ghost use Rattle.sql_statements.specs.Answers.{ShowsRecord};
+
+use sqlite::{Alter, Error, Row, Transaction, params};
+
+/// Writes the record of a request: its number, its content's canonical text, and its reply's status and body. The number must be new;
+/// one that is there is an error, and nothing is written.
+pub fn put_record<S: Alter>(
+    tx: &mut Transaction<'_, S>,
+    number: &str,
+    content: &str,
+    status: i64,
+    body: &str,
+) -> Result<(), Error>
+    requires steady { IsSteady (state S.Store tx.old.conn.now) }
+    ensures same_reference { tx.new.conn.ghost_name ≡ tx.old.conn.ghost_name }
+    ensures put { IsInside (state S.Store tx.old.conn.now) (state S.Store tx.new.conn.now) result
+        (PutsRow record_tree first_text (HoldsValues (Text number.now ∷ Text content.now ∷ Int status ∷ Text body.now ∷ []))) }
+{
+    tx.execute(
+        "INSERT INTO record (number, content, status, body) VALUES (?1, ?2, ?3, ?4)",
+        params![number, content, status, body],
+    )
+    .and(Ok(()))
+}
+
+/// The records by number: each one's content, its reply's status and body, and its number. It wants the transaction open and leaves it
+/// open.
+pub fn all_records<S: Alter>(tx: &mut Transaction<'_, S>) -> Result<Vec<Row>, Error>
+    requires steady { IsSteady (state S.Store tx.old.conn.now) }
+    ensures same_reference { tx.new.conn.ghost_name ≡ tx.old.conn.ghost_name }
+    ensures found { IsRead (state S.Store tx.old.conn.now) (state S.Store tx.new.conn.now) result
+        (λ db rows. ShowsRecords db rows.items) }
+{
+    tx.query_all(
+        "SELECT content, status, body, number FROM record ORDER BY number",
+        &[],
+    )
+}
+
+/// The record of a request: its content's canonical text, and its reply's status and body. None, where no record has the number.
+pub fn find_record<S: Alter>(
+    tx: &mut Transaction<'_, S>,
+    number: &str,
+) -> Result<Option<Row>, Error>
+    requires steady { IsSteady (state S.Store tx.old.conn.now) }
+    ensures same_reference { tx.new.conn.ghost_name ≡ tx.old.conn.ghost_name }
+    ensures found { IsRead (state S.Store tx.old.conn.now) (state S.Store tx.new.conn.now) result
+        (ShowsRecord number.now) }
+{
+    let mut rows = tx.query_all(
+        "SELECT content, status, body FROM record WHERE number = ?1",
+        params![number],
+    )?;
+    Ok(rows.pop())
+}
