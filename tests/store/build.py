@@ -17,7 +17,7 @@ import tempfile
 TOP = pathlib.Path(__file__).resolve().parent.parent.parent
 FOLDER = pathlib.Path("/tmp/office-store-program")
 NAME = "stored_offices"
-STANDS_ON = "store_sql office tables request_book units po_read sqlite anyhow"
+STANDS_ON = "store_sql office tables request_book units po_text sqlite anyhow"
 
 
 def program_in(folder):

@@ -1,11 +1,13 @@
-//! What lies below an office, as rows of data: catalogues and their texts, units and what acts and templates make of them, and requests. Reads rows from
-//! standard input, and prints those that come to something else than they say, and then how many rows there were.
+//! What lies below an office, as rows of data: catalogues and their texts, units and what acts and templates make of
+//! them, and requests. Reads rows from standard input, and prints those that come to something else than they say, and
+//! then how many rows there were.
 //!
-//!   == catalogues     lines, catalogues, their canonical text, plural rules and checks: `catalogue_rows` has the words of the rows below
+//!   == catalogues     lines, catalogues, their canonical text, plural rules and checks: `catalogue_rows`
 //!   == units          decisions on a unit, what callers see of it, templates and texts of a language: `unit_rows`
 //!   == requests       names, limits, votes, streams and requests: `request_rows`
 //!
-//! A row that begins with `#` says nothing.
+//! A row that begins with `#` says nothing. The module named has the words of the rows below; `stage` has what the
+//! rows so far set, `words` the words of a row.
 #![tactic(auto)]
 
 mod catalogue_rows;

@@ -1,5 +1,5 @@
 //! The words of a row.
-use po_read::{Items, Text};
+use po_text::{Items, Text};
 use std::alloc::Global;
 use units::{AcceptAt, CommentLines, Policy, Role};
 

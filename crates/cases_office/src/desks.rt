@@ -1,8 +1,9 @@
 //! Desks over tables in maps, and sinks.
+use byte_streams::VecSink;
 use office::Desk;
 use std::alloc::Global;
-use store::{PlainTables, Start};
-use units::{Name, VecSink};
+use tables::{PlainTables, Start};
+use units::Name;
 
 /// The demo office, or one with this manager alone.
 pub(crate) fn start(alloc: Global, who: &str) -> Option<Start> {

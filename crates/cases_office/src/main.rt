@@ -1,12 +1,14 @@
-//! Offices as rows of data: over tables of both kinds, over streams, files and sockets, and behind a network. Reads rows from standard input, and
-//! prints those that come to something else than they say, and then how many rows there were.
+//! Offices as rows of data: over tables of both kinds, over streams, files and sockets, and behind a network. Reads
+//! rows from standard input, and prints those that come to something else than they say, and then how many rows there
+//! were.
 //!
-//!   == desks       what desks over tables of both kinds answer: the module `desk_rows` has the words of the rows below
+//!   == desks       what desks over tables of both kinds answer: `desk_rows` has the words of the rows below
 //!   == maps        what desks over tables in maps answer, which have a place for further domains: the same words
 //!   == streams     the program's commands, connections, offices in files and sockets: `stream_rows`
 //!   == senders     senders and their networks: `sender_rows`
 //!
-//! A row that begins with `#` says nothing.
+//! A row that begins with `#` says nothing. `stage` has what the rows so far set, `words` the words of a row; `desks`
+//! has desks over tables in maps, and sinks, `places` languages of domains by their names, `named` lines under names.
 #![tactic(auto)]
 
 mod desk_rows;

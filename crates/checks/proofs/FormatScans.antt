@@ -1,6 +1,6 @@
 -- Scanning a text of either format.
 use Rattle.std.proofs.Common.{◌≡◌, ℕ, ◌<◌, ◌≤◌, [], ◌∷◌, true, false, length, take, drop, Some, None, ◌==◌}
-use Rattle.po_read.specs.Texts.{Text}
+use Rattle.po_text.specs.Texts.{Text}
 use Rattle.checks.specs.declared.format.Format.{Format}
 use Rattle.checks.specs.declared.format.Format.TheVariants.{C, Brace}
 use Rattle.checks.specs.Formats.{begins_with_pair, placeholder_len, placeholders_of}

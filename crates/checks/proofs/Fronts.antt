@@ -5,7 +5,7 @@ use Rattle.std.specs.Option.{IfSome}
 use Rattle.std.specs.Str.{IsAscii}
 use Rattle.std.proofs.lemmas.Bool.{cases_eq, eq-eqb, ne_eqb}
 use Rattle.std.proofs.lemmas.Bool.Decides.{nat_tests}
-use Rattle.po_read.specs.Texts.{Text}
+use Rattle.po_text.specs.Texts.{Text}
 use Rattle.checks.specs.declared.format.Format.{Format}
 use Rattle.checks.specs.declared.format.Format.TheVariants.{C, Brace}
 use Rattle.checks.specs.BracePlaceholders.{is_name_byte, is_name, is_number, after_close, after_open, after_brace}

@@ -1,7 +1,7 @@
 -- Worked rows.
 use Rattle.std.specs.Prelude.{◌≡◌, refl, codes, List, [], ◌∷◌, true, false, length, Some, None}
 use Rattle.plural_expr.specs.Values.{Rule, served_by}
-use Rattle.po_read.specs.Texts.{Text}
+use Rattle.po_text.specs.Texts.{Text}
 use Rattle.checks.specs.Source.{Source}
 use Rattle.checks.specs.Findings.{is_struck_out, findings}
 use Rattle.checks.specs.BracePlaceholders.{brace_placeholders, braces_after}

@@ -2,7 +2,7 @@
 use Rattle.std.proofs.Common.{◌≡◌, ℕ, zero, suc, ◌-◌, ◌<◌, ◌≤◌, List, [], ◌∷◌, ◌++◌, Bool, true, false, if◌then◌else◌, length, take, drop, refl, arith, Option, Some, None, option_map, option_to_list, unwrap_or, codes, take_all, ◌==◌}
 use Rattle.std.proofs.lemmas.List.{length-drop}
 use Rattle.std.proofs.lemmas.Bool.{eqb-true}
-use Rattle.po_read.specs.Texts.{Text}
+use Rattle.po_text.specs.Texts.{Text}
 use Rattle.checks.specs.Directives.{begins_with, directive_len, directives, directives_after}
 use Rattle.checks.specs.BracePlaceholders.{begins_doubled, brace_len, brace_placeholders, braces_after}
 

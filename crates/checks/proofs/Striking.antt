@@ -2,7 +2,7 @@
 use Rattle.std.proofs.Common.{◌≡◌, List, [], ◌∷◌, ◌++◌, Bool, true, false, ◌&&◌, ◌||◌, map, cond, refl, sym, ap, ◌∙◌, inl, inr}
 use Rattle.std.specs.List.{list_any}
 use Rattle.std.proofs.lemmas.Bool.{or_cases, and_parts, cases_Bool, false≢true}
-use Rattle.po_read.specs.Texts.{Text, text_eq, texts_eq}
+use Rattle.po_text.specs.Texts.{Text, text_eq, texts_eq}
 use Rattle.checks.specs.Findings.{struck_out_of, is_struck_out}
 
 -- ---- what is in joined lists, and in lists that begin alike

@@ -6,7 +6,7 @@ use Rattle.std.specs.Prelude.{ℕ, zero, suc, ◌-◌, List, [], ◌∷◌, ◌+
 use Rattle.std.specs.Char.{is_ascii_digit, is_ascii_alphabetic, is_ascii_alphanumeric}
 use Rattle.std.specs.List.{list_all, prefix_len}
 use Rattle.std.specs.Int.{is_in_range}
-use Rattle.po_read.specs.Texts.{Text, is_empty}
+use Rattle.po_text.specs.Texts.{Text, is_empty}
 use Rattle.checks.specs.Directives.{begins_with}
 
 -- ---- names and numbers

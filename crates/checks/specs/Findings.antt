@@ -6,7 +6,7 @@ use Rattle.std.specs.Prelude.{ℕ, List, [], ◌∷◌, ◌++◌, map, filter, B
 use Rattle.std.specs.Bool.{beq}
 use Rattle.std.specs.List.{starts_with, ends_with, list_any, list_all, enumerate_from}
 use Rattle.plural_expr.specs.Values.{Rule, serves_one}
-use Rattle.po_read.specs.Texts.{Text, text_eq, texts_eq, is_empty}
+use Rattle.po_text.specs.Texts.{Text, text_eq, texts_eq, is_empty}
 use Rattle.checks.specs.declared.source.Findings.{Findings}
 use Rattle.checks.specs.declared.format.Format.{Format}
 use Rattle.checks.specs.declared.format.Format.TheVariants.{C, Brace}

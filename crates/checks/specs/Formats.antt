@@ -1,6 +1,6 @@
 -- The formats whose placeholders are checked. The flags are those of the GNU gettext manual, "The Format of PO Files".
 use Rattle.std.specs.Prelude.{ℕ, ◌-◌, List, length, Bool, Option, option_map, codes}
-use Rattle.po_read.specs.Texts.{Text}
+use Rattle.po_text.specs.Texts.{Text}
 use Rattle.checks.specs.declared.format.Format.{Format}
 use Rattle.checks.specs.declared.format.Format.TheVariants.{C, Brace}
 use Rattle.checks.specs.Directives.{begins_with, after_directive, directives}

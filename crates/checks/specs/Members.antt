@@ -3,7 +3,7 @@ use Rattle.std.specs.Prelude.{◌≡◌, ℕ, List, Bool}
 use Rattle.std.specs.BTreeSet.{BTreeSet, contains_by}
 use Rattle.std.specs.List.{list_any}
 use denote.Ref.{Bor}
-use Rattle.po_read.specs.Texts.{Text, text_cmp, text_eq}
+use Rattle.po_text.specs.Texts.{Text, text_cmp, text_eq}
 
 -- the text is in the set
 abbrev pub is_member : BTreeSet (Bor (List ℕ)) → Text → Bool

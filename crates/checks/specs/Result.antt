@@ -2,11 +2,11 @@
 -- forms give which is this project's own rule, given here.
 use Rattle.std.specs.Prelude.{List, Bool, not, ◌&&◌, ◌||◌, if◌then◌else◌}
 use Rattle.plural_expr.specs.Values.{Rule}
-use Rattle.po_read.specs.declared.entry.Entry.{Entry}
+use Rattle.po_text.specs.declared.entry.Entry.{Entry}
 use Rattle.units.specs.declared.unit.Policy.{Policy}
 use Rattle.units.specs.declared.unit.UnitState.{UnitState}
 use Rattle.units.specs.declared.unit.UnitState.TheVariants.{Untranslated, NeedsEditing, Translated}
-use Rattle.po_read.specs.Texts.{Text, is_empty}
+use Rattle.po_text.specs.Texts.{Text, is_empty}
 use Rattle.units.specs.Units.{all_empty, some_empty}
 use Rattle.checks.specs.Source.{Source}
 use Rattle.checks.specs.declared.source.Findings.{Findings}

@@ -7,7 +7,7 @@ ghost use Rattle.checks.specs.Findings.{is_subset, are_same_set, are_numbered, a
 ghost use Rattle.checks.specs.Members.{is_member, HasMembers};
 
 use crate::directive::has_number;
-use po_read::Text;
+use po_text::Text;
 use std::alloc::Global;
 use std::collections::BTreeSet;
 use units::Memory;

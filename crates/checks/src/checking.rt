@@ -1,7 +1,7 @@
 //! The checks of a translation's forms, and the state that they give a unit.
 
 ghost use Rattle.std.specs.Prelude.{◌≡◌, ◌<◌, ◌^◌, IfOk, length, option_map};
-ghost use Rattle.po_read.specs.Texts.{is_empty};
+ghost use Rattle.po_text.specs.Texts.{is_empty};
 ghost use Rattle.checks.specs.Findings.{wanted_of, may_leave_out, are_fitting, fit_under, line_ends_fit, has_flag, unfit_placeholders, unfit_line_ends, findings};
 ghost use Rattle.checks.specs.Result.{is_found, result_state};
 
@@ -10,7 +10,7 @@ use crate::format::Format;
 use crate::scan::placeholder_texts;
 use crate::source::{Findings, Source};
 use plural_expr::PluralForms;
-use po_read::{Items, PoString, Text};
+use po_text::{Items, PoString, Text};
 use std::alloc::Global;
 use units::{Memory, Policy, UnitState, all_empty, some_empty};
 

@@ -7,7 +7,7 @@ ghost use Rattle.checks.specs.BracePlaceholders.{brace_placeholders};
 ghost use Rattle.checks.specs.Formats.{placeholders_of};
 
 use crate::format::Format;
-use po_read::Text;
+use po_text::Text;
 use std::alloc::Global;
 use std::str;
 use units::Memory;

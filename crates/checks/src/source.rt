@@ -2,7 +2,7 @@
 ghost use Rattle.std.specs.Option.{option_copied};
 ghost use Rattle.checks.specs.Source.{Source as SourceValue};
 
-use po_read::{Items, PoString, Text};
+use po_text::{Items, PoString, Text};
 use std::marker::Model;
 
 /// What a translation is checked against: a msgid, its msgid_plural if it has one, and the flags of its template entry (GNU

@@ -1,4 +1,9 @@
 //! The program `office`.
+//!
+//! - `subcommands`, `words`: the subcommands with their options, as rows that clap reads by; what the words ask for
+//! - `files`, `work`: offices in files, and what is done to the office in one
+//! - `serve`, `send`: `office serve` and `office send`
+//! - `faults`, `sentences`: the second output, where faults are told by numbers, and what the numbers mean
 #![tactic(auto)]
 
 mod faults;
@@ -10,6 +15,7 @@ mod subcommands;
 mod words;
 mod work;
 
+use byte_streams::ByteSink;
 use clap::Error;
 use commands::{FAILED, Input, Output, canon_text, deliver_lines, plural_lines};
 use faults::Faults;
@@ -20,9 +26,8 @@ use send::send_file;
 use std::env::Args;
 use std::io::{self, BufWriter, ErrorKind, Stdout};
 use std::process::ExitCode;
-use store::PlainTables;
 use store_sql::OpenFault;
-use units::ByteSink;
+use tables::PlainTables;
 use words::{Asked, Deliver, Plural, error_code, no_text, read_words};
 use work::Work;
 

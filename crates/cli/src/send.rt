@@ -4,12 +4,12 @@ use crate::faults::Faults;
 use crate::files::is_file;
 use crate::second_output;
 use crate::words::SendFile;
+use byte_streams::{ByteSink, ByteSource};
 use client::send_lines;
 use commands::{FAILED, Input, Output};
 use sockets::SocketLink;
 use std::fs::File;
 use std::io::{self, BufWriter, Stdout, Write};
-use units::{ByteSink, ByteSource};
 
 /// Sends the requests of a file, which has to be a regular one.
 pub(crate) fn send_file(rt: &HostRuntime, options: &SendFile<'_>) -> io::Result<u8> {

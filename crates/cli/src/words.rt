@@ -7,7 +7,7 @@ use clap::error::ErrorKind;
 use clap::{ArgMatches, Command, Error};
 use commands::FAILED;
 use std::alloc::{AllocError, Global};
-use store::Start;
+use tables::Start;
 use units::{Lang, Name};
 
 /// What the words ask for.

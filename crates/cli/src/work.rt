@@ -9,7 +9,7 @@ use file_commands::{Closed, deliver_store, export_store, init_store, say_ready};
 use sqlite::{Alter, Connection};
 use std::io::BufWriter;
 use std::rt::HostRuntime;
-use store::Start;
+use tables::Start;
 use units::{Lang, Name};
 
 /// What is done to the office in a database.

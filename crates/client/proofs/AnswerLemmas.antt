@@ -9,7 +9,7 @@ use Rattle.std.proofs.lemmas.List.{length-map, length-take-le}
 use Rattle.httparse.specs.declared.spans.ResponseSpans.{ResponseSpans}
 use Rattle.httparse.specs.Grammar.{ResponseHead, ReadsResponse, print_response}
 use Rattle.httparse.specs.Spans.{header_bytes, name_and_value, IsResponseAt, IsResponseOf}
-use Rattle.po_read.specs.Texts.{Text}
+use Rattle.po_text.specs.Texts.{Text}
 use Rattle.request_book.specs.Replies.{Reply}
 use Rattle.client.specs.Answers.{Line, is_length, is_other, lines_say, says_length, is_reply_status, has_control, IsReplyBehind, IsReplyIn}
 

@@ -7,7 +7,7 @@ use Rattle.std.specs.Char.{to_ascii_lowercase, is_control}
 use Rattle.std.specs.Str.{chars}
 use Rattle.httparse.specs.Grammar.{ResponseHead, ReadsResponse, status_code}
 use Rattle.httparse.specs.Spans.{name_and_value}
-use Rattle.po_read.specs.Texts.{Text, text_eq}
+use Rattle.po_text.specs.Texts.{Text, text_eq}
 use Rattle.request_book.specs.Replies.{Reply}
 
 -- ---- header lines

@@ -2,7 +2,7 @@
 -- behind the last line end is a line too, if it isn't empty.
 use Rattle.std.specs.Prelude.{◌≡◌, ◌==◌, ℕ, ◌+◌, List, [], ◌∷◌, ◌++◌, length, if◌then◌else◌, IsUtf8}
 use Rattle.std.specs.List.{AllZip}
-use Rattle.po_read.specs.Texts.{Text}
+use Rattle.po_text.specs.Texts.{Text}
 use Rattle.request_book.specs.declared.act.Request.{Request}
 use Rattle.request_book.specs.Acts.{IsRequestText}
 

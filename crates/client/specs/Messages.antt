@@ -1,7 +1,7 @@
 -- A request as a message of HTTP (RFC 9112): one POST to the path of its number, with the caller in a header line of its own, and the act's
 -- JSON as the body. The connection ends behind the answer.
 use Rattle.std.specs.Prelude.{◌++◌, length, codes, decimal}
-use Rattle.po_read.specs.Texts.{Text}
+use Rattle.po_text.specs.Texts.{Text}
 use Rattle.request_book.specs.Words.{number_text}
 use Rattle.request_book.specs.Acts.{act_text}
 use Rattle.request_book.specs.declared.act.Request.{Request}

@@ -1,6 +1,6 @@
 -- What comes of sending the requests of a text's lines over a link: what is told, and where. This project's own rule.
 use Rattle.std.specs.Prelude.{⊤, ◌≡◌, ◌⊎◌, ℕ, List, [], ◌++◌, flat_map, codes, decimal, cond, Option, Some, None, IfSome}
-use Rattle.po_read.specs.Texts.{Text}
+use Rattle.po_text.specs.Texts.{Text}
 use Rattle.request_book.specs.declared.act.Request.{Request}
 use Rattle.request_book.specs.Replies.{Reply}
 use Rattle.sender.specs.Sending.{Sending, HasDistinctNumbers, unanswered, is_finished}

@@ -1,6 +1,6 @@
 -- What is said over a link, and what a sender does by it. This project's own rule.
 use Rattle.std.specs.Prelude.{◌≡◌, ◌≤◌, ◌+◌, ℕ, List, [], ◌∷◌, ◌++◌, map, true, if◌then◌else◌, nat_eq, Option, Some, option_map, slice_get}
-use Rattle.po_read.specs.Texts.{Text}
+use Rattle.po_text.specs.Texts.{Text}
 use Rattle.request_book.specs.declared.act.Request.{Request}
 use Rattle.request_book.specs.Replies.{Reply}
 use Rattle.sender.specs.declared.exchange.Exchange.{Exchange}

@@ -9,7 +9,7 @@ ghost use Rattle.client.specs.Answers.{IsReplyIn, IsReplyBehind, same_letters, i
 use httparse::Status;
 use httparse::spans::{EMPTY_HEADER_SPAN, HeaderSpan, ResponseSpans, parse_response};
 use itoa::Buffer;
-use po_read::Text;
+use po_text::Text;
 use request_book::Reply;
 use std::alloc::Global;
 use units::Memory;

@@ -1,7 +1,7 @@
 //! The requests of a text's lines over a link.
 
 ghost use Rattle.std.specs.Prelude.{◌≡◌, ◌⊎◌, IfOk, OnOk, IfErr, OnErr};
-ghost use Rattle.units.specs.Streams.{RoseOrStands};
+ghost use Rattle.byte_streams.specs.Streams.{RoseOrStands};
 ghost use Rattle.po_write.specs.Sending.{TookAll, TookPart};
 ghost use Rattle.client.specs.Talks.{Talked, IsWithin};
 ghost use Rattle.client.specs.SendLines.{IsFaultOf, WasSent, WasSentFrom, SentLines};
@@ -13,10 +13,11 @@ use crate::list::requests_in;
 use crate::sending::send_all;
 use crate::source::gather;
 use crate::telling::{FAILED, tell_fault, tell_held};
+use byte_streams::{ByteSink, ByteSource};
 use request_book::Request;
 use sender::Sender;
 use std::alloc::Global;
-use units::{ByteSink, ByteSource, Memory};
+use units::Memory;
 
 /// Sends the requests of a source, a line of JSON each, over a link, as `send_all` does; then writes for each, in their order, the line
 /// `STATUS BODY` of its reply, or `none` where no reply is held. A line ends at each LF; what stands behind the last one is a line

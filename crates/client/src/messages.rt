@@ -3,7 +3,8 @@
 ghost use Rattle.std.specs.Prelude.{◌≡◌, IfOk, string_bytes};
 ghost use Rattle.client.specs.Messages.{message as message_text, message_of as text_of};
 
-use po_read::Text;
+use http_messages::{CALLER_FIELD, REQUESTS_PATH};
+use po_text::Text;
 use request_book::Request;
 use std::alloc::{AllocError, Global};
 use units::Memory;
@@ -27,6 +28,6 @@ fn message_of(alloc: Global, number: &str, caller: &str, body: &str) -> Result<S
 {
     let length = body.len();
     format!(in alloc;
-        "POST /v1/requests/{number} HTTP/1.1\r\nHost: 127.0.0.1\r\nConnection: close\r\nX-Office-Caller: {caller}\r\nContent-Type: application/json\r\nContent-Length: {length}\r\n\r\n{body}"
+        "POST {REQUESTS_PATH}{number} HTTP/1.1\r\nHost: 127.0.0.1\r\nConnection: close\r\n{CALLER_FIELD}: {caller}\r\nContent-Type: application/json\r\nContent-Length: {length}\r\n\r\n{body}"
     )
 }

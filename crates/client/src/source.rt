@@ -1,13 +1,13 @@
 //! The whole text that a source gives.
 
 ghost use Rattle.std.specs.Prelude.{◌≡◌, ◌<◌, ◌≤◌, ◌+◌, ◌++◌, ℕ, length, take, vec_len, IfOk, IfErr, OnOk};
-ghost use Rattle.units.specs.Streams.{prepend_known, IsAtEnd, RoseOrStands};
+ghost use Rattle.byte_streams.specs.Streams.{prepend_known, IsAtEnd, RoseOrStands};
 ghost use Rattle.client.specs.SendLines.{IsAllOf};
 ghost use Rattle.client.specs.Steps.{IsReadFault};
 
 use crate::fault::SendFault;
+use byte_streams::{ByteSource, SourceFault};
 use std::alloc::Global;
-use units::{ByteSource, SourceFault};
 
 const ROOM: usize = 16_384;
 

@@ -5,11 +5,11 @@ ghost use Rattle.po_write.specs.Sending.{Sends, TookAll, TookPart};
 ghost use Rattle.client.specs.SendLines.{reply_line, told_line, told_lines, malformed_line, fault_line, IsTold};
 
 use crate::fault::SendFault;
+use byte_streams::{ByteSink, SinkFault};
 use itoa::{Buffer, Integer};
 use po_write::send;
 use request_book::Reply;
 use sender::Sender;
-use units::{ByteSink, SinkFault};
 
 /// The exit status where each request has a reply.
 const DONE: u8 = 0;

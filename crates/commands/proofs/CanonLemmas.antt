@@ -2,11 +2,11 @@
 use Rattle.std.proofs.Common.{◌≡◌, ℕ, ◌-◌, ◌^◌, ◌<◌, ◌≤◌, List, [], ◌∷◌, ◌++◌, ◌⊎◌, inl, inr, Bool, true, false, Option, Some, None, Result, Ok, Err, MatchResult, length, refl, sym, ap, subst, ◌∙◌, append_assoc, append-nil, arith, nat_lt, length-append}
 use Rattle.std.specs.Prelude.{IfOk, IfErr}
 use Rattle.std.proofs.lemmas.Bool.Decides.{nat_tests}
-use Rattle.units.specs.Streams.{Took, TookBeginning, RoseOrStands, prepend_known, IsAtEnd, one_more}
+use Rattle.byte_streams.specs.Streams.{Took, TookBeginning, RoseOrStands, prepend_known, IsAtEnd, one_more}
 use Rattle.po_lex.specs.declared.fault.FaultKind.{FaultKind}
 use Rattle.po_lex.specs.declared.fault.FaultKind.TheVariants.{Memory}
 use Rattle.po_lex.specs.declared.fault.PoFault.{PoFault}
-use Rattle.po_read.specs.declared.entry.Entry.{Entry}
+use Rattle.po_text.specs.declared.entry.Entry.{Entry}
 use Rattle.po_read.specs.Spells.{Spells, IsWithin, limits}
 use Rattle.po_read.specs.Faults.{IsFault, too_long, not_utf8, at_line, at_end}
 use Rattle.po_read.specs.Views.{IsMemory}

@@ -1,7 +1,7 @@
 -- How the lines of a rule end.
 use Rattle.std.proofs.Common.{◌≡◌, ◌≢◌, ℕ, List, [], ◌⊎◌, inl, inr, Option, Some, None, Result, Ok, Err, MatchResult, refl, sym, ap, subst, ◌∙◌}
-use Rattle.units.specs.Streams.{RoseOrStands}
-use Rattle.units.proofs.Taking.{append_known-nil}
+use Rattle.byte_streams.specs.Streams.{RoseOrStands}
+use Rattle.byte_streams.proofs.Taking.{append_known-nil}
 use Rattle.plural_expr.specs.declared.fault.EvalFault.{EvalFault}
 use Rattle.plural_expr.specs.declared.fault.PluralFault.{PluralFault}
 use Rattle.plural_expr.specs.declared.fault.PluralFault.TheVariants as faults

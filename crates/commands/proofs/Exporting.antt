@@ -1,10 +1,10 @@
 -- What an export says of tables that are as they were.
 use Rattle.std.proofs.Common.{◌≡◌, ℕ, List, [], append-nil, Option, sym, subst, ◌∙◌}
 use Rattle.std.specs.Prelude.{IsSomeAnd}
-use Rattle.po_read.specs.Texts.{Text}
+use Rattle.po_text.specs.Texts.{Text}
 use Rattle.units.specs.Office.{Office, project_in}
-use Rattle.units.specs.Streams.{Took, TookBeginning, RoseOrStands}
-use Rattle.units.proofs.Taking.{append_known-nil, took_then_beginning}
+use Rattle.byte_streams.specs.Streams.{Took, TookBeginning, RoseOrStands}
+use Rattle.byte_streams.proofs.Taking.{append_known-nil, took_then_beginning}
 use Rattle.po_write.specs.Sending.{TookAll, TookPart}
 use Rattle.request_book.specs.Book.{OfficeWithBook}
 use Rattle.deliveries.specs.ExportText.{export_text}

@@ -1,7 +1,7 @@
 -- Lines that are gathered from pieces, and answered on the way.
 use Rattle.std.proofs.Common.{◌≡◌, ◌≢◌, ℕ, List, [], ◌∷◌, ◌++◌, Bool, true, false, refl, sym, ap, subst, ◌∙◌, append_assoc, append-nil}
 use Rattle.std.specs.Prelude.{flat_map, Option, Result, Ok, Err, MatchResult, IsErr}
-use Rattle.units.specs.Streams.{prepend_known}
+use Rattle.byte_streams.specs.Streams.{prepend_known}
 use Rattle.commands.specs.declared.lines.Line.{Line}
 use Rattle.commands.specs.TextLines.{HasNoEnd, with_end, IsCut, with_rest}
 use Rattle.office.specs.Exchanges.{Exchange, IsLine, exchange_line, Answered}

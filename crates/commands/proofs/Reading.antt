@@ -2,7 +2,7 @@
 use Rattle.std.proofs.Common.{◌≡◌, ℕ, ◌+◌, ◌-◌, ◌^◌, ◌<◌, ◌≤◌, List, [], ◌∷◌, ◌++◌, ◌⊎◌, inl, inr, Bool, true, false, Option, Some, None, Result, Ok, Err, MatchResult, length, refl, sym, ap, subst, ◌∙◌, append_assoc, append-nil, arith, length-append}
 use Rattle.std.specs.Prelude.{flat_map, IfSome, IsErr}
 use Rattle.std.specs.List.{AllByRecursion}
-use Rattle.units.specs.Streams.{prepend_known, IsAtEnd, RoseOrStands}
+use Rattle.byte_streams.specs.Streams.{prepend_known, IsAtEnd, RoseOrStands}
 use Rattle.po_write.specs.Sending.{TookAll, TookPart}
 use Rattle.commands.specs.declared.lines.Line.{Line}
 use Rattle.commands.specs.TextLines.{HasNoEnd, with_end, IsCut, with_rest, AreLinesOf}

@@ -1,11 +1,11 @@
 -- What `office canon` reads and prints: this project's own rule. Which catalogue a text spells, and what its faults are, is said by the
 -- crate of PO texts after the GNU gettext manual, "The Format of PO Files".
 use Rattle.std.specs.Prelude.{◌≡◌, ◌<◌, ◌≤◌, ◌⊎◌, ℕ, List, [], ◌∷◌, ◌++◌, length, codes, decimal, Option}
-use Rattle.units.specs.Streams.{prepend_known, IsAtEnd, RoseOrStands}
+use Rattle.byte_streams.specs.Streams.{prepend_known, IsAtEnd, RoseOrStands}
 use Rattle.po_lex.specs.declared.fault.FaultKind.{FaultKind}
 use Rattle.po_lex.specs.declared.fault.FaultKind.TheVariants.{Memory}
 use Rattle.po_lex.specs.Kinds.{fault_number}
-use Rattle.po_read.specs.declared.entry.Entry.{Entry}
+use Rattle.po_text.specs.declared.entry.Entry.{Entry}
 use Rattle.po_read.specs.Spells.{Spells, IsWithin, limits}
 use Rattle.po_read.specs.Faults.{IsFault}
 use Rattle.po_write.specs.Text.{text_of}

@@ -1,9 +1,9 @@
 -- What comes of `office deliver`: the lines of a text, what each is answered, and behind the answers the text of a domain's language. This
 -- project's own rule.
 use Rattle.std.specs.Prelude.{◌≡◌, ◌≤◌, ◌-◌, ◌^◌, ℕ, List, [], ◌++◌, length, Option, Some, None, IsSomeAnd}
-use Rattle.po_read.specs.Texts.{Text}
+use Rattle.po_text.specs.Texts.{Text}
 use Rattle.units.specs.Office.{Office, project_in}
-use Rattle.units.specs.Streams.{Took, RoseOrStands}
+use Rattle.byte_streams.specs.Streams.{Took, RoseOrStands}
 use Rattle.request_book.specs.Book.{OfficeWithBook}
 use Rattle.deliveries.specs.ExportText.{export_text}
 use Rattle.office.specs.declared.faults.ExportFault.TheVariants.{NoLanguage}

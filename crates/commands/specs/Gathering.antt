@@ -1,7 +1,7 @@
 -- How lines are gathered from the pieces of a stream and answered on the way. This project's own words, for the code's own steps.
 use Rattle.std.specs.Prelude.{◌≡◌, ◌<◌, ℕ, List, ◌++◌, length, flat_map, true, false, Bool, Option, IfSome, Result, MatchResult}
 use Rattle.std.specs.List.{AllByRecursion}
-use Rattle.units.specs.Streams.{prepend_known, IsAtEnd}
+use Rattle.byte_streams.specs.Streams.{prepend_known, IsAtEnd}
 use Rattle.commands.specs.declared.lines.Gathered.{Gathered}
 use Rattle.commands.specs.declared.lines.Gathered.TheVariants.{Whole, TooLong, NoMemory}
 use Rattle.commands.specs.declared.lines.Line.{Line}

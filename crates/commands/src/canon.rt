@@ -1,16 +1,16 @@
 //! `office canon`: the canonical text of a PO text.
 
 ghost use Rattle.std.specs.Prelude.{◌≡◌, ◌<◌, ◌≤◌, ◌⊎◌, [], ℕ, List, IfOk, OnErr, IfErr, OnOk, Some, length, take, Err};
-ghost use Rattle.units.specs.Streams.{RoseOrStands, prepend_known, IsAtEnd, one_more};
+ghost use Rattle.byte_streams.specs.Streams.{RoseOrStands, prepend_known, IsAtEnd, one_more};
 ghost use Rattle.po_write.specs.Sending.{Sends};
 ghost use Rattle.commands.specs.CanonText.{WasRead, WasGathered, Canon, writer_at, po_fault_line};
 
 use crate::numbers::send_number;
+use byte_streams::{ByteSink, ByteSource, SinkFault, SourceFault};
 use po_lex::{FaultKind, PoFault};
 use po_read::read;
 use po_write::{send, write_catalogue};
 use std::alloc::Global;
-use units::{ByteSink, ByteSource, SinkFault, SourceFault};
 
 /// The most bytes that are read: one more than a PO text may have.
 const MOST: usize = 16_777_217;

@@ -7,10 +7,11 @@ ghost use Rattle.commands.specs.ExportLines.{export_fault_line, receipt_line, Pr
 ghost use Rattle.commands.specs.DeliverLines.{Exported};
 
 use crate::numbers::send_number;
+use byte_streams::{ByteSink, SinkFault};
 use office::{Desk, ExportFault, ExportReceipt};
 use po_write::send;
 use tables::Tables;
-use units::{ByteSink, Lang, Name, SinkFault};
+use units::{Lang, Name};
 
 /// Exit status of a run that did what it was asked for.
 pub const DONE: u8 = 0;

@@ -1,4 +1,14 @@
-//! What the program does, over any tables, reader and writer: the lines of `office deliver`, `office canon` and `office plural`.
+//! What the program does, over any tables, reader and writer.
+//!
+//! - `deliver`, `lines`, `answer`: `office deliver` (`deliver_lines`): a line gathered within a limit, and what it is
+//!   answered
+//! - `export`: the PO text of a language, and what is told of it on the second output (`export_text`)
+//! - `canon`: `office canon` (`canon_text`)
+//! - `plural`: `office plural` (`plural_lines`)
+//! - `streams`, `numbers`: readers and writers of std as streams of bytes (`Input`, `Output`); numbers in lines
+//!
+//! Specs: `DeliverLines`, `TextLines`, `ExportLines`, `CanonText`, `PluralLines`; `Gathering` and `StdStreams` are the
+//! code's own steps and streams.
 #![tactic(auto)]
 
 mod answer;

@@ -1,9 +1,9 @@
 //! Numbers in lines.
 ghost use Rattle.po_write.specs.Sending.{Sends};
 
+use byte_streams::{ByteSink, SinkFault};
 use itoa::{Buffer, Integer};
 use po_write::send;
-use units::{ByteSink, SinkFault};
 
 /// Writes a number in decimal digits.
 pub(crate) fn send_number<W: ByteSink, N: Integer>(w: &mut W, number: N) -> Result<(), SinkFault>

@@ -3,10 +3,10 @@
 ghost use Rattle.std.specs.Prelude.{◌≡◌, ◌≤◌, ◌<◌, None, true, false, length, IfOk, OnOk, OnErr};
 ghost use Rattle.std.specs.Io.KnownBytes.{ReadConsumes, WriteAppends, Keeps};
 ghost use Rattle.commands.specs.StdStreams.{reader_of, reads_failed, writer_of, writes_failed, writes_held_back};
-ghost use Rattle.units.specs.Streams.{one_more};
+ghost use Rattle.byte_streams.specs.Streams.{one_more};
 
+use byte_streams::{ByteSink, ByteSource, SinkFault, SourceFault};
 use std::io::{Read, Write};
-use units::{ByteSink, ByteSource, SinkFault, SourceFault};
 
 /// One more failure, up to the greatest count.
 fn one_more(failures: u64) -> u64

@@ -2,9 +2,9 @@
 use Rattle.std.specs.Prelude.{◌∷◌, ◌++◌, IsUtf8}
 use Rattle.std.specs.List.{AllByRecursion}
 use Rattle.po_lex.specs.declared.line.Keyword.TheVariants.{Msgctxt, Msgid, MsgidPlural}
-use Rattle.po_read.specs.Entries.{optional, previous_strings}
-use Rattle.po_read.specs.Valid.{IsString, AllStrings}
-use Rattle.po_read.specs.declared.entry.Entry.{Entry}
+use Rattle.po_text.specs.Entries.{optional, previous_strings}
+use Rattle.po_text.specs.Valid.{IsString, AllStrings}
+use Rattle.po_text.specs.declared.entry.Entry.{Entry}
 
 -- Translator comments are Unicode text; context, msgid, msgid_plural, forms and previous strings are strings of a catalogue.
 pub record HasEntryStrings (entry : Entry) : Type 0 where

@@ -2,7 +2,7 @@
 use Rattle.std.specs.Prelude.{Option, option_map}
 use Rattle.std.specs.Option.{option_map_or}
 use Rattle.std.specs.FinMap as maps
-use Rattle.po_read.specs.Texts.{Text}
+use Rattle.po_text.specs.Texts.{Text}
 use Rattle.units.specs.Project.{Project, role_of, view_of, with_unit}
 use Rattle.units.specs.Office.{Office, project_in, with_project}
 use Rattle.units.specs.Rules.{rule_at}

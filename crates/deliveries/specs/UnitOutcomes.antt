@@ -1,7 +1,7 @@
 -- What a unit act comes to, by what was found for it. Only private clauses cite this file; `Step` has the definition that counts.
 use Rattle.std.specs.Prelude.{Option, Some, None}
 use Rattle.std.specs.Option.{option_map_or}
-use Rattle.po_read.specs.Texts.{Text}
+use Rattle.po_text.specs.Texts.{Text}
 use Rattle.units.specs.declared.unit.UnitAct.{UnitAct}
 use Rattle.units.specs.declared.unit.Refusal.{Refusal}
 use Rattle.units.specs.declared.unit.Refusal.TheVariants.{NoLanguage, NoUnit}

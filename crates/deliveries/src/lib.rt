@@ -1,4 +1,23 @@
-//! What deliveries leave and what they are answered: the definitions, the laws over them, and the values that they speak of.
+//! What deliveries leave and what they are answered: the definitions, the laws over them, and the values that they
+//! speak of.
+//!
+//! - `values`: what an act reads (`ActContext`) and comes to (`Outcome`, `Change`, `DomainChange`), and a `Language`
+//! - `laws`: what an act leaves alone, which requests may change places, what an export depends on, how a run goes on
+//!
+//! Specs:
+//!
+//! - `Step`: what one request does, with its reply; `OfficeActs` and `ProjectActs` have the acts
+//! - `Deliveries`: what a list of requests leaves and what each is answered; `AnyOrder`, `Laws`: in another order
+//! - `UnitAccess`, `UnitOutcomes`, `OfficeChanges`: what is read for a unit act, what it comes to, what a change makes
+//!   of an office
+//! - `OfficeRules`: the rules that an office keeps with its book; `OneProof`, `RuleSets`: of each there is one proof
+//!   at most
+//! - `MainAlone`: an office whose one domain is `main`
+//! - `ExportedEntries`, `ExportText`, `ExportSpelled`, `EntryTexts`, `EntryStrings`: the text of a language
+//!
+//! Folders of proofs, by what they serve: `acts` (what a step does), `domains` (what is read of a domain and put into
+//! it, an office of `main` alone), `retries`, `commuting`, `rules` (what keeps the rules of an office), `exports`,
+//! `laws` (answers), `rows` (worked rows, by the definitions alone).
 #![tactic(auto)]
 
 mod laws;

@@ -6,7 +6,7 @@ ghost use Rattle.units.specs.Rules.{rule_in};
 ghost use Rattle.deliveries.specs.RuleSets.{Rule-set, PluralFault-set};
 
 use plural_expr::PluralForms;
-use po_read::{Catalogue, Entry};
+use po_text::{Catalogue, Entry};
 use request_book::Reply;
 use template_update::Plan;
 use units::{Lang, Name, Policy, Role, UnitView};

@@ -4,10 +4,10 @@ ghost use Rattle.po_write.specs.Sending.{Sends};
 ghost use Rattle.office.specs.Writers.{writer_at};
 ghost use Rattle.file_commands.specs.Faults.{store_fault_line, TellsLine};
 
+use byte_streams::{ByteSink, SinkFault};
 use commands::FAILED;
 use po_write::send;
 use store_sql::OpenFault;
-use units::{ByteSink, SinkFault};
 
 /// Hands on what the writer holds back.
 pub(crate) fn hand_on<W: ByteSink>(w: &mut W) -> Result<(), SinkFault>

@@ -6,11 +6,11 @@ ghost use Rattle.file_commands.specs.Init.{Initialised, Said, ready_line};
 
 use crate::faults::{send_line, tell_store_fault};
 use crate::opening::Closed;
+use byte_streams::ByteSink;
 use commands::FAILED;
 use sqlite::{Alter, Connection};
 use std::alloc::Global;
 use store_sql::{SqliteTables, Start};
-use units::ByteSink;
 
 /// Exit status of a run that did what it was asked for.
 const DONE: u8 = 0;

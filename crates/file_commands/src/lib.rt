@@ -1,5 +1,11 @@
-//! What the program does to an office in a file, over any store of SQLite, reader and writer: an office is made there, opened, delivered to and
-//! exported.
+//! What the program does to an office in a file, over any store of SQLite, reader and writer.
+//!
+//! - `init`: `office init`: an office is made (`init_store`)
+//! - `opening`: an office's desk over a database (`open_desk`), and its connection handed back
+//! - `runs`: the office is delivered to and exported (`deliver_store`, `export_store`)
+//! - `faults`: what is told where an office can't be had
+//!
+//! Specs: `Init`, `Opening`, `Runs`, `Faults`.
 #![tactic(auto)]
 
 mod faults;

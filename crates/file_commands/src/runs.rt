@@ -8,15 +8,17 @@ ghost use Rattle.commands.specs.DeliverLines.{Delivered};
 ghost use Rattle.commands.specs.ExportLines.{Printed};
 ghost use Rattle.commands.specs.Gathering.{Finished};
 ghost use Rattle.file_commands.specs.Runs.{Ran};
+ghost use Rattle.sql_schema.specs.Layouts.{rows_named};
 
 use crate::faults::{hand_on, tell_store_fault};
 use crate::opening::{Closed, Unopened, close_desk, open_desk};
+use byte_streams::{ByteSink, ByteSource};
 use commands::{FAILED, deliver_lines, export_text};
 use office::Desk;
 use sqlite::{Alter, Connection};
 use std::alloc::Global;
 use tables::Tables;
-use units::{ByteSink, ByteSource, Lang, Name};
+use units::{Lang, Name};
 
 /// Opens the office in a database, delivers each line of the source to it and writes the answers, as `deliver_lines` does, and closes it. Where
 /// the office can't be opened, a line `store fault K` is written on `faults`, and nothing is read.
@@ -37,7 +39,7 @@ pub fn deliver_store<S: Alter + Drop, R: ByteSource, W: ByteSink, E: ByteSink>(
     ensures delivered { Ran S.Store
         (λ opened. (text : List ℕ) × IfSome (R.left source.old) (λ all. text ≡ all) × (stopped : Bool)
         × Delivered (HasCleanDisk (state S.Store result.connection)) (IsTrue (state S.Store result.connection).is_open) (stopped ≡ true)
-        (meaning_in (state S.Store opened).now.trees) (meaning_in (state S.Store result.connection).now.trees) domain.now
+        (meaning_in (rows_named (state S.Store opened).now)) (meaning_in (rows_named (state S.Store result.connection).now)) domain.now
         (option_map (λ named. named.now) lang.entry) text (R.failed source.old) (R.failed source.new)
         (writer_at W.taken W.failed replies.old) (writer_at W.taken W.failed replies.new)
         (writer_at E.taken E.failed faults.old) (writer_at E.taken E.failed faults.new) result.status)
@@ -98,11 +100,11 @@ pub fn export_store<S: Alter + Drop, W: ByteSink, E: ByteSink>(
     // The rows mean afterwards what they meant when the office was opened, and the text is that office's.
     ensures exported { Ran S.Store
         (λ opened. Finished (λ old new exit. Printed (HasCleanDisk (state S.Store result.connection))
-        (meaning_in (state S.Store opened).now.trees).office domain.now lang.now
+        (meaning_in (rows_named (state S.Store opened).now)).office domain.now lang.now
         old new (writer_at E.taken E.failed e.old) (writer_at E.taken E.failed e.new) exit)
         (writer_at W.taken W.failed w.old) (writer_at W.taken W.failed w.new) result.status
         × (HasCleanDisk (state S.Store result.connection) → IsTrue (state S.Store result.connection).is_open
-        → meaning_in (state S.Store result.connection).now.trees ≡ meaning_in (state S.Store opened).now.trees))
+        → meaning_in (rows_named (state S.Store result.connection).now) ≡ meaning_in (rows_named (state S.Store opened).now)))
         (w.new ≡ w.old)
         connection result.connection (writer_at E.taken E.failed e.old) (writer_at E.taken E.failed e.new) result.status }
     ensures status { result.status ≤ 1 }

@@ -3,8 +3,8 @@ use Rattle.std.proofs.Common.{◌≡◌, ◌<◌, ◌≤◌, ◌+◌, ℕ, zero,
 use Rattle.std.specs.Prelude.{◌||◌, ◌==◌, IfSome}
 use Rattle.std.proofs.lemmas.Bool.Decides.{nat_tests}
 use Rattle.std.proofs.lemmas.List.{map-append}
-use Rattle.units.specs.Streams.{prepend_known, RoseOrStands}
-use Rattle.units.proofs.Taking.{took_then_beginning}
+use Rattle.byte_streams.specs.Streams.{prepend_known, RoseOrStands}
+use Rattle.byte_streams.proofs.Taking.{took_then_beginning}
 use Rattle.office.specs.Writers.{Writer, TakesAll}
 use Rattle.office.proofs.Streaming.{nothing_read, read_more, all_read, given, took_all}
 use Rattle.http_messages.specs.Asked.{Asked, Asking}

@@ -2,7 +2,7 @@
 use Rattle.std.proofs.Common.{◌≡◌, ℕ, Bool, false, List, Option, Result, Ok, Err, MatchResult, refl, sym, subst, ◌∙◌}
 use Rattle.std.specs.Prelude.{IsErrAnd, IfErr, OnOk}
 use Rattle.std.specs.Result.{result_and}
-use Rattle.units.specs.Streams.{RoseOrStands}
+use Rattle.byte_streams.specs.Streams.{RoseOrStands}
 use Rattle.office.specs.Writers.{Writer}
 use Rattle.http_messages.specs.Arrivals.{WasCutOff}
 use Rattle.http_messages.specs.declared.inbox.ReadFault.{ReadFault}

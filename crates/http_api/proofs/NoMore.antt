@@ -4,7 +4,7 @@ use Rattle.std.specs.Prelude.{if◌then◌else◌, IsSomeAnd}
 use Rattle.std.specs.Option.{option_and_then}
 use Rattle.std.proofs.lemmas.Bool.Decides.{nat_tests}
 use Rattle.std.proofs.lemmas.List.{append_cancel_left}
-use Rattle.units.specs.Streams.{prepend_known}
+use Rattle.byte_streams.specs.Streams.{prepend_known}
 use Rattle.http_messages.specs.Heads.{Head, head_of}
 use Rattle.http_messages.specs.declared.refusal.Refusal.TheVariants.{Malformed}
 use Rattle.http_messages.specs.Asked.{Asking, body_size, ending, asking_of}

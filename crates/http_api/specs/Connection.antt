@@ -2,7 +2,7 @@
 -- rule; the stream's messages are those of RFC 9112.
 use Rattle.std.specs.Prelude.{◌≡◌, ◌≤◌, ◌⊎◌, ℕ, zero, suc, List, [], ◌∷◌, ◌++◌, length, map, Option, Some, IsSomeAnd}
 use Rattle.std.specs.Option.{option_and_then}
-use Rattle.units.specs.Streams.{prepend_known, IsAtEnd, TookBeginning, RoseOrStands}
+use Rattle.byte_streams.specs.Streams.{prepend_known, IsAtEnd, TookBeginning, RoseOrStands}
 use Rattle.request_book.specs.Book.{OfficeWithBook}
 use Rattle.http_messages.specs.Asked.{Asked}
 use Rattle.http_messages.specs.Streams.{Item, first_step, items_of}

@@ -3,7 +3,7 @@
 use Rattle.std.specs.Prelude.{◌≡◌, ◌<◌, ◌≤◌, ◌⊎◌, List, length, ℕ, Bool, Some, None, Result, Ok, Err, IsSome, IsSomeAnd, ⊤, if◌then◌else◌}
 use Rattle.std.specs.FinMap as maps
 use Rattle.sha2.specs.Sha256.{sha256}
-use Rattle.po_read.specs.Texts.{Text}
+use Rattle.po_text.specs.Texts.{Text}
 use Rattle.units.specs.Office.{Office, project_in}
 use Rattle.units.specs.Limits.{export_limit}
 use Rattle.request_book.specs.Replies.{Reply}

@@ -1,6 +1,6 @@
 -- What one step of a connection does: a message is read, and answered. This project's own words, for the code's own steps.
 use Rattle.std.specs.Prelude.{◌≡◌, ◌<◌, ◌||◌, ℕ, List, [], ◌++◌, length, Bool, true, false, Option, Result, MatchResult, if◌then◌else◌, ⊤}
-use Rattle.units.specs.Streams.{IsAtEnd, RoseOrStands}
+use Rattle.byte_streams.specs.Streams.{IsAtEnd, RoseOrStands}
 use Rattle.http_messages.specs.Asked.{Asked, Asking}
 use Rattle.http_messages.specs.Streams.{step, first_step}
 use Rattle.http_messages.specs.Arrivals.{ReadBehind, WasCutOff, WasWanted}

@@ -6,10 +6,10 @@ ghost use Rattle.http_api.specs.Answers.{line_end, media_type, digest_line, clos
 ghost use Rattle.http_api.specs.declared.answer_bytes.Content.TheVariants.{Json};
 
 use crate::refusals::phrase;
+use byte_streams::{ByteSink, SinkFault};
 use http::StatusCode;
 use itoa::Buffer;
 use po_write::send;
-use units::{ByteSink, SinkFault};
 
 /// What a body is.
 #[derive(Clone, Copy, Drop)]

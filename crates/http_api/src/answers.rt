@@ -18,13 +18,13 @@ use crate::exports::answer_export;
 use crate::faults::ServeFault;
 use crate::posts::request_of;
 use crate::refusals::{refusal_body, refusal_status};
+use byte_streams::ByteSink;
 use http::StatusCode;
 use http_messages::{Asked, LanguageName, Refusal, RequestParts, UnitName};
 use office::{Desk, QueryFault};
 use request_book::{Reply, Request, RequestFault};
 use std::alloc::Global;
 use tables::{Lost, Tables};
-use units::ByteSink;
 
 fn lost_refusal(lost: Lost) -> Refusal
     ensures { result ≡ lost_refusal lost }

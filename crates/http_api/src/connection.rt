@@ -1,6 +1,6 @@
 //! One connection.
 ghost use Rattle.std.specs.Prelude.{◌≡◌, ◌≤◌, ◌+◌, ◌||◌, [], length, drop, true, false, List, ℕ, IfOk, IfErr, IfSome, OnOk, MatchResult, if◌then◌else◌};
-ghost use Rattle.units.specs.Streams.{RoseOrStands};
+ghost use Rattle.byte_streams.specs.Streams.{RoseOrStands};
 ghost use Rattle.http_api.specs.Answers.{refusal_text};
 ghost use Rattle.http_messages.specs.Arrivals.{asking_in};
 ghost use Rattle.office.specs.Writers.{writer_at, TakesAll};
@@ -13,11 +13,11 @@ ghost use Rattle.http_api.specs.Connection.{AllServed, SomeServed, ReadsOn};
 
 use crate::answers::{answer, send_refusal};
 use crate::faults::ServeFault;
+use byte_streams::{ByteSink, ByteSource};
 use http_messages::{Arrival, Inbox, Refusal, Routes};
 use office::Desk;
 use std::alloc::Global;
 use tables::Tables;
-use units::{ByteSink, ByteSource};
 
 /// How many messages a connection answers at most.
 const ANSWER_LIMIT: u64 = 1_000_000_000;

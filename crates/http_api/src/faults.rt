@@ -1,8 +1,8 @@
 //! Why a connection is given up.
 
+use byte_streams::SinkFault;
 use http_messages::ReadFault;
 use thiserror::Error;
-use units::SinkFault;
 
 /// Why a connection was given up. The writer has taken a beginning of the answers.
 #[derive(Clone, Copy, Debug, Drop, PartialEq, Eq, Error)]

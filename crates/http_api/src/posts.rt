@@ -1,7 +1,7 @@
 //! The request that a message brings.
 ghost use Rattle.std.specs.Prelude.{◌≡◌, ◌≢◌, ℕ, List, Err, Some, None, IfOk, IfSome, IfNone, IsUtf8, if◌then◌else◌};
 ghost use Rattle.uuid.specs.Text.{parsed};
-ghost use Rattle.po_read.specs.Texts.{Text};
+ghost use Rattle.po_text.specs.Texts.{Text};
 ghost use Rattle.units.specs.Limits.{is_name};
 ghost use Rattle.request_book.specs.Acts.{IsNumber, IsActText};
 ghost use Rattle.request_book.specs.Words.{number_text};

@@ -5,6 +5,8 @@ ghost use Rattle.http_api.specs.Refusals.{refusal_status, refusal_body};
 
 use http::StatusCode;
 use http_messages::Refusal;
+use office::{MALFORMED_BODY, lost_body};
+use tables::Lost;
 
 /// The reason phrase of a status; empty where it has none.
 pub(crate) fn phrase(status: StatusCode) -> &'static str
@@ -35,15 +37,15 @@ pub(crate) fn refusal_body(refusal: Refusal) -> &'static str
 {
     match refusal {
         Refusal::LongHead => "{\"error\":\"head\"}",
-        Refusal::Malformed => "{\"error\":\"malformed\"}",
+        Refusal::Malformed => MALFORMED_BODY,
         Refusal::TooLarge => "{\"error\":\"too-large\"}",
         Refusal::NoRoute => "{\"error\":\"no-route\"}",
         Refusal::Method => "{\"error\":\"method\"}",
         Refusal::NoLength => "{\"error\":\"length\"}",
         Refusal::NoLanguage => "{\"error\":\"no-language\"}",
         Refusal::NoUnit => "{\"error\":\"no-unit\"}",
-        Refusal::Memory => "{\"error\":\"memory\"}",
-        Refusal::Disk => "{\"error\":\"disk\"}",
+        Refusal::Memory => lost_body(Lost::Memory),
+        Refusal::Disk => lost_body(Lost::Disk),
         Refusal::LongExport => "{\"error\":\"long\"}",
     }
 }

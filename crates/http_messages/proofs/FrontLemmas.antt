@@ -4,7 +4,7 @@ use Rattle.std.specs.Prelude.{if◌then◌else◌, ◌==◌, ◌&&◌, IfSome}
 use Rattle.std.proofs.lemmas.List.{take-append-le, drop-append-le, take-append-drop, take_min}
 use Rattle.std.proofs.Math.Seq.{drop-drop}
 use Rattle.std.proofs.lemmas.Bool.Decides.{nat_tests}
-use Rattle.units.specs.Streams.{IsAtEnd}
+use Rattle.byte_streams.specs.Streams.{IsAtEnd}
 use Rattle.http_messages.specs.Cut.{end_length, head_cut}
 use Rattle.http_messages.specs.Heads.{head_of}
 use Rattle.http_messages.specs.declared.refusal.Refusal.{Refusal}

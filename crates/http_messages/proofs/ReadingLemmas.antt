@@ -1,7 +1,7 @@
 -- Pieces of a stream, one behind another.
 use Rattle.std.proofs.Common.{◌≡◌, ◌≤◌, ◌<◌, ◌+◌, ℕ, List, [], ◌++◌, length, take, drop, Bool, true, false, Option, Some, None, option_map, refl, sym, ap, subst, ◌∙◌, arith, append_assoc, append-nil, length-append, length-drop, length-take-le}
 use Rattle.std.specs.Prelude.{Result, Ok, Err, IfErr, IsErrAnd, is_some, not}
-use Rattle.units.specs.Streams.{prepend_known}
+use Rattle.byte_streams.specs.Streams.{prepend_known}
 use Rattle.http_messages.specs.Heads.{head_of}
 use Rattle.http_messages.specs.Streams.{head_limit, first_head}
 use Rattle.http_messages.specs.Arrivals.{ReadBehind, CauseOf, WasCutOff, HasBody, HoldsBehind, HoldsFirst, piece_limit, WasWanted, nothing_read as read_nothing, last_piece}

@@ -1,6 +1,6 @@
 -- What arrives of a stream, message by message. RFC 9112, section 2.1; the limits are this project's own.
 use Rattle.std.specs.Prelude.{◌≡◌, ◌<◌, ◌≤◌, ◌+◌, ℕ, List, [], ◌++◌, length, take, drop, Option, Some, None, ⊤}
-use Rattle.units.specs.Streams.{prepend_known, IsAtEnd, RoseOrStands}
+use Rattle.byte_streams.specs.Streams.{prepend_known, IsAtEnd, RoseOrStands}
 use Rattle.http_messages.specs.Heads.{Head, head_of}
 use Rattle.http_messages.specs.declared.refusal.Refusal.{Refusal}
 use Rattle.http_messages.specs.declared.refusal.Refusal.TheVariants.{Malformed}

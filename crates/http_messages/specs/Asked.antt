@@ -3,7 +3,7 @@
 use Rattle.std.specs.Prelude.{ℕ, ◌&&◌, nat_lt, not, List, [], ◌∷◌, codes, Option, Some, None, is_none, Bool, true, false, if◌then◌else◌}
 use Rattle.std.specs.Option.{option_and_then, option_zip}
 use Rattle.std.specs.Str.{bytes_eq}
-use Rattle.po_read.specs.Texts.{Text}
+use Rattle.po_text.specs.Texts.{Text}
 use Rattle.units.specs.Limits.{is_name, is_lang}
 use Rattle.units.specs.Office.{main}
 use Rattle.http_messages.specs.declared.head.BodyLength.{BodyLength}

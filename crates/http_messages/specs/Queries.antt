@@ -7,8 +7,8 @@ use Rattle.std.specs.Str.{bytes_eq, is_utf8}
 use Rattle.std.specs.Str.Lossy.{utf8_lossy}
 use Rattle.form_urlencoded.specs.Form.{raw_pairs, decode}
 use Rattle.percent_encoding.specs.Percent.{percent_decode}
-use Rattle.po_read.specs.Texts.{Text}
-use Rattle.po_read.specs.Strings.{is_string}
+use Rattle.po_text.specs.Texts.{Text}
+use Rattle.po_text.specs.Strings.{is_string}
 use Rattle.units.specs.Limits.{is_name, is_lang}
 use Rattle.units.specs.Office.{main}
 use Rattle.units.specs.declared.unit.Key.{Key}

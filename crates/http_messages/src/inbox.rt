@@ -1,6 +1,6 @@
 //! What was read of a stream, and the messages in it.
 ghost use Rattle.std.specs.Prelude.{◌≡◌, ◌+◌, ◌<◌, ◌≤◌, ℕ, List, nat_le, nat_lt, [], ◌++◌, length, take, drop, true, false, None, IfSome, IfOk, OnOk, IfErr, OnErr, option_map, if◌then◌else◌};
-ghost use Rattle.units.specs.Streams.{IsAtEnd};
+ghost use Rattle.byte_streams.specs.Streams.{IsAtEnd};
 ghost use Rattle.http_messages.specs.Heads.{head_of};
 ghost use Rattle.http_messages.specs.declared.refusal.Refusal.TheVariants.{LongHead, Malformed};
 ghost use Rattle.http_messages.specs.Asked.{body_limit};
@@ -15,10 +15,10 @@ use crate::head::Head;
 use crate::message::{Asked, Asking, Unread, asking_of};
 use crate::refusal::Refusal;
 use crate::route::Routes;
+use byte_streams::{ByteSource, SourceFault};
 use std::alloc::{AllocError, Global};
 use std::marker::Model;
 use thiserror::Error;
-use units::{ByteSource, SourceFault};
 
 /// How many bytes a head has at most.
 const HEAD_LIMIT: usize = 8_192;

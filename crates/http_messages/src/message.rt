@@ -17,12 +17,15 @@ use std::alloc::{AllocError, Global};
 use thiserror::Error;
 use units::{Lang, Name};
 
+/// The name of the field line that says who sends a request. This project's own rule.
+pub const CALLER_FIELD: &str = "X-Office-Caller";
+
 /// A request as a message brings it, undecoded.
 #[derive(Clone, Copy, Drop)]
 pub struct RequestParts<'b> {
     /// The part of the path that numbers it.
     pub number: &'b [u8],
-    /// The values of `X-Office-Caller`.
+    /// The values of the caller's field.
     pub callers: Values<'b>,
     pub body: &'b [u8],
 }
@@ -199,7 +202,7 @@ fn question<'b>(
     match route.kind {
         RouteKind::Requests => Ok(Asked::Request(RequestParts {
             number: route.part.as_bytes(),
-            callers: head.values(b"X-Office-Caller"),
+            callers: head.values(CALLER_FIELD.as_bytes()),
             body,
         })),
         RouteKind::Export => Ok(export_of(language_in(alloc, route)?)),

@@ -4,7 +4,7 @@ ghost use Rattle.std.specs.List.{list_all};
 ghost use Rattle.std.specs.Cow.{cow_str_bytes};
 ghost use Rattle.std.specs.Str.{is_utf8};
 ghost use Rattle.percent_encoding.specs.Percent.{percent_decode};
-ghost use Rattle.po_read.specs.Strings.{is_string};
+ghost use Rattle.po_text.specs.Strings.{is_string};
 ghost use Rattle.units.specs.Limits.{is_name, is_lang};
 ghost use Rattle.units.specs.Office.{main};
 ghost use Rattle.http_messages.specs.Queries.{pairs_of, is_known, values_named, only_one, one_or, at_most_one, unit_with, unit_in, unit_of};
@@ -12,7 +12,7 @@ ghost use Rattle.http_messages.specs.Pairs.{pairs_at, AreNamed, name_of};
 
 use form_urlencoded::parse;
 use percent_encoding::percent_decode;
-use po_read::PoString;
+use po_text::PoString;
 use std::alloc::{AllocError, Global};
 use std::borrow::CowStr;
 use std::str;

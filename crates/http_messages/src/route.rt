@@ -9,6 +9,16 @@ use matchit::{InsertError, Router};
 use std::alloc::{AllocError, Global};
 use std::marker::Model;
 
+/// The path of requests, with the literal that stands behind it.
+macro_rules! requests_path {
+    ($behind:literal) => {
+        concat!("/v1/requests/", $behind)
+    };
+}
+
+/// The path of requests: a request's number stands behind it. This project's own rule.
+pub const REQUESTS_PATH: &str = requests_path!("");
+
 /// Which route it is.
 #[derive(Clone, Copy, Drop)]
 pub(crate) enum RouteKind {
@@ -70,7 +80,7 @@ fn router(alloc: Global) -> Result<Router<RouteKind>, InsertError>
     ensures { IfOk result (λ router. router ≡ office_rows) }
 {
     let mut router = Router::new(alloc);
-    router.insert("/v1/requests/{number}", RouteKind::Requests)?;
+    router.insert(requests_path!("{number}"), RouteKind::Requests)?;
     router.insert("/v1/export/{lang}", RouteKind::Export)?;
     router.insert("/v1/domains/{domain}/export/{lang}", RouteKind::Export)?;
     router.insert("/v1/unit", RouteKind::Unit)?;

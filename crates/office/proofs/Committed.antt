@@ -2,7 +2,7 @@
 use Rattle.std.proofs.Common.{◌≡◌, ◌∙◌, sym, ap, subst, Option, Some, None, IsTrue, Result, Ok, Err, refl}
 use Rattle.std.specs.Prelude.{is_none, option_map, [], ◌∷◌, IfOk, OnOk}
 use Rattle.std.specs.FinMap as maps
-use Rattle.po_read.specs.Texts.{Text}
+use Rattle.po_text.specs.Texts.{Text}
 use Rattle.units.specs.Office.{Office, project_in}
 use Rattle.units.specs.declared.unit.Key.{Key}
 use Rattle.units.specs.declared.unit.UnitAct.{UnitAct}

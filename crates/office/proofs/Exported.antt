@@ -7,10 +7,10 @@ use Rattle.std.specs.FinMap as maps
 use Rattle.sha2.specs.Hashers.{Holds256}
 use Rattle.sha2.specs.Sha256.{sha256}
 use Rattle.units.specs.Project.{Project}
-use Rattle.units.specs.Streams.{TookBeginning, RoseOrStands}
-use Rattle.units.proofs.Taking.{append_known-nil}
-use Rattle.po_read.specs.declared.entry.Entry.{Entry}
-use Rattle.po_read.specs.Texts.{Text}
+use Rattle.byte_streams.specs.Streams.{TookBeginning, RoseOrStands}
+use Rattle.byte_streams.proofs.Taking.{append_known-nil}
+use Rattle.po_text.specs.declared.entry.Entry.{Entry}
+use Rattle.po_text.specs.Texts.{Text}
 use Rattle.po_write.specs.Text.{entry_text, text_of, separated}
 use Rattle.po_write.proofs.Pushes.{text_of-cons}
 use Rattle.deliveries.specs.ExportedEntries.{catalogue_of}

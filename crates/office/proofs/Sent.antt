@@ -1,8 +1,8 @@
 -- Texts that are sent on: all of one, a part of another.
 use Rattle.std.proofs.Common.{◌≡◌, ℕ, ◌<◌, List, [], ◌++◌, length, Option, refl, sym, subst, MatchResult, Result, Ok, Err, IsErrAnd, arith, length-append}
 use Rattle.units.specs.Limits.{export_limit}
-use Rattle.units.specs.Streams.{TookBeginning, RoseOrStands}
-use Rattle.units.proofs.Taking.{append_known-nil, took_then_beginning, beginning_of_longer}
+use Rattle.byte_streams.specs.Streams.{TookBeginning, RoseOrStands}
+use Rattle.byte_streams.proofs.Taking.{append_known-nil, took_then_beginning, beginning_of_longer}
 use Rattle.po_write.specs.Sending.{TookAll, TookPart}
 use Rattle.office.specs.declared.checksum.Checksum.{Checksum}
 use Rattle.office.specs.declared.faults.SendFault.{SendFault}

@@ -2,8 +2,8 @@
 use Rattle.std.proofs.Common.{◌≡◌, ◌≢◌, ℕ, ◌+◌, ◌-◌, ◌^◌, ◌<◌, ◌≤◌, ◌⊎◌, inl, inr, nat_lt, List, [], ◌++◌, Bool, true, false, length, take, Option, Some, None, Result, Ok, Err, MatchResult, refl, sym, ap, subst, ◌∙◌, append_assoc, append-nil, arith, length-take}
 use Rattle.std.proofs.lemmas.Bool.Decides.{nat_tests}
 use Rattle.std.specs.Prelude.{IfSome}
-use Rattle.units.specs.Streams.{prepend_known, IsAtEnd, one_more, RoseOrStands}
-use Rattle.units.proofs.Taking.{append_known-nil, took_both, took_then_beginning}
+use Rattle.byte_streams.specs.Streams.{prepend_known, IsAtEnd, one_more, RoseOrStands}
+use Rattle.byte_streams.proofs.Taking.{append_known-nil, took_both, took_then_beginning}
 use Rattle.po_write.specs.Sending.{TookAll, TookPart}
 use Rattle.office.specs.Writers.{Writer, TakesAll, TakesPart}
 

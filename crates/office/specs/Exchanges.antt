@@ -54,19 +54,30 @@ AreLines (line ∷ lines) (x ∷ xs) = IsLine line x × AreLines lines xs
 -- ---- what is written
 
 -- `STATUS BODY`
+abbrev pub answer_line : ℕ → List ℕ → List ℕ
+answer_line status body = decimal status ++ (codes " " ++ (body ++ codes "\n"))
+
 abbrev pub reply_line : Reply → List ℕ
-reply_line reply = decimal reply.status ++ (codes " " ++ (reply.body ++ codes "\n"))
+reply_line reply = answer_line reply.status reply.body
+
+-- the body of an error is JSON (RFC 8259), of one word
+abbrev pub lost_body : Lost → List ℕ
+lost_body Memory = codes "{\"error\":\"memory\"}"
+lost_body Disk = codes "{\"error\":\"disk\"}"
+
+abbrev pub malformed_body : List ℕ
+malformed_body = codes "{\"error\":\"malformed\"}"
 
 abbrev pub lost_line : Lost → List ℕ
-lost_line Memory = codes "503 {\"error\":\"memory\"}\n"
-lost_line Disk = codes "507 {\"error\":\"disk\"}\n"
+lost_line Memory = answer_line 503 (lost_body Memory)
+lost_line Disk = answer_line 507 (lost_body Disk)
 
 abbrev pub result_line : Result Reply Lost → List ℕ
 result_line (Ok reply) = reply_line reply
 result_line (Err lost) = lost_line lost
 
 abbrev pub malformed_line : List ℕ
-malformed_line = codes "400 {\"error\":\"malformed\"}\n"
+malformed_line = answer_line 400 malformed_body
 
 abbrev pub exchange_line : Exchange → List ℕ
 exchange_line (asked request result) = result_line result

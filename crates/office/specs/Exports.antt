@@ -2,7 +2,7 @@
 use Rattle.std.specs.Prelude.{◌≡◌, ◌<◌, ◌≤◌, ℕ, List, [], length, Option, Some, unwrap_or, IsNone, IsSomeAnd}
 use Rattle.sha2.specs.Sha256.{sha256}
 use Rattle.units.specs.Limits.{export_limit}
-use Rattle.units.specs.Streams.{Took, TookBeginning, RoseOrStands}
+use Rattle.byte_streams.specs.Streams.{Took, TookBeginning, RoseOrStands}
 use Rattle.office.specs.declared.faults.ExportFault.{ExportFault}
 use Rattle.office.specs.declared.faults.ExportFault.TheVariants as fault
 use Rattle.office.specs.declared.export.ExportReceipt.{ExportReceipt}

@@ -4,10 +4,10 @@ use Rattle.std.specs.List.{AllByRecursion}
 use Rattle.std.proofs.Common.{sym, ap, ◌∙◌, subst, append_assoc}
 use Rattle.std.proofs.lemmas.List.{append-nil}
 use Rattle.units.specs.Limits.{export_limit}
-use Rattle.units.specs.Streams.{Took, TookBeginning, RoseOrStands}
-use Rattle.units.proofs.Taking.{append_known-nil, took_both}
-use Rattle.po_read.proofs.Sound.{all_both}
-use Rattle.po_read.specs.declared.entry.Entry.{Entry}
+use Rattle.byte_streams.specs.Streams.{Took, TookBeginning, RoseOrStands}
+use Rattle.byte_streams.proofs.Taking.{append_known-nil, took_both}
+use Rattle.po_text.proofs.EntryLists.{all_both}
+use Rattle.po_text.specs.declared.entry.Entry.{Entry}
 use Rattle.po_write.specs.Text.{entry_text, separated}
 use Rattle.office.specs.Checksums.{IsChecksum}
 use Rattle.deliveries.specs.EntryStrings.{HasEntryStrings}

@@ -1,7 +1,7 @@
 //! One delivery over any tables: a look into the book, and for a new number the decision and its commit.
 ghost use Rattle.std.specs.Prelude.{◌≡◌, if◌then◌else◌, false, IfOk, IfSome, OnOk, OnErr, IsTrue, is_none, option_map};
 ghost use Rattle.std.specs.FinMap as maps;
-ghost use Rattle.po_read.specs.Texts.{text_eq};
+ghost use Rattle.po_text.specs.Texts.{text_eq};
 ghost use Rattle.replies.specs.Bodies.{number_used};
 ghost use Rattle.units.specs.Office.{project_in};
 ghost use Rattle.request_book.specs.Acts.{IsRequest, content_text};
@@ -22,7 +22,7 @@ ghost use Rattle.tables.specs.declared.faults.Lost.TheVariants.{Disk};
 
 use deliveries::{Change, Outcome};
 use outcomes::{OfficeOutcome, office_outcome, unit_outcome, used};
-use po_read::{Duplicate, Text};
+use po_text::{Duplicate, Text};
 use request_book::{Act, Class, Record, Reply, Request, classify};
 use std::alloc::{AllocError, Global};
 use tables::{Lost, Tables};

@@ -7,17 +7,18 @@ ghost use Rattle.deliveries.specs.ExportText.{export_text};
 ghost use Rattle.units.specs.Office.{project_in};
 ghost use Rattle.tables.specs.Kept.{IsKept};
 ghost use Rattle.tables.specs.Stops.{Nothing};
-ghost use Rattle.units.specs.Streams.{RoseOrStands};
+ghost use Rattle.byte_streams.specs.Streams.{RoseOrStands};
 ghost use Rattle.office.specs.declared.faults.ExportFault.TheVariants.{NoLanguage, Device, Memory, Disk};
 ghost use Rattle.office.specs.Exports.{WasExported, WasCut};
 
 use crate::checksum::Checksum;
 use crate::export_sink::{ExportSink, text_writer};
 use crate::faults::ExportFault;
+use byte_streams::ByteSink;
 use sha2::Digest;
 use std::alloc::Global;
 use tables::Tables;
-use units::{ByteSink, Lang, Name};
+use units::{Lang, Name};
 
 /// What was exported: how many bytes, and their SHA-256 digest.
 #[derive(Clone, Copy, Debug, PartialEq, Eq)]

@@ -8,11 +8,11 @@ ghost use Rattle.office.specs.Sendings.{SendsOn};
 use crate::checksum::Checksum;
 use crate::faults::SendFault;
 use crate::strings::has_strings;
-use po_read::Entry;
+use byte_streams::{ByteSink, SinkFault, VecSink};
+use po_text::Entry;
 use po_write::{CatalogueWriter, send};
 use std::alloc::Global;
 use tables::EntrySink;
-use units::{ByteSink, SinkFault, VecSink};
 
 /// A writer of entries into memory, to which none was written yet.
 pub(crate) fn text_writer(alloc: Global) -> CatalogueWriter<VecSink>

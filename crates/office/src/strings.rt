@@ -4,11 +4,11 @@
 ghost use Rattle.std.specs.Prelude.{IsUtf8};
 ghost use Rattle.std.specs.List.{AllByRecursion};
 ghost use Rattle.po_lex.specs.declared.line.Keyword.{Keyword};
-ghost use Rattle.po_read.specs.Entries.{optional};
-ghost use Rattle.po_read.specs.Valid.{IsString, AllStrings};
+ghost use Rattle.po_text.specs.Entries.{optional};
+ghost use Rattle.po_text.specs.Valid.{IsString, AllStrings};
 ghost use Rattle.deliveries.specs.EntryStrings.{HasEntryStrings};
 
-use po_read::{Entry, Forms, PoString, Text};
+use po_text::{Entry, Forms, PoString, Text};
 
 fn is_string(string: &PoString)
     ensures { IsString string.now }

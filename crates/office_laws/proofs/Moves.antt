@@ -1,8 +1,8 @@
 -- How an act on a unit moves the counts of its language, and that it moves no others.
 use Rattle.std.proofs.Common.{◌≡◌, ℕ, ◌+◌, ◌-◌, List, ◌∷◌, Bool, true, false, cond, filter, map, option_map, Option, Some, None, refl, sym, ◌∙◌, ap, add_comm, arith}
 use Rattle.std.specs.FinMap as maps
-use Rattle.po_read.specs.declared.entry.Entry.{Entry}
-use Rattle.po_read.specs.Texts.{Text, text_eq}
+use Rattle.po_text.specs.declared.entry.Entry.{Entry}
+use Rattle.po_text.specs.Texts.{Text, text_eq}
 use Rattle.units.specs.Project.{Project, Place, place_cmp, units_of, with_unit}
 use Rattle.units.specs.Orders.{place_total, place_IsAntisymmetric}
 use Rattle.units.specs.declared.unit.Key.{Key}
@@ -12,8 +12,8 @@ use Rattle.deliveries.specs.UnitAccess.{with_view}
 use Rattle.deliveries.proofs.rules.Replaced.{Found}
 use Rattle.tables.specs.declared.counts.Counts.{Counts}
 use Rattle.tables.specs.Counts.{counts_in, counts_of}
-use Rattle.office_entries.specs.Counting.{plus, none_counted}
-use Rattle.office_entries.proofs.Countings.{counts_more, plus_assoc, none_and}
+use Rattle.tables.specs.Counting.{plus, none_counted}
+use Rattle.tables.proofs.Countings.{counts_more, plus_assoc, none_and}
 use Rattle.office_laws.specs.Tallies.{counted, moved}
 use Rattle.office_laws.proofs.Totals.{total-put}
 

@@ -4,8 +4,8 @@ use Rattle.std.specs.Prelude.{flat_map, unwrap_or}
 use Rattle.std.specs.List.{IsDistinct}
 use Rattle.std.specs.Cmp.Lexicographic.{nat_list_eq_equiv}
 use Rattle.std.specs.FinMap as maps
-use Rattle.po_read.specs.declared.entry.Entry.{Entry}
-use Rattle.po_read.specs.Texts.{Text, text_cmp, text_eq}
+use Rattle.po_text.specs.declared.entry.Entry.{Entry}
+use Rattle.po_text.specs.Texts.{Text, text_cmp, text_eq}
 use Rattle.units.specs.Changes.{with_policy, office_under, with_domain}
 use Rattle.units.specs.Office.{Office, Domain, empty_domain, same_domain, as_project, project_in, domain_of, with_project}
 use Rattle.units.specs.Offices.{IsOffice}

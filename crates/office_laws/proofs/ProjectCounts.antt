@@ -6,8 +6,8 @@ use Rattle.std.specs.Ordering.{eq_by_cmp, is_eq}
 use Rattle.std.specs.Cmp.{eq_by_cmp_equiv, tied_itself}
 use Rattle.std.specs.Cmp.Lexicographic.{same_text, nat_list_eq_equiv}
 use Rattle.std.specs.FinMap as maps
-use Rattle.po_read.specs.declared.entry.Entry.{Entry}
-use Rattle.po_read.specs.Texts.{Text, text_cmp, text_eq}
+use Rattle.po_text.specs.declared.entry.Entry.{Entry}
+use Rattle.po_text.specs.Texts.{Text, text_cmp, text_eq}
 use Rattle.units.specs.Changes.{unapproved, with_policy}
 use Rattle.units.specs.Project.{Project, Place, place_cmp, place_eq, entry_of, units_of}
 use Rattle.units.specs.Projects.{IsProject}
@@ -25,8 +25,8 @@ use Rattle.deliveries.specs.ProjectActs.{LanguagePlan, placed, with_language, wi
 use Rattle.deliveries.proofs.rules.Replaced.{all_rows}
 use Rattle.tables.specs.declared.counts.Counts.{Counts}
 use Rattle.tables.specs.Counts.{counts_in, counts_of}
-use Rattle.office_entries.specs.Counting.{plus, none_counted}
-use Rattle.office_entries.proofs.Countings.{plus_assoc, none_and}
+use Rattle.tables.specs.Counting.{plus, none_counted}
+use Rattle.tables.proofs.Countings.{plus_assoc, none_and}
 use Rattle.office_laws.specs.Tallies.{counted, counts_under, planned}
 use Rattle.office_laws.proofs.Moves.{plus_comm, total_in, one_in, next_in}
 use Rattle.office_laws.proofs.Totals.{total-insert, AreApart, apart-sorted, total-made}

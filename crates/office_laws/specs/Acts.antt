@@ -1,7 +1,7 @@
 -- What acts do to a unit's revision and to its suggestions. Suggestions and votes are those of Weblate's documentation ("Translation
 -- workflows").
 use Rattle.std.specs.Prelude.{◌≡◌, ℕ, List, ◌∷◌, ◌++◌, Bool, false, if◌then◌else◌, Option, Some, None, ⊤}
-use Rattle.po_read.specs.Texts.{Text}
+use Rattle.po_text.specs.Texts.{Text}
 use Rattle.units.specs.declared.unit.Unit.{Unit}
 use Rattle.units.specs.declared.unit.Suggestion.{Suggestion}
 use Rattle.units.specs.declared.unit.UnitAction.{UnitAction}

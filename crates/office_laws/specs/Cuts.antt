@@ -1,7 +1,7 @@
 -- A text cut from left to right into directives, which are taken, and what is skipped. Directives are those of `printf` in ISO C and
 -- POSIX; what is skipped is this project's own rule.
 use Rattle.std.specs.Prelude.{◌≡◌, ℕ, List, [], ◌∷◌, ◌++◌, false, Some, None, codes}
-use Rattle.po_read.specs.Texts.{Text}
+use Rattle.po_text.specs.Texts.{Text}
 use Rattle.checks.specs.Directives.{begins_with, after_directive}
 
 pub data IsCut : Text → List Text → Type 0 where

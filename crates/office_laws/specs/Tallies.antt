@@ -1,7 +1,7 @@
 -- Counts that are kept, and how what is done to an office moves them. This project's own rule.
 use Rattle.std.specs.Prelude.{◌+◌, ◌-◌, List, [], ◌∷◌, flat_map, if◌then◌else◌}
-use Rattle.po_read.specs.declared.entry.Entry.{Entry}
-use Rattle.po_read.specs.Texts.{Text, text_eq}
+use Rattle.po_text.specs.declared.entry.Entry.{Entry}
+use Rattle.po_text.specs.Texts.{Text, text_eq}
 use Rattle.units.specs.declared.unit.Policy.{Policy}
 use Rattle.units.specs.declared.unit.Unit.{Unit}
 use Rattle.deliveries.specs.ProjectActs.{LanguagePlan}

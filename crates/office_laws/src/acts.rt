@@ -3,7 +3,7 @@
 ghost use Rattle.std.specs.Prelude.{◌≡◌, ◌+◌, map, Some};
 ghost use Rattle.std.specs.List.{IsDistinct};
 ghost use Rattle.plural_expr.specs.Values.{Rule};
-ghost use Rattle.po_read.specs.Texts.{Text, text_eq};
+ghost use Rattle.po_text.specs.Texts.{Text, text_eq};
 ghost use Rattle.units.specs.declared.unit.Policy.{Policy};
 ghost use Rattle.units.specs.declared.unit.Role.{Role};
 ghost use Rattle.units.specs.declared.unit.UnitAct.{UnitAct};

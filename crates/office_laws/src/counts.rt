@@ -3,8 +3,8 @@
 ghost use Rattle.std.specs.Prelude.{◌≡◌, List, map, flat_map, true, false, Some, None, option_map};
 ghost use Rattle.std.specs.List.{IsDistinct};
 ghost use Rattle.std.specs.FinMap as maps;
-ghost use Rattle.po_read.specs.declared.entry.Entry.{Entry};
-ghost use Rattle.po_read.specs.Texts.{Text, text_eq};
+ghost use Rattle.po_text.specs.declared.entry.Entry.{Entry};
+ghost use Rattle.po_text.specs.Texts.{Text, text_eq};
 ghost use Rattle.units.specs.Changes.{office_under, with_domain};
 ghost use Rattle.units.specs.Office.{Office, same_domain, project_in, with_project};
 ghost use Rattle.units.specs.Offices.{IsOffice};

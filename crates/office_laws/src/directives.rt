@@ -1,6 +1,6 @@
 //! The directives of a `c-format` text.
 
-ghost use Rattle.po_read.specs.Texts.{Text};
+ghost use Rattle.po_text.specs.Texts.{Text};
 ghost use Rattle.checks.specs.Directives.{directives};
 ghost use Rattle.office_laws.specs.Cuts.{IsCut};
 

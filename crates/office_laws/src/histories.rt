@@ -2,7 +2,7 @@
 
 ghost use Rattle.std.specs.Prelude.{◌≡◌, ◌<◌, ℕ, List, map, Some, IsTrue, slice_get};
 ghost use Rattle.std.specs.FinMap as maps;
-ghost use Rattle.po_read.specs.Texts.{Text};
+ghost use Rattle.po_text.specs.Texts.{Text};
 ghost use Rattle.units.specs.Office.{project_in};
 ghost use Rattle.request_book.specs.declared.act.Request.{Request};
 ghost use Rattle.request_book.specs.Replies.{Reply};

@@ -1,5 +1,16 @@
-//! What holds of the office's parts, and of one sender over any network, whatever computes them: laws over the definitions that contracts
-//! cite. Each function is a law: it does nothing, and its contract is what is proved.
+//! What holds of the office's parts, and of one sender over any network, whatever computes them: laws over the
+//! definitions that contracts cite. Each function is a law: it does nothing, and its contract is what is proved.
+//!
+//! - `acts`: what acts on a unit do to its revision and its suggestions
+//! - `counts`: how acts move the counts of a language
+//! - `contents`: two requests have one canonical text exactly where they have one caller and one act
+//! - `lines`, `directives`, `tokens`: the forms of lines, a text cut into directives, the longest token of a plural
+//!   rule
+//! - `simulation`, `histories`: a sender over any network, with the definitions of deliveries, and with any desk's
+//!   calls
+//!
+//! Specs: `Acts`, `Tallies` (counts), `LineForms`, `Cuts` (directives), `Tokens`; `World` (sender, network and
+//! office), `Simulation`, `Histories`.
 #![tactic(auto)]
 
 mod acts;

@@ -1,7 +1,7 @@
 //! One sender over a network that loses, repeats and reorders holds the replies of its requests delivered once and in order.
 
 ghost use Rattle.std.specs.Prelude.{◌≡◌, ◌<◌, ℕ, List, Some, IsTrue, slice_get};
-ghost use Rattle.po_read.specs.Texts.{Text};
+ghost use Rattle.po_text.specs.Texts.{Text};
 ghost use Rattle.units.specs.Office.{project_in};
 ghost use Rattle.request_book.specs.declared.act.Request.{Request};
 ghost use Rattle.request_book.specs.Replies.{Reply};

@@ -3,7 +3,7 @@ use Rattle.std.proofs.Common.{◌≡◌, Option, Some, None, option_map, unwrap_
 use Rattle.std.specs.FinMap as maps
 use Rattle.std.specs.Prelude.{String}
 use Rattle.std.specs.BTreeMap.{BTreeMap, get_by}
-use Rattle.po_read.specs.Texts.{Text, text_cmp}
+use Rattle.po_text.specs.Texts.{Text, text_cmp}
 use Rattle.units.specs.Project.{Place as OfficePlace, place_cmp, role_in, role_of, view_of, entry_of}
 use Rattle.units.specs.declared.unit.Role.{Role}
 use Rattle.units.specs.declared.unit.Role.TheVariants.{Guest}

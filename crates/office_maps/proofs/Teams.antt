@@ -4,7 +4,7 @@ use Rattle.std.specs.Prelude.{String}
 use Rattle.std.specs.BTreeMap.{BTreeMap, IsOrdered}
 use Rattle.std.specs.FinMap as maps
 use Rattle.std.proofs.lemmas.List.{length-map}
-use Rattle.po_read.specs.Texts.{text_cmp}
+use Rattle.po_text.specs.Texts.{text_cmp}
 use Rattle.units.specs.declared.unit.Role.{Role}
 use Rattle.units.specs.Orders.{text_total, text_IsAntisymmetric}
 use Rattle.office_maps.specs.Rows.{team_in, headers_in}

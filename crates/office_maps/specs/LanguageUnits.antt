@@ -1,6 +1,6 @@
 -- The front of a list of units that belongs to a language. This project's own words, for inner functions.
 use Rattle.std.specs.Prelude.{List, [], ◌∷◌, if◌then◌else◌}
-use Rattle.po_read.specs.Texts.{Text, text_eq}
+use Rattle.po_text.specs.Texts.{Text, text_eq}
 use Rattle.units.specs.declared.unit.Unit.{Unit}
 use Rattle.office_maps.specs.declared.place.Place.{Place}
 

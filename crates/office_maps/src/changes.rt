@@ -18,7 +18,7 @@ use crate::place::Place;
 use crate::template::Template;
 use crate::unit_rows::{Displaced, put_all, put_at, put_back, unapprove_all, units_of_plans};
 use deliveries::{Change, DomainChange, Language};
-use po_read::Catalogue;
+use po_text::Catalogue;
 use std::alloc::{AllocError, Global};
 use std::collections::BTreeMap;
 use template_update::Plan;

@@ -6,7 +6,7 @@ ghost use Rattle.std.specs.Option.{option_copied};
 ghost use Rattle.std.specs.BTreeMap.{get_by};
 ghost use Rattle.std.specs.FinMap as maps;
 ghost use Rattle.std.proofs.Props.{props};
-ghost use Rattle.po_read.specs.Texts.{text_cmp};
+ghost use Rattle.po_text.specs.Texts.{text_cmp};
 ghost use Rattle.units.specs.Limits.{is_lang};
 
 use deliveries::Language;

@@ -11,7 +11,7 @@ ghost use Rattle.deliveries.specs.ProjectActs.{plan_at, plans};
 use crate::project_maps::ProjectMaps;
 use crate::unit_rows::units_of;
 use deliveries::Language;
-use po_read::Catalogue;
+use po_text::Catalogue;
 use std::alloc::{AllocError, Global};
 use template_update::{Plan, plan};
 use units::{Lang, Memory};

@@ -6,7 +6,7 @@ ghost use Rattle.office_maps.specs.OfficeIn.{domain_in, domains_in, office_in};
 ghost use Rattle.std.specs.FinMap as maps;
 ghost use Rattle.units.specs.Office.{empty_domain, main};
 ghost use Rattle.units.specs.declared.unit.Role.TheVariants.{Manager};
-ghost use Rattle.po_read.specs.Strings.{is_string};
+ghost use Rattle.po_text.specs.Strings.{is_string};
 ghost use Rattle.units.specs.Openings as opens;
 
 use crate::changes::{add_member, put_domain};
@@ -18,7 +18,7 @@ use crate::template::Template;
 use crate::unit_rows::add_unit;
 use deliveries::Language;
 use plural_expr::{PluralFault, PluralForms};
-use po_read::{Catalogue, Entry, Forms, Items, PoString};
+use po_text::{Catalogue, Entry, Forms, Items, PoString};
 use std::alloc::{AllocError, Global};
 use std::collections::BTreeMap;
 use std::mem::replace;

@@ -6,7 +6,7 @@ ghost use Rattle.units.specs.Project.{entry_of, role_of, view_of};
 use crate::domain_maps::DomainMaps;
 use crate::place::{OrderedKey, Place};
 use deliveries::ActContext;
-use po_read::{Duplicate, Entry};
+use po_text::{Duplicate, Entry};
 use std::alloc::AllocError;
 use std::collections::BTreeMap;
 use units::{Key, Lang, Name, Policy, Role, UnitView};

@@ -6,8 +6,8 @@ use Rattle.std.specs.BTreeMap.{IsOrdered, get_by}
 use Rattle.std.specs.Ordering.{is_le}
 use Rattle.std.specs.FinMap as maps
 use Rattle.std.proofs.lemmas.Bool.{false≢true}
-use Rattle.po_read.specs.declared.entry.Entry.{Entry}
-use Rattle.po_read.specs.Texts.{Text, text_cmp, text_eq}
+use Rattle.po_text.specs.declared.entry.Entry.{Entry}
+use Rattle.po_text.specs.Texts.{Text, text_cmp, text_eq}
 use Rattle.units.specs.Limits.{unit_limit}
 use Rattle.units.specs.Project.{Project, place_cmp, units_of}
 use Rattle.units.specs.Units.{key_of}

@@ -2,7 +2,7 @@
 -- of the office.
 use Rattle.std.proofs.Common.{◌≡◌, ap, subst, ◌∙◌}
 use Rattle.std.specs.List.{IsDistinct}
-use Rattle.po_read.specs.Texts.{Text, text_eq}
+use Rattle.po_text.specs.Texts.{Text, text_eq}
 use Rattle.units.specs.Project.{Project}
 use Rattle.units.specs.Projects.{IsProject}
 use Rattle.units.specs.Office.{Office, main, project_in, domain_of, with_project}

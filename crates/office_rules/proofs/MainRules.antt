@@ -3,7 +3,7 @@ use Rattle.std.proofs.Common.{◌≡◌, ◌≤◌, List, Bool, true, false, Som
 use Rattle.std.specs.Bool.{Decides}
 use Rattle.std.specs.FinMap as maps
 use Rattle.std.proofs.lemmas.Bool.{false≢true}
-use Rattle.po_read.specs.Texts.{Text, text_cmp}
+use Rattle.po_text.specs.Texts.{Text, text_cmp}
 use Rattle.units.specs.Limits.{domain_limit}
 use Rattle.units.specs.Project.{Project, Place, place_cmp}
 use Rattle.units.specs.Projects.{IsProject}

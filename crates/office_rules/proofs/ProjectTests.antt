@@ -9,9 +9,9 @@ use Rattle.std.specs.FinMap as maps
 use Rattle.std.proofs.lemmas.Bool.{false≢true}
 use Rattle.std.proofs.lemmas.Bool.Decides.{Decides-at}
 use Rattle.std.proofs.lemmas.List.Elements.{All-contains, All-from_recursion, recursion_from_All}
-use Rattle.po_read.specs.declared.entry.Entry.{Entry}
-use Rattle.po_read.specs.Texts.{Text, text_eq}
-use Rattle.po_read.specs.Valid.{IsValid}
+use Rattle.po_text.specs.declared.entry.Entry.{Entry}
+use Rattle.po_text.specs.Texts.{Text, text_eq}
+use Rattle.po_text.specs.Valid.{IsValid}
 use Rattle.units.specs.Limits.{is_accept_at, language_limit, unit_limit}
 use Rattle.units.specs.Project.{Project, Place, place_cmp, entry_of, units_of}
 use Rattle.units.specs.Projects.{IsProject, IsTemplateEntry}

@@ -3,8 +3,8 @@ use Rattle.std.proofs.Common.{◌≡◌, [], ◌∷◌, Bool, true, false, not, 
 use Rattle.std.specs.Bool.{Decides}
 use Rattle.std.specs.Prelude.{◌==◌, codes}
 use Rattle.std.proofs.lemmas.Bool.Decides.{Decides-at}
-use Rattle.po_read.specs.declared.entry.Entry.{Entry}
-use Rattle.po_read.specs.Entries.{is_header}
+use Rattle.po_text.specs.declared.entry.Entry.{Entry}
+use Rattle.po_text.specs.Entries.{is_header}
 use Rattle.units.specs.Projects.{IsTemplateEntry}
 use Rattle.units.specs.Units.{has_flag, no_previous}
 use Rattle.office_rules.specs.Parts.{IsUntouched}

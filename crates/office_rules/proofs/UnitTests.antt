@@ -6,8 +6,8 @@ use Rattle.std.specs.FinMap as maps
 use Rattle.std.specs.Prelude.{◌==◌, nat_le, All}
 use Rattle.std.proofs.lemmas.Bool.Decides.{Decides-at, Decides-eqb, nat_tests}
 use Rattle.po_lex.specs.Lines.{is_comment_text}
-use Rattle.po_read.specs.Strings.{form_limit}
-use Rattle.po_read.specs.Texts.{is_empty}
+use Rattle.po_text.specs.Strings.{form_limit}
+use Rattle.po_text.specs.Texts.{is_empty}
 use Rattle.plural_expr.specs.Values.{Rule}
 use Rattle.units.specs.Limits.{suggestion_limit, vote_limit, is_revision, revision_limit}
 use Rattle.units.specs.Units.{forms_needed}

@@ -4,7 +4,7 @@ use Rattle.std.specs.List.{list_any}
 use Rattle.std.specs.BTreeMap.{BTreeMap, get_by}
 use Rattle.std.specs.BTreeSet.{BTreeSet, contains}
 use Rattle.std.specs.FinMap as maps
-use Rattle.po_read.specs.Texts.{Text, text_cmp, text_eq}
+use Rattle.po_text.specs.Texts.{Text, text_cmp, text_eq}
 use Rattle.units.specs.Project.{Project, Place}
 use Rattle.units.specs.declared.unit.Unit.{Unit}
 use Rattle.request_book.specs.Book.{Book, Recorded}

@@ -3,11 +3,11 @@ use Rattle.std.specs.Prelude.{◌≡◌, ◌≤◌, [], ◌∷◌, length, true,
 use Rattle.std.specs.List.{list_any, AllByRecursion}
 use Rattle.std.specs.FinMap as maps
 use Rattle.po_lex.specs.Lines.{is_comment_text}
-use Rattle.po_read.specs.declared.entry.Entry.{Entry}
-use Rattle.po_read.specs.Entries.{is_header}
-use Rattle.po_read.specs.Strings.{form_limit}
-use Rattle.po_read.specs.Texts.{Text, text_cmp, is_empty}
-use Rattle.po_read.specs.Valid.{IsValid}
+use Rattle.po_text.specs.declared.entry.Entry.{Entry}
+use Rattle.po_text.specs.Entries.{is_header}
+use Rattle.po_text.specs.Strings.{form_limit}
+use Rattle.po_text.specs.Texts.{Text, text_cmp, is_empty}
+use Rattle.po_text.specs.Valid.{IsValid}
 use Rattle.plural_expr.specs.Values.{Rule}
 use Rattle.units.specs.Limits.{is_accept_at, language_limit, team_limit, unit_limit, suggestion_limit, vote_limit}
 use Rattle.units.specs.Units.{forms_needed, no_previous, is_below, is_approved, is_needs_editing, key_of}

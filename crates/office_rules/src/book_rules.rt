@@ -2,7 +2,7 @@
 
 ghost use Rattle.std.specs.Prelude.{◌≡◌, ◌↔◌, ◌++◌, List, true, IfOk, OnOk};
 ghost use Rattle.std.specs.List.{IsDistinct};
-ghost use Rattle.po_read.specs.Texts.{Text, text_eq};
+ghost use Rattle.po_text.specs.Texts.{Text, text_eq};
 ghost use Rattle.request_book.specs.Book.{Book, with_record};
 ghost use Rattle.units.specs.Office.{domain_of};
 ghost use Rattle.deliveries.specs.MainAlone.{main_alone};

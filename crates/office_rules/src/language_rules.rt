@@ -2,7 +2,7 @@
 
 ghost use Rattle.std.specs.Prelude.{◌≡◌, ◌≤◌, ◌↔◌, [], ◌∷◌, Some, IsSome, true, false, length, All, IfOk};
 ghost use Rattle.std.specs.FinMap as maps;
-ghost use Rattle.po_read.specs.Valid.{IsValid};
+ghost use Rattle.po_text.specs.Valid.{IsValid};
 ghost use Rattle.units.specs.Limits.{unit_limit};
 ghost use Rattle.units.specs.Project.{units_of};
 ghost use Rattle.units.specs.Units.{key_of};
@@ -13,7 +13,7 @@ use crate::template_rules::is_header;
 use crate::unit_rules::hold_all;
 use deliveries::Language;
 use office_maps::{Place, ProjectMaps, key_of};
-use po_read::{Catalogue, Duplicate, Entry, PoString};
+use po_text::{Catalogue, Duplicate, Entry, PoString};
 use std::alloc::{AllocError, Global};
 use units::{Lang, Unit};
 

@@ -1,8 +1,13 @@
-//! Whether an office in maps keeps the rules of one with its book, and whether a text is what records keep as the content of a request.
+//! Whether an office in maps keeps the rules of one with its book, and whether a text is what records keep as the
+//! content of a request: what an adopted file is asked. Each module tests whether something keeps its rules, exactly.
 //!
-//! Each module tests whether something keeps its rules, exactly: `unit_rules`, `template_rules`, `place_rules` (a unit where it stands),
-//! `language_rules`, `project_rules`, `book_rules` (numbers and statuses); and `contents`. The spec `Given` has what callers bring beside the
-//! maps, `Parts` and `Books` the rules in the parts that are tested one by one.
+//! - `unit_rules`, `place_rules`: a unit, and a unit where it stands
+//! - `template_rules`, `language_rules`, `project_rules`: a template, the languages, and with these the project
+//! - `book_rules`: the numbers and statuses of the book, and with them an office of `main` alone (`keeps_rules`)
+//! - `contents`: the content of a request (`is_content`)
+//!
+//! Specs: `Given` (what callers bring beside the maps, shown row by row in `proofs/GivenLemmas`), `Parts` and `Books`
+//! (the rules, in the parts that are tested one by one).
 #![tactic(auto)]
 
 mod book_rules;

@@ -1,13 +1,13 @@
 //! Whether a template keeps the rules of one.
 
 ghost use Rattle.std.specs.Prelude.{◌≡◌, ◌↔◌, ◌&&◌, [], ◌∷◌, true, not, codes, All};
-ghost use Rattle.po_read.specs.Entries.{is_header};
+ghost use Rattle.po_text.specs.Entries.{is_header};
 ghost use Rattle.units.specs.Projects.{IsTemplateEntry};
 ghost use Rattle.units.specs.Units.{has_flag};
 ghost use Rattle.office_rules.specs.Parts.{IsUntouched};
 
 use crate::unit_rules::{has_no_previous, hold_all};
-use po_read::{Entry, Forms};
+use po_text::{Entry, Forms};
 use units::has_flag;
 
 /// Whether an entry can only be a header.

@@ -4,15 +4,15 @@ ghost use Rattle.std.specs.Prelude.{◌≡◌, ◌≤◌, ◌↔◌, ◌==◌, �
 ghost use Rattle.std.specs.List.{list_all};
 ghost use Rattle.std.specs.FinMap as maps;
 ghost use Rattle.po_lex.specs.Lines.{is_comment_text};
-ghost use Rattle.po_read.specs.Strings.{form_limit};
-ghost use Rattle.po_read.specs.Texts.{is_empty};
+ghost use Rattle.po_text.specs.Strings.{form_limit};
+ghost use Rattle.po_text.specs.Texts.{is_empty};
 ghost use Rattle.units.specs.Limits.{vote_limit};
 ghost use Rattle.units.specs.Units.{no_previous};
 ghost use Rattle.units.specs.Projects.{IsUnit};
 ghost use Rattle.office_rules.specs.Parts.{HasForms, IsPutAway, HasItsForms, KeepsPrevious, HasItsTexts, HasFewSuggestions};
 
 use plural_expr::PluralForms;
-use po_read::{Forms, Previous, Text};
+use po_text::{Forms, Previous, Text};
 use units::{Key, Suggestion, Unit, UnitState, forms_needed};
 
 /// Whether all three hold.

@@ -7,7 +7,7 @@ use Rattle.std.specs.Cmp.Lexicographic.{slice_cmp}
 use Rattle.std.proofs.lemmas.List.{map-append}
 use Rattle.serde_json.specs.Data.{Data, Members, no_members, member, object, put}
 use Rattle.serde_json.specs.Written.{has_float}
-use Rattle.po_read.specs.Texts.{Text}
+use Rattle.po_text.specs.Texts.{Text}
 use Rattle.template_update.specs.declared.plans.Plan.{Plan}
 use Rattle.template_update.specs.declared.plans.Counts.{Counts}
 use Rattle.template_update.specs.declared.plans.Counts.TheVariants.{Updated, Loaded}

@@ -3,7 +3,7 @@ use Rattle.std.proofs.Common.{◌≡◌, ℕ, List, None, ap, ◌∙◌, ◌⊎�
 use Rattle.std.specs.Prelude.{Ok, Err}
 use Rattle.po_lex.specs.declared.fault.PoFault.{PoFault}
 use Rattle.po_lex.specs.declared.fault.FaultKind.TheVariants as kinds
-use Rattle.po_read.specs.declared.entry.Entry.{Entry}
+use Rattle.po_text.specs.declared.entry.Entry.{Entry}
 use Rattle.po_read.specs.Spells.{Spells, IsWithin, limits}
 use Rattle.po_read.specs.Faults.{Fault, IsFault, fault_of}
 use Rattle.po_read.specs.Plain.{entries_of, reading_of, unless}

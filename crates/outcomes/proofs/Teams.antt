@@ -12,7 +12,7 @@ use Rattle.std.specs.Cmp.Lexicographic.{texts_ties}
 use Rattle.std.specs.FinMap as maps
 use Rattle.std.specs.FinMap.{IsAntisymmetric}
 use Rattle.std.specs.FinMap.Entries.{by_order, put, where_key, below_all, is_sorted, find-where_key, is_sorted-where_key}
-use Rattle.po_read.specs.Texts.{Text, text_cmp, text_eq}
+use Rattle.po_text.specs.Texts.{Text, text_cmp, text_eq}
 use Rattle.units.specs.Changes.{set_role}
 use Rattle.units.specs.declared.unit.Role.{Role}
 use Rattle.units.specs.declared.unit.Role.TheVariants.{Guest, Translator, Reviewer, Manager}

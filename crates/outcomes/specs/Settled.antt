@@ -2,7 +2,7 @@
 use Rattle.std.specs.Prelude.{◌≡◌, List, None, Result, Ok, Err}
 use Rattle.po_lex.specs.declared.fault.PoFault.{PoFault}
 use Rattle.po_read.specs.Faults.{Fault}
-use Rattle.po_read.specs.declared.entry.Entry.{Entry}
+use Rattle.po_text.specs.declared.entry.Entry.{Entry}
 use Rattle.units.specs.Project.{Project}
 use Rattle.units.specs.Office.{Office}
 use Rattle.request_book.specs.Replies.{Reply}

@@ -13,7 +13,7 @@ use crate::bodies::domain_added;
 use crate::outcome::{DomainOutcome, OfficeOutcome};
 use deliveries::Change;
 use office_maps::OfficeMaps;
-use po_read::Duplicate;
+use po_text::Duplicate;
 use std::alloc::Global;
 use units::{Memory, Name, Refusal};
 

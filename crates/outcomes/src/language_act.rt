@@ -10,12 +10,12 @@ ghost use Rattle.outcomes.specs.Settled.{IsSettledIn};
 ghost use Rattle.office_maps.specs.OfficeIn.{lent_project};
 
 use crate::bodies::language_added;
+use crate::catalogue_text::{header_of, read_text, rule_of};
 use crate::outcome::DomainOutcome;
-use crate::po_text::{header_of, read_text, rule_of};
 use deliveries::{DomainChange, Language};
 use office_maps::ProjectMaps;
 use plural_expr::PluralForms;
-use po_read::{Catalogue, Duplicate, Entry, Text};
+use po_text::{Catalogue, Duplicate, Entry, Text};
 use request_book::Reply;
 use std::alloc::{AllocError, Global};
 use template_update::{Counts, Plan, load};

@@ -17,7 +17,7 @@ use crate::policy_act::policy_outcome;
 use crate::role_act::role_outcome;
 use crate::template_act::template_outcome;
 use office_maps::OfficeMaps;
-use po_read::Text;
+use po_text::Text;
 use request_book::{Act, Request};
 use std::alloc::Global;
 use units::{Lang, Memory, Name, Refusal, Role};

@@ -3,7 +3,7 @@
 ghost use Rattle.std.specs.Prelude.{◌≡◌, ◌&&◌, not, IfOk, string_bytes};
 ghost use Rattle.std.specs.List.{list_any};
 ghost use Rattle.std.specs.FinMap as maps;
-ghost use Rattle.po_read.specs.Texts.{text_eq};
+ghost use Rattle.po_text.specs.Texts.{text_eq};
 ghost use Rattle.units.specs.Changes.{set_role};
 ghost use Rattle.deliveries.specs.OfficeActs as spec;
 ghost use Rattle.deliveries.specs.OfficeActs.{is_manager};
@@ -14,7 +14,7 @@ use crate::bodies::role_set;
 use crate::outcome::OfficeOutcome;
 use deliveries::Change;
 use office_maps::OfficeMaps;
-use po_read::Duplicate;
+use po_text::Duplicate;
 use std::alloc::Global;
 use units::{Memory, Name, Refusal, Role};
 

@@ -11,11 +11,11 @@ ghost use Rattle.outcomes.specs.Settled.{IsSettledIn};
 ghost use Rattle.office_maps.specs.OfficeIn.{lent_project};
 
 use crate::bodies::template_set;
+use crate::catalogue_text::read_text;
 use crate::outcome::DomainOutcome;
-use crate::po_text::read_text;
 use deliveries::DomainChange;
 use office_maps::ProjectMaps;
-use po_read::{Catalogue, Text};
+use po_text::{Catalogue, Text};
 use std::alloc::Global;
 use template_update::{Plan, template_of};
 use units::{Lang, Memory, Refusal};

@@ -1,4 +1,18 @@
 //! Plural rules of the GNU gettext manual ("Plural forms"): read once, tested, and then evaluated.
+//!
+//! - `rule`: a rule that passed every test
+//! - `calls`: reading and evaluating rules
+//! - `lexer`: the cut of a text into tokens
+//! - `token`: tokens
+//! - `reading`: the tree that tokens are written by
+//! - `frame`: what a tree is a part of, where the rest is still to be read
+//! - `frames`: trees, read with their frames
+//! - `tree`: trees
+//! - `text`: the digits and the tree that a text is written by
+//! - `testing`: the tests of a tree, its depth and its values
+//! - `values`: the value of a tree at n
+//! - `copying`: copies of trees
+//! - `fault`: why a text is no rule, or a rule has no value
 #![tactic(auto)]
 
 mod calls;

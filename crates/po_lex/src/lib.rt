@@ -1,4 +1,11 @@
-//! Lines of PO text.
+//! Lines of PO text: which form each line is of, and what it says.
+//!
+//! - `lines`: the lines of a text, one by one
+//! - `line`: a line, over slices of the source
+//! - `forms`: the form of a line
+//! - `pieces`: quoted pieces
+//! - `white`: spaces and tabs at the ends of a text
+//! - `fault`: why a text spells no catalogue
 #![tactic(auto)]
 
 mod fault;

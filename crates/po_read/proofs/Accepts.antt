@@ -11,17 +11,18 @@ use Rattle.po_lex.specs.declared.fault.FaultKind.{FaultKind}
 use Rattle.po_lex.specs.declared.fault.FaultKind.TheVariants as kinds
 use Rattle.po_lex.specs.declared.line.Keyword.TheVariants.{Msgstr}
 use Rattle.po_lex.specs.Lines.{begins, continues, Line, blank, translator, extracted, reference, flags, previous, message, is_form, line_of, lines_of}
-use Rattle.po_read.specs.Entries.{Key, Keyed, entry_strings, previous_strings}
-use Rattle.po_read.specs.Texts.{Text, is_empty}
-use Rattle.po_read.specs.Header.{has_charset}
-use Rattle.po_read.specs.declared.entry.Entry.{Entry}
-use Rattle.po_read.specs.Valid.{IsValid}
-use Rattle.po_read.specs.Spells.{SpellsEntry, Spells, IsWithin, Limits, is_header_key, besides_header}
+use Rattle.po_text.specs.Entries.{Key, Keyed, entry_strings, previous_strings, is_header_key}
+use Rattle.po_text.specs.Texts.{Text, is_empty}
+use Rattle.po_text.specs.Header.{has_charset}
+use Rattle.po_text.specs.declared.entry.Entry.{Entry}
+use Rattle.po_text.specs.Valid.{IsValid}
+use Rattle.po_read.specs.Spells.{SpellsEntry, Spells, IsWithin, Limits, besides_header}
 use Rattle.po_read.specs.Faults.{Lines, strings_in, previous_in, last_string, last_keyword, begins_entry, has_form, before, after, key_in, key_at, has_header_key, has_mark, goes_on, string_fault, header_fault, ended_fault, order_fault, entries_fault, fault_at, fault_at_end, no_lines, add_line, line_fault, or_later, fault_from, fault_of}
 use Rattle.po_read.specs.Plain.{groups_of, entry_of, entries_of}
 use Rattle.po_read.proofs.OneCatalogue.{entries_read, not_blank, determined}
 use Rattle.po_read.proofs.Drafts.{Draft, nothing, context, named, counted, single, draft_strings, draft_last, draft_last_is, AreShort}
-use Rattle.po_read.proofs.Partials.{strings_are, or_none, when_none, not_false, nil_from_empty, no_lines_yet}
+use Rattle.po_read.proofs.Partials.{strings_are, or_none, when_none, nil_from_empty, no_lines_yet}
+use Rattle.po_text.proofs.EntryLists.{not_false, both_true}
 use Rattle.po_read.proofs.Sound.{IsSoundLine}
 use Rattle.po_read.proofs.Leaves.{lines_utf8, line_sound}
 use Rattle.po_read.proofs.Keeping.{draft_key_is, Settled, Begun, Kept, and_false_right}
@@ -104,10 +105,6 @@ goes_not ls (previous m (begins keyword text)) f b = refl
 goes_not ls (previous m (continues text)) f b = ap (λ e. not (has_mark (not m) ls) && e && not (is_empty (previous_in ls))) (form_some (strings_in ls) f) ∙ and_no (not (has_mark (not m) ls)) (not (is_empty (previous_in ls)))
 goes_not ls (message m (begins keyword text)) f b = refl
 goes_not ls (message m (continues text)) f b = cc
-
-pub both_true : (a b : Bool) → (a && b) ≡ true → (a ≡ true) × (b ≡ true)
-both_true true b h = (refl, h)
-both_true false b h = cc
 
 step : (most : Limits) (s : Lines) (line : Line) → Kept most s → IsSoundLine line → not_blank line ≡ true → fault_at most s line ≡ None → Kept most (after s line)
 unfolding fault_at

@@ -7,7 +7,7 @@ use Rattle.std.proofs.lemmas.Str.{IsUtf8-from_is_utf8, is_utf8-from_IsUtf8}
 use Rattle.po_lex.specs.declared.fault.FaultKind.TheVariants as kinds
 use Rattle.po_lex.specs.declared.fault.PoFault.{PoFault}
 use Rattle.po_lex.specs.Lines.{lines_of}
-use Rattle.po_read.specs.declared.entry.Entry.{Entry}
+use Rattle.po_text.specs.declared.entry.Entry.{Entry}
 use Rattle.po_read.specs.Spells.{Spells, IsWithin, limits}
 use Rattle.po_read.specs.Faults.{no_lines, Fault, IsFault, too_long, not_utf8, fault_from, fault_of}
 use Rattle.po_read.specs.Plain.{entries_of}

@@ -1,18 +1,17 @@
 -- The strings of an entry whose lines may go on.
 use Rattle.std.proofs.Common.{◌≡◌, ℕ, ◌+◌, ◌≤◌, List, [], ◌∷◌, ◌++◌, Bool, true, false, not, length, refl, sym, ◌∙◌, ap, Result, Ok, Err, Option, Some, None, suc, arith, ◌==◌}
 use Rattle.std.proofs.lemmas.Bool.Decides.{nat_tests}
-use Rattle.std.specs.List.{AllByRecursion}
 use Rattle.std.specs.Result.{OnOk}
-use Rattle.po_read.specs.Strings.{is_forms}
+use Rattle.po_text.specs.Strings.{is_forms}
 use Rattle.po_read.specs.declared.message.Message.{Message}
 use Rattle.po_read.specs.declared.message.Message.TheVariants.{Counted}
 use Rattle.po_lex.specs.declared.line.Keyword.TheVariants.{Msgctxt, Msgid, MsgidPlural, Msgstr, MsgstrAt}
 use Rattle.po_lex.specs.declared.fault.FaultKind.TheVariants as kinds
 use Rattle.po_lex.specs.Lines.{Part, begins, continues, is_form}
-use Rattle.po_read.specs.Entries.{Keyed, optional, numbered, previous_strings}
-use Rattle.po_read.specs.Texts.{Text}
-use Rattle.po_read.specs.declared.entry.Previous.{Previous}
-use Rattle.po_read.specs.Valid.{AllStrings}
+use Rattle.po_text.specs.Entries.{Keyed, optional, numbered, previous_strings}
+use Rattle.po_text.specs.Texts.{Text}
+use Rattle.po_text.specs.declared.entry.Previous.{Previous}
+use Rattle.po_text.specs.Valid.{AllStrings}
 pub use Rattle.po_read.specs.Drafts.{Draft, nothing, context, named, counted, single, draft_strings, counted_last, draft_last, last_more, with_more, with_keyword, draft_with, IsPreviousPart, draft_key, draft_of, whole_of}
 use Rattle.po_read.specs.Spells.{go_on, add_part}
 use Rattle.po_read.specs.Faults.{last_keyword, last_with, part_fault, previous_fault, numbered_fault, when}
@@ -161,10 +160,6 @@ previous_step p part h n = step3 p.ctx p.id p.plural part h n
 
 abbrev pub AreShort : ℕ → List Keyed → Type 0
 AreShort most strings = AllStrings (λ text. length text ≤ most) strings
-
-pub all_push : {A : Type 0} (P : A → Type 0) (xs : List A) (x : A) → AllByRecursion P xs → P x → AllByRecursion P (xs ++ x ∷ [])
-all_push P [] x h p = (p, tt)
-all_push P (y ∷ xs) x h p = (h.0, all_push P xs x h.1 p)
 
 abbrev pub IfText : Option Text → (Text → Type 0) → Type 0
 IfText None P = Unit {0}

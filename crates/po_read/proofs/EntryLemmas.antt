@@ -4,9 +4,9 @@ use Rattle.std.specs.Prelude.{flat_map}
 use Rattle.std.specs.List.{filter_map, cons_option, AllByRecursion}
 use Rattle.po_lex.specs.declared.line.Keyword.TheVariants.{Msgctxt, Msgid, MsgidPlural, Msgstr}
 use Rattle.po_lex.specs.Lines.{Part, Line, blank, translator, extracted, reference, flags, previous, message}
-use Rattle.po_read.specs.Entries.{previous_strings, optional, keyed_forms, numbered}
-use Rattle.po_read.specs.Texts.{Text}
-use Rattle.po_read.specs.declared.entry.Entry.{Entry}
+use Rattle.po_text.specs.Entries.{previous_strings, optional, keyed_forms, numbered}
+use Rattle.po_text.specs.Texts.{Text}
+use Rattle.po_text.specs.declared.entry.Entry.{Entry}
 use Rattle.po_read.specs.Spells.{strings_of, SpellsEntry, IsCommentOf, translator_text, extracted_text, reference_text, flag_items, flags_kept, previous_part}
 use Rattle.po_read.specs.Faults.{strings_in, previous_in, key_in, key_at, has_mark, same_mark, mark_of}
 use Rattle.po_read.specs.Plain.{string_with, forms_in, entry_of}

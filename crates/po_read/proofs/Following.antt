@@ -12,13 +12,14 @@ use Rattle.po_lex.specs.declared.fault.FaultKind.TheVariants as kinds
 use Rattle.po_lex.specs.declared.line.Keyword.{Keyword}
 use Rattle.po_lex.specs.declared.line.Keyword.TheVariants.{Msgctxt, Msgid, MsgidPlural, Msgstr, MsgstrAt}
 use Rattle.po_lex.specs.Lines.{Part, begins, continues, Line, blank, translator, extracted, reference, flags, previous, message, is_form}
-use Rattle.po_read.specs.Entries.{Key, Keyed, previous_strings, numbered}
-use Rattle.po_read.specs.Texts.{Text, is_empty, last_text}
-use Rattle.po_read.specs.Spells.{translator_text, extracted_text, reference_text, flag_items, add_once, add_part, strings_of, previous_part, is_header_key}
+use Rattle.po_text.specs.Entries.{Key, Keyed, previous_strings, numbered, is_header_key}
+use Rattle.po_text.specs.Texts.{Text, is_empty, last_text}
+use Rattle.po_read.specs.Spells.{translator_text, extracted_text, reference_text, flag_items, add_part, strings_of, previous_part}
+use Rattle.po_text.specs.Flags.{add_once}
 use Rattle.po_read.specs.Faults.{message_part, strings_in, previous_in, last_keyword, key_in, key_at, has_header_key, mark_of, same_mark, has_mark, when, goes_on, last_with, string_here, is_long, string_fault, part_fault, previous_fault, order_fault, has_form}
 use Rattle.po_read.specs.Drafts.{Draft, nothing, context, named, counted, single, draft_strings, draft_last, draft_key, draft_header, draft_end, last_of_three, previous_with, IsPreviousPart, IsSoundLine}
 use Rattle.po_read.specs.SoFar.{SoFar, marked, has_strings, has_previous, goes_on_here, text_here, length_fault, order_fault_here, with_line, IsSoFar}
-use Rattle.po_read.specs.declared.entry.Previous.{Previous}
+use Rattle.po_text.specs.declared.entry.Previous.{Previous}
 use Rattle.po_read.proofs.Drafts.{draft_last_is, draft_step}
 use Rattle.po_read.proofs.Keeping.{draft_key_is}
 

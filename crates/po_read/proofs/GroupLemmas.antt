@@ -7,12 +7,12 @@ use Rattle.std.proofs.lemmas.List.Sums.{fold-append}
 use Rattle.po_lex.specs.declared.line.Keyword.{Keyword}
 use Rattle.po_lex.specs.declared.line.Keyword.TheVariants.{Msgctxt, Msgid, MsgidPlural, Msgstr, MsgstrAt}
 use Rattle.po_lex.specs.Lines.{Part, begins, continues, Line, blank, translator, extracted, reference, flags, previous, message, is_form}
-use Rattle.po_read.specs.Entries.{Keyed, entry_strings, optional, keyed_forms, numbered}
-use Rattle.po_read.specs.Texts.{Text}
-use Rattle.po_read.specs.declared.entry.Entry.{Entry}
+use Rattle.po_text.specs.Entries.{Keyed, entry_strings, optional, keyed_forms, numbered}
+use Rattle.po_text.specs.Texts.{Text}
+use Rattle.po_text.specs.declared.entry.Entry.{Entry}
 use Rattle.po_read.specs.Spells.{go_on, add_part, strings_of, SpellsEntry, IsCommentOf, BeginsFirst}
 use Rattle.po_read.specs.Plain.{groups_of}
-use Rattle.po_read.proofs.Drafts.{all_push}
+use Rattle.po_text.proofs.EntryLists.{all_push}
 use Rattle.po_read.specs.Faults.{Lines, message_part, strings_in, last_keyword, begins_entry, has_form, after, no_lines}
 
 abbrev pub keys : List Keyed → List Keyword

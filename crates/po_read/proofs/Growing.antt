@@ -1,26 +1,25 @@
 -- Line by line, from no fault to a catalogue.
-use Rattle.std.proofs.Common.{◌≡◌, ◌≢◌, ℕ, ◌-◌, ◌<◌, ◌≤◌, List, [], ◌∷◌, ◌++◌, Bool, true, false, ◌&&◌, cond, map, length, refl, sym, ◌∙◌, ap, subst, Option, Some, None, arith, suc}
+use Rattle.std.proofs.Common.{◌≡◌, ◌≢◌, ℕ, ◌-◌, ◌<◌, ◌≤◌, List, [], ◌∷◌, ◌++◌, Bool, true, false, cond, map, length, refl, sym, ◌∙◌, ap, subst, Option, Some, None, arith, suc}
 use Rattle.std.specs.Prelude.{flat_map}
-use Rattle.std.specs.Str.{bytes_eq}
 use Rattle.std.specs.List.{filter_map, list_any, AllByRecursion, AllZip}
 use Rattle.std.proofs.lemmas.Bool.{false≢true, leb-false}
 use Rattle.std.proofs.lemmas.List.{length-append}
-use Rattle.std.proofs.lemmas.Slice.Eq.{bytes_eq-Decides}
 use Rattle.po_lex.specs.declared.line.Keyword.{Keyword}
 use Rattle.po_lex.specs.declared.line.Keyword.TheVariants.{Msgctxt, Msgid, MsgidPlural, Msgstr, MsgstrAt}
 use Rattle.po_lex.specs.Lines.{Part, begins, continues, Line, blank, translator, extracted, reference, flags, previous, message}
-use Rattle.po_read.specs.Entries.{Key, key_of, entry_strings, previous_strings}
-use Rattle.po_read.specs.Texts.{Text, is_empty}
-use Rattle.po_read.specs.declared.entry.Entry.{Entry}
-use Rattle.po_read.specs.Valid.{IsValidEntry, HasHeaderKey, IsHeader, HasHeaderFirst, HasUniqueKeys, AllStrings, IsString, IsCommentLine}
-use Rattle.po_read.specs.Spells.{SpellsEntry, translator_text, extracted_text, reference_text, flag_items, flags_kept, previous_part, Limits, is_header_key, besides_header, IsCommentOf}
-use Rattle.po_read.specs.Faults.{Lines, strings_in, last_string, last_keyword, key_in, key_at, has_header_key, same_context, same_key, goes_on, string_fault, key_fault, ended_fault, part_fault, order_fault, count_of, entries_fault}
+use Rattle.po_text.specs.Entries.{Key, key_of, entry_strings, previous_strings, is_header_key, same_key}
+use Rattle.po_text.specs.Texts.{Text, is_empty}
+use Rattle.po_text.specs.declared.entry.Entry.{Entry}
+use Rattle.po_text.specs.Valid.{IsValidEntry, HasHeaderKey, IsHeader, HasHeaderFirst, AllStrings, IsString, IsCommentLine}
+use Rattle.po_read.specs.Spells.{SpellsEntry, translator_text, extracted_text, reference_text, flag_items, flags_kept, previous_part, Limits, besides_header, IsCommentOf}
+use Rattle.po_read.specs.Faults.{Lines, strings_in, last_string, last_keyword, key_in, key_at, has_header_key, goes_on, string_fault, key_fault, ended_fault, part_fault, order_fault, count_of, entries_fault}
 use Rattle.po_read.proofs.EntryLemmas.{key_read}
 use Rattle.po_read.proofs.OneCatalogue.{not_blank}
 use Rattle.po_read.proofs.GroupLemmas.{keys, begun, last_of, last_key, keys_of}
-use Rattle.po_read.proofs.Drafts.{named, draft_strings, draft_last, draft_last_is, AreShort, all_push}
-use Rattle.po_read.proofs.Partials.{Partial, strings_are, when_none, not_false, or_false, short_here, same_obsolete, marked, push_comment, push_previous, push_message, no_lines_yet}
-use Rattle.po_read.proofs.Sound.{IsDigitKey, IsSoundPart, IsSoundLine, all_left, all_right, all_texts, translator_sound, extracted_sound, reference_sound, items_sound, previous_sound, parts_sound, strings_sound, flags_sound}
+use Rattle.po_read.proofs.Drafts.{named, draft_strings, draft_last, draft_last_is, AreShort}
+use Rattle.po_text.proofs.EntryLists.{all_push, not_false, or_false, all_left, all_right, same_key_self, unique_push}
+use Rattle.po_read.proofs.Partials.{Partial, strings_are, when_none, short_here, same_obsolete, marked, push_comment, push_previous, push_message, no_lines_yet}
+use Rattle.po_read.proofs.Sound.{IsDigitKey, IsSoundPart, IsSoundLine, all_texts, translator_sound, extracted_sound, reference_sound, items_sound, previous_sound, parts_sound, strings_sound, flags_sound}
 use Rattle.po_read.proofs.Keeping.{draft_key, draft_key_is, IsNewKey, Settled, Begun, Kept, if_none, draft_none, new_key, settle, CountHere, begin, settled_yet, settled_marked}
 
 -- ---- one more line of the entry
@@ -201,16 +200,6 @@ zip_push [] (x ∷ es) g e z s = absurd z
 zip_push (h ∷ groups) [] g e z s = absurd z
 zip_push (h ∷ groups) (x ∷ es) g e z s = (z.0, zip_push groups es g e z.1 s)
 
-pub same_key_self : (k : Key) → same_key k k ≡ true
-same_key_self k = by k.0
-  where
-    text : bytes_eq k.1 k.1 ≡ true
-    text = (bytes_eq-Decides k.1 k.1).1 refl
-
-    by : (ctx : Option Text) → (same_context ctx ctx && bytes_eq k.1 k.1) ≡ true
-    by None = text
-    by (Some ctx) = ap (λ b. b && bytes_eq k.1 k.1) ((bytes_eq-Decides ctx ctx).1 refl) ∙ text
-
 pub keys_apart : (groups : List (List Line)) (es : List Entry) (key : Key) → AllZip SpellsEntry groups es → list_any (λ lines. same_key (key_at lines) key) groups ≡ false → AllByRecursion (λ other. key_of other ≢ key) es
 keys_apart [] [] key z h = tt
 keys_apart [] (x ∷ es) key z h = absurd z
@@ -218,10 +207,6 @@ keys_apart (g ∷ groups) [] key z h = absurd z
 keys_apart (g ∷ groups) (x ∷ es) key z h =
     let r = or_false _ _ h in
     (λ e. false≢true (sym r.0 ∙ ap (λ (k : Key). same_key k key) (key_read g x z.0 ∙ e) ∙ same_key_self key), keys_apart groups es key z.1 r.1)
-
-pub unique_push : (es : List Entry) (e : Entry) → HasUniqueKeys es → AllByRecursion (λ other. key_of other ≢ key_of e) es → HasUniqueKeys (es ++ e ∷ [])
-unique_push [] e u o = (tt, tt)
-unique_push (x ∷ es) e u o = (all_push (λ (other : Entry). key_of other ≢ key_of x) es e u.0 (λ q. o.0 (sym q)), unique_push es e u.1 o.1)
 
 header_push : (groups : List (List Line)) (es : List Entry) (e : Entry) → AllZip SpellsEntry groups es → HasHeaderFirst es → (HasHeaderKey e → groups ≡ []) → (HasHeaderKey e → IsHeader e) → HasHeaderFirst (es ++ e ∷ [])
 header_push [] [] e z h first header = (header, tt)

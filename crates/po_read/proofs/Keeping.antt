@@ -6,15 +6,16 @@ use Rattle.po_lex.specs.declared.fault.FaultKind.{FaultKind}
 use Rattle.po_lex.specs.declared.line.Keyword.{Keyword}
 use Rattle.po_lex.specs.declared.line.Keyword.TheVariants.{Msgctxt, Msgid, MsgidPlural, Msgstr, MsgstrAt}
 use Rattle.po_lex.specs.Lines.{Part, begins, continues, Line}
-use Rattle.po_read.specs.Entries.{Key, entry_strings, previous_strings}
-use Rattle.po_read.specs.Texts.{Text, is_empty}
-use Rattle.po_read.specs.declared.entry.Entry.{Entry}
-use Rattle.po_read.specs.Valid.{IsValid}
-use Rattle.po_read.specs.Spells.{SpellsEntry, strings_of, Limits, is_header_key, besides_header}
-use Rattle.po_read.specs.Faults.{Lines, key_in, key_at, has_header_key, same_key, key_fault, part_fault, count_of}
+use Rattle.po_text.specs.Entries.{Key, entry_strings, previous_strings, is_header_key, same_key}
+use Rattle.po_text.specs.Texts.{Text, is_empty}
+use Rattle.po_text.specs.declared.entry.Entry.{Entry}
+use Rattle.po_text.specs.Valid.{IsValid}
+use Rattle.po_read.specs.Spells.{SpellsEntry, strings_of, Limits, besides_header}
+use Rattle.po_read.specs.Faults.{Lines, key_in, key_at, has_header_key, key_fault, part_fault, count_of}
 pub use Rattle.po_read.specs.Drafts.{draft_key}
 use Rattle.po_read.proofs.Drafts.{Draft, nothing, context, named, counted, single, draft_strings, draft_last, draft_with, AreShort}
-use Rattle.po_read.proofs.Partials.{Partial, strings_are, when_none, or_false, same_obsolete}
+use Rattle.po_read.proofs.Partials.{Partial, strings_are, when_none, same_obsolete}
+use Rattle.po_text.proofs.EntryLists.{or_false}
 use Rattle.po_read.proofs.Sound.{IsSoundLine}
 
 -- ---- keys

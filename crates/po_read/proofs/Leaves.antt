@@ -15,8 +15,8 @@ use Rattle.po_lex.specs.Reading.{◌>>=◌, ok_or, is_white, is_all_white, skip_
 use Rattle.po_lex.specs.Escapes.{raw_at, letter_at, unescaped, unescaped_behind, with_front, meaning_of, string_at}
 use Rattle.po_lex.specs.Lines.{Part, begins, continues, Line, blank, translator, extracted, reference, flags, previous, message, keywords, keyword_of, find_keyword, keyword_text, word_of, piece_at, part_at, is_comment_text, comment_of, skip_space, items_of, flags_of, spaced, begins_form, previous_at, message_at, obsolete_at, comment_at, begins_with, is_form, line_of, with_byte, lines_of}
 use Rattle.po_lex.proofs.SliceLemmas.{word_boundary}
-use Rattle.po_read.specs.Strings.{is_string_byte}
-use Rattle.po_read.specs.Valid.{IsString, IsCommentLine, IsFlag}
+use Rattle.po_text.specs.Strings.{is_string_byte}
+use Rattle.po_text.specs.Valid.{IsString, IsCommentLine, IsFlag}
 use Rattle.po_read.proofs.Drafts.{IsPreviousPart}
 use Rattle.po_read.proofs.Sound.{IsDigitKey, IsSoundPart, IsSoundLine}
 

@@ -11,13 +11,8 @@ pub mod Accepts
 pub mod Passing
 pub mod Least
 pub mod Rows
-pub mod HeaderLemmas
-pub mod PieceCuts
-pub mod LastTexts
-pub mod FlagLemmas
 pub mod Following
 pub mod Tested
 pub mod TextLines
 pub mod Answered
-pub mod Charsets
-pub mod Checked
+pub mod PieceLengths

@@ -3,8 +3,8 @@ use Rattle.std.proofs.Common.{◌≡◌, ℕ, List, [], ◌∷◌, Bool, map, re
 use Rattle.std.specs.List.{fold, filter, AllByRecursion, AllZip}
 use Rattle.po_lex.specs.declared.fault.FaultKind.{FaultKind}
 use Rattle.po_lex.specs.Lines.{Line}
-use Rattle.po_read.specs.declared.entry.Entry.{Entry}
-use Rattle.po_read.specs.Valid.{IsValidEntry}
+use Rattle.po_text.specs.declared.entry.Entry.{Entry}
+use Rattle.po_text.specs.Valid.{IsValidEntry}
 use Rattle.po_read.specs.Spells.{Spells, SpellsEntry, is_blank}
 use Rattle.po_read.specs.Faults.{after, no_lines}
 use Rattle.po_read.specs.Plain.{groups_of, entry_of}

@@ -8,15 +8,16 @@ use Rattle.std.proofs.lemmas.List.Sums.{fold-append}
 use Rattle.std.proofs.lemmas.List.Elements.{filter_map-append}
 use Rattle.po_lex.specs.declared.fault.FaultKind.{FaultKind}
 use Rattle.po_lex.specs.Lines.{Part, begins, continues, Line, blank, translator, extracted, reference, flags, previous, message}
-use Rattle.po_read.specs.Entries.{Keyed, previous_strings}
-use Rattle.po_read.specs.Texts.{Text, is_empty}
-use Rattle.po_read.specs.declared.entry.Previous.{Previous}
-use Rattle.po_read.specs.Valid.{AllStrings}
+use Rattle.po_text.specs.Entries.{Keyed, previous_strings}
+use Rattle.po_text.specs.Texts.{Text, is_empty}
+use Rattle.po_text.specs.declared.entry.Previous.{Previous}
+use Rattle.po_text.specs.Valid.{AllStrings}
 use Rattle.po_read.specs.Spells.{add_part, strings_of, BeginsFirst, SpellsStrings, IsCommentOf, previous_part}
 use Rattle.po_read.specs.Faults.{strings_in, previous_in, last_keyword, last_with, has_mark, same_mark, mark_of, or_else, when, goes_on, string_here, is_long, string_fault, part_fault, previous_fault}
 use Rattle.po_read.proofs.GroupLemmas.{keys, begun, keys_of, messages_only, map_push}
 use Rattle.po_read.proofs.EntryLemmas.{without}
-use Rattle.po_read.proofs.Drafts.{Draft, nothing, draft_strings, draft_last, draft_last_is, draft_with, draft_step, IsPreviousPart, previous_step, AreShort, all_push, IfText, all_go_on}
+use Rattle.po_read.proofs.Drafts.{Draft, nothing, draft_strings, draft_last, draft_last_is, draft_with, draft_step, IsPreviousPart, previous_step, AreShort, IfText, all_go_on}
+use Rattle.po_text.proofs.EntryLists.{all_push, or_false, not_false}
 
 pub record Partial (most : ℕ) (ls : List Line) : Type 0 where
   pub obsolete : Bool
@@ -46,14 +47,6 @@ or_none (Some k) b h = cc
 pub when_none : (b : Bool) (k : FaultKind) → when b k ≡ None → b ≡ false
 when_none true k h = cc
 when_none false k h = refl
-
-pub not_false : (b : Bool) → not b ≡ false → b ≡ true
-not_false true h = refl
-not_false false h = cc
-
-pub or_false : (a b : Bool) → (a || b) ≡ false → (a ≡ false) × (b ≡ false)
-or_false true b h = cc
-or_false false b h = (refl, h)
 
 pub nil_from_empty : {A : Type 0} (xs : List A) → is_empty xs ≡ true → xs ≡ []
 nil_from_empty [] h = refl

@@ -2,41 +2,38 @@
 use Rattle.std.proofs.Common.{◌≡◌, ◌≢◌, ℕ, ◌+◌, ◌-◌, ◌<◌, ◌≤◌, List, [], ◌∷◌, ◌++◌, Bool, true, false, not, ◌||◌, ◌&&◌, ◌==◌, cond, map, length, refl, sym, ◌∙◌, ap, subst, Option, Some, None, is_some, Ok, append_assoc, eq-eqb, arith, nat_lt, nat_le, option_map}
 use Rattle.std.specs.Prelude.{flat_map, filter}
 use Rattle.std.specs.List.{fold, filter_map, list_any, AllByRecursion, AllZip}
-use Rattle.std.specs.Str.{bytes_eq}
 use Rattle.std.proofs.lemmas.Bool.{false≢true, le-ltb}
 use Rattle.std.proofs.lemmas.Bool.Decides.{nat_tests}
 use Rattle.std.proofs.lemmas.List.{append-nil, length-append}
 use Rattle.std.proofs.lemmas.List.Sums.{fold-append}
 use Rattle.std.proofs.lemmas.List.Elements.{filter_map-append}
-use Rattle.std.proofs.lemmas.Slice.Eq.{bytes_eq-Decides}
 use Rattle.po_lex.specs.declared.fault.FaultKind.{FaultKind}
 use Rattle.po_lex.specs.declared.fault.FaultKind.TheVariants as kinds
 use Rattle.po_lex.specs.declared.line.Keyword.{Keyword}
 use Rattle.po_lex.specs.declared.line.Keyword.TheVariants.{Msgctxt, Msgid, MsgidPlural, Msgstr, MsgstrAt}
 use Rattle.po_lex.specs.Lines.{Part, begins, continues, Line, blank, translator, extracted, reference, flags, previous, message, is_form}
-use Rattle.po_read.specs.Entries.{Key, Keyed, key_of, entry_strings, previous_strings, optional, keyed_forms, numbered}
-use Rattle.po_read.specs.Texts.{Text, is_empty}
-use Rattle.po_read.specs.Header.{has_charset}
-use Rattle.po_read.specs.declared.entry.Entry.{Entry}
-use Rattle.po_read.specs.Valid.{HasHeaderKey}
-use Rattle.po_read.specs.Spells.{go_on, add_part, strings_of, BeginsFirst, SpellsStrings, SpellsEntry, IsCommentOf, previous_part, Limits, is_header_key}
-use Rattle.po_read.specs.Faults.{Lines, strings_in, previous_in, last_string, last_keyword, last_with, begins_entry, has_form, before, after, key_in, key_at, has_header_key, same_key, has_mark, same_mark, or_else, when, goes_on, string_here, is_long, string_fault, key_fault, ended_fault, rank, part_fault, previous_fault, order_fault, is_id, count_of, entries_fault, fault_at, fault_at_end}
+use Rattle.po_text.specs.Entries.{Key, Keyed, key_of, entry_strings, previous_strings, optional, keyed_forms, numbered, is_header_key, same_key}
+use Rattle.po_text.specs.Texts.{Text, is_empty}
+use Rattle.po_text.specs.Header.{has_charset}
+use Rattle.po_text.specs.declared.entry.Entry.{Entry}
+use Rattle.po_text.specs.Valid.{HasHeaderKey, IsValidEntry, IsHeader, HasHeaderFirst, HasUniqueKeys}
+use Rattle.po_read.specs.Spells.{go_on, add_part, strings_of, BeginsFirst, SpellsStrings, SpellsEntry, IsCommentOf, previous_part, Limits}
+use Rattle.po_read.specs.Faults.{Lines, strings_in, previous_in, last_string, last_keyword, last_with, begins_entry, has_form, before, after, key_in, key_at, has_header_key, has_mark, same_mark, or_else, when, goes_on, string_here, is_long, string_fault, key_fault, ended_fault, rank, part_fault, previous_fault, order_fault, is_id, count_of, entries_fault, fault_at, fault_at_end}
 use Rattle.std.specs.Str.{is_utf8}
 use Rattle.std.proofs.lemmas.Str.{is_utf8-from_IsUtf8}
 use Rattle.po_lex.specs.Lines.{line_of, lines_of}
-use Rattle.po_read.specs.Valid.{IsValidEntry, IsHeader, HasHeaderFirst, HasUniqueKeys}
 use Rattle.po_read.specs.Spells.{Spells, IsWithin, besides_header}
-use Rattle.po_read.specs.Faults.{same_context, no_lines, add_line, line_fault, or_later, fault_from, fault_of}
+use Rattle.po_read.specs.Faults.{no_lines, add_line, line_fault, or_later, fault_from, fault_of}
 use Rattle.po_read.proofs.EntryLemmas.{key_read}
 use Rattle.po_read.proofs.GroupLemmas.{BeginsEntry}
 use Rattle.po_read.proofs.OneCatalogue.{not_blank}
 use Rattle.po_read.proofs.Drafts.{counted, draft_last_is}
 use Rattle.po_read.proofs.Partials.{or_none, some_last}
 use Rattle.po_read.proofs.Growing.{zip_push, zip_length, header_same}
-use Rattle.po_read.proofs.Accepts.{PassesAll, flat, both_true, and_no, last_single, not_blank_line, blank_line}
+use Rattle.po_read.proofs.Accepts.{PassesAll, flat, and_no, last_single, not_blank_line, blank_line}
 use Rattle.po_read.proofs.GroupLemmas.{keys, begun, last_of, last_key, keys_of, begun_append, messages_only, map_push, entry_keys, stays, no_form_yet, strings_here, entry_has_form, entry_begins}
-use Rattle.po_read.proofs.Drafts.{AreShort, all_push, IfText}
-use Rattle.po_read.proofs.Sound.{all_left, all_right}
+use Rattle.po_read.proofs.Drafts.{AreShort, IfText}
+use Rattle.po_text.proofs.EntryLists.{all_push, all_left, all_right, unique_cut, key_same, header_key}
 use Rattle.po_read.proofs.Keeping.{IsNewKey}
 use Rattle.po_read.proofs.Growing.{grown, closed}
 
@@ -518,23 +515,6 @@ pass_groups most whole (g ∷ groups) (e ∷ es) z h = pass_group most whole g (
 
 -- ---- what a valid catalogue gives
 
-pub unique_cut : (done es : List Entry) (e : Entry) → HasUniqueKeys (done ++ e ∷ es) → AllByRecursion (λ x. key_of e ≢ key_of x) done
-unique_cut [] es e u = tt
-unique_cut (x ∷ done) es e u = ((all_right (λ (other : Entry). key_of other ≢ key_of x) done (e ∷ es) u.0).0, unique_cut done es e u.1)
-
-context_same : (a b : Option Text) → same_context a b ≡ true → a ≡ b
-context_same None None h = refl
-context_same None (Some b) h = cc
-context_same (Some a) None h = cc
-context_same (Some a) (Some b) h = ap Some ((bytes_eq-Decides a b).0 h)
-
-pub key_same : (a b : Key) → same_key a b ≡ true → a ≡ b
-key_same a b h =
-    let r = both_true (same_context a.0 b.0) (bytes_eq a.1 b.1) h in
-    let first : a.0 ≡ b.0 = context_same a.0 b.0 r.0 in
-    let second : a.1 ≡ b.1 = (bytes_eq-Decides a.1 b.1).0 r.1 in
-    ap (λ (x : Option Text). (x, a.1)) first ∙ ap (λ (x : Text). (b.0, x)) second
-
 none_same : (groups : List (List Line)) (done : List Entry) (e : Entry) → AllZip SpellsEntry groups done → AllByRecursion (λ x. key_of e ≢ key_of x) done → list_any (λ lines. same_key (key_at lines) (key_of e)) groups ≡ false
 none_same [] [] e z h = refl
 none_same [] (x ∷ done) e z h = absurd z
@@ -544,11 +524,6 @@ none_same (g ∷ groups) (x ∷ done) e z h = neither _ _ (by (same_key (key_at 
     by : (b : Bool) → same_key (key_at g) (key_of e) ≡ b → b ≡ false
     by true k = absurd (h.0 (sym (key_same (key_at g) (key_of e) k) ∙ key_read g x z.0))
     by false k = refl
-
-pub header_key : (ctx : Option Text) (id : Text) → is_header_key ctx id ≡ true → (let k : Key = (ctx, id) in k) ≡ (None, [])
-header_key None [] h = refl
-header_key None (b ∷ id) h = cc
-header_key (Some ctx) id h = cc
 
 first_header : (groups : List (List Line)) (done es : List Entry) (e : Entry) → AllZip SpellsEntry groups done → HasHeaderFirst (done ++ e ∷ es) → HasHeaderKey e → (groups ≡ []) × IsHeader e
 first_header [] [] es e z h key = (refl, h.0 key)

@@ -5,7 +5,7 @@ use Rattle.std.specs.Str.{is_utf8, chars}
 use Rattle.po_lex.specs.declared.fault.FaultKind.TheVariants as kinds
 use Rattle.po_lex.specs.Escapes.{raw_at, letter_at, unescaped, unescaped_behind}
 use Rattle.po_lex.specs.Lines.{line_of, lines_of, part_at}
-use Rattle.po_read.specs.Header.{field_value, has_charset}
+use Rattle.po_text.specs.Header.{field_value, has_charset}
 use Rattle.po_read.specs.Spells.{Limits, limits}
 use Rattle.po_read.specs.Faults.{fault_of, fault_from, fault_at, fault_at_end}
 

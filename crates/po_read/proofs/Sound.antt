@@ -1,34 +1,22 @@
 -- What the texts of a line keep: a string or a comment line of Unicode, a flag, a digit up to 7.
-use Rattle.std.proofs.Common.{◌≡◌, ◌≢◌, ℕ, List, [], ◌∷◌, ◌++◌, Bool, true, false, not, ◌&&◌, cond, map, drop, refl, sym, ◌∙◌, Option, Some, None, lit<, IsTrue}
+use Rattle.std.proofs.Common.{◌≡◌, ◌≢◌, ℕ, List, [], ◌∷◌, ◌++◌, Bool, true, false, not, ◌&&◌, ◌||◌, ap, cond, map, drop, refl, Option, Some, None, lit<, IsTrue}
 use Rattle.std.specs.Prelude.{flat_map, filter}
 use Rattle.std.specs.List.{fold, filter_map, cons_option, list_all, AllByRecursion}
 use Rattle.std.proofs.lemmas.Str.{IsUtf8-append, IsUtf8-from_is_utf8}
 use Rattle.std.proofs.lemmas.Slice.Eq.{bytes_eq-Decides}
-use Rattle.std.proofs.lemmas.Bool.{false≢true}
 use Rattle.std.specs.Str.{bytes_eq, is_utf8, chars}
 use Rattle.po_lex.specs.Lines.{Part, begins, continues, Line, blank, translator, extracted, reference, flags, previous, message}
-use Rattle.po_read.specs.Entries.{Keyed}
-use Rattle.po_read.specs.Texts.{Text}
-use Rattle.po_read.specs.Strings.{is_string_byte}
-use Rattle.po_read.specs.Valid.{IsString, IsCommentLine, IsFlag, AreFlags, AreDistinct, AllStrings, fuzzy}
-use Rattle.po_read.specs.Spells.{go_on, add_part, strings_of, translator_text, extracted_text, reference_text, flag_items, previous_part, has_text, add_once, flags_kept}
+use Rattle.po_text.specs.Entries.{Keyed}
+use Rattle.po_text.specs.Texts.{Text}
+use Rattle.po_text.specs.Strings.{is_string_byte}
+use Rattle.po_text.specs.Valid.{IsString, IsCommentLine, IsFlag, AreFlags, AreDistinct, AllStrings, fuzzy}
+use Rattle.po_read.specs.Spells.{go_on, add_part, strings_of, translator_text, extracted_text, reference_text, flag_items, previous_part, flags_kept}
+use Rattle.po_text.specs.Flags.{has_text, add_once}
 pub use Rattle.po_read.specs.Drafts.{IsDigitKey, IsSoundPart, IsSoundLine}
-use Rattle.po_read.proofs.Drafts.{IfText, all_push}
-use Rattle.po_read.proofs.Partials.{or_false}
+use Rattle.po_read.proofs.Drafts.{IfText}
+use Rattle.po_text.proofs.EntryLists.{all_push, all_both, AreOthers, none_of, distinct_push}
 
 -- ---- lists
-
-pub all_left : {A : Type 0} (P : A → Type 0) (xs ys : List A) → AllByRecursion P (xs ++ ys) → AllByRecursion P xs
-all_left P [] ys h = tt
-all_left P (x ∷ xs) ys h = (h.0, all_left P xs ys h.1)
-
-pub all_right : {A : Type 0} (P : A → Type 0) (xs ys : List A) → AllByRecursion P (xs ++ ys) → AllByRecursion P ys
-all_right P [] ys h = h
-all_right P (x ∷ xs) ys h = all_right P xs ys h.1
-
-pub all_both : {A : Type 0} (P : A → Type 0) (xs ys : List A) → AllByRecursion P xs → AllByRecursion P ys → AllByRecursion P (xs ++ ys)
-all_both P [] ys h k = k
-all_both P (x ∷ xs) ys h k = (h.0, all_both P xs ys h.1 k)
 
 pub all_texts : (f : Line → Option Text) (P : Text → Type 0) → ((line : Line) → IsSoundLine line → IfText (f line) P) → (lines : List Line) → AllByRecursion IsSoundLine lines → AllByRecursion P (filter_map f lines)
 all_texts f P imp [] h = tt
@@ -124,21 +112,6 @@ strings_sound parts h = fold_sound [] parts tt h
 same_text : (a b : Text) → bytes_eq a b ≡ true → a ≡ b
 same_text a b h = (bytes_eq-Decides a b).0 h
 
-other_text : (a b : Text) → bytes_eq a b ≡ false → b ≢ a
-other_text a b h e = false≢true (sym h ∙ (bytes_eq-Decides a b).1 (sym e))
-
--- none of these is the text
-abbrev pub AreOthers : Text → List Text → Type 0
-AreOthers text texts = AllByRecursion (λ other. other ≢ text) texts
-
-pub none_of : (text : Text) (texts : List Text) → has_text text texts ≡ false → AreOthers text texts
-none_of text [] h = tt
-none_of text (other ∷ texts) h = let r = or_false (bytes_eq text other) (has_text text texts) h in (other_text text other r.0, none_of text texts r.1)
-
-pub distinct_push : (texts : List Text) (text : Text) → AreDistinct texts → AreOthers text texts → AreDistinct (texts ++ text ∷ [])
-distinct_push [] text d o = (tt, tt)
-distinct_push (t ∷ texts) text d o = (all_push (λ (other : Text). other ≢ t) texts text d.0 (λ e. o.0 (sym e)), distinct_push texts text d.1 o.1)
-
 abbrev AreKept : List Text → Type 0
 AreKept texts = AllByRecursion IsFlag texts × AreDistinct texts
 
@@ -175,7 +148,7 @@ filtered_others (text ∷ texts) = by (bytes_eq fuzzy text) refl (filtered_other
   where
     by : (b : Bool) → bytes_eq fuzzy text ≡ b → AreOthers fuzzy (filter is_other texts) → AreOthers fuzzy (cond (not b) (text ∷ filter is_other texts) (filter is_other texts))
     by true e rest = rest
-    by false e rest = (other_text fuzzy text e, rest)
+    by false e rest = ((none_of fuzzy (text ∷ []) (ap (λ b. b || false) e)).0, rest)
 
 fuzzy_flag : IsFlag fuzzy
 unfolding is_utf8 chars lib.Utf8.encode

@@ -2,33 +2,28 @@
 use Rattle.std.proofs.Common.{◌≡◌, ℕ, ◌+◌, ◌-◌, List, [], ◌∷◌, ◌++◌, Bool, true, false, not, ◌&&◌, ◌||◌, cond, map, length, refl, sym, ◌∙◌, ap, subst, Option, Some, None, is_some, suc, arith, nat_le, ◌⊎◌, inl, inr}
 use Rattle.std.specs.List.{list_any}
 use Rattle.std.specs.BTreeSet.{contains}
-use Rattle.std.specs.Cmp.{tied_then}
-use Rattle.std.specs.Cmp.Lexicographic.{slice_cmp}
-use Rattle.std.specs.Option.{option_cmp}
-use Rattle.std.specs.Ordering.{nat_cmp, is_eq}
-use Rattle.std.specs.Str.{bytes_eq}
 use Rattle.std.proofs.lemmas.List.{length-map, map-append}
 use Rattle.std.proofs.lemmas.List.Folds.{list_any-append}
-use Rattle.std.proofs.lemmas.Map.Text.{is_eq-slice_cmp}
 use Rattle.po_lex.specs.declared.fault.FaultKind.{FaultKind}
 use Rattle.po_lex.specs.declared.fault.FaultKind.TheVariants as kinds
 use Rattle.po_lex.specs.declared.line.Keyword.{Keyword}
 use Rattle.po_lex.specs.declared.line.Keyword.TheVariants.{Msgctxt, Msgid, MsgidPlural, Msgstr, MsgstrAt}
 use Rattle.po_lex.specs.Lines.{begins, continues, Line, blank, translator, extracted, reference, flags, previous, message, is_form}
-use Rattle.po_read.specs.Entries.{Key, numbered, previous_strings}
-use Rattle.po_read.specs.Texts.{Text, is_empty}
-use Rattle.po_read.specs.Header.{has_charset}
-use Rattle.po_read.specs.Spells.{limits, is_header_key, with_fuzzy_first}
-use Rattle.po_read.specs.Faults.{Lines, strings_in, previous_in, last_string, key_at, has_header_key, same_key, same_context, when, key_fault, header_fault, ended_fault, count_of, entries_fault, has_form, begins_entry, before, after, fault_at, fault_at_end, or_else, string_fault, goes_on, order_fault, last_with, is_long}
+use Rattle.po_text.specs.Entries.{Key, numbered, previous_strings, is_header_key, same_key}
+use Rattle.po_text.specs.Texts.{Text, is_empty}
+use Rattle.po_text.specs.Header.{has_charset}
+use Rattle.po_read.specs.Spells.{limits}
+use Rattle.po_text.specs.Flags.{with_fuzzy_first}
+use Rattle.po_read.specs.Faults.{Lines, strings_in, previous_in, last_string, key_at, has_header_key, when, key_fault, header_fault, ended_fault, count_of, entries_fault, has_form, begins_entry, before, after, fault_at, fault_at_end, or_else, string_fault, goes_on, order_fault, last_with, is_long}
 use Rattle.po_read.specs.Plain.{groups_of, entry_of, string_with, forms_in}
-use Rattle.po_read.specs.Keys.{entry_key_cmp}
+use Rattle.po_text.specs.Keys.{entry_key_cmp}
 use Rattle.po_read.specs.Drafts.{Draft, nothing, context, named, counted, single, draft_of, draft_strings, draft_last, draft_key, whole_of, previous_end, IsSoundLine}
 use Rattle.po_read.specs.SoFar.{SoFar, so_far, IsEntry, IsSoFar, Reads, key_at_hand, key_fault_here, header_fault_here, ended_draft, ended_here, count_in, entries_here, IsClosed, end_fault, front_fault, length_fault, order_fault_here, with_line, marked, has_strings, has_previous}
-use Rattle.po_read.specs.declared.entry.Entry.{Entry}
-use Rattle.po_read.specs.declared.entry.Previous.{Previous}
-use Rattle.po_read.specs.declared.key.EntryKey.{EntryKey}
+use Rattle.po_text.specs.declared.entry.Entry.{Entry}
+use Rattle.po_text.specs.declared.entry.Previous.{Previous}
 use Rattle.po_read.specs.declared.reading.Reader.{Reader}
-use Rattle.po_read.proofs.Accepts.{last_single, both_true, goes_not}
+use Rattle.po_read.proofs.Accepts.{last_single, goes_not}
+use Rattle.po_text.proofs.EntryLists.{both_true, cmp_same, or_last}
 use Rattle.po_read.proofs.Growing.{closed}
 use Rattle.po_read.proofs.Following.{key_is, form_is, length_is, goes_is, order_is, with_line_is}
 
@@ -207,24 +202,6 @@ entry_is s lines e h w form =
     }
 
 -- ---- keys in a set
-
-text_same : (a b : Text) → is_eq (slice_cmp nat_cmp a b) ≡ bytes_eq a b
-text_same = is_eq-slice_cmp
-
-context_same : (a b : Option Text) → is_eq (option_cmp (slice_cmp nat_cmp) a b) ≡ same_context a b
-context_same None None = refl
-context_same None (Some b) = refl
-context_same (Some a) None = refl
-context_same (Some a) (Some b) = text_same a b
-
-pub cmp_same : (a b : EntryKey) → is_eq (entry_key_cmp a b) ≡ same_key (a.ctx, a.id) (b.ctx, b.id)
-cmp_same a b = sym (tied_then (option_cmp (slice_cmp nat_cmp) a.ctx b.ctx) (slice_cmp nat_cmp a.id b.id)) ∙ (λ i. context_same a.ctx b.ctx i && text_same a.id b.id i)
-
-pub or_last : (a b : Bool) → cond a true b ≡ (b || (a || false))
-or_last true true = refl
-or_last true false = refl
-or_last false true = refl
-or_last false false = refl
 
 pub closed_is : (old new : Reader) (s : Lines) → Reads old s → IsClosed old new → is_form (draft_last (draft_of old.current.message)) ≡ true → Reads new (closed s)
 unfolding entry_of

@@ -9,7 +9,7 @@ use Rattle.po_lex.specs.Views.{Rest, IsNext, Tells, line_view}
 use Rattle.po_lex.specs.declared.line.Token.{Token}
 use Rattle.po_lex.specs.declared.fault.PoFault.{PoFault}
 use Rattle.po_read.specs.Views.{IsMemory, PassesBefore}
-use Rattle.po_read.specs.declared.entry.Entry.{Entry}
+use Rattle.po_text.specs.declared.entry.Entry.{Entry}
 use Rattle.po_read.specs.declared.reading.Reader.{Reader}
 use Rattle.po_read.specs.Spells.{limits}
 use Rattle.po_read.specs.Faults.{Lines, no_lines, add_line, lines_behind, line_fault, Passes, fault_at_end, or_later, fault_from}

@@ -4,14 +4,13 @@ use Rattle.std.specs.List.{AllByRecursion}
 use Rattle.po_lex.specs.declared.line.Keyword.{Keyword}
 use Rattle.po_lex.specs.declared.line.Keyword.TheVariants.{Msgctxt, Msgid, MsgidPlural, Msgstr, MsgstrAt}
 use Rattle.po_lex.specs.Lines.{Part, begins, continues, Line, blank, translator, extracted, reference, flags, previous, message}
-use Rattle.po_read.specs.Entries.{Key, Keyed, optional, numbered}
-pub use Rattle.po_read.specs.Texts.{last_text, last_more}
-use Rattle.po_read.specs.Texts.{Text}
-use Rattle.po_read.specs.Valid.{IsString, IsCommentLine, IsFlag}
-use Rattle.po_read.specs.Spells.{is_header_key}
+use Rattle.po_text.specs.Entries.{Key, Keyed, optional, numbered, is_header_key}
+pub use Rattle.po_text.specs.Texts.{last_text, last_more}
+use Rattle.po_text.specs.Texts.{Text}
+use Rattle.po_text.specs.Valid.{IsString, IsCommentLine, IsFlag}
 use Rattle.po_read.specs.declared.message.Message.{Message}
 use Rattle.po_read.specs.declared.message.Message.TheVariants as said
-use Rattle.po_read.specs.declared.entry.Previous.{Previous}
+use Rattle.po_text.specs.declared.entry.Previous.{Previous}
 
 pub data Draft : Type 0 where
   nothing : Draft

@@ -2,16 +2,16 @@
 -- "The Format of PO Files"; the tests, their order and the limits are this project's profile.
 use Rattle.std.specs.Prelude.{◌≡◌, ℕ, ◌+◌, ◌-◌, ◌<◌, ◌≤◌, List, [], ◌∷◌, ◌++◌, Bool, true, false, not, ◌&&◌, ◌||◌, ◌==◌, nat_lt, nat_le, length, map, Option, Some, None, is_some, option_map, Result, Ok, Err, if◌then◌else◌, ⊤}
 use Rattle.std.specs.List.{list_any, filter_map, fold}
-use Rattle.std.specs.Str.{bytes_eq, is_utf8}
+use Rattle.std.specs.Str.{is_utf8}
 use Rattle.po_lex.specs.declared.fault.FaultKind.{FaultKind}
 use Rattle.po_lex.specs.declared.fault.FaultKind.TheVariants as kinds
 use Rattle.po_lex.specs.Lines.{Part, begins, continues, Line, blank, translator, extracted, reference, flags, previous, message, is_form, line_of, lines_of}
 use Rattle.po_lex.specs.declared.line.Keyword.{Keyword}
 use Rattle.po_lex.specs.declared.line.Keyword.TheVariants.{Msgctxt, Msgid, MsgidPlural, Msgstr, MsgstrAt}
-use Rattle.po_read.specs.Entries.{Key, Keyed}
-use Rattle.po_read.specs.Texts.{Text, is_empty}
-use Rattle.po_read.specs.Header.{has_charset}
-use Rattle.po_read.specs.Spells.{strings_of, previous_part, Limits, is_header_key}
+use Rattle.po_text.specs.Entries.{Key, Keyed, is_header_key, same_key}
+use Rattle.po_text.specs.Texts.{Text, is_empty}
+use Rattle.po_text.specs.Header.{has_charset}
+use Rattle.po_read.specs.Spells.{strings_of, previous_part, Limits}
 
 -- ---- the lines so far, without blank ones
 
@@ -75,14 +75,6 @@ key_at lines = key_in (strings_in lines)
 
 abbrev pub has_header_key : List Line → Bool
 has_header_key lines = is_header_key (key_at lines).0 (key_at lines).1
-
-abbrev pub same_context : Option Text → Option Text → Bool
-same_context None None = true
-same_context (Some a) (Some b) = bytes_eq a b
-same_context _ _ = false
-
-abbrev pub same_key : Key → Key → Bool
-same_key a b = same_context a.0 b.0 && bytes_eq a.1 b.1
 
 abbrev pub mark_of : Line → Option Bool
 mark_of (previous obsolete part) = Some obsolete

@@ -2,9 +2,9 @@
 use Rattle.std.specs.Prelude.{ℕ, List, [], ◌∷◌, ◌++◌, true, map, Option, Some, None, option_map, Result, Ok, Err, flat_map, ◌==◌, if◌then◌else◌}
 use Rattle.std.specs.List.{find, filter, filter_map}
 use Rattle.po_lex.specs.Lines.{Line, is_form, lines_of}
-use Rattle.po_read.specs.Entries.{Keyed}
-use Rattle.po_read.specs.Texts.{Text, is_empty}
-use Rattle.po_read.specs.declared.entry.Entry.{Entry}
+use Rattle.po_text.specs.Entries.{Keyed}
+use Rattle.po_text.specs.Texts.{Text, is_empty}
+use Rattle.po_text.specs.declared.entry.Entry.{Entry}
 use Rattle.po_read.specs.Spells.{translator_text, extracted_text, reference_text, flag_items, flags_kept, Limits}
 use Rattle.po_read.specs.Faults.{Lines, strings_in, previous_in, key_at, has_mark, rank, lines_behind, Fault, fault_of}
 

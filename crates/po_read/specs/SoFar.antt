@@ -6,19 +6,20 @@ use Rattle.std.specs.BTreeSet.{contains}
 use Rattle.po_lex.specs.declared.fault.FaultKind.{FaultKind}
 use Rattle.po_lex.specs.declared.fault.FaultKind.TheVariants as kinds
 use Rattle.po_lex.specs.Lines.{begins, continues, Line, blank, translator, extracted, reference, flags, previous, message, is_form}
-use Rattle.po_read.specs.Entries.{previous_strings}
-use Rattle.po_read.specs.Texts.{Text, is_empty}
+use Rattle.po_text.specs.Entries.{previous_strings, is_header_key, same_key}
+use Rattle.po_text.specs.Texts.{Text, is_empty}
 use Rattle.std.specs.Ordering.{is_eq}
 use Rattle.po_lex.specs.declared.line.Keyword.TheVariants.{Msgid}
-use Rattle.po_read.specs.Header.{has_charset}
-use Rattle.po_read.specs.Spells.{is_header_key, translator_text, extracted_text, reference_text, flag_items, add_once, with_fuzzy_first}
-use Rattle.po_read.specs.Faults.{Lines, strings_in, previous_in, last_keyword, has_mark, key_at, same_key, is_long, when, part_fault, previous_fault, or_else, begins_entry}
+use Rattle.po_text.specs.Header.{has_charset}
+use Rattle.po_read.specs.Spells.{translator_text, extracted_text, reference_text, flag_items}
+use Rattle.po_text.specs.Flags.{add_once, with_fuzzy_first}
+use Rattle.po_read.specs.Faults.{Lines, strings_in, previous_in, last_keyword, has_mark, key_at, is_long, when, part_fault, previous_fault, or_else, begins_entry}
 use Rattle.po_read.specs.Plain.{entry_of}
 use Rattle.po_read.specs.Drafts.{Draft, named, single, draft_of, draft_strings, draft_last, draft_header, draft_end, draft_with, previous_end, previous_with, whole_of}
-use Rattle.po_read.specs.Keys.{entry_key_cmp}
-use Rattle.po_read.specs.declared.entry.Entry.{Entry}
-use Rattle.po_read.specs.declared.entry.Previous.{Previous}
-use Rattle.po_read.specs.declared.key.EntryKey.{EntryKey}
+use Rattle.po_text.specs.Keys.{entry_key_cmp}
+use Rattle.po_text.specs.declared.entry.Entry.{Entry}
+use Rattle.po_text.specs.declared.entry.Previous.{Previous}
+use Rattle.po_text.specs.declared.key.EntryKey.{EntryKey}
 use Rattle.po_read.specs.declared.unfinished.Unfinished.{Unfinished}
 use Rattle.po_read.specs.declared.reading.Reader.{Reader}
 

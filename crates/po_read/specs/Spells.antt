@@ -1,12 +1,12 @@
 -- Which catalogue a text spells: the GNU gettext manual, "The Format of PO Files". Repeated flags, the place of `fuzzy` and the limits are this project's profile.
 use Rattle.std.specs.Prelude.{◌≡◌, ℕ, ◌-◌, ◌≤◌, List, [], ◌∷◌, ◌++◌, Bool, true, false, not, map, length, Option, Some, None, Ok, if◌then◌else◌, IsUtf8, ⊤, flat_map, filter}
-use Rattle.std.specs.List.{list_any, filter_map, fold, AllZip, AllByRecursion}
-use Rattle.std.specs.Str.{bytes_eq}
+use Rattle.std.specs.List.{filter_map, fold, AllZip, AllByRecursion}
 use Rattle.po_lex.specs.Lines.{Part, begins, continues, Line, blank, translator, extracted, reference, flags, previous, message, line_of, lines_of}
-use Rattle.po_read.specs.Entries.{Keyed, entry_strings, previous_strings}
-use Rattle.po_read.specs.Texts.{Text}
-use Rattle.po_read.specs.declared.entry.Entry.{Entry}
-use Rattle.po_read.specs.Valid.{fuzzy, IsValid, AllStrings}
+use Rattle.po_text.specs.Entries.{Keyed, entry_strings, previous_strings, is_header_key}
+use Rattle.po_text.specs.Texts.{Text}
+use Rattle.po_text.specs.declared.entry.Entry.{Entry}
+use Rattle.po_text.specs.Valid.{IsValid, AllStrings}
+use Rattle.po_text.specs.Flags.{add_once, with_fuzzy_first}
 
 -- ---- the strings that message lines and pieces spell
 
@@ -64,17 +64,6 @@ IsCommentOf obsolete (flags items) = ⊤
 IsCommentOf obsolete (previous mark part) = mark ≡ obsolete
 IsCommentOf obsolete (message mark part) = ⊥
 
-abbrev pub has_text : Text → List Text → Bool
-has_text text texts = list_any (bytes_eq text) texts
-
--- each once, at the first place
-abbrev pub add_once : List Text → Text → List Text
-add_once texts text = if has_text text texts then texts else texts ++ text ∷ []
-
--- `fuzzy` to the front
-abbrev pub with_fuzzy_first : List Text → List Text
-with_fuzzy_first texts = if has_text fuzzy texts then fuzzy ∷ filter (λ text. not (bytes_eq fuzzy text)) texts else texts
-
 abbrev pub flags_kept : List Text → List Text
 flags_kept items = with_fuzzy_first (fold add_once [] items)
 
@@ -117,10 +106,6 @@ pub record Limits : Type 0 where
 
 abbrev pub limits : Limits
 limits = record { bytes = 16777216; entries = 50000; string = 262144 }
-
-abbrev pub is_header_key : Option Text → Text → Bool
-is_header_key None [] = true
-is_header_key _ _ = false
 
 abbrev pub besides_header : List Entry → ℕ
 besides_header [] = 0

@@ -5,7 +5,7 @@ use Rattle.po_lex.specs.declared.fault.FaultKind.{FaultKind}
 use Rattle.po_lex.specs.declared.fault.FaultKind.TheVariants as kinds
 use Rattle.po_lex.specs.declared.fault.PoFault.{PoFault}
 use Rattle.po_lex.specs.Lines.{lines_of}
-use Rattle.po_read.specs.declared.entry.Entry.{Entry}
+use Rattle.po_text.specs.declared.entry.Entry.{Entry}
 use Rattle.po_read.specs.Spells.{Limits}
 use Rattle.po_read.specs.Faults.{no_lines, Passes}
 

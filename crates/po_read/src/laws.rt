@@ -3,7 +3,7 @@
 
 ghost use Rattle.std.specs.Prelude.{◌≡◌, ◌↔◌, ℕ, List, Some, None};
 ghost use Rattle.po_lex.specs.declared.fault.FaultKind.{FaultKind};
-ghost use Rattle.po_read.specs.declared.entry.Entry.{Entry};
+ghost use Rattle.po_text.specs.declared.entry.Entry.{Entry};
 ghost use Rattle.po_read.specs.Spells.{Spells, IsWithin, limits};
 ghost use Rattle.po_read.specs.Faults.{IsFault, fault_of};
 ghost use Rattle.po_read.specs.Plain.{entries_of};

@@ -1,29 +1,17 @@
-//! PO text to catalogue.
+//! PO text to catalogue: the catalogue that a text spells, or its first fault with its line.
+//!
+//! - `reading`: a text line by line, into entries
+//! - `unfinished`: the entry that may go on
+//! - `message`: its message lines so far
+//! - `was`: its previous strings so far
+//! - `laws`: a text spells at most one catalogue, and has a fault exactly where it spells none
 #![tactic(auto)]
 
-mod catalogue;
-mod duplicate;
-mod entry;
-mod flags;
-mod header;
-mod items;
-mod key;
 mod laws;
 mod message;
-mod pieces;
 mod reading;
-mod string;
-mod text;
 mod unfinished;
-mod valid;
 mod was;
 
-pub use catalogue::Catalogue;
-pub use duplicate::Duplicate;
-pub use entry::{Entry, Previous};
-pub use header::field_value;
-pub use items::Items;
 pub use laws::{least_fault, one_catalogue, one_fault_or_catalogue};
 pub use reading::read;
-pub use string::{Forms, PoString};
-pub use text::Text;

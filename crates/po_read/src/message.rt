@@ -5,18 +5,17 @@ ghost use Rattle.std.specs.List.{list_all};
 ghost use Rattle.po_lex.specs.Lines.{is_form, begins};
 ghost use Rattle.po_lex.specs.Escapes.{unescaped};
 ghost use Rattle.po_lex.specs.Views.{part_view};
-ghost use Rattle.po_read.specs.Strings.{is_string_byte};
-ghost use Rattle.po_read.specs.Spells.{is_header_key};
+ghost use Rattle.po_text.specs.Strings.{is_string_byte};
+ghost use Rattle.po_text.specs.Entries.{is_header_key};
 ghost use Rattle.po_read.specs.Faults.{part_fault, form_fault, numbered_fault, when, is_id};
 ghost use Rattle.po_read.specs.Drafts.{draft_of, draft_last, draft_header, draft_end, draft_key, draft_with, counted, with_keyword, with_more, whole_of, part_text, part_more, IsDigitKey, IsDigitPart};
 ghost use Rattle.po_read.specs.Views.{told};
 ghost use Rattle.po_lex.specs.declared.fault.FaultKind.TheVariants as kinds;
 ghost use Rattle.po_lex.specs.declared.line.Keyword.TheVariants.{Msgid, MsgidPlural, Msgstr, MsgstrAt};
-ghost use Rattle.po_read.specs.Texts.{Text};
+ghost use Rattle.po_text.specs.Texts.{Text};
 
-use crate::key::EntryKey;
-use crate::string::{Forms, PoString};
 use po_lex::{FaultKind, Keyword, Part};
+use po_text::{EntryKey, Forms, PoString, Strings, is_header_key};
 use std::alloc::{AllocError, Global};
 use std::mem::replace;
 
@@ -308,13 +307,6 @@ impl Message {
     }
 }
 
-/// An entry with an empty msgid and no context is the header, or has its key.
-pub(crate) fn is_header_key(ctx: &Option<PoString>, id: &PoString) -> bool
-    ensures { result ≡ is_header_key ctx.now id.now }
-{
-    ctx.is_none() && id.as_str().is_empty()
-}
-
 /// Fault 5, unless this holds.
 pub(crate) fn in_order(holds: bool) -> Result<(), FaultKind>
     ensures { told result ≡ when (not holds) kinds.Order }
@@ -331,15 +323,6 @@ fn due(count: usize, digit: u8) -> Result<(), FaultKind>
     } else {
         Err(FaultKind::Forms)
     }
-}
-
-/// The strings of an entry's message lines.
-#[derive(Drop)]
-pub(crate) struct Strings {
-    pub(crate) ctx: Option<PoString>,
-    pub(crate) id: PoString,
-    pub(crate) plural: Option<PoString>,
-    pub(crate) forms: Forms,
 }
 
 impl Message {

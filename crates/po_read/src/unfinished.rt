@@ -6,20 +6,16 @@ ghost use Rattle.po_lex.specs.Lines.{is_form, items_of, translator, extracted, r
 ghost use Rattle.po_lex.specs.Escapes.{unescaped};
 ghost use Rattle.po_lex.specs.Views.{line_view, part_view};
 ghost use Rattle.po_lex.specs.declared.fault.FaultKind.TheVariants as kinds;
-ghost use Rattle.po_read.specs.Strings.{is_string_byte};
+ghost use Rattle.po_text.specs.Strings.{is_string_byte};
 ghost use Rattle.po_read.specs.Faults.{when, part_fault};
 ghost use Rattle.po_read.specs.Drafts.{draft_of, draft_last, draft_header, draft_end, nothing, previous_end, part_text, part_more, IsDigitPart, IsSoundLine};
-ghost use Rattle.po_read.specs.declared.entry.Entry.{Entry};
+ghost use Rattle.po_text.specs.declared.entry.Entry.{Entry};
 ghost use Rattle.po_read.specs.Views.{told};
 
-use crate::duplicate::both;
-use crate::entry::{Entry, Previous};
-use crate::flags::{Flags, add_text};
-use crate::items::Items;
-use crate::message::{Message, Strings, in_order};
-use crate::pieces::unescaped_len;
-use crate::text::Text;
+use crate::message::{Message, in_order};
+use crate::was::{add_previous, has_no_previous, previous_len, test_previous};
 use po_lex::{FaultKind, Line, Part};
+use po_text::{Entry, Flags, Items, Previous, Strings, Text, add_text, both, unescaped_len};
 use std::alloc::{AllocError, Global};
 use std::mem::replace;
 
@@ -87,7 +83,9 @@ impl<'a> Unfinished<'a> {
                 obsolete,
                 part: Part::Continues(_),
             } => {
-                !self.has_mark(!*obsolete) && self.message.is_nothing() && !self.previous.is_none()
+                !self.has_mark(!*obsolete)
+                    && self.message.is_nothing()
+                    && !has_no_previous(&self.previous)
             }
             _ => false,
         }
@@ -113,7 +111,7 @@ impl<'a> Unfinished<'a> {
             Line::Previous {
                 part: Part::Continues(raw),
                 ..
-            } if self.goes_on(line) => fits(self.previous.last_len(), raw),
+            } if self.goes_on(line) => fits(previous_len(&self.previous), raw),
             _ => Ok(()),
         }
     }
@@ -129,7 +127,7 @@ impl<'a> Unfinished<'a> {
             }
             Line::Previous { obsolete, part } => {
                 in_order(!self.has_mark(!*obsolete) && self.message.is_nothing())?;
-                self.previous.test(part)
+                test_previous(&self.previous, part)
             }
             _ => in_order(self.message.is_nothing()),
         }
@@ -194,7 +192,7 @@ impl<'a> Unfinished<'a> {
         ensures { OnOk result (so_far self.new ≡ with_line (so_far self.old) (previous obsolete (part_view part.entry))) }
     {
         self.mark(obsolete);
-        self.previous.add(alloc, part)
+        add_previous(alloc, &mut self.previous, part)
     }
 
     fn add_message(
@@ -283,7 +281,7 @@ impl<'a> Unfinished<'a> {
 }
 
 /// Fault 9, unless a string of this length with that of a piece behind it is within the limit.
-#[tactic(auto, using(crate::proofs::PieceCuts::unescaped_shorter))]
+#[tactic(auto, using(crate::proofs::PieceLengths::unescaped_shorter))]
 fn fits(len: usize, raw: &str) -> Result<(), FaultKind>
     requires { len ≤ 262144 }
     ensures { told result ≡ when (nat_lt 262144 (len + length (unescaped raw.now))) kinds.Limit }

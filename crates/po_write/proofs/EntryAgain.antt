@@ -15,14 +15,16 @@ use Rattle.po_lex.specs.declared.line.Keyword.{Keyword}
 use Rattle.po_lex.specs.declared.line.Keyword.TheVariants.{Msgctxt, Msgid, MsgidPlural, Msgstr}
 use Rattle.po_lex.specs.Escapes.{quoted}
 use Rattle.po_lex.specs.Lines.{Part, begins, continues, Line, translator, extracted, reference, flags, previous, message, keyword_text, with_byte, begins_form}
-use Rattle.po_read.specs.Entries.{Keyed, optional, numbered, keyed_forms, entry_strings, previous_strings}
-use Rattle.po_read.specs.Strings.{is_string_byte}
-use Rattle.po_read.specs.Texts.{Text}
-use Rattle.po_read.specs.declared.entry.Entry.{Entry}
-use Rattle.po_read.specs.Valid.{IsString, IsCommentLine, AreFlags, AreDistinct, AllStrings, IsValidEntry, fuzzy}
-use Rattle.po_read.specs.Spells.{go_on, add_part, BeginsFirst, SpellsStrings, translator_text, extracted_text, reference_text, flag_items, previous_part, IsCommentOf, has_text, add_once, with_fuzzy_first, flags_kept, SpellsEntry}
+use Rattle.po_text.specs.Entries.{Keyed, optional, numbered, keyed_forms, entry_strings, previous_strings}
+use Rattle.po_text.specs.Strings.{is_string_byte}
+use Rattle.po_text.specs.Texts.{Text}
+use Rattle.po_text.specs.declared.entry.Entry.{Entry}
+use Rattle.po_text.specs.Valid.{IsString, IsCommentLine, AreFlags, AreDistinct, AllStrings, IsValidEntry, fuzzy}
+use Rattle.po_read.specs.Spells.{go_on, add_part, BeginsFirst, SpellsStrings, translator_text, extracted_text, reference_text, flag_items, previous_part, IsCommentOf, flags_kept, SpellsEntry}
+use Rattle.po_text.specs.Flags.{has_text, add_once, with_fuzzy_first}
 use Rattle.po_read.proofs.Leaves.{utf8_front, utf8_back, utf8_ascii}
-use Rattle.po_read.proofs.Sound.{IsDigitKey, all_both}
+use Rattle.po_read.proofs.Sound.{IsDigitKey}
+use Rattle.po_text.proofs.EntryLists.{all_both}
 use Rattle.po_write.specs.Text.{ended, spaced, pieces_of, piece_lines, front_of, string_lines, message_mark, previous_mark, entry_text}
 use Rattle.po_write.proofs.Written.{Written, IsLine, none_written, both_written, line_written, each_written}
 use Rattle.po_write.proofs.LinesAgain.{keyword_body, piece_body, message_line, previous_line, translator_line, extracted_line, reference_line, flag_lines, flags_written}

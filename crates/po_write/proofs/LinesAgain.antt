@@ -14,9 +14,9 @@ use Rattle.po_lex.specs.Escapes.{quote, letter_of, escaped_byte, escaped, quoted
 use Rattle.po_lex.specs.Lines.{Part, begins, continues, Line, translator, extracted, reference, flags, previous, message, keyword_text, begins_with, begins_form, piece_at, part_at, is_comment_text, items_of, line_of}
 use Rattle.po_lex.proofs.EscapeLemmas.{IsPlain, by_table, no_letter}
 use Rattle.po_lex.proofs.QuotedLemmas.{IsQuotable, piece_again, has_no_lf, no_lf_both, quoted_no_lf}
-use Rattle.po_read.specs.Strings.{is_string_byte}
-use Rattle.po_read.specs.Texts.{Text}
-use Rattle.po_read.specs.Valid.{IsString, IsCommentLine, IsFlag}
+use Rattle.po_text.specs.Strings.{is_string_byte}
+use Rattle.po_text.specs.Texts.{Text}
+use Rattle.po_text.specs.Valid.{IsString, IsCommentLine, IsFlag}
 use Rattle.po_read.proofs.Leaves.{utf8_front, utf8_back, utf8_ascii}
 use Rattle.po_read.proofs.Sound.{IsDigitKey}
 use Rattle.po_write.specs.Text.{spaced, further, flags_line, message_mark, previous_mark}

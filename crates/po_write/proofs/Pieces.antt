@@ -8,8 +8,8 @@ use Rattle.std.proofs.Math.Seq.{drop-cons}
 use Rattle.po_lex.specs.declared.line.Keyword.TheVariants.{Msgstr, MsgstrAt}
 use Rattle.po_lex.specs.Escapes.{letter_of, escaped_byte, escaped, quoted}
 use Rattle.po_lex.specs.Lines.{with_byte}
-use Rattle.po_read.specs.Entries.{Keyed, keyed_forms, numbered, previous_strings, entry_strings}
-use Rattle.po_read.specs.declared.entry.Entry.{Entry}
+use Rattle.po_text.specs.Entries.{Keyed, keyed_forms, numbered, previous_strings, entry_strings}
+use Rattle.po_text.specs.declared.entry.Entry.{Entry}
 use Rattle.po_write.specs.Text.{ended, spaced, comment, flags_line, further, pieces_of, piece_lines, string_pieces, string_lines, message_mark, previous_mark, entry_text}
 
 -- the bytes that one write took, and those behind them

@@ -2,10 +2,10 @@
 use Rattle.std.proofs.Common.{◌≡◌, List, [], ◌∷◌, ◌++◌, ℕ, ◌+◌, ◌<◌, ◌≤◌, Bool, true, false, not, Option, refl, sym, ◌∙◌, ap, append_assoc, subst, length, drop, get_or, nat_lt, arith}
 use Rattle.std.specs.Prelude.{flat_map}
 use Rattle.std.proofs.lemmas.List.{append-nil}
-use Rattle.units.specs.Streams.{Took, TookBeginning, RoseOrStands}
-use Rattle.units.proofs.Taking.{append_known-nil, took_both, took_then_beginning, beginning_of_longer}
-use Rattle.po_read.specs.declared.entry.Entry.{Entry}
-use Rattle.po_read.specs.Texts.{is_empty}
+use Rattle.byte_streams.specs.Streams.{Took, TookBeginning, RoseOrStands}
+use Rattle.byte_streams.proofs.Taking.{append_known-nil, took_both, took_then_beginning, beginning_of_longer}
+use Rattle.po_text.specs.declared.entry.Entry.{Entry}
+use Rattle.po_text.specs.Texts.{is_empty}
 use Rattle.po_write.specs.Pushed.{HasPushed, HasBroken}
 use Rattle.po_write.specs.Sending.{TookAll, TookPart}
 use Rattle.po_write.specs.Text.{entry_text, text_of, separated}

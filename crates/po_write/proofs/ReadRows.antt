@@ -4,8 +4,8 @@ use Rattle.std.specs.Prelude.{codes, flat_map}
 use Rattle.std.specs.Str.{is_utf8, chars}
 use Rattle.po_lex.specs.Escapes.{raw_at, letter_at, unescaped, unescaped_behind}
 use Rattle.po_lex.specs.Lines.{line_of, lines_of, part_at}
-use Rattle.po_read.specs.declared.entry.Entry.{Entry}
-use Rattle.po_read.specs.Header.{field_value, has_charset}
+use Rattle.po_text.specs.declared.entry.Entry.{Entry}
+use Rattle.po_text.specs.Header.{field_value, has_charset}
 use Rattle.po_read.specs.Spells.{Limits, limits}
 use Rattle.po_read.specs.Faults.{Fault, fault_of, fault_from, fault_at, fault_at_end}
 use Rattle.po_read.specs.Plain.{reading_of, entries_of, entry_of}

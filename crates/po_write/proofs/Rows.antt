@@ -1,7 +1,7 @@
 -- Rows that are known, computed by the definitions.
 use Rattle.std.proofs.Common.{◌≡◌, List, [], ◌∷◌, ◌++◌, ℕ, Some, None, false, refl}
 use Rattle.std.specs.Prelude.{codes, flat_map}
-use Rattle.po_read.specs.declared.entry.Entry.{Entry}
+use Rattle.po_text.specs.declared.entry.Entry.{Entry}
 use Rattle.po_write.specs.Text.{ended, entry_text, text_of, string_lines}
 
 abbrev lines : List (List ℕ) → List ℕ

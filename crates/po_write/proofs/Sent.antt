@@ -1,8 +1,8 @@
 -- Pieces that are sent one after another.
 use Rattle.std.proofs.Common.{◌≡◌, ℕ, List, [], ◌++◌, Option, refl, sym, subst, ◌∙◌, ap, append_assoc, MatchResult, Result, Ok, Err, IsErr, false, true}
 use Rattle.std.proofs.lemmas.List.{append-nil}
-use Rattle.units.specs.Streams.{Took, RoseOrStands}
-use Rattle.units.proofs.Taking.{append_known-nil, took_both, took_then_beginning, beginning_of_longer}
+use Rattle.byte_streams.specs.Streams.{Took, RoseOrStands}
+use Rattle.byte_streams.proofs.Taking.{append_known-nil, took_both, took_then_beginning, beginning_of_longer}
 use Rattle.po_write.specs.Sending.{TookAll, TookPart, SoFar}
 
 -- nothing was sent yet

@@ -5,8 +5,8 @@ use Rattle.std.specs.List.{AllByRecursion, AllZip}
 use Rattle.std.proofs.lemmas.List.{append-nil}
 use Rattle.std.proofs.lemmas.List.Elements.{filter-append}
 use Rattle.po_lex.specs.Lines.{Part, Line, blank, translator, extracted, reference, flags, previous, message, line_of, lines_of}
-use Rattle.po_read.specs.declared.entry.Entry.{Entry}
-use Rattle.po_read.specs.Valid.{IsValid, IsValidEntry}
+use Rattle.po_text.specs.declared.entry.Entry.{Entry}
+use Rattle.po_text.specs.Valid.{IsValid, IsValidEntry}
 use Rattle.po_read.specs.Spells.{Spells, SpellsEntry, IsCommentOf, is_blank}
 use Rattle.po_read.proofs.OneCatalogue.{one_catalogue}
 use Rattle.po_write.specs.Text.{entry_text, text_of}

@@ -1,7 +1,7 @@
 -- What a sink took of the entries that were pushed onto a writer, since it was made over that sink. This project's own words.
 use Rattle.std.specs.Prelude.{◌≡◌, ℕ, List, Option, true, false, not}
-use Rattle.po_read.specs.declared.entry.Entry.{Entry}
-use Rattle.po_read.specs.Texts.{is_empty}
+use Rattle.po_text.specs.declared.entry.Entry.{Entry}
+use Rattle.po_text.specs.Texts.{is_empty}
 use Rattle.po_write.specs.Sending.{TookAll, TookPart}
 use Rattle.po_write.specs.Text.{text_of}
 use Rattle.po_write.specs.Views.{Writing}

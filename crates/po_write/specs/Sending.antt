@@ -1,6 +1,6 @@
 -- What a sink took of a text that was sent to it: all of it, or after a failed write a beginning. This project's own rule.
 use Rattle.std.specs.Prelude.{◌≡◌, ℕ, List, ◌++◌, Option, Result, MatchResult}
-use Rattle.units.specs.Streams.{Took, TookBeginning, RoseOrStands}
+use Rattle.byte_streams.specs.Streams.{Took, TookBeginning, RoseOrStands}
 
 -- All of the text came behind what was taken before, and no write failed.
 pub record TookAll (old new : Option (List ℕ)) (failed_old failed_new : ℕ) (text : List ℕ) : Type 0 where

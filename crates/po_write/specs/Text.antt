@@ -5,9 +5,9 @@ use Rattle.std.specs.Prelude.{ℕ, List, [], ◌∷◌, ◌++◌, Bool, true, fa
 use Rattle.po_lex.specs.declared.line.Keyword.{Keyword}
 use Rattle.po_lex.specs.Escapes.{quoted}
 use Rattle.po_lex.specs.Lines.{keyword_text, with_byte}
-use Rattle.po_read.specs.Entries.{Keyed, entry_strings, previous_strings}
-use Rattle.po_read.specs.Texts.{Text}
-use Rattle.po_read.specs.declared.entry.Entry.{Entry}
+use Rattle.po_text.specs.Entries.{Keyed, entry_strings, previous_strings}
+use Rattle.po_text.specs.Texts.{Text}
+use Rattle.po_text.specs.declared.entry.Entry.{Entry}
 
 -- a line, ended by LF
 abbrev pub ended : List ℕ → List ℕ

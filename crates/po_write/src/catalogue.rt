@@ -1,16 +1,16 @@
 //! Whole catalogues.
 
 ghost use Rattle.std.specs.Prelude.{◌≡◌, List, OnOk, OnErr, Err};
-ghost use Rattle.units.specs.Streams.{Took, TookBeginning, RoseOrStands};
-ghost use Rattle.po_read.specs.declared.entry.Entry.{Entry as EntryValue};
+ghost use Rattle.byte_streams.specs.Streams.{Took, TookBeginning, RoseOrStands};
+ghost use Rattle.po_text.specs.declared.entry.Entry.{Entry as EntryValue};
 ghost use Rattle.po_read.specs.Spells.{Spells};
 ghost use Rattle.po_write.specs.Sending.{Sends};
 ghost use Rattle.po_write.specs.Text.{text_of};
 
 use crate::fault::WriteFault;
 use crate::writing::send_separated;
-use po_read::{Catalogue, Entry};
-use units::{ByteSink, SinkFault};
+use byte_streams::{ByteSink, SinkFault};
+use po_text::{Catalogue, Entry};
 
 /// Writes the entries, with one blank line between each two.
 fn send_entries<W: ByteSink>(w: &mut W, entries: &[Entry]) -> Result<(), SinkFault>

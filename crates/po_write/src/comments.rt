@@ -5,8 +5,8 @@ ghost use Rattle.po_write.specs.Sending.{Sends};
 ghost use Rattle.po_write.specs.Text.{comment, flags_line, further, spaced};
 
 use crate::sending::send;
-use po_read::Text;
-use units::{ByteSink, SinkFault};
+use byte_streams::{ByteSink, SinkFault};
+use po_text::Text;
 
 /// Writes a text behind one space, if it isn't empty.
 fn write_spaced<W: ByteSink>(w: &mut W, text: &str) -> Result<(), SinkFault>

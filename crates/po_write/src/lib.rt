@@ -1,5 +1,14 @@
 //! Catalogue to canonical text, in the order of the GNU gettext manual, "The Format of PO Files". Nothing here takes
 //! memory, and no line is wrapped.
+//!
+//! - `catalogue`: a whole catalogue (`write_catalogue`)
+//! - `writer`: entries that are pushed one by one onto a sink (`CatalogueWriter`)
+//! - `writing`, `comments`, `strings`: one entry (`write_entry`), its comments and flags, its strings behind keywords
+//! - `sending`, `fault`: a whole piece sent to a sink (`send`), and why a text was not written (`WriteFault`)
+//! - `laws`: a canonical text of a valid catalogue spells that catalogue, and no other
+//!
+//! Specs: `Text` is the canonical text, `Keywords` which keywords can be written; `Sending` and `Pushed` what a sink
+//! took.
 #![tactic(auto)]
 
 mod catalogue;

@@ -2,7 +2,7 @@
 
 ghost use Rattle.po_write.specs.Sending.{Sends};
 
-use units::{ByteSink, SinkFault};
+use byte_streams::{ByteSink, SinkFault};
 
 /// Writes all of the bytes, or a beginning of them where a write of the sink fails.
 pub fn send<W: ByteSink>(w: &mut W, bytes: &[u8]) -> Result<(), SinkFault>

@@ -3,16 +3,16 @@
 ghost use Rattle.std.specs.Prelude.{◌≡◌, ◌≢◌, ◌+◌, ◌-◌, ◌<◌, ◌≤◌, ℕ, length, slice_index, is_some, false, flat_map};
 ghost use Rattle.po_lex.specs.Escapes.{letter_of, escaped_byte, escaped, quoted};
 ghost use Rattle.po_lex.specs.Lines.{keyword_text};
-ghost use Rattle.po_read.specs.Entries.{optional, keyed_forms, numbered, previous_strings, entry_strings};
-ghost use Rattle.po_read.specs.Strings.{form_limit};
+ghost use Rattle.po_text.specs.Entries.{optional, keyed_forms, numbered, previous_strings, entry_strings};
+ghost use Rattle.po_text.specs.Strings.{form_limit};
 ghost use Rattle.po_write.specs.Keywords.{HasDigit};
 ghost use Rattle.po_write.specs.Sending.{Sends};
 ghost use Rattle.po_write.specs.Text.{ended, front_of, pieces_of, piece_lines, string_lines, string_pieces};
 
 use crate::sending::send;
+use byte_streams::{ByteSink, SinkFault};
 use po_lex::Keyword;
-use po_read::{Entry, PoString, Previous};
-use units::{ByteSink, SinkFault};
+use po_text::{Entry, PoString, Previous};
 
 /// The letter that stands for a byte behind a backslash.
 fn letter_of(byte: u8) -> Option<u8>

@@ -1,8 +1,8 @@
 //! Entries, written one by one.
 
 ghost use Rattle.std.specs.Prelude.{◌≡◌, ◌≢◌, ◌↔◌, List, [], ◌∷◌, ◌++◌, MatchResult, OnOk, OnErr, IsTrue, IsOk, Err, true, false};
-ghost use Rattle.units.specs.Streams.{Took, TookBeginning, RoseOrStands};
-ghost use Rattle.po_read.specs.declared.entry.Entry.{Entry as EntryValue};
+ghost use Rattle.byte_streams.specs.Streams.{Took, TookBeginning, RoseOrStands};
+ghost use Rattle.po_text.specs.declared.entry.Entry.{Entry as EntryValue};
 ghost use Rattle.po_write.specs.Pushed.{HasPushed, HasBroken};
 ghost use Rattle.po_write.specs.Sending.{Sends};
 ghost use Rattle.po_write.specs.Text.{entry_text, separated, text_of};
@@ -10,9 +10,9 @@ ghost use Rattle.po_write.specs.Views.{Writing};
 
 use crate::fault::WriteFault;
 use crate::writing::send_separated;
-use po_read::Entry;
+use byte_streams::{ByteSink, SinkFault};
+use po_text::Entry;
 use std::marker::Model;
-use units::{ByteSink, SinkFault};
 
 /// Writes a catalogue's entries with one blank line between each two. It takes no memory. Once a `push` has failed,
 /// every later one and `finish` answer `Failed`.

@@ -1,7 +1,7 @@
 //! One entry.
 
 ghost use Rattle.std.specs.Prelude.{◌≡◌, OnOk, OnErr, Err};
-ghost use Rattle.units.specs.Streams.{Took, TookBeginning, RoseOrStands};
+ghost use Rattle.byte_streams.specs.Streams.{Took, TookBeginning, RoseOrStands};
 ghost use Rattle.po_write.specs.Sending.{Sends};
 ghost use Rattle.po_write.specs.Text.{entry_text, message_mark, previous_mark, separated};
 
@@ -9,8 +9,8 @@ use crate::comments::{write_comments, write_flags};
 use crate::fault::WriteFault;
 use crate::sending::send;
 use crate::strings::{write_messages, write_previous};
-use po_read::Entry;
-use units::{ByteSink, SinkFault};
+use byte_streams::{ByteSink, SinkFault};
+use po_text::Entry;
 
 fn message_mark(obsolete: bool) -> &'static [u8]
     ensures { result.now ≡ message_mark obsolete }

@@ -1,6 +1,6 @@
 -- The fields of the object that tells each language's counts. This project's own words.
 use Rattle.std.specs.Prelude.{List, map}
-use Rattle.po_read.specs.Texts.{Text}
+use Rattle.po_text.specs.Texts.{Text}
 use Rattle.template_update.specs.declared.plans.Plan.{Plan}
 use Rattle.request_book.specs.Words.{Fields, object_of}
 use Rattle.replies.specs.Bodies.{count_fields}

@@ -3,7 +3,7 @@ use Rattle.std.specs.Prelude.{Bool, Option, Some, None, if◌then◌else◌}
 use Rattle.request_book.specs.declared.book.Class.{Class}
 use Rattle.request_book.specs.declared.book.Class.TheVariants.{First, Repeat, NumberUsed}
 use Rattle.std.specs.FinMap as maps
-use Rattle.po_read.specs.Texts.{Text, text_cmp, text_eq}
+use Rattle.po_text.specs.Texts.{Text, text_cmp, text_eq}
 use Rattle.units.specs.Office.{Office}
 use Rattle.request_book.specs.declared.act.Request.{Request}
 use Rattle.request_book.specs.Replies.{Reply}

@@ -1,6 +1,6 @@
 -- The contents that records keep. This project's own rule.
 use Rattle.std.specs.Prelude.{◌≡◌}
-use Rattle.po_read.specs.Texts.{Text}
+use Rattle.po_text.specs.Texts.{Text}
 use Rattle.request_book.specs.declared.act.Request.{Request}
 use Rattle.request_book.specs.Acts.{IsRequest, content_text}
 

@@ -1,7 +1,7 @@
 -- Members put into an object one after another. Only private clauses and proofs cite this file.
 use Rattle.std.specs.Prelude.{List, [], ◌∷◌, Option, Some, None}
 use Rattle.serde_json.specs.Data.{Data, Members, put}
-use Rattle.po_read.specs.Texts.{Text}
+use Rattle.po_text.specs.Texts.{Text}
 use Rattle.request_book.specs.Words.{Field}
 
 abbrev pub put_optional : Text → Option Data → Members → Members

@@ -3,7 +3,7 @@ ghost use Rattle.std.specs.Prelude.{◌≡◌, option_map};
 ghost use Rattle.request_book.specs.Book.{class_of, class_view};
 
 use crate::reply::Reply;
-use po_read::{Duplicate, Text};
+use po_text::{Duplicate, Text};
 use std::alloc::AllocError;
 use uuid::Uuid;
 

@@ -1,44 +1,86 @@
 //! Readers of single fields, and of the first member of an object in the order of its keys.
-ghost use Rattle.std.specs.Prelude.{◌≡◌, ◌≢◌, ◌++◌, List, ℕ, true, Err, IfOk, Some, None, codes, option_map};
+ghost use Rattle.std.specs.Prelude.{◌≡◌, ◌≢◌, ◌++◌, List, ℕ, Option, true, Err, IfOk, Some, None, codes, option_map};
 ghost use Rattle.std.specs.List.{list_all};
 ghost use Rattle.uuid.specs.Text.{parsed};
-ghost use Rattle.po_read.specs.Strings.{is_string};
+ghost use Rattle.po_text.specs.Strings.{is_string};
 ghost use Rattle.request_book.specs.Acts.{IsNumber};
+ghost use Rattle.serde_json.specs.Data.{Data};
 ghost use Rattle.serde_json.specs.Find.{as_bool, as_str};
 ghost use Rattle.serde_json.specs.View.{view, items_view, members_view};
 ghost use Rattle.request_book.specs.Fields.{text_of, name_of, lang_of, revision_of, accept_at_of, role_named, role_of, each_of, forms_of, lines_of, vote_of, number_of, take, take_as, take_optional, take_optional_as, take_domain, optional_as, is_over};
 ghost use Rattle.request_book.specs.declared.fault.RequestFault.TheVariants.{Malformed};
 
 use crate::fault::RequestFault;
-use po_read::{Forms, Items, PoString, Text};
+use po_text::{Forms, Items, PoString, Text};
 use serde_json::Value;
 use std::alloc::Global;
 use units::{AcceptAt, CommentLines, Lang, Name, Revision, Role, VoteValue};
 use uuid::Uuid;
 
-pub(crate) fn text_from(alloc: Global, value: &Value) -> Result<PoString, RequestFault>
-    ensures ok { IfOk result (λ t. text_of (view value.now) ≡ Some t) }
-    ensures malformed { result ≡ Err Malformed → text_of (view value.now) ≡ None }
-{
-    let Some(text) = value.as_str() else {
-        return Err(RequestFault::Malformed);
-    };
-    match PoString::try_new(alloc, text)? {
-        Some(text) => Ok(text),
-        None => Err(RequestFault::Malformed),
+/// A value that stands in a field.
+pub(crate) trait FromField: Drop {
+    /// The value that a field's JSON stands for, if it stands for one.
+    ghost of: { Data → Option Self };
+
+    /// Reads it.
+    fn from_field(alloc: Global, value: &Value) -> Result<Self, RequestFault>
+        ensures ok { IfOk result (λ own. of (view value.now) ≡ Some own) }
+        ensures malformed { result ≡ Err Malformed → of (view value.now) ≡ None };
+}
+
+impl FromField for PoString {
+    ghost of = { text_of };
+
+    fn from_field(alloc: Global, value: &Value) -> Result<PoString, RequestFault> {
+        let Some(text) = value.as_str() else {
+            return Err(RequestFault::Malformed);
+        };
+        match PoString::try_new(alloc, text)? {
+            Some(text) => Ok(text),
+            None => Err(RequestFault::Malformed),
+        }
     }
 }
 
-pub(crate) fn name_from(alloc: Global, value: &Value) -> Result<Name, RequestFault>
-    ensures ok { IfOk result (λ t. name_of (view value.now) ≡ Some t) }
-    ensures malformed { result ≡ Err Malformed → name_of (view value.now) ≡ None }
-{
-    let Some(text) = value.as_str() else {
-        return Err(RequestFault::Malformed);
-    };
-    match Name::try_new(alloc, text)? {
-        Some(name) => Ok(name),
-        None => Err(RequestFault::Malformed),
+impl FromField for Name {
+    ghost of = { name_of };
+
+    fn from_field(alloc: Global, value: &Value) -> Result<Name, RequestFault> {
+        let Some(text) = value.as_str() else {
+            return Err(RequestFault::Malformed);
+        };
+        match Name::try_new(alloc, text)? {
+            Some(name) => Ok(name),
+            None => Err(RequestFault::Malformed),
+        }
+    }
+}
+
+impl FromField for Forms {
+    ghost of = { forms_of };
+
+    fn from_field(alloc: Global, value: &Value) -> Result<Forms, RequestFault> {
+        let Some(list) = value.as_array() else {
+            return Err(RequestFault::Malformed);
+        };
+        match Forms::try_new(texts_from(alloc, list.as_slice())?) {
+            Some(forms) => Ok(forms),
+            None => Err(RequestFault::Malformed),
+        }
+    }
+}
+
+impl FromField for CommentLines {
+    ghost of = { lines_of };
+
+    fn from_field(alloc: Global, value: &Value) -> Result<CommentLines, RequestFault> {
+        let Some(list) = value.as_array() else {
+            return Err(RequestFault::Malformed);
+        };
+        match CommentLines::try_new(line_texts_from(alloc, list.as_slice())?) {
+            Some(lines) => Ok(lines),
+            None => Err(RequestFault::Malformed),
+        }
     }
 }
 
@@ -163,23 +205,10 @@ fn texts_from(alloc: Global, values: &[Value]) -> Result<Vec<PoString>, RequestF
 {
     let mut texts = Vec::new(alloc);
     for value in values {
-        let text = text_from(alloc, value)?;
+        let text = PoString::from_field(alloc, value)?;
         texts.push(text)?;
     }
     Ok(texts)
-}
-
-fn forms_from(alloc: Global, value: &Value) -> Result<Forms, RequestFault>
-    ensures ok { IfOk result (λ ts. forms_of (view value.now) ≡ Some ts) }
-    ensures malformed { result ≡ Err Malformed → forms_of (view value.now) ≡ None }
-{
-    let Some(list) = value.as_array() else {
-        return Err(RequestFault::Malformed);
-    };
-    match Forms::try_new(texts_from(alloc, list.as_slice())?) {
-        Some(forms) => Ok(forms),
-        None => Err(RequestFault::Malformed),
-    }
 }
 
 fn line_texts_from(alloc: Global, values: &[Value]) -> Result<Items<Text>, RequestFault>
@@ -192,19 +221,6 @@ fn line_texts_from(alloc: Global, values: &[Value]) -> Result<Items<Text>, Reque
         lines.push(line)?;
     }
     Ok(lines)
-}
-
-fn lines_from(alloc: Global, value: &Value) -> Result<CommentLines, RequestFault>
-    ensures ok { IfOk result (λ lines. lines_of (view value.now) ≡ Some lines) }
-    ensures malformed { result ≡ Err Malformed → lines_of (view value.now) ≡ None }
-{
-    let Some(list) = value.as_array() else {
-        return Err(RequestFault::Malformed);
-    };
-    match CommentLines::try_new(line_texts_from(alloc, list.as_slice())?) {
-        Some(lines) => Ok(lines),
-        None => Err(RequestFault::Malformed),
-    }
 }
 
 // 0 takes a vote back.
@@ -242,32 +258,19 @@ pub(crate) fn take_optional<'v>(
     }
 }
 
-pub(crate) fn take_caller<'v>(
+/// The member of this name and those after it, where the first one has the name.
+pub(crate) fn take_optional_field<'v, F: FromField>(
     alloc: Global,
     fields: &'v [(String, Value)],
-) -> Result<(Option<Name>, &'v [(String, Value)]), RequestFault>
+    name: &str,
+) -> Result<(Option<F>, &'v [(String, Value)]), RequestFault>
     ensures ok { IfOk result
-        (λ p. take_optional_as name_of (codes "caller") (members_view fields.now) ≡ Some (p.0, members_view p.1.now)) }
+        (λ p. take_optional_as F.of name.now (members_view fields.now) ≡ Some (p.0, members_view p.1.now)) }
     ensures malformed { result ≡ Err Malformed
-        → take_optional_as name_of (codes "caller") (members_view fields.now) ≡ None }
+        → take_optional_as F.of name.now (members_view fields.now) ≡ None }
 {
-    match take_optional(fields, "caller") {
-        (Some(value), rest) => Ok((Some(name_from(alloc, value)?), rest)),
-        (None, rest) => Ok((None, rest)),
-    }
-}
-
-fn take_written_domain<'v>(
-    alloc: Global,
-    fields: &'v [(String, Value)],
-) -> Result<(Option<Name>, &'v [(String, Value)]), RequestFault>
-    ensures ok { IfOk result
-        (λ p. take_optional_as name_of (codes "domain") (members_view fields.now) ≡ Some (p.0, members_view p.1.now)) }
-    ensures malformed { result ≡ Err Malformed
-        → take_optional_as name_of (codes "domain") (members_view fields.now) ≡ None }
-{
-    match take_optional(fields, "domain") {
-        (Some(value), rest) => Ok((Some(name_from(alloc, value)?), rest)),
+    match take_optional(fields, name) {
+        (Some(value), rest) => Ok((Some(F::from_field(alloc, value)?), rest)),
         (None, rest) => Ok((None, rest)),
     }
 }
@@ -279,55 +282,10 @@ pub(crate) fn take_domain<'v>(
     ensures ok { IfOk result (λ p. take_domain (members_view fields.now) ≡ Some (p.0, members_view p.1.now)) }
     ensures malformed { result ≡ Err Malformed → take_domain (members_view fields.now) ≡ None }
 {
-    let (domain, rest) = take_written_domain(alloc, fields)?;
+    let (domain, rest) = take_optional_field(alloc, fields, "domain")?;
     match domain {
         Some(domain) => Ok((domain, rest)),
         None => Ok((Name::main_domain(), rest)),
-    }
-}
-
-pub(crate) fn take_context<'v>(
-    alloc: Global,
-    fields: &'v [(String, Value)],
-) -> Result<(Option<PoString>, &'v [(String, Value)]), RequestFault>
-    ensures ok { IfOk result
-        (λ p. take_optional_as text_of (codes "ctx") (members_view fields.now) ≡ Some (p.0, members_view p.1.now)) }
-    ensures malformed { result ≡ Err Malformed
-        → take_optional_as text_of (codes "ctx") (members_view fields.now) ≡ None }
-{
-    match take_optional(fields, "ctx") {
-        (Some(value), rest) => Ok((Some(text_from(alloc, value)?), rest)),
-        (None, rest) => Ok((None, rest)),
-    }
-}
-
-pub(crate) fn take_forms<'v>(
-    alloc: Global,
-    fields: &'v [(String, Value)],
-) -> Result<(Option<Forms>, &'v [(String, Value)]), RequestFault>
-    ensures ok { IfOk result
-        (λ p. take_optional_as forms_of (codes "forms") (members_view fields.now) ≡ Some (p.0, members_view p.1.now)) }
-    ensures malformed { result ≡ Err Malformed
-        → take_optional_as forms_of (codes "forms") (members_view fields.now) ≡ None }
-{
-    match take_optional(fields, "forms") {
-        (Some(value), rest) => Ok((Some(forms_from(alloc, value)?), rest)),
-        (None, rest) => Ok((None, rest)),
-    }
-}
-
-pub(crate) fn take_lines<'v>(
-    alloc: Global,
-    fields: &'v [(String, Value)],
-) -> Result<(Option<CommentLines>, &'v [(String, Value)]), RequestFault>
-    ensures ok { IfOk result
-        (λ p. take_optional_as lines_of (codes "lines") (members_view fields.now) ≡ Some (p.0, members_view p.1.now)) }
-    ensures malformed { result ≡ Err Malformed
-        → take_optional_as lines_of (codes "lines") (members_view fields.now) ≡ None }
-{
-    match take_optional(fields, "lines") {
-        (Some(value), rest) => Ok((Some(lines_from(alloc, value)?), rest)),
-        (None, rest) => Ok((None, rest)),
     }
 }
 

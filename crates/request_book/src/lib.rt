@@ -1,4 +1,14 @@
 //! Requests in JSON, their canonical text, replies and records.
+//!
+//! - `act`: acts and requests (`Act`, `Request`)
+//! - `request`: requests and acts as JSON texts, and a request's canonical content (`canon`)
+//! - `parts`, `fields`, `written`: the members of an object read, each field of it, and acts written as members
+//! - `reply`: a status and a body (`Reply`)
+//! - `book`: what is kept of a request (`Record`), and whether one that comes is new, a repeat, or has a used number
+//! - `fault`: why a text gave no request
+//!
+//! Specs: `Acts` (the JSON of requests), `Book`, `Contents`, `Replies`, `Words`, `Faults`; `Clash` says what an act is
+//! about, and which requests may not change places. Inner functions have `Fields` and `Puts`.
 #![tactic(auto)]
 
 mod act;

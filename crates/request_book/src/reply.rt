@@ -2,7 +2,7 @@
 ghost use Rattle.std.specs.Prelude.{◌≡◌};
 ghost use Rattle.request_book.specs.Replies.{Reply as ReplyValue};
 
-use po_read::{Duplicate, Text};
+use po_text::{Duplicate, Text};
 use std::alloc::AllocError;
 use std::marker::Model;
 

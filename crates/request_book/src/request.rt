@@ -13,7 +13,7 @@ use crate::fault::RequestFault;
 use crate::fields::bytes_fit;
 use crate::parts::{Parts, parts_from_text};
 use crate::written::{act_map, content_map};
-use po_read::Text;
+use po_text::Text;
 use serde_json::{Map, Value};
 use std::alloc::{AllocError, Global};
 use units::Memory;

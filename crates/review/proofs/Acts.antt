@@ -4,7 +4,7 @@ use Rattle.std.specs.Prelude.{nat_lt, is_none, option_map, int_le, ◌==◌}
 use Rattle.std.specs.Option.{option_map_or}
 use Rattle.std.specs.FinMap.{len}
 use Rattle.plural_expr.specs.Values.{Rule}
-use Rattle.po_read.specs.Texts.{Text}
+use Rattle.po_text.specs.Texts.{Text}
 use Rattle.units.specs.declared.unit.Policy.{Policy}
 use Rattle.units.specs.declared.unit.Unit.{Unit}
 use Rattle.units.specs.declared.unit.UnitView.{UnitView}

@@ -2,7 +2,7 @@
 use Rattle.std.proofs.Common.{◌≡◌, Option, Some, Result, Ok, Err, IfOk, ap, sym}
 use Rattle.std.specs.Option.{option_map_or}
 use Rattle.plural_expr.specs.Values.{Rule}
-use Rattle.po_read.specs.Texts.{Text}
+use Rattle.po_text.specs.Texts.{Text}
 use Rattle.units.specs.declared.unit.Policy.{Policy}
 use Rattle.units.specs.declared.unit.Role.{Role}
 use Rattle.units.specs.declared.unit.Refusal.{Refusal}

@@ -20,7 +20,7 @@ use Rattle.units.specs.declared.unit.UnitAction.TheVariants.{Suggest, Vote, Acce
 use Rattle.units.specs.declared.unit.Refusal.{Refusal}
 use Rattle.units.specs.declared.unit.Refusal.TheVariants.{NoUnit, BelowRole, IsReadOnly, IsStale, IsApproved, PluralCount, NoSuggestion, VotingOff, ReviewsOff, IsFull, IsSame, IsUnfit, PastLimit}
 use Rattle.units.specs.declared.votes.VoteValue.{VoteValue}
-use Rattle.po_read.specs.Texts.{Text, text_cmp, text_eq, texts_eq}
+use Rattle.po_text.specs.Texts.{Text, text_cmp, text_eq, texts_eq}
 use Rattle.units.specs.Units.{forms_needed, all_empty, is_below, is_read_only, is_approved, is_translated, is_untranslated, is_needs_editing, state_eq, shown_state, in_state, next_revision, has_number, suggestion_of, without_suggestion, vote_eq, vote_sum}
 use Rattle.units.specs.Limits.{revision_limit, suggestion_limit, vote_limit}
 use Rattle.checks.specs.Source.{Source}

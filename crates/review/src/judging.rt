@@ -4,7 +4,7 @@ ghost use Rattle.review.specs.UnitStep as spec;
 
 use checks::{Source, result_state};
 use plural_expr::PluralForms;
-use po_read::Forms;
+use po_text::Forms;
 use std::alloc::Global;
 use units::{Memory, Policy, UnitState, UnitView};
 

@@ -5,7 +5,7 @@ ghost use Rattle.units.specs.Units.{forms_needed};
 ghost use Rattle.review.specs.UnitStep as spec;
 
 use plural_expr::PluralForms;
-use po_read::Forms;
+use po_text::Forms;
 use units::{Policy, Refusal, Role, UnitAct, UnitAction, UnitState, UnitView, forms_needed};
 
 /// The least role that may do an act.

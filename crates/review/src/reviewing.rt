@@ -8,7 +8,7 @@ use crate::decision::Decision;
 use crate::judging::state_of;
 use crate::units_after::{done_plainly, next_revision};
 use plural_expr::PluralForms;
-use po_read::Duplicate;
+use po_text::Duplicate;
 use std::alloc::{AllocError, Global};
 use units::{Memory, Policy, Refusal, Revision, Unit, UnitAction, UnitState, UnitView};
 

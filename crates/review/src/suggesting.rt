@@ -8,7 +8,7 @@ ghost use Rattle.review.specs.UnitStep as spec;
 use crate::decision::{Decision, Values};
 use crate::suggestions::{find_suggestion, is_there, other_suggestions};
 use crate::units_after::{done, done_plainly, revision_of, with_suggestions};
-use po_read::{Duplicate, Forms};
+use po_text::{Duplicate, Forms};
 use std::alloc::{AllocError, Global};
 use units::{Memory, Name, Refusal, Suggestion, Unit, UnitAction, UnitView, Votes, all_empty};
 use uuid::Uuid;

@@ -3,12 +3,12 @@ ghost use Rattle.std.specs.Prelude.{◌≡◌, IfOk, OnOk, filter, not, nat_lt, 
 ghost use Rattle.std.specs.List.{list_any};
 ghost use Rattle.std.specs.Option.{option_copied, option_eq};
 ghost use Rattle.std.specs.FinMap as maps;
-ghost use Rattle.po_read.specs.Texts.{texts_eq};
+ghost use Rattle.po_text.specs.Texts.{texts_eq};
 ghost use Rattle.units.specs.Limits.{vote_limit};
 ghost use Rattle.units.specs.Units.{suggestion_of, has_number, vote_eq};
 ghost use Rattle.review.specs.UnitStep as spec;
 
-use po_read::{Duplicate, Forms, Items, PoString};
+use po_text::{Duplicate, Forms, Items, PoString};
 use std::alloc::{AllocError, Global};
 use units::{Name, Suggestion, Unit, VoteValue, Votes};
 use uuid::Uuid;

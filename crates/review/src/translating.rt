@@ -4,7 +4,7 @@ ghost use Rattle.plural_expr.specs.Values.{Rule};
 ghost use Rattle.units.specs.declared.unit.Policy.{Policy as PolicyValue};
 ghost use Rattle.units.specs.declared.unit.Suggestion.{Suggestion as SuggestionValue};
 ghost use Rattle.units.specs.Limits.{revision_limit};
-ghost use Rattle.po_read.specs.Texts.{texts_eq};
+ghost use Rattle.po_text.specs.Texts.{texts_eq};
 ghost use Rattle.units.specs.Units.{suggestion_of, state_eq};
 ghost use Rattle.review.specs.UnitStep as spec;
 
@@ -13,7 +13,7 @@ use crate::judging::state_of;
 use crate::suggestions::{find_suggestion, other_suggestions};
 use crate::units_after::{done_plainly, next_revision, with_forms, with_suggestions};
 use plural_expr::PluralForms;
-use po_read::{Duplicate, Forms, Items, Text};
+use po_text::{Duplicate, Forms, Items, Text};
 use std::alloc::{AllocError, Global};
 use units::{
     CommentLines, Memory, Policy, Refusal, Revision, Unit, UnitAction, UnitState, UnitView,

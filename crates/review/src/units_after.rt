@@ -5,7 +5,7 @@ ghost use Rattle.units.specs.Units.{in_state};
 ghost use Rattle.review.specs.UnitStep as spec;
 
 use crate::decision::{Decision, Values};
-use po_read::{Duplicate, Forms, Items, PoString, Previous, Text};
+use po_text::{Duplicate, Forms, Items, PoString, Previous, Text};
 use std::alloc::AllocError;
 use units::{Key, Memory, Revision, Suggestion, Unit, UnitState, UnitView};
 

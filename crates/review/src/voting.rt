@@ -12,7 +12,7 @@ use crate::suggestions::{
 use crate::translating::after_acceptance;
 use crate::units_after::{done, in_view, revision_of, with_suggestions};
 use plural_expr::PluralForms;
-use po_read::Forms;
+use po_text::Forms;
 use std::alloc::{AllocError, Global};
 use units::{Memory, Name, Policy, Refusal, UnitAction, UnitState, UnitView, VoteValue};
 use uuid::Uuid;

@@ -1,7 +1,7 @@
 -- Where the request of each number stands.
 use Rattle.std.specs.Prelude.{◌≡◌, ◌↔◌, ℕ, List, Option, Some, option_map, slice_get}
 use Rattle.std.specs.BTreeMap.{BTreeMap, get}
-use Rattle.po_read.specs.Texts.{Text, text_cmp}
+use Rattle.po_text.specs.Texts.{Text, text_cmp}
 use Rattle.sender.specs.declared.exchange.Exchange.{Exchange}
 
 abbrev pub number_at : List Exchange → ℕ → Option Text

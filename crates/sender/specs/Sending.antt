@@ -3,7 +3,7 @@
 use Rattle.std.specs.Prelude.{ℕ, List, take, map, Bool, false, not, ◌&&◌, if◌then◌else◌, is_none, is_some, Option, Some, None, slice_get, option_and_then}
 use Rattle.std.specs.Option.{option_map_or}
 use Rattle.std.specs.List.{list_any, list_all, IsDistinct}
-use Rattle.po_read.specs.Texts.{Text, text_eq}
+use Rattle.po_text.specs.Texts.{Text, text_eq}
 use Rattle.request_book.specs.declared.act.Request.{Request}
 use Rattle.request_book.specs.Replies.{Reply}
 use Rattle.request_book.specs.Clash.{clash}

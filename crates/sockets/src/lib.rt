@@ -1,4 +1,9 @@
-//! An office on a socket: a connection that a listener takes is served, and a message goes out over a connection of its own.
+//! An office on a socket. Nothing is known of a socket's bytes.
+//!
+//! - `serving`: the next connection that a listener takes is served (`serve_next`)
+//! - `link`: a client's message goes out over a connection of its own (`SocketLink`)
+//!
+//! Specs: `Connections` (some messages came, and each was answered in its turn), `Links`.
 #![tactic(auto)]
 
 mod link;

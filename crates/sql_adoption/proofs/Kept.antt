@@ -16,9 +16,10 @@ use Rattle.sql_adoption.specs.declared.office_read.ReadOffice.{ReadOffice}
 use Rattle.sql_adoption.specs.Adoption.{AreContents, StandForBook, IsAdoptedAs, Refuses}
 use Rattle.sql_adoption.specs.Reading.{IsReadOf, KeepsBook, RefusesWith, RefusesBook, RefusesKept}
 use Rattle.sql_adoption.proofs.Looked.{looked_on, looked_in_vain, both_looked, looked_same}
+use Rattle.sql_schema.specs.Layouts.{rows_named}
 
 -- where the rules were tested
-pub book_is_kept : {X E : Type 0} (r : Result X E) (office : Office) (db : Database) → StandForBook db.trees → AreNumbered db.trees → AreContents db.trees → OnOk r (KeepsRules (record { office = office; book = book_in db.trees }))
+pub book_is_kept : {X E : Type 0} (r : Result X E) (office : Office) (db : Database) → StandForBook (rows_named db) → AreNumbered (rows_named db) → AreContents (rows_named db) → OnOk r (KeepsRules (record { office = office; book = book_in (rows_named db) }))
     → IfOk r (λ _. KeepsBook office db)
 book_is_kept (Ok x) office db stand numbered contents rules = record { stand = stand; numbered = numbered; contents = contents; rules = rules }
 book_is_kept (Err e) office db stand numbered contents rules = tt
@@ -33,7 +34,7 @@ book_refused office db Exists h = absurd h
 book_refused office db Memory h = tt
 book_refused office db Disk h = tt
 
-pub rules_refused : (office : Office) (db : Database) (fault : OpenFault) → RefusesWith (record { office = office; book = book_in db.trees }) fault → RefusesKept office db fault
+pub rules_refused : (office : Office) (db : Database) (fault : OpenFault) → RefusesWith (record { office = office; book = book_in (rows_named db) }) fault → RefusesKept office db fault
 rules_refused office db (Foreign UnreadRow) h = absurd h
 rules_refused office db (Foreign BrokenRules) h = h
 rules_refused office db (Foreign OtherForm) h = absurd h
@@ -45,10 +46,10 @@ rules_refused office db Disk h = tt
 -- the office alone
 module _ (old mid new : State) (read : ReadOffice) (one : IsLookUp {E = OpenFault} old mid (Ok read) IsReadOf) where
   abbrev with_book : Database → OfficeWithBook
-  with_book db = record { office = office_in read.maps; book = book_in db.trees }
+  with_book db = record { office = office_in read.maps; book = book_in (rows_named db) }
 
-  meant : (db : Database) → IsReadOf db read → with_book db ≡ meaning_in db.trees
-  meant db is = λ i. record { office = is.office i; book = book_in db.trees }
+  meant : (db : Database) → IsReadOf db read → with_book db ≡ meaning_in (rows_named db)
+  meant db is = λ i. record { office = is.office i; book = book_in (rows_named db) }
 
   adopted_as : (db : Database) → IsReadOf db read → KeepsBook (office_in read.maps) db → IsAdoptedAs db read.maps
   adopted_as db is kept = record {

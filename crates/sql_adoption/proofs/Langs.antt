@@ -3,8 +3,8 @@ use Rattle.std.proofs.Common.{◌≡◌, ◌+◌, ◌<◌, ◌≤◌, ℕ, List,
 use Rattle.std.specs.FinMap as maps
 use Rattle.std.proofs.lemmas.List.{take_all}
 use Rattle.sqlite.specs.Order.{Row}
-use Rattle.po_read.specs.Texts.{Text, text_cmp}
-use Rattle.po_read.specs.declared.entry.Entry.{Entry}
+use Rattle.po_text.specs.Texts.{Text, text_cmp}
+use Rattle.po_text.specs.declared.entry.Entry.{Entry}
 use Rattle.sql_schema.specs.Keys.{text_at}
 use Rattle.sql_meaning.specs.Shown.{shown_header}
 use Rattle.sql_meaning.specs.OfficeShown.{headers_shown}

@@ -10,7 +10,7 @@ on_ok : {X E : Type 0} {C : Type 0} (r : Result X E) → C → OnOk r C
 on_ok (Ok x) h = h
 on_ok (Err e) h = tt
 
-if_ok : {X E : Type 0} {A B : X → Type 0} (r : Result X E) → ((x : X) → A x → B x) → IfOk r A → IfOk r B
+pub if_ok : {X E : Type 0} {A B : X → Type 0} (r : Result X E) → ((x : X) → A x → B x) → IfOk r A → IfOk r B
 if_ok (Ok x) f h = f x h
 if_ok (Err e) f h = tt
 

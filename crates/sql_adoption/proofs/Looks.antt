@@ -9,8 +9,10 @@ use Rattle.sqlite.specs.State.{State, HasCleanDisk, Survives, KeepsCommit, Shown
 use Rattle.sqlite.proofs.Callers.{IsPlain}
 use Rattle.sqlite.proofs.StateLemmas.{survives_then}
 use Rattle.sql_laws.proofs.KeptCommits.{query_unchanged, failed_query_keeps_commit, query_open}
+use Rattle.sql_laws.proofs.Transactions.{on_ok_mapped}
 use Rattle.sql_schema.specs.Inside.{StaysInside}
 use Rattle.sql_adoption.specs.Looks.{IsOver, IsLook}
+use Rattle.sql_adoption.proofs.Looked.{if_ok}
 
 module _ (sql : List ℕ) (params : Row) (old new : State) (Holds : Database → Type 0) (plain : (db : Database) → Holds db → IsPlain (understood db.schema sql)) {A : Type 0} (rows_of : A → List Row)
     (IsAnswer : Database → A → Type 0) (answers : (a : A) → Holds old.now → Shown sql params old new (rows_of a) → IsAnswer old.now a) where
@@ -86,14 +88,6 @@ module _ (a b c : State) where
   stays_both : StaysInside a b → StaysInside b c → StaysInside a c
   stays_both one two = record { inside = two.inside; is_open = two.is_open; committed = two.committed ∙ one.committed }
 
-  on_ok : {X E : Type 0} {A B : Type 0} (r : Result X E) → (A → B) → OnOk r A → OnOk r B
-  on_ok (Ok x) f h = f h
-  on_ok (Err e) f h = h
-
-  if_ok : {X E : Type 0} {A B : X → Type 0} (r : Result X E) → ((x : X) → A x → B x) → IfOk r A → IfOk r B
-  if_ok (Ok x) f h = f x h
-  if_ok (Err e) f h = h
-
   -- a read after a read answers by what both saw
   pub looks_both : {A B E : Type 0} (x : A) (r : Result B E) (P : Database → A → Type 0) (Q : Database → B → Type 0)
       → IsLook {E = E} a b (Ok x) P → IsLook b c r Q → IsLook a c r (λ db y. P db x × Q db y)
@@ -101,8 +95,8 @@ module _ (a b c : State) where
     answer = λ clean.
         let early = before b c two.survives clean in
         if_ok r (λ y answers. (one.answer early, subst (λ db. Q db y) (one.same early) answers)) (two.answer clean);
-    same = λ clean. on_ok r (λ same. same ∙ one.same (before b c two.survives clean)) (two.same clean);
-    stays = λ clean. on_ok r (stays_both (one.stays (before b c two.survives clean))) (two.stays clean);
+    same = λ clean. on_ok_mapped r (λ same. same ∙ one.same (before b c two.survives clean)) (two.same clean);
+    stays = λ clean. on_ok_mapped r (stays_both (one.stays (before b c two.survives clean))) (two.stays clean);
     kept = keeps_both (before b c two.survives) one.kept two.kept;
     survives = survives_all one.survives two.survives;
   }

@@ -1,15 +1,12 @@
 -- The office and the statuses that all rows of the tables show are those that the rows mean.
-use Rattle.std.proofs.Common.{◌≡◌, List, Option, Some, None, Result, Ok, Err, IfOk, IfErr, OnOk, refl, sym, ap, subst, ◌∙◌, ℕ}
+use Rattle.std.proofs.Common.{◌≡◌, List, Option, Some, None, Result, Ok, Err, IfOk, IfErr, OnOk, refl, sym, ap, subst, ◌∙◌, ℕ, codes}
 use Rattle.std.specs.Prelude.{All}
 use Rattle.std.specs.BTreeMap.{BTreeMap}
 use Rattle.sqlite.specs.Order.{Row, column}
 use Rattle.sqlite.specs.Effect.{Database}
-use Rattle.po_read.specs.Texts.{Text}
-use Rattle.sql_schema.specs.Schema.{policy_tree}
+use Rattle.po_text.specs.Texts.{Text}
 use Rattle.sql_schema.specs.Inside.{AreOfficeTables}
 use Rattle.sql_statements.specs.Answers.{ShowsPolicy}
-use Rattle.sql_schema.proofs.Steps.{table_apart}
-use Rattle.sql_schema.proofs.TableRows.{policies}
 use Rattle.sql_schema.proofs.RowNumbers.{one_row_number}
 use Rattle.tables.specs.declared.faults.Lost.{Lost}
 use Rattle.tables.specs.declared.faults.Lost.TheVariants as lost
@@ -31,6 +28,7 @@ use Rattle.sql_adoption.specs.declared.office_read.ReadOffice.{ReadOffice}
 use Rattle.sql_adoption.specs.Adoption.{HasFirstForm, Refuses}
 use Rattle.sql_adoption.specs.Reading.{unread, ShowsFirstForm, IsOfRows, HoldsMain, RefusesRows, RefusesBook, IsReadOf, AreStatusesIn}
 use Rattle.sql_adoption.proofs.Stand.{office_stands, rows_stand, all_contents, book_stands, records_stand}
+use Rattle.sql_schema.specs.Layouts.{rows_named}
 
 -- ---- the form
 
@@ -46,7 +44,7 @@ module _ (db : Database) (found : Option Row) (shows : ShowsPolicy db found) whe
       by : (o : Option Row) → found ≡ o → ShowsFirstForm found
       by (Some row) is =
           let it = subst (ShowsPolicy db) is shows in
-          let same = one_row_number (db.trees policy_tree) (table_apart db.trees 2 policies refl office.tables) it.0 first.0 it.1 first.1 (it.2 ∙ sym first.2) in
+          let same = one_row_number (rows_named db (codes "policy")) (office.tables (codes "policy") refl) it.0 first.0 it.1 first.1 (it.2 ∙ sym first.2) in
           (row, is, ap (λ r. column r 0) (sym it.3) ∙ ap (λ r. column r 2) same ∙ first.3)
       by None is = absurd (subst (ShowsPolicy db) is shows first.0 first.1 first.2)
 

@@ -11,10 +11,10 @@ use Rattle.sqlite.specs.declared.types.Value.TheVariants.{Null}
 use Rattle.sqlite.specs.Order.{Row}
 use Rattle.sqlite.specs.Term.{col}
 use Rattle.sqlite.specs.Effect.{Database}
+use Rattle.sqlite.specs.Table.{Table}
 use Rattle.sqlite.specs.Program.{overlay}
 use Rattle.sqlite.specs.Listing.{understood}
 use Rattle.sqlite.specs.declared.error.Error.{Error}
-use Rattle.sqlite.specs.Tree.{Trees}
 use Rattle.sqlite.specs.State.{State, HasCleanDisk, KeepsCommit, Survives, Shown}
 use Rattle.sqlite.specs.Given.{IsPlain}
 use Rattle.sqlite.proofs.Callers.{reads_as}
@@ -24,85 +24,86 @@ use Rattle.sql_laws.specs.ApartRows.{AreApart}
 use Rattle.sql_laws.specs.PlainQueries.{passes, shows}
 use Rattle.sql_laws.proofs.PlainQueries.{ordered_permuted}
 use Rattle.sql_laws.proofs.OrderedQueries.{answers_in_order}
-use Rattle.sql_schema.specs.Schema.{office_schema, record_tree, team_tree, policy_tree, template_tree, language_tree, unit_tree, suggestion_tree, vote_tree}
 use Rattle.sql_schema.specs.Inside.{AreTables}
 use Rattle.sql_schema.specs.Keys.{columns}
-use Rattle.sql_schema.proofs.Queries.{own_table, shows_columns}
+use Rattle.sql_schema.proofs.Queries.{rows_read, shows_columns}
 use Rattle.sql_adoption.specs.Looks.{IsOver, IsLook, HasSchema}
 use Rattle.sql_adoption.specs.RisingRows.{ShowsRowids, are_rising}
 use Rattle.sql_adoption.specs.RowidQueries.{IsRowidQuery}
 use Rattle.sql_adoption.proofs.Looks.{looks_inside, look_mapped, over_next}
 use Rattle.sql_adoption.proofs.RowidTests.{rowids_told}
+use Rattle.sql_schema.specs.Layouts.{made_new, schema_of, placed, NamedRows, rows_named}
+use Rattle.sql_schema.proofs.Layouts.{all_tables, record_placed, team_placed, policy_placed, template_placed, language_placed, unit_placed, suggestion_placed, vote_placed, each_table}
+use Rattle.sql_schema.specs.Schema.{record_table, team_table, policy_table, template_table, language_table, unit_table, suggestion_table, vote_table, office_tables}
 
 all_pass : (rows : List Row) → filter (passes [] []) rows ≡ rows
 all_pass [] = refl
 all_pass (row ∷ rows) = ap (λ more. row ∷ more) (all_pass rows)
 
-module _ (text : List ℕ) (tree : ℕ) (query : IsRowidQuery text tree) (old new : State) (rows : List Row) where
-  shows_rowids : HasSchema old.now → Shown text [] old new rows → ShowsRowids tree old.now rows
+module _ (text : List ℕ) (table : Table) (query : IsRowidQuery text table) (old new : State) (rows : List Row) where
+  shows_rowids : HasSchema old.now → Shown text [] old new rows → ShowsRowids table.name old.now rows
   shows_rowids has h =
+      let layout = has.schema.0 in
+      let tree = (placed layout table).tree in
       let project = map (col 1) (0 ∷ []) in
-      let read = reads_as text [] old new office_schema has.schema _ query.asks query.plain query.own_tables rows h in
+      let read = reads_as text [] old new (schema_of layout) has.schema.1 _ (query layout).asks (query layout).plain (query layout).own_tables rows h in
       let whole = ordered_permuted tree [] project _ (overlay old.now.trees []) [] rows (read.answer Null) in
-      let same = ap (λ l. map (shows [] project) (filter (passes [] []) l)) (own_table old.now.trees tree)
-      ∙ ap (λ (f : Row → Row). map f (filter (passes [] []) (old.now.trees tree))) (fun_ext (shows_columns [] (0 ∷ [])))
-      ∙ ap (map (columns (0 ∷ []))) (all_pass (old.now.trees tree)) in
+      let same = ap (λ l. map (shows [] project) (filter (passes [] []) l)) (rows_read layout table (query layout).is_placed old.now has.schema.1)
+      ∙ ap (λ (f : Row → Row). map f (filter (passes [] []) (rows_named old.now table.name))) (fun_ext (shows_columns [] (0 ∷ [])))
+      ∙ ap (map (columns (0 ∷ []))) (all_pass (rows_named old.now table.name)) in
       record {
         all = subst (λ l. IsPermutation l rows) same whole;
         in_order = answers_in_order tree 0 [] project (col 1 0) (overlay old.now.trees []) [] rows (λ row. refl) (read.answer Null);
       }
 
 -- what the test of the rows tells of the table
-pub apart_told : (text : List ℕ) (tree : ℕ) → IsRowidQuery text tree → (old new : State) (rows : List Row) (apart : Bool) → IsOver HasSchema old → (HasCleanDisk new → Shown text [] old new rows)
-    → Survives old new (λ _. ⊥) → apart ≡ are_rising None rows → IsLook {E = Error} old new (Ok apart) (λ db a. Decides a (AreApart (db.trees tree)))
-apart_told text tree query old new rows apart over shown survives is =
-    look_mapped old new apart apart (λ db a. (a ≡ are_rising None rows) → Decides a (AreApart (db.trees tree))) (λ db a. Decides a (AreApart (db.trees tree))) (λ db tells. tells is)
-    (looks_inside text [] old new HasSchema (λ db has. subst (λ s. IsPlain (understood s text)) (sym has.schema) query.plain) (λ (a : Bool). rows)
-    (λ db a. (a ≡ are_rising None rows) → Decides a (AreApart (db.trees tree))) (λ a has h e. rowids_told tree old.now rows (shows_rowids text tree query old new rows has h) a e) (Ok apart) over shown (λ _. tt) survives)
+pub apart_told : (text : List ℕ) (table : Table) → IsRowidQuery text table → (old new : State) (rows : List Row) (apart : Bool) → IsOver HasSchema old → (HasCleanDisk new → Shown text [] old new rows)
+    → Survives old new (λ _. ⊥) → apart ≡ are_rising None rows → IsLook {E = Error} old new (Ok apart) (λ db a. Decides a (AreApart (rows_named db table.name)))
+apart_told text table query old new rows apart over shown survives is =
+    look_mapped old new apart apart (λ db a. (a ≡ are_rising None rows) → Decides a (AreApart (rows_named db table.name))) (λ db a. Decides a (AreApart (rows_named db table.name))) (λ db tells. tells is)
+    (looks_inside text [] old new HasSchema (λ db has. subst (λ s. IsPlain (understood s text)) (sym has.schema.1) (query has.schema.0).plain) (λ (a : Bool). rows)
+    (λ db a. (a ≡ are_rising None rows) → Decides a (AreApart (rows_named db table.name))) (λ a has h e. rowids_told table.name old.now rows (shows_rowids text table query old new rows has h) a e) (Ok apart) over shown (λ _. tt) survives)
 
-record_is : IsRowidQuery (codes "SELECT rowid FROM record ORDER BY rowid") record_tree
+record_is : IsRowidQuery (codes "SELECT rowid FROM record ORDER BY rowid") record_table
 unfolding understood everything
-record_is = record { names = _; asks = refl; own_tables = refl; plain = (refl, refl) }
+record_is made_new = record { names = _; is_placed = record_placed made_new; asks = refl; own_tables = refl; plain = (refl, refl) }
 
-team_is : IsRowidQuery (codes "SELECT rowid FROM team ORDER BY rowid") team_tree
+team_is : IsRowidQuery (codes "SELECT rowid FROM team ORDER BY rowid") team_table
 unfolding understood everything
-team_is = record { names = _; asks = refl; own_tables = refl; plain = (refl, refl) }
+team_is made_new = record { names = _; is_placed = team_placed made_new; asks = refl; own_tables = refl; plain = (refl, refl) }
 
-policy_is : IsRowidQuery (codes "SELECT rowid FROM policy ORDER BY rowid") policy_tree
+policy_is : IsRowidQuery (codes "SELECT rowid FROM policy ORDER BY rowid") policy_table
 unfolding understood everything
-policy_is = record { names = _; asks = refl; own_tables = refl; plain = (refl, refl) }
+policy_is made_new = record { names = _; is_placed = policy_placed made_new; asks = refl; own_tables = refl; plain = (refl, refl) }
 
-template_is : IsRowidQuery (codes "SELECT rowid FROM template ORDER BY rowid") template_tree
+template_is : IsRowidQuery (codes "SELECT rowid FROM template ORDER BY rowid") template_table
 unfolding understood everything
-template_is = record { names = _; asks = refl; own_tables = refl; plain = (refl, refl) }
+template_is made_new = record { names = _; is_placed = template_placed made_new; asks = refl; own_tables = refl; plain = (refl, refl) }
 
-language_is : IsRowidQuery (codes "SELECT rowid FROM language ORDER BY rowid") language_tree
+language_is : IsRowidQuery (codes "SELECT rowid FROM language ORDER BY rowid") language_table
 unfolding understood everything
-language_is = record { names = _; asks = refl; own_tables = refl; plain = (refl, refl) }
+language_is made_new = record { names = _; is_placed = language_placed made_new; asks = refl; own_tables = refl; plain = (refl, refl) }
 
-unit_is : IsRowidQuery (codes "SELECT rowid FROM unit ORDER BY rowid") unit_tree
+unit_is : IsRowidQuery (codes "SELECT rowid FROM unit ORDER BY rowid") unit_table
 unfolding understood everything
-unit_is = record { names = _; asks = refl; own_tables = refl; plain = (refl, refl) }
+unit_is made_new = record { names = _; is_placed = unit_placed made_new; asks = refl; own_tables = refl; plain = (refl, refl) }
 
-suggestion_is : IsRowidQuery (codes "SELECT rowid FROM suggestion ORDER BY rowid") suggestion_tree
+suggestion_is : IsRowidQuery (codes "SELECT rowid FROM suggestion ORDER BY rowid") suggestion_table
 unfolding understood everything
-suggestion_is = record { names = _; asks = refl; own_tables = refl; plain = (refl, refl) }
+suggestion_is made_new = record { names = _; is_placed = suggestion_placed made_new; asks = refl; own_tables = refl; plain = (refl, refl) }
 
-vote_is : IsRowidQuery (codes "SELECT rowid FROM vote ORDER BY rowid") vote_tree
+vote_is : IsRowidQuery (codes "SELECT rowid FROM vote ORDER BY rowid") vote_table
 unfolding understood everything
-vote_is = record { names = _; asks = refl; own_tables = refl; plain = (refl, refl) }
+vote_is made_new = record { names = _; is_placed = vote_placed made_new; asks = refl; own_tables = refl; plain = (refl, refl) }
 
 -- ---- one table after another
-
-abbrev pub table_trees : List ℕ
-table_trees = record_tree ∷ team_tree ∷ policy_tree ∷ template_tree ∷ language_tree ∷ unit_tree ∷ suggestion_tree ∷ vote_tree ∷ []
 
 abbrev pub rowid_texts : List (List ℕ)
 rowid_texts =
     codes "SELECT rowid FROM record ORDER BY rowid" ∷ codes "SELECT rowid FROM team ORDER BY rowid" ∷ codes "SELECT rowid FROM policy ORDER BY rowid" ∷ codes "SELECT rowid FROM template ORDER BY rowid"
     ∷ codes "SELECT rowid FROM language ORDER BY rowid" ∷ codes "SELECT rowid FROM unit ORDER BY rowid" ∷ codes "SELECT rowid FROM suggestion ORDER BY rowid" ∷ codes "SELECT rowid FROM vote ORDER BY rowid" ∷ []
 
-text_asks : (k : ℕ) → k < 8 → IsRowidQuery (get_or rowid_texts k []) (get_or table_trees k 0)
+text_asks : (k : ℕ) → k < 8 → IsRowidQuery (get_or rowid_texts k []) (get_or office_tables k record_table)
 text_asks zero low = record_is
 text_asks (suc zero) low = team_is
 text_asks (suc (suc zero)) low = policy_is
@@ -117,20 +118,20 @@ text_asks (suc (suc (suc (suc (suc (suc (suc (suc k)))))))) low = absurd (omega 
 pub record AreRowidTexts (queries : List (Bor (List ℕ))) : Type 0 where
   pub are : map (λ q. q.now) queries ≡ rowid_texts
 
-pub query_at : (queries : List (Bor (List ℕ))) (k : ℕ) → AreRowidTexts queries → k < 8 → IsRowidQuery (get_or queries k (record { ref_ptr = (0, 0); now = [] })).now (get_or table_trees k 0)
+pub query_at : (queries : List (Bor (List ℕ))) (k : ℕ) → AreRowidTexts queries → k < 8 → IsRowidQuery (get_or queries k (record { ref_ptr = (0, 0); now = [] })).now (get_or office_tables k record_table)
 query_at queries k texts low =
     let eight : length queries ≡ 8 = sym (length-map queries (λ (q : Bor (List ℕ)). q.now)) ∙ ap length texts.are in
-    subst (λ text. IsRowidQuery text (get_or table_trees k 0))
+    subst (λ text. IsRowidQuery text (get_or office_tables k record_table))
     (ap (λ l. get_or l k []) (sym texts.are) ∙ get_or-map (λ (q : Bor (List ℕ)). q.now) queries k (record { ref_ptr = (0, 0); now = [] }) [] (omega (arith, low, eight))) (text_asks k low)
 
 -- the tables so far have their rowids apart
-abbrev pub FirstApart : ℕ → Trees → Type 0
-FirstApart n trees = All (λ tree. AreApart (trees tree)) (take n table_trees)
+abbrev pub FirstApart : ℕ → NamedRows → Type 0
+FirstApart n tables = All (λ (t : Table). AreApart (tables t.name)) (take n office_tables)
 
 -- What is known between two tables: nothing has changed, and if something was read the connection is open.
 pub record HasLooked (a b : State) (n : ℕ) : Type 0 where
   pub over : IsOver HasSchema b
-  pub apart : HasCleanDisk b → FirstApart n a.now.trees
+  pub apart : HasCleanDisk b → FirstApart n (rows_named a.now)
   pub same : HasCleanDisk b → b.now ≡ a.now
   pub is_open : HasCleanDisk b → 0 < n → IsTrue b.is_open
   pub committed : HasCleanDisk b → b.committed ≡ a.committed
@@ -140,7 +141,7 @@ pub record HasLooked (a b : State) (n : ℕ) : Type 0 where
 pub nothing_looked : (a : State) → IsOver HasSchema a → HasLooked a a 0
 nothing_looked a over = record {
   over = over;
-  apart = λ clean. All-from_recursion (λ tree. AreApart (a.now.trees tree)) [] tt;
+  apart = λ clean. All-from_recursion (λ (t : Table). AreApart (rows_named a.now t.name)) [] tt;
   same = λ clean. refl;
   is_open = λ clean some. absurd (omega (arith, some));
   committed = λ clean. refl;
@@ -157,7 +158,7 @@ nothing_looked a over = record {
 
 module _ (a b c : State) (n : ℕ) (low : n < 8) (so_far : HasLooked a b n) where
   abbrev This : Database → Bool → Type 0
-  This db apart = Decides apart (AreApart (db.trees (get_or table_trees n 0)))
+  This db apart = Decides apart (AreApart (rows_named db (get_or office_tables n record_table).name))
 
   early : Survives b c (λ _. ⊥) → HasCleanDisk c → HasCleanDisk b
   early end clean = omega (arith, end.clean)
@@ -176,7 +177,7 @@ module _ (a b c : State) (n : ℕ) (low : n < 8) (so_far : HasLooked a b n) wher
     over = over_next b c _ _ HasSchema HasSchema (λ db has told. has) so_far.over two;
     apart = λ clean.
         let here = subst (λ db. This db apart) (so_far.same (early two.survives clean)) (two.answer clean) in
-        All-more (λ tree. AreApart (a.now.trees tree)) table_trees n 0 low (so_far.apart (early two.survives clean)) (here.0 is);
+        All-more (λ (t : Table). AreApart (rows_named a.now t.name)) office_tables n record_table low (so_far.apart (early two.survives clean)) (here.0 is);
     same = λ clean. two.same clean ∙ so_far.same (early two.survives clean);
     is_open = λ clean some. (two.stays clean).is_open;
     committed = λ clean. (two.stays clean).committed ∙ so_far.committed (early two.survives clean);
@@ -184,13 +185,13 @@ module _ (a b c : State) (n : ℕ) (low : n < 8) (so_far : HasLooked a b n) wher
     survives = survives_on two.survives;
   }
 
-  pub this_not : (apart : Bool) → apart ≡ false → IsLook {E = Error} b c (Ok apart) This → IsLook {E = Error} a c (Ok false) (λ db apart. Decides apart (AreTables db.trees))
+  pub this_not : (apart : Bool) → apart ≡ false → IsLook {E = Error} b c (Ok apart) This → IsLook {E = Error} a c (Ok false) (λ db apart. Decides apart (AreTables (rows_named db)))
   this_not apart is two = record {
     answer = λ clean.
         let here = subst (λ db. This db apart) (so_far.same (early two.survives clean)) (two.answer clean) in (
           λ e. absurd (false≢true e),
-          λ all. absurd (false≢true (sym is ∙ here.1 (All-get_or (λ tree. AreApart (a.now.trees tree)) table_trees n 0 low
-              (All-from_recursion (λ tree. AreApart (a.now.trees tree)) table_trees all)))),
+          λ all. absurd (false≢true (sym is ∙ here.1 (All-get_or (λ (t : Table). AreApart (rows_named a.now t.name)) office_tables n record_table low
+              (All-from_recursion (λ (t : Table). AreApart (rows_named a.now t.name)) office_tables (each_table (rows_named a.now) all))))),
         );
     same = λ clean. two.same clean ∙ so_far.same (early two.survives clean);
     stays = λ clean. record { inside = (two.stays clean).inside; is_open = (two.stays clean).is_open; committed = (two.stays clean).committed ∙ so_far.committed (early two.survives clean) };
@@ -202,10 +203,10 @@ module _ (a b c : State) (n : ℕ) (low : n < 8) (so_far : HasLooked a b n) wher
   this_unread e (Ok y) Q is two = absurd (let none = is in cc)
   this_unread e (Err f) Q is two = record { answer = λ clean. tt; same = λ clean. tt; stays = λ clean. tt; kept = keeps_on two.survives two.kept; survives = survives_on two.survives }
 
-pub all_apart : (a b : State) (n : ℕ) → 8 ≤ n → HasLooked a b n → IsLook {E = Error} a b (Ok true) (λ db apart. Decides apart (AreTables db.trees))
+pub all_apart : (a b : State) (n : ℕ) → 8 ≤ n → HasLooked a b n → IsLook {E = Error} a b (Ok true) (λ db apart. Decides apart (AreTables (rows_named db)))
 all_apart a b n past so_far = record {
   answer = λ clean. (
-    λ e. recursion_from_All (λ tree. AreApart (a.now.trees tree)) table_trees (subst (All (λ tree. AreApart (a.now.trees tree))) (take_all n table_trees past) (so_far.apart clean)),
+    λ e. all_tables (rows_named a.now) (recursion_from_All (λ (t : Table). AreApart (rows_named a.now t.name)) office_tables (subst (All (λ (t : Table). AreApart (rows_named a.now t.name))) (take_all n office_tables past) (so_far.apart clean))),
     λ all. refl,
   );
   same = so_far.same;

@@ -27,6 +27,7 @@ use Rattle.sql_laws.proofs.RemovedRows.{from_mapped, to_mapped, has_permuted}
 use Rattle.sql_schema.specs.Keys.{columns}
 use Rattle.sql_schema.specs.Inside.{IsInOrder}
 use Rattle.sql_adoption.specs.RisingRows.{ShowsRowids, integer_in, is_above, follows, goes_on, are_rising}
+use Rattle.sql_schema.specs.Layouts.{rows_named}
 
 abbrev tied : Value → Value → Bool
 tied a b = is_eq (value_cmp a b)
@@ -151,9 +152,9 @@ one_of (row ∷ rows) once r s (inr p) (inl q) e =
     absurd (let tie : tied (rowid row) (rowid r) ≡ true = tied_back (rowid r) (rowid row) (subst (λ x. tied (rowid r) (rowid x) ≡ true) q e) in cc)
 one_of (row ∷ rows) once r s (inr p) (inr q) e = one_of rows once.1 r s p q e
 
-module _ (tree : ℕ) (db : Database) (rows : List Row) (shows : ShowsRowids tree db rows) where
+module _ (name : List ℕ) (db : Database) (rows : List Row) (shows : ShowsRowids name db rows) where
   abbrev all : List Row
-  all = db.trees tree
+  all = rows_named db name
 
   firsts : map first (map (columns (0 ∷ [])) all) ≡ map rowid all
   firsts = map-map first (columns (0 ∷ [])) all

@@ -1,5 +1,5 @@
 -- The rows that reads show stand for values where those of the tables do.
-use Rattle.std.proofs.Common.{◌≡◌, ℕ, Bool, true, List, [], ◌∷◌, map, Option, Some, None, refl, sym, ap, subst, ◌∙◌}
+use Rattle.std.proofs.Common.{◌≡◌, ℕ, Bool, true, List, [], ◌∷◌, map, Option, Some, None, refl, sym, ap, subst, ◌∙◌, codes}
 use Rattle.std.specs.Prelude.{All, IsTrue, pos}
 use Rattle.std.specs.List.{list_all}
 use Rattle.std.specs.Option.{option_map_or}
@@ -12,14 +12,11 @@ use Rattle.sqlite.specs.Effect.{Database}
 use Rattle.sqlite_rules.specs.Lists.{Has}
 use Rattle.sqlite_rules.proofs.ListLemmas.{all_has, all_from, test_has, test_from}
 use Rattle.sql_laws.proofs.RemovedRows.{to_mapped, from_mapped, has_permuted}
-use Rattle.po_read.specs.Valid.{IsValid}
+use Rattle.po_text.specs.Valid.{IsValid}
 use Rattle.sql_statements.specs.Answers.{ShowsPolicy}
 use Rattle.sql_schema.specs.Inside.{AreOfficeTables}
 use Rattle.sql_schema.specs.Keys.{columns, row_number}
-use Rattle.sql_schema.specs.Schema.{record_tree, policy_tree}
 use Rattle.sql_schema.proofs.RowNumbers.{one_row_number}
-use Rattle.sql_schema.proofs.Steps.{table_apart}
-use Rattle.sql_schema.proofs.TableRows.{policies}
 use Rattle.sql_statements.specs.Tables.{ShowsTable}
 use Rattle.sql_statements.specs.WholeOffice.{ShowsWholeOffice}
 use Rattle.sql_statements.specs.declared.whole_office.WholeOffice.{WholeOffice}
@@ -29,26 +26,27 @@ use Rattle.sql_statements.specs.RecordTable.{ShowsRecords}
 use Rattle.sql_decoding.specs.RowTests.{AreOfficeRows, is_policy_row}
 use Rattle.sql_adoption.specs.BookShown.{IsRecordRow}
 use Rattle.sql_adoption.specs.Adoption.{Each, AreContents, StandForOffice, StandForBook}
+use Rattle.sql_schema.specs.Layouts.{rows_named}
 
 -- ---- a table
 
-module _ (db : Database) (tree : ℕ) (places order : List ℕ) (rows : List Row) (shows : ShowsTable tree places order db rows) where
+module _ (db : Database) (name : List ℕ) (places order : List ℕ) (rows : List Row) (shows : ShowsTable name places order db rows) where
   abbrev shown : List Row
-  shown = map (columns places) (db.trees tree)
+  shown = map (columns places) (rows_named db name)
 
   -- a row of the table is shown
-  pub is_shown : (row : Row) → Has (db.trees tree) row → Has rows (columns places row)
-  is_shown row there = has_permuted rows shown (columns places row) (IsPermutation-sym shown rows shows.all) (to_mapped (columns places) (db.trees tree) row there)
+  pub is_shown : (row : Row) → Has (rows_named db name) row → Has rows (columns places row)
+  is_shown row there = has_permuted rows shown (columns places row) (IsPermutation-sym shown rows shows.all) (to_mapped (columns places) (rows_named db name) row there)
 
   -- what is shown is a row of the table
-  pub was_there : (row : Row) → Has rows row → (r : Row) × Has (db.trees tree) r × (row ≡ columns places r)
-  was_there row here = from_mapped (columns places) (db.trees tree) row (has_permuted shown rows row shows.all here)
+  pub was_there : (row : Row) → Has rows row → (r : Row) × Has (rows_named db name) r × (row ≡ columns places r)
+  was_there row here = from_mapped (columns places) (rows_named db name) row (has_permuted shown rows row shows.all here)
 
   module _ (test : Row → Bool) where
-    pub each_stands : list_all test rows ≡ true → Each tree places test db.trees
+    pub each_stands : list_all test rows ≡ true → Each name places test (rows_named db)
     each_stands stand row there = test_has test rows (columns places row) stand (is_shown row there)
 
-    pub all_stand : Each tree places test db.trees → list_all test rows ≡ true
+    pub all_stand : Each name places test (rows_named db) → list_all test rows ≡ true
     all_stand each = test_from test rows (λ row here.
         let was = was_there row here in
         ap test was.2 ∙ each was.0 was.1)
@@ -56,18 +54,18 @@ module _ (db : Database) (tree : ℕ) (places order : List ℕ) (rows : List Row
 -- ---- the policy
 
 module _ (db : Database) (found : Option Row) (shows : ShowsPolicy db found) where
-  policy_stands : AreOfficeTables db → option_map_or is_policy_row found true ≡ true → (row : Row) → Has (db.trees policy_tree) row → row_number row ≡ Int (pos 1)
+  policy_stands : AreOfficeTables db → option_map_or is_policy_row found true ≡ true → (row : Row) → Has (rows_named db (codes "policy")) row → row_number row ≡ Int (pos 1)
       → IsTrue (is_policy_row (columns (2 ∷ 3 ∷ 4 ∷ 5 ∷ 6 ∷ 7 ∷ 8 ∷ []) row))
   policy_stands office stands row there first = by found refl
     where
       by : (o : Option Row) → found ≡ o → IsTrue (is_policy_row (columns (2 ∷ 3 ∷ 4 ∷ 5 ∷ 6 ∷ 7 ∷ 8 ∷ []) row))
       by (Some seen) is =
           let it = subst (ShowsPolicy db) is shows in
-          let same = one_row_number (db.trees policy_tree) (table_apart db.trees 2 policies refl office.tables) row it.0 there it.1 (first ∙ sym it.2) in
+          let same = one_row_number (rows_named db (codes "policy")) (office.tables (codes "policy") refl) row it.0 there it.1 (first ∙ sym it.2) in
           ap (λ r. is_policy_row (columns (2 ∷ 3 ∷ 4 ∷ 5 ∷ 6 ∷ 7 ∷ 8 ∷ []) r)) same ∙ ap is_policy_row it.3 ∙ ap (λ o. option_map_or is_policy_row o true) (sym is) ∙ stands
       by None is = absurd (subst (ShowsPolicy db) is shows row there first)
 
-  policy_shown_stands : ((row : Row) → Has (db.trees policy_tree) row → row_number row ≡ Int (pos 1) → IsTrue (is_policy_row (columns (2 ∷ 3 ∷ 4 ∷ 5 ∷ 6 ∷ 7 ∷ 8 ∷ []) row)))
+  policy_shown_stands : ((row : Row) → Has (rows_named db (codes "policy")) row → row_number row ≡ Int (pos 1) → IsTrue (is_policy_row (columns (2 ∷ 3 ∷ 4 ∷ 5 ∷ 6 ∷ 7 ∷ 8 ∷ []) row)))
       → option_map_or is_policy_row found true ≡ true
   policy_shown_stands stands = by found refl
     where
@@ -80,7 +78,7 @@ module _ (db : Database) (found : Option Row) (shows : ShowsPolicy db found) whe
 -- ---- the office
 
 module _ (db : Database) (office : AreOfficeTables db) (rows : WholeOffice) (shows : ShowsWholeOffice db rows) where
-  pub office_stands : AreOfficeRows rows → StandForOffice db.trees
+  pub office_stands : AreOfficeRows rows → StandForOffice (rows_named db)
   office_stands stand = record {
     members = each_stands db _ _ _ _ shows.office.team _ stand.members;
     policy = policy_stands db rows.office.policy shows.office.policy office stand.policy;
@@ -92,7 +90,7 @@ module _ (db : Database) (office : AreOfficeTables db) (rows : WholeOffice) (sho
     votes = each_stands db _ _ _ _ shows.units.votes _ (and_parts _ _ (and_parts _ _ stand.units).0).0;
   }
 
-  pub rows_stand : StandForOffice db.trees → AreOfficeRows rows
+  pub rows_stand : StandForOffice (rows_named db) → AreOfficeRows rows
   rows_stand stand = record {
     members = all_stand db _ _ _ _ shows.office.team _ stand.members;
     policy = policy_shown_stands db rows.office.policy shows.office.policy stand.policy;
@@ -108,17 +106,17 @@ module _ (db : Database) (office : AreOfficeTables db) (rows : WholeOffice) (sho
 -- ---- the book
 
 module _ (db : Database) (rows : List Row) (shows : ShowsRecords db rows) where
-  pub all_contents : All IsRecordRow rows → AreContents db.trees
+  pub all_contents : All IsRecordRow rows → AreContents (rows_named db)
   all_contents stand row there =
       IsRecordRow.content (all_has IsRecordRow rows _ (recursion_from_All IsRecordRow rows stand) (is_shown db _ _ _ rows shows row there))
 
-  pub book_stands : All IsRecordRow rows → StandForBook db.trees
+  pub book_stands : All IsRecordRow rows → StandForBook (rows_named db)
   book_stands stand = record {
     records = λ row there. IsRecordRow.stands (all_has IsRecordRow rows _ (recursion_from_All IsRecordRow rows stand) (is_shown db _ _ _ rows shows row there));
     contents = all_contents stand;
   }
 
-  pub records_stand : StandForBook db.trees → All IsRecordRow rows
+  pub records_stand : StandForBook (rows_named db) → All IsRecordRow rows
   records_stand stand = All-from_recursion IsRecordRow rows (all_from IsRecordRow rows (λ row here.
-      let was = was_there db record_tree (2 ∷ 3 ∷ 4 ∷ 1 ∷ []) (3 ∷ []) rows shows row here in
+      let was = was_there db (codes "record") (2 ∷ 3 ∷ 4 ∷ 1 ∷ []) (3 ∷ []) rows shows row here in
       subst IsRecordRow (sym was.2) (record { stands = stand.records was.0 was.1; content = stand.contents was.0 was.1 })))

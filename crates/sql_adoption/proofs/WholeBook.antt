@@ -1,5 +1,5 @@
 -- The book that the rows of `record` stand for: what a read of the whole table shows of it.
-use Rattle.std.proofs.Common.{◌≡◌, Bool, true, false, List, [], ◌∷◌, map, Option, Some, None, unwrap_or, refl, sym, ap, ◌∙◌, All}
+use Rattle.std.proofs.Common.{◌≡◌, Bool, true, false, List, [], ◌∷◌, map, Option, Some, None, unwrap_or, refl, sym, ap, ◌∙◌, All, codes}
 use Rattle.std.specs.Prelude.{IsSome}
 use Rattle.std.specs.Option.{option_map_or}
 use Rattle.std.proofs.lemmas.Bool.{and_parts}
@@ -14,15 +14,13 @@ use Rattle.sqlite.specs.Effect.{Database}
 use Rattle.sqlite_rules.proofs.ListLemmas.{all_has}
 use Rattle.sql_laws.specs.RowMaps.{OneEach}
 use Rattle.sql_laws.proofs.RemovedRows.{to_mapped, has_permuted}
-use Rattle.po_read.specs.Texts.{Text, text_cmp}
+use Rattle.po_text.specs.Texts.{Text, text_cmp}
 use Rattle.request_book.specs.Words.{number_text}
 use Rattle.sql_columns.specs.Readings.{number_read}
 use Rattle.sql_columns.proofs.Readers.{number_written}
-use Rattle.sql_schema.specs.Schema.{record_tree}
 use Rattle.sql_schema.specs.Keys.{text_at, first_text, columns}
 use Rattle.sql_schema.specs.Inside.{AreOfficeTables}
-use Rattle.sql_schema.proofs.Steps.{table_apart}
-use Rattle.sql_schema.proofs.TableRows.{records, one_record}
+use Rattle.sql_schema.proofs.TableRows.{one_record}
 use Rattle.sql_meaning.specs.Meaning.{AreNumbered, number_at, recorded_in, book_in}
 use Rattle.sql_meaning.specs.Shown.{shown_record}
 use Rattle.sql_meaning.proofs.Books.{same_texts}
@@ -30,6 +28,7 @@ use Rattle.sql_meaning.proofs.ShownMaps.{map_is, inserted_answers}
 use Rattle.sql_statements.specs.RecordTable.{ShowsRecords}
 use Rattle.sql_decoding.specs.RowTests.{text_passes, is_number}
 use Rattle.sql_adoption.specs.BookShown.{book_shown, IsRecordRow}
+use Rattle.sql_schema.specs.Layouts.{rows_named}
 
 -- a column that holds a number's text
 some_number : (p : Text → Bool) (o : Option Text) → option_map_or p o false ≡ true → IsSome o
@@ -59,18 +58,18 @@ abbrev shown : Row → Row
 shown = columns (2 ∷ 3 ∷ 4 ∷ 1 ∷ [])
 
 module _ (db : Database) (rows : List Row) (shows : ShowsRecords db rows) (stand : All IsRecordRow rows) where
-  pub all_numbered : AreNumbered db.trees
+  pub all_numbered : AreNumbered (rows_named db)
   all_numbered row there =
       is_numbered (shown row) (all_has IsRecordRow rows (shown row) (recursion_from_All IsRecordRow rows stand)
-      (has_permuted rows (map shown (db.trees record_tree)) (shown row) (IsPermutation-sym (map shown (db.trees record_tree)) rows shows.all) (to_mapped shown (db.trees record_tree) row there)))
+      (has_permuted rows (map shown (rows_named db (codes "record"))) (shown row) (IsPermutation-sym (map shown (rows_named db (codes "record"))) rows shows.all) (to_mapped shown (rows_named db (codes "record")) row there)))
 
-  one_number : AreOfficeTables db → OneEach (number_at 1) (db.trees record_tree)
+  one_number : AreOfficeTables db → OneEach (number_at 1) (rows_named db (codes "record"))
   one_number office r s in_r in_s e =
-      one_record db office.schema office.sound (table_apart db.trees 0 records refl office.tables) r s in_r in_s
+      one_record db office.schema office.sound (office.tables (codes "record") refl) r s in_r in_s
       (named r (all_numbered r in_r) ∙ (ap number_text e ∙ sym (named s (all_numbered s in_s))))
 
-  pub whole_book : AreOfficeTables db → book_in db.trees ≡ book_shown rows
+  pub whole_book : AreOfficeTables db → book_in (rows_named db) ≡ book_shown rows
   whole_book office =
-      map_is text_cmp nat_list_cmp_total same_texts (number_at 1) recorded_in shown (number_at 3) shown_record (db.trees record_tree) rows
+      map_is text_cmp nat_list_cmp_total same_texts (number_at 1) recorded_in shown (number_at 3) shown_record (rows_named db (codes "record")) rows
       (λ r there. refl) (λ r there. refl) shows.all (book_shown rows) (one_number office)
       (inserted_answers text_cmp nat_list_cmp_total same_texts (number_at 3) shown_record rows)

@@ -1,5 +1,7 @@
 -- A whole transaction that tells whether the tables are an office's.
-use Rattle.std.proofs.Common.{◌≡◌, ◌↔◌, Bool, true, Result, Ok, Err, sym, subst, ◌∙◌}
+use Rattle.std.proofs.Common.{◌≡◌, ◌↔◌, Bool, true, false, Result, Ok, Err, sym, subst, ◌∙◌}
+use Rattle.std.proofs.lemmas.Bool.{false≢true}
+use Rattle.sqlite.specs.Schema.{Schema}
 use Rattle.sqlite.specs.Effect.{Database}
 use Rattle.sqlite.specs.State.{State, IsLive}
 use Rattle.sqlite.specs.declared.error.Error.{Error}
@@ -8,9 +10,18 @@ use Rattle.sql_schema.specs.Whole.{IsIdle, StaysIdle}
 use Rattle.sql_adoption.specs.Found.{HoldsOffice}
 use Rattle.sql_adoption.specs.Looks.{IsOver, IsLook, HasSchema}
 use Rattle.sql_adoption.proofs.Looks.{look_mapped, with_before}
+use Rattle.sql_schema.specs.Layouts.{IsLaidOut, rows_named}
+
+-- what the test of a connection's schema tells of its database
+module _ (asked schema : Schema) (result : Bool) (same : asked ≡ schema) (tells : (result ≡ true) ↔ IsLaidOut asked) where
+  pub is_laid_out : result ≡ true → IsLaidOut schema
+  is_laid_out holds = subst IsLaidOut same (tells.0 holds)
+
+  pub is_not_laid_out : result ≡ false → ¬ IsLaidOut schema
+  is_not_laid_out differs has = false≢true (sym differs ∙ tells.1 (subst IsLaidOut (sym same) has))
 
 abbrev TellsApart : Database → Bool → Type 0
-TellsApart db apart = (apart ≡ true) ↔ AreTables db.trees
+TellsApart db apart = (apart ≡ true) ↔ AreTables (rows_named db)
 
 abbrev TellsOffice : Database → Bool → Type 0
 TellsOffice db holds = (holds ≡ true) ↔ HoldsOffice db

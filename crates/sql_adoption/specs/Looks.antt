@@ -2,11 +2,11 @@
 use Rattle.std.specs.Prelude.{◌≡◌, ◌↔◌, Bool, true, false, Result, OnOk, OnErr, IfOk, IsTrue}
 use Rattle.sqlite.specs.Effect.{Database, IsDatabase}
 use Rattle.sqlite.specs.State.{State, HasCleanDisk, KeepsCommit, Survives}
-use Rattle.sql_schema.specs.Schema.{office_schema}
 use Rattle.sqlite.specs.declared.error.Error.{Error}
 use Rattle.sql_schema.specs.Inside.{StaysInside}
 use Rattle.sql_schema.specs.Whole.{IsIdle, StaysIdle}
 use Rattle.sql_adoption.specs.Found.{HoldsOffice}
+use Rattle.sql_schema.specs.Layouts.{HasLayout}
 
 -- A transaction is open, over such a database unless the connection is shut.
 pub record IsOver (Holds : Database → Type 0) (s : State) : Type 0 where
@@ -16,7 +16,7 @@ pub record IsOver (Holds : Database → Type 0) (s : State) : Type 0 where
 -- the tables are an office's, whatever their rowids are
 pub record HasSchema (db : Database) : Type 0 where
   pub sound : IsDatabase db
-  pub schema : db.schema ≡ office_schema
+  pub schema : HasLayout db
 
 -- A query answers by what the connection shows, and changes nothing; however it ends, nothing is committed.
 pub record IsLook {A E : Type 0} (old new : State) (result : Result A E) (IsAnswer : Database → A → Type 0) : Type 0 where

@@ -7,7 +7,7 @@ use Rattle.sqlite.specs.declared.error.ErrorCode.TheVariants.{OutOfMemory}
 use Rattle.sqlite.specs.declared.types.Value.TheVariants.{Int}
 use Rattle.sqlite.specs.Order.{Row, column}
 use Rattle.sqlite.specs.Effect.{Database}
-use Rattle.po_read.specs.Texts.{Text}
+use Rattle.po_text.specs.Texts.{Text}
 use Rattle.tables.specs.declared.faults.Lost.{Lost}
 use Rattle.tables.specs.declared.faults.Lost.TheVariants as lost
 use Rattle.units.specs.Project.{Project}
@@ -26,6 +26,7 @@ use Rattle.sql_adoption.specs.declared.faults.OpenFault.TheVariants.{Memory, Dis
 use Rattle.sql_adoption.specs.declared.faults.Mismatch.TheVariants.{OtherTables, OtherForm, UnreadRow, BrokenRules}
 use Rattle.sql_adoption.specs.declared.office_read.ReadOffice.{ReadOffice}
 use Rattle.sql_adoption.specs.Adoption.{HasFirstForm, AreContents, StandForOffice, StandForBook}
+use Rattle.sql_schema.specs.Layouts.{rows_named}
 
 -- ---- faults
 
@@ -68,24 +69,24 @@ pub record HoldsMain (read : ReadOffice) : Type 0 where
 -- the office of tables in their first form
 pub record IsReadOf (db : Database) (read : ReadOffice) : Type 0 where
   pub form : HasFirstForm db
-  pub stand : StandForOffice db.trees
-  pub office : office_in read.maps ≡ main_alone (project_of_rows db.trees)
+  pub stand : StandForOffice (rows_named db)
+  pub office : office_in read.maps ≡ main_alone (project_of_rows (rows_named db))
 
 -- ---- the book
 
 -- the statuses of all records, whose numbers and contents stand for some
 pub record AreStatusesIn (db : Database) (statuses : BTreeMap Text ℕ) : Type 0 where
-  pub statuses_are : AreStatusesOf (book_in db.trees) statuses
-  pub stand : StandForBook db.trees
-  pub numbered : AreNumbered db.trees
-  pub contents : AreContents db.trees
+  pub statuses_are : AreStatusesOf (book_in (rows_named db)) statuses
+  pub stand : StandForBook (rows_named db)
+  pub numbered : AreNumbered (rows_named db)
+  pub contents : AreContents (rows_named db)
 
 -- an office keeps the rules with the book of the rows
 pub record KeepsBook (office : Office) (db : Database) : Type 0 where
-  pub stand : StandForBook db.trees
-  pub numbered : AreNumbered db.trees
-  pub contents : AreContents db.trees
-  pub rules : KeepsRules (record { office = office; book = book_in db.trees })
+  pub stand : StandForBook (rows_named db)
+  pub numbered : AreNumbered (rows_named db)
+  pub contents : AreContents (rows_named db)
+  pub rules : KeepsRules (record { office = office; book = book_in (rows_named db) })
 
 -- what is true of an office with its book that is refused so
 abbrev pub RefusesWith : OfficeWithBook → OpenFault → Type 0
@@ -98,7 +99,7 @@ RefusesWith with_book _ = ⊤
 
 -- what is true of a book's rows that are refused so
 abbrev pub RefusesBook : Database → OpenFault → Type 0
-RefusesBook db (Foreign UnreadRow) = ¬ StandForBook db.trees
+RefusesBook db (Foreign UnreadRow) = ¬ StandForBook (rows_named db)
 RefusesBook db (Foreign BrokenRules) = ⊥
 RefusesBook db (Foreign OtherForm) = ⊥
 RefusesBook db (Foreign OtherTables) = ⊥
@@ -107,5 +108,5 @@ RefusesBook db _ = ⊤
 
 -- what is true of an office and of a book's rows that are refused so together
 abbrev pub RefusesKept : Office → Database → OpenFault → Type 0
-RefusesKept office db (Foreign UnreadRow) = ¬ StandForBook db.trees
-RefusesKept office db fault = RefusesWith (record { office = office; book = book_in db.trees }) fault
+RefusesKept office db (Foreign UnreadRow) = ¬ StandForBook (rows_named db)
+RefusesKept office db fault = RefusesWith (record { office = office; book = book_in (rows_named db) }) fault

@@ -8,10 +8,11 @@ use Rattle.sqlite.specs.Order.{Row, column}
 use Rattle.sqlite.specs.Effect.{Database}
 use Rattle.sql_schema.specs.Keys.{columns}
 use Rattle.sql_schema.specs.Inside.{IsInOrder}
+use Rattle.sql_schema.specs.Layouts.{rows_named}
 
 -- the rowids of a table, upwards
-pub record ShowsRowids (tree : ℕ) (db : Database) (rows : List Row) : Type 0 where
-  pub all : IsPermutation (map (columns (0 ∷ [])) (db.trees tree)) rows
+pub record ShowsRowids (name : List ℕ) (db : Database) (rows : List Row) : Type 0 where
+  pub all : IsPermutation (map (columns (0 ∷ [])) (rows_named db name)) rows
   pub in_order : IsInOrder 0 rows
 
 abbrev pub integer_in : Value → Option ℤ

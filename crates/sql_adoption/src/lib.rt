@@ -1,14 +1,24 @@
-//! Whether a file's tables and rows are an office's with its book: what is asked of a file that somebody hands over, before anything is
-//! answered from it.
+//! Whether a file's tables and rows are an office's with its book: what is asked of a file that somebody hands over,
+//! before anything is answered from it.
 //!
 //! What is said of values is said while the disk returns what was written.
 //!
-//! - Tables: `shapes`, `table_checks` and `office_tables` tell the eight tables by constants, `rowids` tests their rowids, `offices` is the
-//!   transaction that tells whether a connection's tables are those.
-//! - Rows: `look_ups` and `statuses` read the records, `office_read` and `book_read` the office and its book; `tested` asks all, and `faults` is
-//!   what it refuses with.
+//! Tables:
 //!
-//! The specs `Found` and `Adoption` say what is asked.
+//! - `shapes`, `table_checks`, `office_tables`: the eight tables, told by constants
+//! - `rowids`: whether the rowids of each table are integers, no two the same
+//! - `offices`: a transaction that tells whether a connection's tables are those
+//!
+//! Rows:
+//!
+//! - `look_ups`, `statuses`: all records, and their statuses
+//! - `office_read`, `book_read`: the office, and its book
+//! - `tested`: all that is asked (`adopted_office`)
+//! - `faults`: why an office's tables can't be had (`OpenFault`, `Mismatch`)
+//!
+//! The specs `Found` and `Adoption` say what is asked of tables and of rows. `Shapes`, `Checks` and `Tables` are the
+//! tables that constants tell, `BookShown` what rows of records stand for, `Faults` the faults' numbers; inner
+//! functions have the others.
 #![tactic(auto)]
 
 mod book_read;

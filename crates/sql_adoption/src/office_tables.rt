@@ -1,6 +1,6 @@
 //! The eight tables of an office and their indexes, told by constants.
 ghost use Rattle.std.specs.Prelude.{◌≡◌, ◌↔◌, true};
-ghost use Rattle.sql_schema.specs.Schema.{office_schema};
+ghost use Rattle.sql_schema.specs.Layouts.{made_new, schema_of, IsLaidOut};
 ghost use Rattle.sql_adoption.specs.Tables.{table_of, no_stamps, HasKeys, HasRules};
 
 use crate::shapes::ColumnShape::{Integer, Nullable, Rowid, Text};
@@ -276,23 +276,30 @@ impl Shape for TableShape {
 }
 
 fn has_tables(schema: &Schema) -> bool
-    ensures { (result ≡ true) ↔ (schema.now.tables ≡ office_schema.tables) }
+    ensures { (result ≡ true) ↔ (schema.now.tables ≡ (schema_of made_new).tables) }
 {
     fit_all(&TABLES, schema.tables.as_slice())
 }
 
 fn has_indexes(schema: &Schema) -> bool
-    ensures { (result ≡ true) ↔ (schema.now.indexes ≡ office_schema.indexes) }
+    ensures { (result ≡ true) ↔ (schema.now.indexes ≡ (schema_of made_new).indexes) }
 {
     fit_all(&INDEXES, schema.indexes.as_slice())
 }
 
-/// Whether the tables and the indexes are an office's, each in its place, and there is nothing else. How their texts are spelled is not asked.
-pub(crate) fn is_office_schema(schema: &Schema) -> bool
-    ensures { (result ≡ true) ↔ (schema.now ≡ office_schema) }
+/// Whether the tables and the indexes are those of an office that was made new, each in its place, and there is nothing else.
+fn is_made_new(schema: &Schema) -> bool
+    ensures { (result ≡ true) ↔ (schema.now ≡ schema_of made_new) }
 {
     let tables = has_tables(schema);
     let indexes = has_indexes(schema);
     let alone = schema.views.is_empty();
     tables && indexes && alone
+}
+
+/// Whether the tables and the indexes are an office's, each in its place, and there is nothing else. How their texts are spelled is not asked.
+pub(crate) fn is_office_schema(schema: &Schema) -> bool
+    ensures { (result ≡ true) ↔ IsLaidOut schema.now }
+{
+    is_made_new(schema)
 }

@@ -1,11 +1,11 @@
 //! A whole transaction that tells whether a connection's tables are an office's. It ends by a commit, since only that tells that the
 //! connection is still open.
-ghost use Rattle.std.specs.Prelude.{◌≡◌, ◌≢◌, ◌↔◌, true, false};
+ghost use Rattle.std.specs.Prelude.{◌≡◌, ◌↔◌, true, false};
 ghost use Rattle.sqlite.specs.Held.{state};
 ghost use Rattle.sqlite.specs.State.{IsLive};
-ghost use Rattle.sql_schema.specs.Schema.{office_schema};
 ghost use Rattle.sql_adoption.specs.Found.{HoldsOffice};
 ghost use Rattle.sql_adoption.specs.Looks.{IsOver, IsLook, HasSchema, IsTested};
+ghost use Rattle.sql_schema.specs.Layouts.{HasLayout};
 
 use crate::office_tables::is_office_schema;
 use crate::rowids::are_tables_apart;
@@ -25,7 +25,7 @@ fn holds_office<S: Alter>(tx: &mut Transaction<'_, S>) -> Result<bool, Error>
 fn is_office_by_rows<S: Alter>(connection: &mut Connection<S>) -> Result<bool, Error>
     requires autocommit { connection.old.in_transaction ≡ false }
     requires live { IsLive (state S.Store connection.old) }
-    requires schema { (state S.Store connection.old).now.schema ≡ office_schema }
+    requires schema { HasLayout (state S.Store connection.old).now }
     ensures tested { IsTested (state S.Store connection.old) (state S.Store connection.new) result }
 {
     let mut tx = connection.transaction();
@@ -38,7 +38,7 @@ fn is_office_by_rows<S: Alter>(connection: &mut Connection<S>) -> Result<bool, E
 fn is_no_office<S: Alter>(connection: &mut Connection<S>) -> Result<bool, Error>
     requires autocommit { connection.old.in_transaction ≡ false }
     requires live { IsLive (state S.Store connection.old) }
-    requires other { (state S.Store connection.old).now.schema ≢ office_schema }
+    requires other { ¬ HasLayout (state S.Store connection.old).now }
     ensures tested { IsTested (state S.Store connection.old) (state S.Store connection.new) result }
 {
     let tx = connection.transaction();

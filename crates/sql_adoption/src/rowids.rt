@@ -1,12 +1,14 @@
 //! Whether the rowids of each table are integers, no two the same.
-ghost use Rattle.std.specs.Prelude.{◌≡◌, ◌↔◌, true, None, ℕ};
+ghost use Rattle.std.specs.Prelude.{◌≡◌, ◌↔◌, true, None};
 ghost use Rattle.sqlite.specs.Held.{state};
 ghost use Rattle.sqlite.specs.Order.{column};
+ghost use Rattle.sqlite.specs.Table.{Table};
 ghost use Rattle.sql_laws.specs.ApartRows.{AreApart};
 ghost use Rattle.sql_schema.specs.Inside.{AreTables};
 ghost use Rattle.sql_adoption.specs.Looks.{IsOver, IsLook, HasSchema};
 ghost use Rattle.sql_adoption.specs.RisingRows as spec;
 ghost use Rattle.sql_adoption.specs.RowidQueries.{IsRowidQuery};
+ghost use Rattle.sql_schema.specs.Layouts.{rows_named};
 
 use sqlite::types::ValueRef;
 use sqlite::{Alter, Error, Row, Transaction};
@@ -70,9 +72,9 @@ fn are_rising(rows: &[Row]) -> bool
 fn is_apart<S: Alter>(tx: &mut Transaction<'_, S>, query: &str) -> Result<bool, Error>
     requires over { IsOver HasSchema (state S.Store tx.old.conn.now) }
     ensures same_reference { tx.new.conn.ghost_name ≡ tx.old.conn.ghost_name }
-    ensures found { (tree : ℕ) → IsRowidQuery query.now tree
+    ensures found { (table : Table) → IsRowidQuery query.now table
         → IsLook (state S.Store tx.old.conn.now) (state S.Store tx.new.conn.now) result
-        (λ db apart. (apart ≡ true) ↔ AreApart (db.trees tree)) }
+        (λ db apart. (apart ≡ true) ↔ AreApart (rows_named db table.name)) }
 {
     let rows = tx.query_all(query, &[])?;
     Ok(are_rising(&rows))
@@ -83,7 +85,7 @@ pub(crate) fn are_tables_apart<S: Alter>(tx: &mut Transaction<'_, S>) -> Result<
     requires over { IsOver HasSchema (state S.Store tx.old.conn.now) }
     ensures same_reference { tx.new.conn.ghost_name ≡ tx.old.conn.ghost_name }
     ensures found { IsLook (state S.Store tx.old.conn.now) (state S.Store tx.new.conn.now) result
-        (λ db apart. (apart ≡ true) ↔ AreTables db.trees) }
+        (λ db apart. (apart ≡ true) ↔ AreTables (rows_named db)) }
 {
     for query in &ROWIDS {
         if !is_apart(tx, query)? {

@@ -1,9 +1,9 @@
 -- A unit that is written over rows of which none has its suggestions' numbers reads back as it.
-use Rattle.std.proofs.Common.{◌≡◌, ◌≢◌, inl, inr, ℕ, ◌+◌, List, [], ◌∷◌, sym, ap, subst, ◌∙◌}
+use Rattle.std.proofs.Common.{◌≡◌, ◌≢◌, inl, inr, ℕ, ◌+◌, List, [], ◌∷◌, sym, ap, subst, ◌∙◌, codes, refl}
 use Rattle.sqlite.specs.Order.{Row}
 use Rattle.sqlite.specs.Effect.{Database}
 use Rattle.sqlite_rules.specs.Lists.{Has}
-use Rattle.po_read.specs.Texts.{Text}
+use Rattle.po_text.specs.Texts.{Text}
 use Rattle.units.specs.KeyTexts.{HasStrings}
 use Rattle.units.specs.Units.{key_text}
 use Rattle.units.specs.declared.unit.Suggestion.{Suggestion}
@@ -11,12 +11,13 @@ use Rattle.units.specs.declared.unit.Unit.{Unit}
 use Rattle.request_book.specs.Words.{number_text}
 use Rattle.sql_columns.specs.Written.{ArePrevious}
 use Rattle.sql_schema.specs.Keys.{first_text, first_texts}
-use Rattle.sql_schema.specs.Schema.{unit_tree, suggestion_tree, vote_tree}
 use Rattle.sql_meaning.specs.Written.{PutsRows, PutsSuggestions, WritesUnit}
 use Rattle.sql_meaning.proofs.Suggestions.{AreFree}
 use Rattle.sql_meaning.proofs.UnitsWritten.{IsWritable}
-use Rattle.sql_meaning.proofs.WrittenRows.{AreNumbers, HaveOwnNumbers, row_spares, suggestions_there}
+use Rattle.sql_meaning.proofs.WrittenRows.{AreNumbers, HaveOwnNumbers}
 use Rattle.sql_changes.specs.UnitWrites.{AddsSuggestions, WritesNumberedUnit}
+use Rattle.sql_schema.specs.Layouts.{rows_named}
+use Rattle.sql_schema.proofs.Layouts.{names_differ}
 
 -- what is added is put
 adds_put : (lang key : Text) (place : ℕ) (ss : List Suggestion) (old new : Database) → AddsSuggestions lang key place ss old new → PutsSuggestions lang key place ss old new
@@ -31,13 +32,13 @@ unit_numbers lang unit old new (mid, put, (cleared, clear, adds)) = adds.1
 
 -- ---- their numbers
 
-votes_spare : (all : List Row) (old new : Database) → PutsRows vote_tree first_texts all old new → new.trees suggestion_tree ≡ old.trees suggestion_tree
-votes_spare [] old new is = ap (λ (d : Database). d.trees suggestion_tree) is
-votes_spare (cells ∷ more) old new (mid, put, rest) = votes_spare more mid new rest ∙ row_spares suggestion_tree suggestions_there vote_tree first_texts _ old mid put (λ e. cc)
+votes_spare : (all : List Row) (old new : Database) → PutsRows (codes "vote") first_texts all old new → rows_named new (codes "suggestion") ≡ rows_named old (codes "suggestion")
+votes_spare [] old new is = ap (λ (d : Database). rows_named d (codes "suggestion")) is
+votes_spare (cells ∷ more) old new (mid, put, rest) = votes_spare more mid new rest ∙ put.others (codes "suggestion") (names_differ refl)
 
 -- no row that is there has a number of those that are added
 fresh : (lang key : Text) (place : ℕ) (ss : List Suggestion) (old new : Database) → AddsSuggestions lang key place ss old new
-    → (x : Row) → Has (old.trees suggestion_tree) x → (s : Suggestion) → Has ss s → first_text x ≢ number_text s.number
+    → (x : Row) → Has (rows_named old (codes "suggestion")) x → (s : Suggestion) → Has ss s → first_text x ≢ number_text s.number
 fresh lang key place [] old new adds x there s in_s is = in_s
 fresh lang key place (t ∷ more) old new (mid, (after, added, votes), rest) x there s (inl same) is =
     let number : first_text added.puts.row ≡ number_text t.number = ap first_text added.puts.is_row.1 in
@@ -56,7 +57,7 @@ own_numbers lang key place (s ∷ more) old new (mid, (after, added, votes), res
         let number : first_text added.puts.row ≡ number_text s.number = ap first_text added.puts.is_row.1 in
         fresh lang key (place + 1) more mid new rest added.puts.row here other there (number ∙ ap number_text (sym is))
 
-pub unit_writable : (lang : Text) (unit : Unit) (old new : Database) → WritesNumberedUnit lang unit old new → HasStrings unit.key → ArePrevious unit.previous → IsWritable old.trees lang unit
+pub unit_writable : (lang : Text) (unit : Unit) (old new : Database) → WritesNumberedUnit lang unit old new → HasStrings unit.key → ArePrevious unit.previous → IsWritable (rows_named old) lang unit
 unit_writable lang unit old new (mid, put, (cleared, clear, adds)) strings previous = record {
   key = strings;
   previous = previous;
@@ -65,7 +66,7 @@ unit_writable lang unit old new (mid, put, (cleared, clear, adds)) strings previ
   free = are_free;
 }
   where
-    are_free : AreFree lang (key_text unit.key) unit.suggestions old.trees
+    are_free : AreFree lang (key_text unit.key) unit.suggestions (rows_named old)
     are_free s in_s row there off =
-        let same = row_spares suggestion_tree suggestions_there unit_tree first_texts _ old mid put (λ e. cc) in
+        let same = put.others (codes "suggestion") (names_differ refl) in
         fresh lang (key_text unit.key) 0 unit.suggestions cleared new adds.0 row (clear.suggestions.kept row (subst (λ rows. Has rows row) (sym same) there) off) s in_s

@@ -1,5 +1,5 @@
 -- What the policy's row that is put makes of the policy.
-use Rattle.std.proofs.Common.{◌≡◌, pos, [], ◌∷◌, Bool, true, false, unwrap_or, refl, sym, ap, ◌∙◌}
+use Rattle.std.proofs.Common.{◌≡◌, pos, [], ◌∷◌, Bool, true, false, unwrap_or, refl, sym, ap, ◌∙◌, codes}
 use Rattle.std.specs.Cmp.{int_cmp_total}
 use Rattle.std.specs.Ordering.{int_cmp}
 use Rattle.std.specs.FinMap as maps
@@ -16,12 +16,12 @@ use Rattle.units.specs.Openings.{closed_policy}
 use Rattle.units.specs.declared.unit.Policy.{Policy}
 use Rattle.sql_columns.specs.Numbers.{flag_number}
 use Rattle.sql_schema.specs.Keys.{row_number}
-use Rattle.sql_schema.specs.Schema.{policy_tree}
 use Rattle.sql_schema.proofs.RowNumbers.{one_row_number}
 use Rattle.sql_meaning.specs.Values.{integer_of, integer_at, flag_at}
 use Rattle.sql_meaning.specs.Meaning.{policy_of, policy_in}
 use Rattle.sql_meaning.proofs.Lookups.{AreOneKey, puts}
 use Rattle.sql_changes.specs.Commits.{policy_row, PutsPolicy}
+use Rattle.sql_schema.specs.Layouts.{rows_named}
 
 abbrev HasRowid : Row → Type 0
 HasRowid row = is_int (row_number row) ≡ true
@@ -50,14 +50,14 @@ policy_back policy = λ i. record {
 }
 
 abbrev by_number : Database → maps.FinMap int_cmp Policy
-by_number db = map_of int_cmp (integer_at 0) policy_of (db.trees policy_tree)
+by_number db = map_of int_cmp (integer_at 0) policy_of (rows_named db (codes "policy"))
 
-pub policy_put : (old new : Database) (policy : Policy) → AreApart (old.trees policy_tree) → PutsPolicy policy old new → policy_in new.trees ≡ policy
+pub policy_put : (old new : Database) (policy : Policy) → AreApart (rows_named old (codes "policy")) → PutsPolicy policy old new → policy_in (rows_named new) ≡ policy
 policy_put old new policy apart made =
     let has_rowid : HasRowid made.row = ap (λ row. is_int (row_number row)) made.is_row in
     ap (λ m. unwrap_or (maps.get m (pos 1)) closed_policy)
-    (puts row_number (integer_at 0) HasRowid int_cmp int_cmp_total int_cmp-IsAntisymmetric policy_of (old.trees policy_tree) (new.trees policy_tree) made.row (λ r there. apart.ints r there) has_rowid
-    (one_row_number (old.trees policy_tree) apart) by_rowid made.put
+    (puts row_number (integer_at 0) HasRowid int_cmp int_cmp_total int_cmp-IsAntisymmetric policy_of (rows_named old (codes "policy")) (rows_named new (codes "policy")) made.row (λ r there. apart.ints r there) has_rowid
+    (one_row_number (rows_named old (codes "policy")) apart) by_rowid made.put
     ∙ ap (λ row. maps.insert (by_number old) (integer_at 0 row) (policy_of row)) made.is_row)
     ∙ ap (λ o. unwrap_or o closed_policy) (maps.get-insert int_cmp_total (by_number old) (pos 1) (policy_of (policy_row policy)) (pos 1))
     ∙ policy_back policy

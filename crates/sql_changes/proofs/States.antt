@@ -16,14 +16,14 @@ use Rattle.sqlite_sql.specs.declared.ops.BinaryOp.TheVariants as by
 use Rattle.sqlite_schema.specs.declared.schema.Constraint.TheVariants.{Check}
 use Rattle.sqlite_rules.specs.Edit.{id_in}
 use Rattle.sqlite_rules.specs.Lists.{Has}
-use Rattle.sqlite_rules.proofs.RuleLemmas.{keeps_at}
 use Rattle.units.specs.Units.{is_approved}
 use Rattle.sql_schema.specs.Inside.{AreOfficeTables}
-use Rattle.sql_schema.specs.Schema.{unit_tree, is_between}
-use Rattle.sql_schema.proofs.TableRows.{units, units_listed}
-use Rattle.sql_schema.proofs.TextKeys.{holds_int}
+use Rattle.sql_schema.specs.Schema.{is_between, unit_table}
+use Rattle.sql_schema.proofs.TextKeys.{holds_int, passes_rule}
 use Rattle.sql_statements.specs.Renewed.{is_approved_row}
 use Rattle.sql_meaning.specs.Values.{state_at}
+use Rattle.sql_schema.specs.Layouts.{rows_named}
+use Rattle.sql_schema.proofs.Layouts.{unit_placed}
 
 -- ---- numbers of states
 
@@ -45,12 +45,12 @@ three_is_last n low = by_number n (ap is_le (sym (value_cmp-Int n (pos 3))) ∙ 
     by_number (pos (suc (suc (suc zero)))) low = refl
     by_number (pos (suc (suc (suc (suc k))))) low = absurd (let above : Greater ≡ int_cmp (pos (suc (suc (suc (suc k))))) (pos 3) = int_cmp_is (pos (suc (suc (suc (suc k))))) (pos 3) Greater (omega (arith, ints)) in let no = ap is_le above ∙ low in cc)
 
-module _ (db : Database) (ready : AreOfficeTables db) (row : Row) (there : Has (db.trees unit_tree) row) where
+module _ (db : Database) (ready : AreOfficeTables db) (row : Row) (there : Has (rows_named db (codes "unit")) row) where
   state_is : column row 5 ≡ Int (id_in (column row 5))
-  state_is = holds_int units units_listed 4 (codes "state") refl db ready.schema ready.sound row there refl
+  state_is = holds_int unit_table unit_placed 4 (codes "state") refl db ready.schema ready.sound row there refl
 
   pub revision_is : column row 7 ≡ Int (id_in (column row 7))
-  revision_is = holds_int units units_listed 6 (codes "revision") refl db ready.schema ready.sound row there refl
+  revision_is = holds_int unit_table unit_placed 6 (codes "revision") refl db ready.schema ready.sound row there refl
 
   in_range : (n : ℤ) → column row 5 ≡ Int n → not (is_false (eval (is_between 5 (pos 0) (pos 3)) ([] ∷ row ∷ []))) ≡ true → is_le (value_cmp (Int n) (Int (pos 3))) ≡ true
   unfolding binary lib.Ieee.is_nan lib.Ieee.lt
@@ -59,7 +59,6 @@ module _ (db : Database) (ready : AreOfficeTables db) (row : Row) (there : Has (
   -- the row is approved where its state is 3
   pub approved_is : is_approved (state_at 5 row) ≡ is_approved_row row
   approved_is =
-      let listed = subst (λ z. Has z.tables units) (sym ready.schema) units_listed in
-      let passed = and_parts _ _ (keeps_at Check db.schema db.trees units row (ready.sound.obeys.rules Check) listed there) in
+      let passed = and_parts _ _ (passes_rule unit_table unit_placed Check db ready.schema ready.sound row there) in
       let low = in_range (id_in (column row 5)) state_is passed.0 in
       subst (λ v. is_approved (state_at 0 (v ∷ [])) ≡ is_eq (value_cmp v (Int (pos 3)))) (sym state_is) (three_is_last (id_in (column row 5)) low)

@@ -1,5 +1,5 @@
 -- What the entries that are put into an empty table make of the template.
-use Rattle.std.proofs.Common.{◌≡◌, inl, inr, ℕ, ◌+◌, ◌<◌, ℤ, pos, List, [], ◌∷◌, ◌++◌, map, true, Option, Some, None, unwrap_or, append-nil, refl, sym, ap, subst, ◌∙◌, arith}
+use Rattle.std.proofs.Common.{◌≡◌, inl, inr, ℕ, ◌+◌, ◌<◌, ℤ, pos, List, [], ◌∷◌, ◌++◌, map, true, Option, Some, None, unwrap_or, append-nil, refl, sym, ap, subst, ◌∙◌, arith, codes}
 use Rattle.std.proofs.lemmas.Int.{ints}
 use Rattle.std.proofs.lemmas.List.{append_assoc}
 use Rattle.std.specs.Cmp.{int_cmp_total, int_cmp_is}
@@ -18,8 +18,8 @@ use Rattle.sqlite_rules.proofs.ListLemmas.{has_either}
 use Rattle.sqlite_rules.proofs.TableLemmas.{int_is}
 use Rattle.sql_laws.specs.ApartRows.{AreApart}
 use Rattle.sql_laws.specs.RowMaps.{map_of}
-use Rattle.po_read.specs.declared.entry.Entry.{Entry}
-use Rattle.po_read.specs.Texts.{Text}
+use Rattle.po_text.specs.declared.entry.Entry.{Entry}
+use Rattle.po_text.specs.Texts.{Text}
 use Rattle.units.specs.KeyTexts.{HasStrings}
 use Rattle.units.specs.Projects.{IsTemplateEntry}
 use Rattle.units.specs.Units.{key_of}
@@ -30,16 +30,14 @@ use Rattle.sql_columns.proofs.Readers.{texts_found}
 use Rattle.sql_schema.specs.Inside.{AreOfficeTables}
 use Rattle.sql_schema.specs.Keys.{row_number}
 use Rattle.sql_schema.specs.Rows.{text_or_null}
-use Rattle.sql_schema.specs.Schema.{template_tree}
 use Rattle.sql_schema.proofs.RowNumbers.{one_row_number}
-use Rattle.sql_schema.proofs.Steps.{table_apart}
-use Rattle.sql_schema.proofs.TableRows.{entries}
 use Rattle.sql_meaning.specs.Values.{integer_of, integer_at, text_or_null_at}
 use Rattle.sql_meaning.specs.Meaning.{entry_of_row, template_in}
 use Rattle.sql_meaning.proofs.Lookups.{AreOneKey, puts}
 use Rattle.sql_meaning.proofs.RowsPut.{no_entries}
 use Rattle.sql_changes.specs.Commits.{entry_row, PutsEntry, PutsEntries}
 use Rattle.sql_changes.proofs.Changed.{Spares, spares_same, spares_both}
+use Rattle.sql_schema.specs.Layouts.{rows_named}
 
 -- ---- an entry reads back
 
@@ -127,43 +125,43 @@ numbered_values place (e ∷ more) = ap (λ rest. e ∷ rest) (numbered_values (
 
 -- one entry more
 module _ (place : ℕ) (entry : Entry) (old new : Database) (ready : AreOfficeTables old) (put : PutsEntry place entry old new) (plain : IsTemplateEntry entry) where
-  apart : AreApart (old.trees template_tree)
-  apart = table_apart old.trees 3 entries refl ready.tables
+  apart : AreApart (rows_named old (codes "template"))
+  apart = ready.tables (codes "template") refl
 
   has_rowid : HasRowid put.0.0.row
   has_rowid = ap (λ row. is_int (row_number row)) put.0.0.is_row
 
-  inserted : by_place (new.trees template_tree) ≡ maps.insert (by_place (old.trees template_tree)) (pos place) entry
+  inserted : by_place (rows_named new (codes "template")) ≡ maps.insert (by_place (rows_named old (codes "template"))) (pos place) entry
   inserted =
-      puts row_number (integer_at 0) HasRowid int_cmp int_cmp_total int_cmp-IsAntisymmetric entry_of_row (old.trees template_tree) (new.trees template_tree) put.0.0.row (λ r there. apart.ints r there) has_rowid
-      (one_row_number (old.trees template_tree) apart) by_rowid put.0.0.put
-      ∙ ap (λ row. maps.insert (by_place (old.trees template_tree)) (integer_at 0 row) (entry_of_row row)) put.0.0.is_row
-      ∙ ap (maps.insert (by_place (old.trees template_tree)) (pos place)) (entry_back place entry put.1 plain)
+      puts row_number (integer_at 0) HasRowid int_cmp int_cmp_total int_cmp-IsAntisymmetric entry_of_row (rows_named old (codes "template")) (rows_named new (codes "template")) put.0.0.row (λ r there. apart.ints r there) has_rowid
+      (one_row_number (rows_named old (codes "template")) apart) by_rowid put.0.0.put
+      ∙ ap (λ row. maps.insert (by_place (rows_named old (codes "template"))) (integer_at 0 row) (entry_of_row row)) put.0.0.is_row
+      ∙ ap (maps.insert (by_place (rows_named old (codes "template"))) (pos place)) (entry_back place entry put.1 plain)
 
-  one_more : AreBelow place (maps.entries (by_place (old.trees template_tree)))
-      → maps.entries (by_place (new.trees template_tree)) ≡ maps.entries (by_place (old.trees template_tree)) ++ (pos place, entry) ∷ []
+  one_more : AreBelow place (maps.entries (by_place (rows_named old (codes "template"))))
+      → maps.entries (by_place (rows_named new (codes "template"))) ≡ maps.entries (by_place (rows_named old (codes "template"))) ++ (pos place, entry) ∷ []
   one_more below =
-      ap maps.entries inserted ∙ maps.entries-insert int_cmp_total (by_place (old.trees template_tree)) (pos place) entry
-      ∙ put_last place entry (maps.entries (by_place (old.trees template_tree))) below
+      ap maps.entries inserted ∙ maps.entries-insert int_cmp_total (by_place (rows_named old (codes "template"))) (pos place) entry
+      ∙ put_last place entry (maps.entries (by_place (rows_named old (codes "template")))) below
 
 entries_put : (place : ℕ) (es : List Entry) (old new : Database) → AreOfficeTables old → PutsEntries place es old new → ((e : Entry) → Has es e → IsTemplateEntry e)
-    → AreBelow place (maps.entries (by_place (old.trees template_tree)))
-    → maps.entries (by_place (new.trees template_tree)) ≡ maps.entries (by_place (old.trees template_tree)) ++ numbered place es
-entries_put place [] old new ready is plain below = ap (λ (d : Database). maps.entries (by_place (d.trees template_tree))) is ∙ sym (append-nil _)
+    → AreBelow place (maps.entries (by_place (rows_named old (codes "template"))))
+    → maps.entries (by_place (rows_named new (codes "template"))) ≡ maps.entries (by_place (rows_named old (codes "template"))) ++ numbered place es
+entries_put place [] old new ready is plain below = ap (λ (d : Database). maps.entries (by_place (rows_named d (codes "template")))) is ∙ sym (append-nil _)
 entries_put place (e ∷ more) old new ready (mid, put, rest) plain below =
-    let was = maps.entries (by_place (old.trees template_tree)) in
+    let was = maps.entries (by_place (rows_named old (codes "template"))) in
     let now = one_more place e old mid ready put (plain e (inl refl)) below in
-    let next : AreBelow (place + 1) (maps.entries (by_place (mid.trees template_tree))) = subst (AreBelow (place + 1)) (sym now) (below_next place e was below) in
+    let next : AreBelow (place + 1) (maps.entries (by_place (rows_named mid (codes "template")))) = subst (AreBelow (place + 1)) (sym now) (below_next place e was below) in
     entries_put (place + 1) more mid new put.0.1 rest (λ f there. plain f (inr there)) next
     ∙ ap (λ l. l ++ numbered (place + 1) more) now ∙ append_assoc was ((pos place, e) ∷ []) (numbered (place + 1) more)
 
-pub template_put : (es : List Entry) (old new : Database) → AreOfficeTables old → ((x : Row) → Has (old.trees template_tree) x → ⊥) → PutsEntries 0 es old new
-    → ((e : Entry) → Has es e → IsTemplateEntry e) → template_in new.trees ≡ es
+pub template_put : (es : List Entry) (old new : Database) → AreOfficeTables old → ((x : Row) → Has (rows_named old (codes "template")) x → ⊥) → PutsEntries 0 es old new
+    → ((e : Entry) → Has es e → IsTemplateEntry e) → template_in (rows_named new) ≡ es
 template_put es old new ready empty made plain =
-    let none : maps.entries (by_place (old.trees template_tree)) ≡ [] = ap (λ rows. maps.entries (by_place rows)) (none_left (old.trees template_tree) empty) ∙ no_entries int_cmp Entry in
-    let below : AreBelow 0 (maps.entries (by_place (old.trees template_tree))) = subst (AreBelow 0) (sym none) (λ e there. absurd there) in
+    let none : maps.entries (by_place (rows_named old (codes "template"))) ≡ [] = ap (λ rows. maps.entries (by_place rows)) (none_left (rows_named old (codes "template")) empty) ∙ no_entries int_cmp Entry in
+    let below : AreBelow 0 (maps.entries (by_place (rows_named old (codes "template")))) = subst (AreBelow 0) (sym none) (λ e there. absurd there) in
     ap (map (λ (e : ℤ × Entry). e.1)) (entries_put 0 es old new ready made plain below ∙ ap (λ l. l ++ numbered 0 es) none) ∙ numbered_values 0 es
 
-pub entries_spare : (place : ℕ) (es : List Entry) (old new : Database) → PutsEntries place es old new → Spares template_tree old new
-entries_spare place [] old new is = spares_same template_tree old new is
-entries_spare place (e ∷ more) old new (mid, put, rest) = spares_both template_tree old mid new put.0.0.others (entries_spare (place + 1) more mid new rest)
+pub entries_spare : (place : ℕ) (es : List Entry) (old new : Database) → PutsEntries place es old new → Spares (codes "template") old new
+entries_spare place [] old new is = spares_same (codes "template") old new is
+entries_spare place (e ∷ more) old new (mid, put, rest) = spares_both (codes "template") old mid new put.0.0.others (entries_spare (place + 1) more mid new rest)

@@ -1,12 +1,12 @@
 -- What a commit of a change of an office makes of the tables: its request's record, whose number is 16 bytes, and the rows that the change
 -- writes.
-use Rattle.std.specs.Prelude.{◌≡◌, ℕ, ◌+◌, ℤ, pos, Bool, true, false, List, [], ◌∷◌, Option, Some, None, unwrap_or}
+use Rattle.std.specs.Prelude.{◌≡◌, ℕ, ◌+◌, ℤ, pos, Bool, true, false, List, [], ◌∷◌, Option, Some, None, unwrap_or, codes}
 use Rattle.sqlite.specs.declared.types.Value.TheVariants.{Null, Int, Text as Words}
 use Rattle.sqlite.specs.Order.{Row}
 use Rattle.sqlite.specs.Effect.{Database}
-use Rattle.po_read.specs.declared.entry.Entry.{Entry}
-use Rattle.po_read.specs.Strings.{is_forms}
-use Rattle.po_read.specs.Texts.{Text}
+use Rattle.po_text.specs.declared.entry.Entry.{Entry}
+use Rattle.po_text.specs.Strings.{is_forms}
+use Rattle.po_text.specs.Texts.{Text}
 use Rattle.units.specs.KeyTexts.{HasStrings}
 use Rattle.units.specs.Office.{main, same_domain}
 use Rattle.units.specs.Rules.{plural_field}
@@ -26,7 +26,6 @@ use Rattle.sql_columns.specs.Written.{ArePrevious, texts_text, header_text}
 use Rattle.sql_schema.specs.Inside.{PutsRow, HoldsValues, Then}
 use Rattle.sql_schema.specs.Keys.{first_text, row_number, has_text}
 use Rattle.sql_schema.specs.Rows.{text_or_null}
-use Rattle.sql_schema.specs.Schema.{record_tree, team_tree, policy_tree, template_tree, language_tree}
 use Rattle.sql_statements.specs.Emptied.{EmptiesUnits}
 use Rattle.sql_statements.specs.Renewed.{UnapprovesUnits}
 use Rattle.sql_statements.specs.Taken.{TakesRows}
@@ -34,14 +33,14 @@ use Rattle.sql_meaning.specs.Cells.{record_cells}
 use Rattle.sql_changes.specs.UnitWrites.{LeavesTables, WritesNumberedUnit, WritesUnits, WritesPlansBack}
 
 abbrev pub PutsNumberedRecord : Record → Database → Database → Type 0
-PutsNumberedRecord row old new = PutsRow record_tree first_text (HoldsValues (record_cells row)) old new × IsNumber row.number
+PutsNumberedRecord row old new = PutsRow (codes "record") first_text (HoldsValues (record_cells row)) old new × IsNumber row.number
 
 -- ---- a role
 
 -- a member has a row with the number of its role; a guest, whose role has none, has no row
 abbrev pub WritesRole : Text → Option ℤ → Database → Database → Type 0
-WritesRole name None = TakesRows team_tree (has_text 1 name)
-WritesRole name (Some role) = PutsRow team_tree first_text (HoldsValues (Words name ∷ Int role ∷ []))
+WritesRole name None = TakesRows (codes "team") (has_text 1 name)
+WritesRole name (Some role) = PutsRow (codes "team") first_text (HoldsValues (Words name ∷ Int role ∷ []))
 
 abbrev pub MakesRole : Record → Text → Role → Database → Database → Type 0
 MakesRole row name role = Then (PutsNumberedRecord row) (WritesRole name (role_number role))
@@ -55,7 +54,7 @@ policy_row policy =
     ∷ Int (flag_number policy.placeholders) ∷ Int (flag_number policy.line_ends) ∷ []
 
 abbrev pub PutsPolicy : Policy → Database → Database → Type 0
-PutsPolicy policy = PutsRow policy_tree row_number (λ row. row ≡ policy_row policy)
+PutsPolicy policy = PutsRow (codes "policy") row_number (λ row. row ≡ policy_row policy)
 
 -- without reviews no unit stays approved
 abbrev pub UnapprovesUnless : Bool → Database → Database → Type 0
@@ -82,7 +81,7 @@ language_cells lang header = Words lang ∷ Words (header_text header) ∷ Words
 -- and the header's strings are those of a catalogue
 abbrev pub PutsLanguage : Text → Entry → Database → Database → Type 0
 PutsLanguage lang header old new =
-    LeavesTables (PutsRow language_tree first_text (HoldsValues (language_cells lang header))) old new × (is_forms header.forms ≡ true) × ArePrevious header.previous
+    LeavesTables (PutsRow (codes "language") first_text (HoldsValues (language_cells lang header))) old new × (is_forms header.forms ≡ true) × ArePrevious header.previous
 
 -- with its units
 abbrev pub WritesLanguage : Text → Entry → List Unit → Database → Database → Type 0
@@ -100,7 +99,7 @@ entry_row place entry =
 
 -- and the key's strings are those of a catalogue
 abbrev pub PutsEntry : ℕ → Entry → Database → Database → Type 0
-PutsEntry place entry old new = LeavesTables (PutsRow template_tree row_number (λ row. row ≡ entry_row place entry)) old new × HasStrings (key_of entry)
+PutsEntry place entry old new = LeavesTables (PutsRow (codes "template") row_number (λ row. row ≡ entry_row place entry)) old new × HasStrings (key_of entry)
 
 -- from this place on
 abbrev pub PutsEntries : ℕ → List Entry → Database → Database → Type 0
@@ -109,7 +108,7 @@ PutsEntries place (entry ∷ more) old new = Then (PutsEntry place entry) (PutsE
 
 -- in the place of the one that is there
 abbrev pub PutsTemplate : List Entry → Database → Database → Type 0
-PutsTemplate entries = Then (LeavesTables (TakesRows template_tree (λ row. true))) (PutsEntries 0 entries)
+PutsTemplate entries = Then (LeavesTables (TakesRows (codes "template") (λ row. true))) (PutsEntries 0 entries)
 
 -- the units of plans in the place of all that are there
 abbrev pub WritesPlans : List LanguagePlan → Database → Database → Type 0

@@ -1,10 +1,10 @@
 -- What the writers of units make of the tables: the rows of a unit in the place of those that are there, and units one after the other.
 -- Numbers of requests are 16 bytes, and strings those of a catalogue.
-use Rattle.std.specs.Prelude.{◌≡◌, ℕ, ◌+◌, List, [], ◌∷◌, map}
+use Rattle.std.specs.Prelude.{◌≡◌, ℕ, ◌+◌, List, [], ◌∷◌, map, codes}
 use Rattle.std.specs.FinMap as maps
 use Rattle.sqlite.specs.Effect.{Database}
 use Rattle.sqlite_rules.specs.Lists.{Has}
-use Rattle.po_read.specs.Texts.{Text}
+use Rattle.po_text.specs.Texts.{Text}
 use Rattle.units.specs.KeyTexts.{HasStrings}
 use Rattle.units.specs.Units.{key_text}
 use Rattle.units.specs.declared.unit.Suggestion.{Suggestion}
@@ -16,7 +16,6 @@ use Rattle.sql_columns.specs.Written.{ArePrevious}
 use Rattle.sql_schema.specs.Cleared.{ClearsUnit}
 use Rattle.sql_schema.specs.Inside.{AreOfficeTables, PutsRow, HoldsValues, Then}
 use Rattle.sql_schema.specs.Keys.{first_text, first_texts}
-use Rattle.sql_schema.specs.Schema.{unit_tree, suggestion_tree, vote_tree}
 use Rattle.sql_statements.specs.Added.{AddsRow}
 use Rattle.sql_meaning.specs.Cells.{unit_cells, suggestion_cells, vote_cells}
 use Rattle.sql_meaning.specs.Written.{PutsRows}
@@ -30,8 +29,8 @@ HaveNumbers ss = (s : Suggestion) → Has ss s → IsNumber s.number
 -- a suggestion, whose number no other has, and the votes on it
 abbrev pub AddsSuggestion : Text → Text → ℕ → Suggestion → Database → Database → Type 0
 AddsSuggestion lang key place s =
-    Then (AddsRow suggestion_tree first_text (HoldsValues (suggestion_cells lang key place s)))
-    (PutsRows vote_tree first_texts (map (vote_cells (number_text s.number)) (maps.entries s.votes)))
+    Then (AddsRow (codes "suggestion") first_text (HoldsValues (suggestion_cells lang key place s)))
+    (PutsRows (codes "vote") first_texts (map (vote_cells (number_text s.number)) (maps.entries s.votes)))
 
 -- from this place on
 abbrev pub AddsSuggestions : Text → Text → ℕ → List Suggestion → Database → Database → Type 0
@@ -48,7 +47,7 @@ AddsNumberedSuggestions lang key ss old new = AddsSuggestions lang key 0 ss old 
 -- its row in the place of the one that is there, and its suggestions in the place of those that are there
 abbrev pub WritesNumberedUnit : Text → Unit → Database → Database → Type 0
 WritesNumberedUnit lang unit =
-    Then (PutsRow unit_tree first_texts (HoldsValues (unit_cells lang unit)))
+    Then (PutsRow (codes "unit") first_texts (HoldsValues (unit_cells lang unit)))
     (Then (ClearsUnit lang (key_text unit.key)) (AddsNumberedSuggestions lang (key_text unit.key) unit.suggestions))
 
 -- ---- units, one after the other

@@ -6,8 +6,8 @@ use Rattle.std.proofs.lemmas.Bool.Decides.{nat_tests}
 use Rattle.std.specs.Option.{option_map_or}
 use Rattle.std.specs.List.{list_all, position_or_len, before_first, after_first}
 use Rattle.std.proofs.lemmas.Bool.{and_parts, eqb-true}
-use Rattle.po_read.specs.Strings.{is_string, is_string_byte}
-use Rattle.po_read.specs.Texts.{Text}
+use Rattle.po_text.specs.Strings.{is_string, is_string_byte}
+use Rattle.po_text.specs.Texts.{Text}
 use Rattle.units.specs.Units.{key_text}
 use Rattle.units.specs.KeyTexts.{HasStrings}
 use Rattle.units.specs.declared.unit.Key.{Key}

@@ -12,9 +12,9 @@ use Rattle.serde_json.specs.Read.{read, of_json, of_items}
 use Rattle.serde_json.specs.View.{items_of}
 use Rattle.serde_json.specs.Written.{outline, items_outline, has_float, items_have_float, compact_text}
 use Rattle.serde_json.proofs.Texts.{print-outline}
-use Rattle.po_read.specs.declared.entry.Entry.{Entry}
-use Rattle.po_read.specs.declared.entry.Previous.{Previous}
-use Rattle.po_read.specs.Texts.{Text}
+use Rattle.po_text.specs.declared.entry.Entry.{Entry}
+use Rattle.po_text.specs.declared.entry.Previous.{Previous}
+use Rattle.po_text.specs.Texts.{Text}
 use Rattle.request_book.specs.Words.{strings}
 use Rattle.sql_columns.specs.Written.{string_or_null, previous_data, header_string, header_data}
 

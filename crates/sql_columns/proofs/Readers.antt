@@ -12,10 +12,10 @@ use Rattle.serde_json.specs.Data.{Data, string}
 use Rattle.serde_json.specs.Read.{read}
 use Rattle.serde_json.specs.Written.{compact_text}
 use Rattle.serde_json.specs.Find.{as_str}
-use Rattle.po_read.specs.declared.entry.Entry.{Entry}
-use Rattle.po_read.specs.declared.entry.Previous.{Previous}
-use Rattle.po_read.specs.Strings.{is_string, is_forms}
-use Rattle.po_read.specs.Texts.{Text, is_empty}
+use Rattle.po_text.specs.declared.entry.Entry.{Entry}
+use Rattle.po_text.specs.declared.entry.Previous.{Previous}
+use Rattle.po_text.specs.Strings.{is_string, is_forms}
+use Rattle.po_text.specs.Texts.{Text, is_empty}
 use Rattle.units.specs.Rules.{first_form}
 use Rattle.uuid.specs.Text.{parsed, lower}
 use Rattle.uuid.proofs.RoundTrips.{parses_hyphenated}

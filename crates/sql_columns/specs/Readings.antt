@@ -6,9 +6,9 @@ use Rattle.serde_json.specs.Data.{Data}
 use Rattle.serde_json.specs.Read.{read}
 use Rattle.serde_json.specs.Find.{as_null, as_str, as_array, at}
 use Rattle.uuid.specs.Text.{parsed}
-use Rattle.po_read.specs.declared.entry.Entry.{Entry}
-use Rattle.po_read.specs.declared.entry.Previous.{Previous}
-use Rattle.po_read.specs.Texts.{Text}
+use Rattle.po_text.specs.declared.entry.Entry.{Entry}
+use Rattle.po_text.specs.declared.entry.Previous.{Previous}
+use Rattle.po_text.specs.Texts.{Text}
 use Rattle.units.specs.declared.unit.Key.{Key}
 use Rattle.request_book.specs.Words.{number_text}
 use Rattle.request_book.specs.Fields.{only, text_of, each_of}

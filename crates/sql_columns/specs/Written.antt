@@ -6,11 +6,11 @@ use Rattle.std.specs.Option.{option_map_or}
 use Rattle.serde_json.specs.Data.{Data, null, string, array}
 use Rattle.serde_json.specs.View.{items_of}
 use Rattle.serde_json.specs.Written.{compact_text}
-use Rattle.po_read.specs.declared.entry.Entry.{Entry}
-use Rattle.po_read.specs.declared.entry.Previous.{Previous}
-use Rattle.po_read.specs.Entries.{is_header}
-use Rattle.po_read.specs.Strings.{is_string, is_forms}
-use Rattle.po_read.specs.Texts.{Text}
+use Rattle.po_text.specs.declared.entry.Entry.{Entry}
+use Rattle.po_text.specs.declared.entry.Previous.{Previous}
+use Rattle.po_text.specs.Entries.{is_header}
+use Rattle.po_text.specs.Strings.{is_string, is_forms}
+use Rattle.po_text.specs.Texts.{Text}
 use Rattle.units.specs.Rules.{first_form}
 use Rattle.request_book.specs.Words.{strings}
 

@@ -1,25 +1,25 @@
 //! The columns of a language: its header, and the value of the header's plural rule.
-ghost use Rattle.std.specs.Prelude.{◌≡◌, [], ◌∷◌, map, true, Ok, Err, Some, None, IfOk, OnOk, IfErr, option_and_then};
+ghost use Rattle.std.specs.Prelude.{◌≡◌, [], ◌∷◌, map, true, Ok, Err, Some, None, IfOk, OnOk, IfErr};
 ghost use Rattle.std.specs.Option.{option_copied};
-ghost use Rattle.serde_json.specs.Read.{read};
 ghost use Rattle.serde_json.specs.Data.{array};
 ghost use Rattle.serde_json.specs.View.{view, items_view};
-ghost use Rattle.po_read.specs.Strings.{is_forms};
+ghost use Rattle.po_text.specs.Strings.{is_forms};
 ghost use Rattle.units.specs.Rules.{plural_field, rule_in};
 ghost use Rattle.request_book.specs.Words.{strings};
 ghost use Rattle.request_book.specs.Fields.{text_of};
 ghost use Rattle.sql_columns.specs.Faults.{Gives};
 ghost use Rattle.plural_expr.specs.Faults.{reading_of};
-ghost use Rattle.sql_columns.specs.Readings.{comments_of, item_as, previous_of, header_with, header_of, header_read};
+ghost use Rattle.sql_columns.specs.Readings.{comments_of, item_as, previous_of, header_with, header_of};
 ghost use Rattle.sql_columns.specs.Written.{header_string, header_data, header_text, ArePrevious, IsHeaderEntry};
 ghost use Rattle.sql_columns.specs.declared.fault.RowFault.TheVariants.{Malformed, Memory};
 
 use crate::fault::RowFault;
+use crate::json_columns::{JsonColumn, read_column};
 use crate::names::string_from;
 use crate::previous::{previous_in, previous_value};
-use crate::values::{compact, item, string_in, texts_at, texts_value, value_from};
+use crate::values::{compact, item, string_in, texts_at, texts_value};
 use plural_expr::{PluralFault, PluralForms};
-use po_read::{Entry, Forms, Items, PoString, Previous, Text, field_value};
+use po_text::{Entry, Forms, Items, PoString, Previous, Text, field_value};
 use serde_json::Value;
 use std::alloc::{AllocError, Global};
 
@@ -85,43 +85,23 @@ pub fn header_from(alloc: Global, column: &str) -> Result<Entry, RowFault>
     ensures fits { IfOk result IsHeaderEntry }
     ensures back { (header : Entry) → IsHeaderEntry header → column.now ≡ header_text header → Gives result header }
 {
-    header_read_from(alloc, column)
+    read_column(alloc, column)
 }
 
-fn header_read_from(alloc: Global, column: &str) -> Result<Entry, RowFault>
-    ensures ok { IfOk result (λ header. header_read column.now ≡ Some header) }
-    ensures fits { IfOk result IsHeaderEntry }
-    ensures malformed { result ≡ Err Malformed → header_read column.now ≡ None }
-{
-    let header = header_parsed(alloc, column)?;
-    match header_column(alloc, &header) {
-        Ok(written) => {
-            let same = written.as_str() == column;
-            drop(written);
-            if same {
-                Ok(header)
-            } else {
-                drop(header);
-                Err(RowFault::Malformed)
-            }
-        }
-        Err(_) => {
-            drop(header);
-            Err(RowFault::Memory)
-        }
+impl JsonColumn for Entry {
+    ghost written = { header_text };
+
+    ghost of = { header_of };
+
+    ghost Fits = { IsHeaderEntry };
+
+    fn column(&self, alloc: Global) -> Result<Text, AllocError> {
+        header_column(alloc, self)
     }
-}
 
-/// The header in the JSON of a column, which may be written in another way.
-fn header_parsed(alloc: Global, column: &str) -> Result<Entry, RowFault>
-    ensures ok { IfOk result (λ header. option_and_then header_of (read column.now) ≡ Some header) }
-    ensures fits { IfOk result IsHeaderEntry }
-    ensures malformed { result ≡ Err Malformed → option_and_then header_of (read column.now) ≡ None }
-{
-    let value = value_from(alloc, column)?;
-    let header = header_in(alloc, &value);
-    drop(value);
-    header
+    fn from_value(alloc: Global, value: &Value) -> Result<Entry, RowFault> {
+        header_in(alloc, value)
+    }
 }
 
 fn header_in(alloc: Global, value: &Value) -> Result<Entry, RowFault>

@@ -1,12 +1,19 @@
-//! The columns of the office's tables: what each value is written as, and the value that a column stands for. No column stands for
-//! two values, and no two columns for one.
+//! The columns of the office's tables: what each value is written as, and the value that a column stands for. No
+//! column stands for two values, and no two columns for one.
 //!
-//! `numbers`, `names`, `lists`, `policy`, `previous` and `header` have the columns by what they hold, `values` the values of JSON in them, `fault`
-//! why one gave no value.
+//! - `numbers`: whole numbers: revisions, roles, states, statuses, votes, flags
+//! - `names`: names, languages, keys, a msgid_plural, numbers of requests
+//! - `lists`: lists of texts: comment lines, references, flags, forms
+//! - `policy`, `previous`, `header`: the policy, previous strings, a language's header with its plural rule
+//! - `json_columns`, `values`: columns of JSON read, and the values of JSON in them
+//! - `fault`: why a column gave no value (`RowFault`)
+//!
+//! Specs: `Numbers` and `Written` (what values are written as), `Faults`; inner functions have `Readings`.
 #![tactic(auto)]
 
 mod fault;
 mod header;
+mod json_columns;
 mod lists;
 mod names;
 mod numbers;

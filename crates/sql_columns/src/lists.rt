@@ -1,18 +1,18 @@
 //! Columns that are a list of texts: comment lines, references, flags and forms.
-ghost use Rattle.std.specs.Prelude.{◌≡◌, List, true, false, Err, Some, None, IfOk, option_and_then};
-ghost use Rattle.po_read.specs.Strings.{is_forms};
+ghost use Rattle.std.specs.Prelude.{◌≡◌, ⊤, List, true, false, Err, IfOk};
+ghost use Rattle.po_text.specs.Strings.{is_forms};
 ghost use Rattle.request_book.specs.Words.{strings};
-ghost use Rattle.serde_json.specs.Read.{read};
 ghost use Rattle.serde_json.specs.View.{view};
 ghost use Rattle.sql_columns.specs.Faults.{Gives};
-ghost use Rattle.sql_columns.specs.Readings.{texts_of, texts_read};
+ghost use Rattle.sql_columns.specs.Readings.{texts_of};
 ghost use Rattle.sql_columns.specs.Written.{texts_text};
 ghost use Rattle.sql_columns.specs.declared.fault.RowFault.TheVariants.{Malformed};
 
 use crate::fault::RowFault;
+use crate::json_columns::{JsonColumn, read_column};
 use crate::names::string_from;
-use crate::values::{compact, texts_in, texts_value, value_from};
-use po_read::{Forms, Items, Text};
+use crate::values::{compact, texts_in, texts_value};
+use po_text::{Forms, Items, Text};
 use serde_json::Value;
 use std::alloc::{AllocError, Global};
 
@@ -29,41 +29,23 @@ pub fn texts_from(alloc: Global, column: &str) -> Result<Items<Text>, RowFault>
     ensures ok { IfOk result (λ texts. column.now ≡ texts_text texts) }
     ensures back { (texts : List Text) → column.now ≡ texts_text texts → Gives result texts }
 {
-    texts_read_from(alloc, column)
+    read_column(alloc, column)
 }
 
-fn texts_read_from(alloc: Global, column: &str) -> Result<Items<Text>, RowFault>
-    ensures ok { IfOk result (λ texts. texts_read column.now ≡ Some texts) }
-    ensures malformed { result ≡ Err Malformed → texts_read column.now ≡ None }
-{
-    let texts = texts_parsed(alloc, column)?;
-    match texts_column(alloc, &texts) {
-        Ok(written) => {
-            let same = written.as_str() == column;
-            drop(written);
-            if same {
-                Ok(texts)
-            } else {
-                drop(texts);
-                Err(RowFault::Malformed)
-            }
-        }
-        Err(_) => {
-            drop(texts);
-            Err(RowFault::Memory)
-        }
+impl JsonColumn for Items<Text> {
+    ghost written = { texts_text };
+
+    ghost of = { texts_of };
+
+    ghost Fits = { λ _. ⊤ };
+
+    fn column(&self, alloc: Global) -> Result<Text, AllocError> {
+        texts_column(alloc, self)
     }
-}
 
-/// The texts in the JSON of a column, which may be written in another way.
-fn texts_parsed(alloc: Global, column: &str) -> Result<Items<Text>, RowFault>
-    ensures ok { IfOk result (λ texts. option_and_then texts_of (read column.now) ≡ Some texts) }
-    ensures malformed { result ≡ Err Malformed → option_and_then texts_of (read column.now) ≡ None }
-{
-    let value = value_from(alloc, column)?;
-    let texts = texts_in(alloc, &value);
-    drop(value);
-    texts
+    fn from_value(alloc: Global, value: &Value) -> Result<Items<Text>, RowFault> {
+        texts_in(alloc, value)
+    }
 }
 
 /// The column of forms: a compact JSON list, form 0 first.

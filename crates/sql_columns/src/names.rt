@@ -1,7 +1,7 @@
 //! Columns that are a name, a language, a key, a msgid_plural or a number of a request.
 ghost use Rattle.std.specs.Prelude.{◌≡◌, true, false, Some, Ok, Err, IfOk, OnOk, IfErr, option_map};
 ghost use Rattle.std.specs.Option.{option_copied, option_map_or};
-ghost use Rattle.po_read.specs.Strings.{is_string};
+ghost use Rattle.po_text.specs.Strings.{is_string};
 ghost use Rattle.units.specs.Limits.{is_name, is_lang};
 ghost use Rattle.units.specs.Units.{key_text};
 ghost use Rattle.units.specs.KeyTexts.{HasStrings};
@@ -13,7 +13,7 @@ ghost use Rattle.sql_columns.specs.Readings.{key_parts, number_read};
 ghost use Rattle.sql_columns.specs.declared.fault.RowFault.TheVariants.{Malformed};
 
 use crate::fault::RowFault;
-use po_read::{PoString, Text};
+use po_text::{PoString, Text};
 use request_book::bytes_fit;
 use std::alloc::{AllocError, Global};
 use units::{Key, Lang, Name};

@@ -1,15 +1,15 @@
 //! The column of previous strings.
-ghost use Rattle.std.specs.Prelude.{◌≡◌, Err, Some, None, IfOk, option_and_then};
-ghost use Rattle.serde_json.specs.Read.{read};
+ghost use Rattle.std.specs.Prelude.{◌≡◌, Err, Some, None, IfOk};
 ghost use Rattle.serde_json.specs.View.{view};
 ghost use Rattle.sql_columns.specs.Faults.{Gives};
-ghost use Rattle.sql_columns.specs.Readings.{previous_of, previous_read};
+ghost use Rattle.sql_columns.specs.Readings.{previous_of};
 ghost use Rattle.sql_columns.specs.Written.{previous_data, previous_text, ArePrevious};
 ghost use Rattle.sql_columns.specs.declared.fault.RowFault.TheVariants.{Malformed};
 
 use crate::fault::RowFault;
-use crate::values::{compact, string_or_null_at, string_or_null_value, value_from};
-use po_read::{Previous, Text};
+use crate::json_columns::{JsonColumn, read_column};
+use crate::values::{compact, string_or_null_at, string_or_null_value};
+use po_text::{Previous, Text};
 use serde_json::Value;
 use std::alloc::{AllocError, Global};
 
@@ -37,43 +37,23 @@ pub fn previous_from(alloc: Global, column: &str) -> Result<Previous, RowFault>
     ensures fits { IfOk result ArePrevious }
     ensures back { (previous : Previous) → ArePrevious previous → column.now ≡ previous_text previous → Gives result previous }
 {
-    previous_read_from(alloc, column)
+    read_column(alloc, column)
 }
 
-fn previous_read_from(alloc: Global, column: &str) -> Result<Previous, RowFault>
-    ensures ok { IfOk result (λ previous. previous_read column.now ≡ Some previous) }
-    ensures fits { IfOk result ArePrevious }
-    ensures malformed { result ≡ Err Malformed → previous_read column.now ≡ None }
-{
-    let previous = previous_parsed(alloc, column)?;
-    match previous_column(alloc, &previous) {
-        Ok(written) => {
-            let same = written.as_str() == column;
-            drop(written);
-            if same {
-                Ok(previous)
-            } else {
-                drop(previous);
-                Err(RowFault::Malformed)
-            }
-        }
-        Err(_) => {
-            drop(previous);
-            Err(RowFault::Memory)
-        }
+impl JsonColumn for Previous {
+    ghost written = { previous_text };
+
+    ghost of = { previous_of };
+
+    ghost Fits = { ArePrevious };
+
+    fn column(&self, alloc: Global) -> Result<Text, AllocError> {
+        previous_column(alloc, self)
     }
-}
 
-/// The strings in the JSON of a column, which may be written in another way.
-fn previous_parsed(alloc: Global, column: &str) -> Result<Previous, RowFault>
-    ensures ok { IfOk result (λ previous. option_and_then previous_of (read column.now) ≡ Some previous) }
-    ensures fits { IfOk result ArePrevious }
-    ensures malformed { result ≡ Err Malformed → option_and_then previous_of (read column.now) ≡ None }
-{
-    let value = value_from(alloc, column)?;
-    let previous = previous_in(alloc, &value);
-    drop(value);
-    previous
+    fn from_value(alloc: Global, value: &Value) -> Result<Previous, RowFault> {
+        previous_in(alloc, value)
+    }
 }
 
 pub(crate) fn previous_in(alloc: Global, value: &Value) -> Result<Previous, RowFault>

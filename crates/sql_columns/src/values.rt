@@ -5,7 +5,7 @@ ghost use Rattle.serde_json.specs.Find.{as_str, at};
 ghost use Rattle.serde_json.specs.Read.{read};
 ghost use Rattle.serde_json.specs.View.{view, items_view};
 ghost use Rattle.serde_json.specs.Written.{compact_text, has_float};
-ghost use Rattle.po_read.specs.Strings.{is_string};
+ghost use Rattle.po_text.specs.Strings.{is_string};
 ghost use Rattle.request_book.specs.Fields.{text_of, each_of};
 ghost use Rattle.request_book.specs.Words.{strings};
 ghost use Rattle.sql_columns.specs.Readings.{item_as, texts_of, string_or_null_of};
@@ -14,7 +14,7 @@ ghost use Rattle.sql_columns.specs.declared.fault.RowFault.TheVariants.{Malforme
 
 use crate::fault::RowFault;
 use crate::names::string_from;
-use po_read::{Items, PoString, Text};
+use po_text::{Items, PoString, Text};
 use serde_json::Value;
 use std::alloc::{AllocError, Global};
 

@@ -1,7 +1,7 @@
 -- What the commits of acts make of the office with its book.
 use Rattle.std.proofs.Common.{◌≡◌, Option, Some, None, IfSome, sym, ◌∙◌}
 use Rattle.sqlite.specs.Effect.{Database}
-use Rattle.po_read.specs.Texts.{Text}
+use Rattle.po_text.specs.Texts.{Text}
 use Rattle.units.specs.KeyTexts.{HasStrings}
 use Rattle.units.specs.Office.{Office}
 use Rattle.units.specs.declared.unit.Key.{Key}
@@ -22,24 +22,25 @@ use Rattle.sql_changes.proofs.DomainCommits.{commits_view_in, commits_domain_cha
 use Rattle.sql_changes.proofs.PolicyCommits.{commits_policy}
 use Rattle.sql_changes.proofs.RoleCommits.{commits_role}
 use Rattle.sql_commits.specs.Acts.{MakesAct, MakesChange}
+use Rattle.sql_schema.specs.Layouts.{rows_named}
 
-module _ (old after : Database) (row : Record) (ready : AreOfficeTables old) (numbered : AreNumbered old.trees) where
+module _ (old after : Database) (row : Record) (ready : AreOfficeTables old) (numbered : AreNumbered (rows_named old)) where
   -- the office, and the book with one record more
   abbrev pub Leaves : Office → Type 0
-  Leaves office = (meaning_in after.trees ≡ record { office = office; book = with_record (book_in old.trees) row }) × AreNumbered after.trees
+  Leaves office = (meaning_in (rows_named after) ≡ record { office = office; book = with_record (book_in (rows_named old)) row }) × AreNumbered (rows_named after)
 
   abbrev pub Allow : Office → Type 0
-  Allow office = KeepsRules (record { office = office; book = with_record (book_in old.trees) row })
+  Allow office = KeepsRules (record { office = office; book = with_record (book_in (rows_named old)) row })
 
   pub act_means : (domain lang : Text) (key : Key) (view : Option UnitView) → HasStrings key → IfSome view (λ v. ArePrevious v.unit.previous)
-      → Allow (with_view_in (meaning_in old.trees).office domain lang key view) → MakesAct row domain lang view old after → Leaves (with_view_in (meaning_in old.trees).office domain lang key view)
+      → Allow (with_view_in (meaning_in (rows_named old)).office domain lang key view) → MakesAct row domain lang view old after → Leaves (with_view_in (meaning_in (rows_named old)).office domain lang key view)
   act_means domain lang key None strings previous rules made =
       let it = commits_record old after row ready numbered made.1 made.0 in
-      (it.0 ∙ (λ i. record { office = sym (with_project-same (meaning_in old.trees).office domain) i; book = with_record (book_in old.trees) row }), it.1)
+      (it.0 ∙ (λ i. record { office = sym (with_project-same (meaning_in (rows_named old)).office domain) i; book = with_record (book_in (rows_named old)) row }), it.1)
   act_means domain lang key (Some view) strings previous rules made = commits_view_in old after row domain ready numbered lang key view strings previous made rules
 
-  pub change_means : (change : Option Change) → AreOfficeTables after → KeepsRules (meaning_in old.trees) → Allow (changed_by (meaning_in old.trees).office change) → MakesChange row change old after
-      → Leaves (changed_by (meaning_in old.trees).office change)
+  pub change_means : (change : Option Change) → AreOfficeTables after → KeepsRules (meaning_in (rows_named old)) → Allow (changed_by (meaning_in (rows_named old)).office change) → MakesChange row change old after
+      → Leaves (changed_by (meaning_in (rows_named old)).office change)
   change_means None tables before rules made = commits_record old after row ready numbered made.1 made.0
   change_means (Some (OneRole name role)) tables before rules made = commits_role old after row name role ready numbered made
   change_means (Some (NewPolicy policy)) tables before rules made = commits_policy old after row policy ready tables numbered before made

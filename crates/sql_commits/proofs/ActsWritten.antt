@@ -1,7 +1,7 @@
 -- What is written for an act behind its request's record.
 use Rattle.std.proofs.Common.{Bool, true, false, sym, subst}
 use Rattle.sqlite.specs.Effect.{Database}
-use Rattle.po_read.specs.Texts.{Text}
+use Rattle.po_text.specs.Texts.{Text}
 use Rattle.units.specs.Office.{main, same_domain}
 use Rattle.units.specs.declared.unit.Unit.{Unit}
 use Rattle.request_book.specs.declared.book.Record.{Record}

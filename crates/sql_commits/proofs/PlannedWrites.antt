@@ -1,11 +1,11 @@
 -- Writes that leave the tables obeying their schema, and units and entries that are written one after the other.
-use Rattle.std.proofs.Common.{◌≡◌, ℕ, ◌+◌, ◌<◌, ℤ, pos, List, [], ◌∷◌, ◌++◌, length, take, get_or, Option, Some, Result, Ok, Err, OnOk, unwrap_or, refl, sym, ap, subst, ◌∙◌, arith}
+use Rattle.std.proofs.Common.{◌≡◌, ℕ, ◌+◌, ◌<◌, ℤ, pos, List, [], ◌∷◌, ◌++◌, length, take, get_or, Option, Some, Result, Ok, Err, OnOk, unwrap_or, refl, sym, ap, subst, ◌∙◌, arith, codes}
 use Rattle.std.proofs.lemmas.List.{take_more, length-take, append_assoc}
 use Rattle.sqlite.specs.declared.types.Value.TheVariants.{Null, Int, Text as Words}
 use Rattle.sqlite.specs.Effect.{Database}
 use Rattle.sqlite.specs.State.{State}
-use Rattle.po_read.specs.declared.entry.Entry.{Entry}
-use Rattle.po_read.specs.Texts.{Text}
+use Rattle.po_text.specs.declared.entry.Entry.{Entry}
+use Rattle.po_text.specs.Texts.{Text}
 use Rattle.units.specs.Rules.{plural_field}
 use Rattle.units.specs.Units.{key_of, key_text}
 use Rattle.units.specs.declared.unit.Unit.{Unit}
@@ -14,19 +14,15 @@ use Rattle.sql_columns.specs.Written.{texts_text, header_text}
 use Rattle.sql_schema.specs.Inside.{AreOfficeTables, IsInside, PutsRow, HoldsValues}
 use Rattle.sql_schema.specs.Keys.{first_text, row_number}
 use Rattle.sql_schema.specs.Rows.{text_or_null}
-use Rattle.sql_schema.specs.Schema.{language_tree, template_tree}
 use Rattle.sql_changes.specs.Commits.{language_cells, entry_row, PutsEntry, PutsEntries}
 use Rattle.sql_changes.specs.UnitWrites.{LeavesTables, WritesPlanned, WritesUnits, WritesUnitsBack, WritesPlansBack}
+use Rattle.sql_commits.proofs.WritesInTurn.{on_ok}
 
 -- ---- the tables obey their schema
 
 on_both : {X E : Type 0} (A B : Type 0) (r : Result X E) → OnOk r A → OnOk r B → OnOk r (A × B)
 on_both A B (Ok x) a b = (a, b)
 on_both A B (Err e) a b = tt
-
-on_ok : {X E : Type 0} {A B : Type 0} (r : Result X E) → (A → B) → OnOk r A → OnOk r B
-on_ok (Ok x) f h = f h
-on_ok (Err e) f h = h
 
 module _ (a b : State) {A E : Type 0} (r : Result A E) (P : Database → Database → Type 0) where
   pub leaves_tables : IsInside a b r P → IsInside a b r (LeavesTables P)
@@ -126,15 +122,15 @@ plans_all all left old new none (done, is, written) = subst (λ ps. WritesPlansB
 -- ---- what is written, by the columns that are given
 
 pub language_told : (lang code column rule : Text) (header : Entry) (old new : Database) → code ≡ lang → column ≡ header_text header → rule ≡ unwrap_or (plural_field (Some header)) []
-    → PutsRow language_tree first_text (HoldsValues (Words code ∷ Words column ∷ Words rule ∷ [])) old new → PutsRow language_tree first_text (HoldsValues (language_cells lang header)) old new
+    → PutsRow (codes "language") first_text (HoldsValues (Words code ∷ Words column ∷ Words rule ∷ [])) old new → PutsRow (codes "language") first_text (HoldsValues (language_cells lang header)) old new
 language_told lang code column rule header old new is_code is_column is_rule put =
     let same : Words code ∷ Words column ∷ Words rule ∷ [] ≡ language_cells lang header = cc in
-    subst (λ cells. PutsRow language_tree first_text (HoldsValues cells) old new) same put
+    subst (λ cells. PutsRow (codes "language") first_text (HoldsValues cells) old new) same put
 
 pub entry_told : (place : ℕ) (at : ℤ) (key extracted references flags : Text) (plural : Option Text) (entry : Entry) (old new : Database) → at ≡ pos place → key ≡ key_text (key_of entry) → plural ≡ entry.plural
     → extracted ≡ texts_text entry.extracted → references ≡ texts_text entry.references → flags ≡ texts_text entry.flags
-    → PutsRow template_tree row_number (λ row. row ≡ Int at ∷ Null ∷ Words key ∷ text_or_null plural ∷ Words extracted ∷ Words references ∷ Words flags ∷ []) old new
-    → PutsRow template_tree row_number (λ row. row ≡ entry_row place entry) old new
+    → PutsRow (codes "template") row_number (λ row. row ≡ Int at ∷ Null ∷ Words key ∷ text_or_null plural ∷ Words extracted ∷ Words references ∷ Words flags ∷ []) old new
+    → PutsRow (codes "template") row_number (λ row. row ≡ entry_row place entry) old new
 entry_told place at key extracted references flags plural entry old new is_at is_key is_plural is_extracted is_references is_flags put =
     let same : Int at ∷ Null ∷ Words key ∷ text_or_null plural ∷ Words extracted ∷ Words references ∷ Words flags ∷ [] ≡ entry_row place entry = cc in
-    subst (λ cells. PutsRow template_tree row_number (λ row. row ≡ cells) old new) same put
+    subst (λ cells. PutsRow (codes "template") row_number (λ row. row ≡ cells) old new) same put

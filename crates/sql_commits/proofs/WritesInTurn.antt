@@ -1,5 +1,5 @@
 -- Writes one after the other, and rows of a list that are put in its order.
-use Rattle.std.proofs.Common.{◌≡◌, inl, inr, ℕ, ℤ, pos, ◌+◌, List, [], ◌∷◌, ◌++◌, length, map, take, get_or, ◌<◌, Some, w64, to_z, of_z, Result, Ok, Err, OnOk, IsTrue, refl, sym, ap, subst, ◌∙◌, arith}
+use Rattle.std.proofs.Common.{◌≡◌, inl, inr, ℕ, ℤ, pos, ◌+◌, List, [], ◌∷◌, ◌++◌, length, map, take, get_or, ◌<◌, Some, w64, to_z, of_z, Result, Ok, Err, OnOk, IsTrue, refl, sym, ap, subst, ◌∙◌, arith, codes}
 use Rattle.std.proofs.lemmas.List.{take_more, length-take, map-append}
 use Rattle.std.specs.FinMap as maps
 use Rattle.std.specs.Prelude.{MatchResult, IsErrAnd}
@@ -8,7 +8,7 @@ use Rattle.sqlite.specs.Effect.{Database}
 use Rattle.sqlite.specs.Order.{Row}
 use Rattle.sqlite.specs.State.{State, HasCleanDisk, Survives, KeepsCommit}
 use Rattle.sqlite_rules.proofs.ListLemmas.{has_either}
-use Rattle.po_read.specs.Texts.{Text}
+use Rattle.po_text.specs.Texts.{Text}
 use Rattle.units.specs.Units.{key_text}
 use Rattle.units.specs.declared.unit.Suggestion.{Suggestion}
 use Rattle.units.specs.declared.unit.Unit.{Unit}
@@ -16,7 +16,6 @@ use Rattle.request_book.specs.Words.{number_text}
 use Rattle.sql_columns.specs.Written.{texts_text}
 use Rattle.sql_schema.specs.Cleared.{ClearsUnit}
 use Rattle.sql_schema.specs.Keys.{first_text, first_texts}
-use Rattle.sql_schema.specs.Schema.{unit_tree, suggestion_tree, vote_tree}
 use Rattle.sql_meaning.specs.Cells.{unit_cells, suggestion_cells, vote_cells}
 use Rattle.units.specs.declared.votes.VoteValue.{VoteValue}
 use Rattle.units.specs.declared.votes.VoteValue.TheVariants.{For, Against}
@@ -63,11 +62,11 @@ module _ (a : State) where
     survives = survives_same;
   }
 
-module _ (a b c : State) where
-  on_ok : {X E : Type 0} {A B : Type 0} (r : Result X E) → (A → B) → OnOk r A → OnOk r B
-  on_ok (Ok x) f h = f h
-  on_ok (Err e) f h = h
+pub on_ok : {X E : Type 0} {A B : Type 0} (r : Result X E) → (A → B) → OnOk r A → OnOk r B
+on_ok (Ok x) f h = f h
+on_ok (Err e) f h = h
 
+module _ (a b c : State) where
   -- a write after a write, and what both made told in other words
   pub write_then : {A B E F : Type 0} (x : A) (r : Result B F) (P Q R : Database → Database → Type 0) → (P a.now b.now → Q b.now c.now → R a.now c.now)
       → IsInside {E = E} a b (Ok x) P → IsInside b c r Q → IsInside a c r R
@@ -83,10 +82,10 @@ module _ (a b c : State) where
 
 -- ---- one more at the end
 
-pub puts_row_more : {K : Type 0} (tree : ℕ) (key : Row → K) (all : List Row) (cells : Row) (old mid new : Database)
-    → PutsRows tree key all old mid → PutsRow tree key (HoldsValues cells) mid new → PutsRows tree key (all ++ cells ∷ []) old new
-puts_row_more tree key [] cells old mid new is put = (new, subst (λ d. PutsRow tree key (HoldsValues cells) d new) is put, refl)
-puts_row_more tree key (first ∷ more) cells old mid new (next, one, rest) put = (next, one, puts_row_more tree key more cells next mid new rest put)
+pub puts_row_more : {K : Type 0} (name : List ℕ) (key : Row → K) (all : List Row) (cells : Row) (old mid new : Database)
+    → PutsRows name key all old mid → PutsRow name key (HoldsValues cells) mid new → PutsRows name key (all ++ cells ∷ []) old new
+puts_row_more name key [] cells old mid new is put = (new, subst (λ d. PutsRow name key (HoldsValues cells) d new) is put, refl)
+puts_row_more name key (first ∷ more) cells old mid new (next, one, rest) put = (next, one, puts_row_more name key more cells next mid new rest put)
 
 pub adds_suggestion_more : (lang key : Text) (place : ℕ) (ss : List Suggestion) (s : Suggestion) (old mid new : Database)
     → AddsSuggestions lang key place ss old mid → AddsSuggestion lang key (place + length ss) s mid new → AddsSuggestions lang key place (ss ++ s ∷ []) old new
@@ -108,17 +107,17 @@ vote_through Against = refl
 
 pub puts_vote_next : (number voter : Text) (value : ℤ) (votes : List (Text × VoteValue)) (i : ℕ) (vote : Text × VoteValue) (old mid new : Database)
     → i < length votes → vote ≡ get_or votes i vote → voter ≡ vote.0 → value ≡ vote_number (Some vote.1)
-    → PutsRows vote_tree first_texts (map (vote_cells number) (take i votes)) old mid
-    → PutsRow vote_tree first_texts (HoldsValues (Words number ∷ Words voter ∷ Int value ∷ [])) mid new
-    → PutsRows vote_tree first_texts (map (vote_cells number) (take (i + 1) votes)) old new
+    → PutsRows (codes "vote") first_texts (map (vote_cells number) (take i votes)) old mid
+    → PutsRow (codes "vote") first_texts (HoldsValues (Words number ∷ Words voter ∷ Int value ∷ [])) mid new
+    → PutsRows (codes "vote") first_texts (map (vote_cells number) (take (i + 1) votes)) old new
 puts_vote_next number voter value votes i vote old mid new within is is_voter is_value front put =
     let row : Row = Words number ∷ Words voter ∷ Int value ∷ [] in
     let cells : row ≡ vote_cells number vote = cc in
     let taken : take (i + 1) votes ≡ take i votes ++ vote ∷ [] = take_more votes i vote within ∙ ap (λ v. take i votes ++ v ∷ []) (sym is) in
     let all : map (vote_cells number) (take (i + 1) votes) ≡ map (vote_cells number) (take i votes) ++ vote_cells number vote ∷ [] =
     ap (map (vote_cells number)) taken ∙ map-append (vote_cells number) (take i votes) (vote ∷ []) in
-    subst (λ rows. PutsRows vote_tree first_texts rows old new) (sym all)
-    (puts_row_more vote_tree first_texts (map (vote_cells number) (take i votes)) (vote_cells number vote) old mid new front (subst (λ c. PutsRow vote_tree first_texts (HoldsValues c) mid new) cells put))
+    subst (λ rows. PutsRows (codes "vote") first_texts rows old new) (sym all)
+    (puts_row_more (codes "vote") first_texts (map (vote_cells number) (take i votes)) (vote_cells number vote) old mid new front (subst (λ c. PutsRow (codes "vote") first_texts (HoldsValues c) mid new) cells put))
 
 pub adds_suggestion_next : (lang key : Text) (ss : List Suggestion) (i : ℕ) (s : Suggestion) (old mid new : Database)
     → i < length ss → s ≡ get_or ss i s → AddsNumberedSuggestions lang key (take i ss) old mid → AddsNumberedSuggestion lang key i s mid new → AddsNumberedSuggestions lang key (take (i + 1) ss) old new
@@ -132,21 +131,21 @@ adds_suggestion_next lang key ss i s old mid new within is front put =
 
 pub adds_numbered_suggestion : (lang key number again suggester forms : Text) (at : ℤ) (place : ℕ) (s : Suggestion) (old mid new : Database)
     → number ≡ number_text s.number → again ≡ number_text s.number → suggester ≡ s.suggester → forms ≡ texts_text s.forms → at ≡ pos place → IsNumber s.number
-    → AddsRow suggestion_tree first_text (HoldsValues (Words number ∷ Words lang ∷ Words key ∷ Int at ∷ Words suggester ∷ Words forms ∷ [])) old mid
-    → PutsRows vote_tree first_texts (map (vote_cells again) (maps.entries s.votes)) mid new → AddsNumberedSuggestion lang key place s old new
+    → AddsRow (codes "suggestion") first_text (HoldsValues (Words number ∷ Words lang ∷ Words key ∷ Int at ∷ Words suggester ∷ Words forms ∷ [])) old mid
+    → PutsRows (codes "vote") first_texts (map (vote_cells again) (maps.entries s.votes)) mid new → AddsNumberedSuggestion lang key place s old new
 adds_numbered_suggestion lang key number again suggester forms at place s old mid new is_number is_again is_suggester is_forms is_at valid row votes =
     let same : Words number ∷ Words lang ∷ Words key ∷ Int at ∷ Words suggester ∷ Words forms ∷ [] ≡ suggestion_cells lang key place s = cc in (
       (
         mid,
-        subst (λ cells. AddsRow suggestion_tree first_text (HoldsValues cells) old mid) same row,
-        subst (λ n. PutsRows vote_tree first_texts (map (vote_cells n) (maps.entries s.votes)) mid new) is_again votes,
+        subst (λ cells. AddsRow (codes "suggestion") first_text (HoldsValues cells) old mid) same row,
+        subst (λ n. PutsRows (codes "vote") first_texts (map (vote_cells n) (maps.entries s.votes)) mid new) is_again votes,
       ),
       valid,
     )
 
 pub writes_numbered_unit : (lang key key_all : Text) (unit : Unit) (ss : List Suggestion) (old mid new : Database)
     → key ≡ key_text unit.key → key_all ≡ key_text unit.key → ss ≡ unit.suggestions
-    → PutsRow unit_tree first_texts (HoldsValues (unit_cells lang unit)) old mid → Then (ClearsUnit lang key) (AddsNumberedSuggestions lang key_all ss) mid new → WritesNumberedUnit lang unit old new
+    → PutsRow (codes "unit") first_texts (HoldsValues (unit_cells lang unit)) old mid → Then (ClearsUnit lang key) (AddsNumberedSuggestions lang key_all ss) mid new → WritesNumberedUnit lang unit old new
 writes_numbered_unit lang key key_all unit ss old mid new is_key is_key_all are row (next, cleared, all) =
     let gone = subst (λ k. ClearsUnit lang k mid next) is_key cleared in
     let put = subst (λ k. AddsNumberedSuggestions lang k unit.suggestions next new) is_key_all (subst (λ xs. AddsNumberedSuggestions lang key_all xs next new) are all) in

@@ -2,7 +2,7 @@
 -- one and the unit is in `main`; of an act on the office its record, and its change, if it has one and this isn't about another domain.
 use Rattle.std.specs.Prelude.{Option, Some, None}
 use Rattle.sqlite.specs.Effect.{Database}
-use Rattle.po_read.specs.Texts.{Text}
+use Rattle.po_text.specs.Texts.{Text}
 use Rattle.units.specs.declared.unit.UnitView.{UnitView}
 use Rattle.request_book.specs.declared.book.Record.{Record}
 use Rattle.deliveries.specs.declared.values.Change.{Change}

@@ -1,7 +1,7 @@
 -- What a change of the office writes beside its record. Only private clauses and proofs cite this file.
 use Rattle.std.specs.Prelude.{◌≡◌, Bool, true, false}
 use Rattle.sqlite.specs.Effect.{Database}
-use Rattle.po_read.specs.Texts.{Text}
+use Rattle.po_text.specs.Texts.{Text}
 use Rattle.units.specs.Office.{main, same_domain}
 use Rattle.deliveries.specs.declared.values.Change.{Change}
 use Rattle.deliveries.specs.declared.values.Change.TheVariants.{OneRole, NewPolicy, NewDomain, InDomain}

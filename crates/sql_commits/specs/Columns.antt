@@ -1,5 +1,5 @@
 -- The columns that take memory. Only private clauses and proofs cite this file.
-use Rattle.po_read.specs.declared.entry.Entry.{Entry}
+use Rattle.po_text.specs.declared.entry.Entry.{Entry}
 use Rattle.units.specs.Units.{key_text, key_of}
 use Rattle.units.specs.declared.unit.Unit.{Unit}
 use Rattle.sql_columns.specs.Written.{texts_text, previous_text}

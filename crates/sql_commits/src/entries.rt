@@ -7,10 +7,10 @@ ghost use Rattle.sql_schema.specs.Inside.{IsSteady, IsInside};
 ghost use Rattle.sql_changes.specs.Commits.{PutsEntry, PutsEntries};
 ghost use Rattle.sql_commits.specs.Columns.{columns_of_entry};
 
-use crate::strings::entry_key_fits;
-use po_read::{Entry, Text};
+use po_text::{Entry, Text};
 use sql_columns::{plural_column, texts_column};
 use sql_decoding::Failure;
+use sql_keepable::entry_key_fits;
 use sql_statements::template::put_entry as put_entry_row;
 use sqlite::{Alter, Transaction};
 use std::alloc::{AllocError, Global};

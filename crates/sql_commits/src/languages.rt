@@ -6,10 +6,10 @@ ghost use Rattle.sql_schema.specs.Inside.{IsSteady, IsInside};
 ghost use Rattle.sql_changes.specs.Commits.{PutsLanguage, WritesLanguage};
 
 use crate::planned_units::write_units;
-use crate::strings::header_fits;
-use po_read::Entry;
+use po_text::Entry;
 use sql_columns::{header_column, rule_column};
 use sql_decoding::Failure;
+use sql_keepable::language_fits;
 use sql_statements::languages::put_language;
 use sqlite::{Alter, Transaction};
 use std::alloc::Global;
@@ -42,7 +42,7 @@ fn put_language_of<S: Alter>(
     ensures same_reference { tx.new.conn.ghost_name ≡ tx.old.conn.ghost_name }
     ensures put { IsInside (state S.Store tx.old.conn.now) (state S.Store tx.new.conn.now) result (PutsLanguage lang.now header.now) }
 {
-    header_fits(header);
+    language_fits(lang, header);
     let column = header_column(alloc, header)?;
     put_language(tx, lang.as_str(), column.as_str(), rule_text(header)).map_err(Failure::from)
 }

@@ -1,8 +1,12 @@
-//! Whole transactions that write: a request's record and what its act changes, or neither.
+//! Whole transactions that write: a request's record and what its act changes, or neither. The tables hold the domain
+//! `main` alone: of another domain's act the record is written.
 //!
-//! `acts` has the transactions, one for acts on a unit and one for acts on the office, `transactions` how one ends; `records`, `roles`,
-//! `policies`, `languages`, `templates`, `entries`, `unit_writes` and `planned_units` what is written in them, `strings` what types keep of it.
-//! The spec `Acts` says what a commit makes of the tables.
+//! - `acts`: the transactions: for acts on a unit (`commit_act`), and for acts on the office (`commit_change`)
+//! - `records`, `roles`, `policies`, `languages`, `templates`, `entries`, `unit_writes`, `planned_units`: what is
+//!   written
+//! - `transactions`: how a transaction ends
+//!
+//! The spec `Acts` says what a commit makes of the tables; `Changes`, `Columns` and `Ends` are for inner functions.
 #![tactic(auto)]
 
 mod acts;
@@ -12,7 +16,6 @@ mod planned_units;
 mod policies;
 mod records;
 mod roles;
-mod strings;
 mod templates;
 mod transactions;
 mod unit_writes;

@@ -5,9 +5,9 @@ ghost use Rattle.sqlite.specs.State.{HasCleanDisk};
 ghost use Rattle.sql_schema.specs.Inside.{IsSteady, IsInside};
 ghost use Rattle.sql_changes.specs.UnitWrites.{WritesPlanned, WritesUnits, WritesUnitsBack, WritesPlansBack};
 
-use crate::strings::{key_fits, previous_fits};
 use crate::unit_writes::write_unit;
 use sql_decoding::Failure;
+use sql_keepable::{key_fits, previous_fits};
 use sqlite::{Alter, Transaction};
 use std::alloc::Global;
 use template_update::Plan;

@@ -6,7 +6,7 @@ ghost use Rattle.sql_changes.specs.Commits.{WritesTemplate};
 
 use crate::entries::put_entries;
 use crate::planned_units::write_plans_back;
-use po_read::Entry;
+use po_text::Entry;
 use sql_decoding::Failure;
 use sql_statements::template::empty_template;
 use sql_statements::units::empty_units;

@@ -1,17 +1,16 @@
 //! A unit inside a transaction: its row, its suggestions, and the votes on them.
-ghost use Rattle.std.specs.Prelude.{◌≡◌, ◌<◌, ◌^◌, IfOk, IsTrue, map};
+ghost use Rattle.std.specs.Prelude.{◌≡◌, ◌<◌, ◌^◌, IfOk, IsTrue, map, codes};
 ghost use Rattle.std.specs.FinMap as maps;
 ghost use Rattle.sqlite.specs.Held.{state};
 ghost use Rattle.sqlite.specs.State.{HasCleanDisk};
 ghost use Rattle.sql_schema.specs.Inside.{IsSteady, IsInside, PutsRow, HoldsValues};
 ghost use Rattle.sql_schema.specs.Keys.{first_texts};
-ghost use Rattle.sql_schema.specs.Schema.{unit_tree, vote_tree};
 ghost use Rattle.sql_meaning.specs.Cells.{unit_cells, vote_cells};
 ghost use Rattle.sql_meaning.specs.Written.{PutsRows};
 ghost use Rattle.sql_changes.specs.UnitWrites.{AddsNumberedSuggestion, AddsNumberedSuggestions, WritesNumberedUnit};
 ghost use Rattle.sql_commits.specs.Columns.{columns_of_unit};
 
-use po_read::Text;
+use po_text::Text;
 use sql_columns::{
     flag_column, forms_column, number_column, plural_column, previous_column, revision_column,
     state_column, texts_column, vote_column,
@@ -94,7 +93,7 @@ fn put_row<S: Alter>(
     requires steady { IsSteady (state S.Store tx.old.conn.now) }
     ensures same_reference { tx.new.conn.ghost_name ≡ tx.old.conn.ghost_name }
     ensures put { IsInside (state S.Store tx.old.conn.now) (state S.Store tx.new.conn.now) result
-        (PutsRow unit_tree first_texts (HoldsValues (unit_cells lang.now unit.now))) }
+        (PutsRow (codes "unit") first_texts (HoldsValues (unit_cells lang.now unit.now))) }
 {
     put_unit(
         tx,
@@ -168,7 +167,7 @@ fn put_votes<S: Alter>(
     requires open { HasCleanDisk (state S.Store tx.old.conn.now) → IsTrue (state S.Store tx.old.conn.now).is_open }
     ensures same_reference { tx.new.conn.ghost_name ≡ tx.old.conn.ghost_name }
     ensures put { IsInside (state S.Store tx.old.conn.now) (state S.Store tx.new.conn.now) result
-        (PutsRows vote_tree first_texts (map (vote_cells number.now) (maps.entries votes.now))) }
+        (PutsRows (codes "vote") first_texts (map (vote_cells number.now) (maps.entries votes.now))) }
 {
     for vote in votes.as_slice() {
         put_vote(tx, number, vote.0.as_str(), vote_column(vote.1))?;

@@ -4,9 +4,9 @@ use Rattle.std.specs.Prelude.{codes, unwrap_or}
 use Rattle.sqlite.specs.declared.types.Value.TheVariants.{Text as Words}
 use Rattle.sqlite.specs.Order.{Row, column}
 use Rattle.sqlite_value.specs.Order.{bytes}
-use Rattle.po_read.specs.Texts.{Text}
-use Rattle.po_read.specs.declared.entry.Entry.{Entry}
-use Rattle.po_read.specs.declared.entry.Previous.{Previous}
+use Rattle.po_text.specs.Texts.{Text}
+use Rattle.po_text.specs.declared.entry.Entry.{Entry}
+use Rattle.po_text.specs.declared.entry.Previous.{Previous}
 use Rattle.units.specs.Openings.{plain_entry}
 use Rattle.units.specs.KeyTexts.{HasStrings}
 use Rattle.units.specs.Units.{key_text, no_previous}

@@ -1,6 +1,6 @@
 -- Columns that pass their tests, and columns that don't.
-use Rattle.std.proofs.Common.{◌≡◌, ◌≢◌, ◌<◌, ◌≤◌, ◌↔◌, ℕ, zero, suc, ℤ, pos, negsuc, Bool, true, false, ◌&&◌, List, [], length, Option, Some, None, Result, Ok, Err, IfErr, inl, inr, refl, sym, ap, subst, ◌∙◌}
-use Rattle.std.specs.Prelude.{All, codes, IsErr, IsErrAnd, MatchOption, String, string_bytes, IsUtf8, is_some, is_ok, nat_lt, ◌⊎◌, ◌==◌, bytes_eq, option_map, option_and_then, if◌then◌else◌}
+use Rattle.std.proofs.Common.{◌≡◌, ◌≢◌, ◌<◌, ◌≤◌, ◌↔◌, ℕ, zero, suc, ℤ, pos, negsuc, Bool, true, false, ◌&&◌, List, [], length, Option, Some, None, Result, Ok, Err, IfErr, inl, inr, refl, sym, ap, subst, ◌∙◌, ◌∷◌}
+use Rattle.std.specs.Prelude.{All, codes, IsErr, IsErrAnd, MatchOption, String, string_bytes, IsUtf8, is_some, is_ok, nat_lt, ◌⊎◌, ◌==◌, bytes_eq, option_map, option_and_then, if◌then◌else◌, IfOk, OnOk}
 use Rattle.std.specs.List.{list_all}
 use Rattle.std.specs.Str.{is_utf8}
 use Rattle.std.specs.Option.{option_map_or}
@@ -21,10 +21,10 @@ use Rattle.sqlite.specs.Values.{or_null}
 use Rattle.sqlite.specs.declared.error.Error.{Error}
 use Rattle.sqlite.specs.declared.error.Error.TheVariants.{SqliteFailure}
 use Rattle.sqlite.specs.declared.error.ErrorCode.TheVariants.{OutOfMemory}
-use Rattle.po_read.specs.declared.entry.Entry.{Entry}
-use Rattle.po_read.specs.declared.entry.Previous.{Previous}
-use Rattle.po_read.specs.Strings.{is_string, is_forms}
-use Rattle.po_read.specs.Texts.{Text}
+use Rattle.po_text.specs.declared.entry.Entry.{Entry}
+use Rattle.po_text.specs.declared.entry.Previous.{Previous}
+use Rattle.po_text.specs.Strings.{is_string, is_forms}
+use Rattle.po_text.specs.Texts.{Text}
 use Rattle.plural_expr.specs.Values.{Rule}
 use Rattle.plural_expr.specs.declared.fault.PluralFault.{PluralFault}
 use Rattle.units.specs.KeyTexts.{HasStrings}
@@ -52,6 +52,7 @@ use Rattle.sql_schema.specs.Keys.{text_at}
 use Rattle.sql_meaning.specs.Shown.{shown_header}
 use Rattle.sqlite_value.specs.Order.{bytes}
 use Rattle.tables.specs.declared.faults.Lost.TheVariants.{Memory}
+use Rattle.sql_meaning.specs.Values.{flag_at, state_at, role_at, vote_at, natural_at}
 use Rattle.sql_decoding.specs.declared.faults.Failure.{Failure}
 use Rattle.sql_decoding.specs.RowTests.{text_passes, text_or_null_passes, integer_passes, holds_text, holds_text_or_null, holds_integer, natural_passes, is_number, has_strings, is_key, are_texts, are_forms, are_previous, is_header, is_rule_of, is_flag, is_state, is_role, is_vote, is_language, IsUnread}
 use Rattle.sql_decoding.specs.ShownFound.{header_of_column}
@@ -338,6 +339,76 @@ module _ (p : ℕ → Bool) where
   pub natural_falls : (n : ℤ) → ((k : ℕ) → p k ≡ true → n ≡ pos k → ⊥) → natural_passes p n ≡ false
   natural_falls (pos k) never = unless (p k) (λ fits. never k fits refl)
   natural_falls (negsuc k) never = refl
+
+-- ---- what a reader of a column tells of it
+
+module _ {V : Type 0} (r : Result V RowFault) where
+  pub err_says : (P : RowFault → Type 0) → ((fault : RowFault) → P fault) → IfErr r P
+  err_says P says = by r
+    where
+      by : (s : Result V RowFault) → IfErr s P
+      by (Ok v) = tt
+      by (Err fault) = says fault
+
+  pub both_tell : (P Q : V → Type 0) {R : Type 0} → ((v : V) → P v → Q v → R) → IfOk r P → IfOk r Q → OnOk r R
+  both_tell P Q {R} tells is fits = by r is fits
+    where
+      by : (s : Result V RowFault) → IfOk s P → IfOk s Q → OnOk s R
+      by (Ok v) p q = tells v p q
+      by (Err fault) p q = tt
+
+  pub ok_tells : (P : V → Type 0) {R : Type 0} → ((v : V) → P v → R) → IfOk r P → OnOk r R
+  ok_tells P tells is = both_tell P P (λ v p q. tells v p) is is
+
+  -- it fails only where no value would be given
+  pub err_tells : (b : Bool) → (((v : V) → r ≡ Ok v → ⊥) → b ≡ false) → IfErr r (λ fault. b ≡ false)
+  err_tells b fails = by r refl
+    where
+      by : (s : Result V RowFault) → r ≡ s → IfErr s (λ fault. b ≡ false)
+      by (Ok v) is = tt
+      by (Err fault) is = fails (λ v given. absurd (let e : Err fault ≡ Ok v = sym is ∙ given in cc))
+
+  pub both_ok : (P Q R : V → Type 0) → ((v : V) → P v → Q v → R v) → IfOk r P → IfOk r Q → IfOk r R
+  both_ok P Q R tells is fits = by r is fits
+    where
+      by : (s : Result V RowFault) → IfOk s P → IfOk s Q → IfOk s R
+      by (Ok v) p q = tells v p q
+      by (Err fault) p q = tt
+
+  -- but for want of memory
+  pub read_fails : (b : Bool) → (((v : V) → Gives r v → ⊥) → b ≡ false) → IfErr r (λ fault. fault ≢ faults.Memory → b ≡ false)
+  read_fails b fails = by r refl
+    where
+      by : (s : Result V RowFault) → r ≡ s → IfErr s (λ fault. fault ≢ faults.Memory → b ≡ false)
+      by (Ok v) is = tt
+      by (Err fault) is = λ other. fails (λ v given. not_given fault other v (subst (λ s. Gives s v) is given))
+
+module _ (n : ℤ) (at : ℕ) (row : Row) (holds : column row at ≡ Int n) where
+  shown_by : {V : Type 0} (f : ℕ → Row → V) (m : ℤ) → n ≡ m → f 0 (column row at ∷ []) ≡ f 0 (Int m ∷ [])
+  shown_by f m is = ap (λ value. f 0 (value ∷ [])) (holds ∙ ap Int is)
+
+  pub flag_shown : (flag : Bool) → n ≡ flag_number flag → flag ≡ flag_at at row
+  flag_shown false is = sym (shown_by flag_at (flag_number false) is)
+  flag_shown true is = sym (shown_by flag_at (flag_number true) is)
+
+  pub state_shown : (state : UnitState) → n ≡ state_number state → state ≡ state_at at row
+  state_shown Untranslated is = sym (shown_by state_at (state_number Untranslated) is)
+  state_shown NeedsEditing is = sym (shown_by state_at (state_number NeedsEditing) is)
+  state_shown Translated is = sym (shown_by state_at (state_number Translated) is)
+  state_shown Approved is = sym (shown_by state_at (state_number Approved) is)
+
+  pub role_shown : (role : Role) → role_number role ≡ Some n → role ≡ role_at at row
+  role_shown Guest is = absurd cc
+  role_shown Translator is = sym (shown_by role_at (pos 1) (let e : pos 1 ≡ n = cc in sym e))
+  role_shown Reviewer is = sym (shown_by role_at (pos 2) (let e : pos 2 ≡ n = cc in sym e))
+  role_shown Manager is = sym (shown_by role_at (pos 3) (let e : pos 3 ≡ n = cc in sym e))
+
+  pub vote_shown : (vote : VoteValue) → n ≡ vote_number (Some vote) → vote ≡ vote_at at row
+  vote_shown For is = sym (shown_by vote_at (vote_number (Some For)) is)
+  vote_shown Against is = sym (shown_by vote_at (vote_number (Some Against)) is)
+
+  pub natural_shown : (k : ℕ) → n ≡ pos k → k ≡ natural_at at row
+  natural_shown k is = sym (shown_by natural_at (pos k) is)
 
 -- ---- a language's columns
 

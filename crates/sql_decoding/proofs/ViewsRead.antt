@@ -1,12 +1,12 @@
 -- What a look at a unit finds of the office.
-use Rattle.std.proofs.Common.{◌≡◌, suc, List, [], ◌∷◌, Option, Some, None, Result, Ok, Err, IfOk, option_map, refl, sym, ap, ◌∙◌, arith}
+use Rattle.std.proofs.Common.{◌≡◌, suc, List, [], ◌∷◌, Option, Some, None, Result, Ok, Err, IfOk, option_map, refl, sym, ap, ◌∙◌, arith, codes}
 use Rattle.std.specs.Prelude.{map, unwrap_or}
 use Rattle.std.specs.FinMap as maps
 use Rattle.std.specs.List.{All}
 use Rattle.sqlite.specs.Order.{Row}
 use Rattle.sqlite.specs.Effect.{Database}
-use Rattle.po_read.specs.Texts.{Text}
-use Rattle.po_read.specs.declared.entry.Entry.{Entry}
+use Rattle.po_text.specs.Texts.{Text}
+use Rattle.po_text.specs.declared.entry.Entry.{Entry}
 use Rattle.plural_expr.specs.Trees.{number}
 use Rattle.plural_expr.specs.Values.{Rule}
 use Rattle.units.specs.KeyTexts.{HasStrings}
@@ -25,14 +25,14 @@ use Rattle.sql_statements.specs.Answers.{ShowsLanguage, ShowsMember, ShowsPolicy
 use Rattle.sql_schema.specs.Inside.{AreOfficeTables}
 use Rattle.sql_schema.specs.Keys.{text_at}
 use Rattle.sql_statements.specs.UnitRows.{suggestion_of, ShowsVotesOn, ShowsUnitRows, ShowsViewRows}
-use Rattle.sql_schema.proofs.Steps.{table_apart}
-use Rattle.sql_schema.proofs.TableRows.{members, one_member, languages, one_language, units, one_unit}
+use Rattle.sql_schema.proofs.TableRows.{one_member, one_language, one_unit}
 use Rattle.sql_meaning.specs.Meaning.{project_of_rows, headers_in, policy_in, suggestions_in, template_in}
 use Rattle.sql_meaning.specs.Shown.{shown_header, shown_suggestion, shown_unit}
 use Rattle.sql_meaning.proofs.OfficeQueries.{policy_found, entry_found, suggestions_found, votes_found}
 use Rattle.sql_meaning.proofs.Team.{finds_role, finds_header}
 use Rattle.sql_meaning.proofs.Units.{finds_unit}
 use Rattle.sql_decoding.specs.ShownFound.{suggestion_shown, rule_of_header, shown_rule, shown_role, shown_source, shown_view, IsShownWith, IsShownFound}
+use Rattle.sql_schema.specs.Layouts.{rows_named}
 
 -- ---- the plural rule
 
@@ -43,20 +43,20 @@ rule_shown row header (Err failure) is none = none
 rule_shown row header (Ok rule) is read = sym (ap rule_of_header (sym is) ∙ ap (by_result (λ fault. record { count = 1; tree = number 0 }) (λ r. r)) read)
 
 module _ (db : Database) (office : AreOfficeTables db) where
-  pub header_found : (lang : Text) (found : Option Row) → ShowsLanguage lang db found → maps.get (headers_in db.trees) lang ≡ option_map shown_header found
-  header_found lang found = finds_header db.trees lang found (one_language db office.schema office.sound (table_apart db.trees 4 languages refl office.tables))
+  pub header_found : (lang : Text) (found : Option Row) → ShowsLanguage lang db found → maps.get (headers_in (rows_named db)) lang ≡ option_map shown_header found
+  header_found lang found = finds_header (rows_named db) lang found (one_language db office.schema office.sound (office.tables (codes "language") refl))
 
-  pub role_found : (name : Text) (found : Option Row) → ShowsMember name db found → role_of (project_of_rows db.trees) name ≡ shown_role found
+  pub role_found : (name : Text) (found : Option Row) → ShowsMember name db found → role_of (project_of_rows (rows_named db)) name ≡ shown_role found
   role_found name found shows =
-      ap (λ o. unwrap_or o Guest) (finds_role db.trees name found (one_member db office.schema office.sound (table_apart db.trees 1 members refl office.tables)) shows)
+      ap (λ o. unwrap_or o Guest) (finds_role (rows_named db) name found (one_member db office.schema office.sound (office.tables (codes "team") refl)) shows)
 
-  rule_of_shown : (lang : Text) (language : Row) → ShowsLanguage lang db (Some language) → rule_at (project_of_rows db.trees) lang ≡ shown_rule language
+  rule_of_shown : (lang : Text) (language : Row) → ShowsLanguage lang db (Some language) → rule_at (project_of_rows (rows_named db)) lang ≡ shown_rule language
   unfolding rule_at
   rule_of_shown lang language shows = ap (λ o. by_result (λ fault. record { count = 1; tree = number 0 }) (λ rule. rule) (rule_in o)) (header_found lang (Some language) shows)
 
   -- ---- the unit
 
-  each_suggestion : (rows : List SuggestionRows) → All (ShowsVotesOn db) rows → map (shown_suggestion db.trees) (map suggestion_of rows) ≡ map suggestion_shown rows
+  each_suggestion : (rows : List SuggestionRows) → All (ShowsVotesOn db) rows → map (shown_suggestion (rows_named db)) (map suggestion_of rows) ≡ map suggestion_shown rows
   each_suggestion [] votes = refl
   each_suggestion (r ∷ rows) votes =
       let first = votes_found db office (text_at 0 r.suggestion) r.votes.items (votes 0 r (omega arith)) in
@@ -64,18 +64,18 @@ module _ (db : Database) (office : AreOfficeTables db) where
       λ i. record (suggestion_shown r) { votes = first i } ∷ more i
 
   suggestions_shown : (lang : Text) (key : Key) (rows : UnitRows) → ShowsUnitRows lang (key_text key) db rows
-      → suggestions_in db.trees lang (key_text key) ≡ map suggestion_shown rows.suggestions.items
+      → suggestions_in (rows_named db) lang (key_text key) ≡ map suggestion_shown rows.suggestions.items
   suggestions_shown lang key rows shows =
       suggestions_found db office lang (key_text key) (map suggestion_of rows.suggestions.items) shows.suggestions ∙ each_suggestion rows.suggestions.items shows.votes
 
   pub view_found : (lang : Text) (key : Key) (rows : UnitRows) → HasStrings key → ShowsUnitRows lang (key_text key) db rows
-      → view_of (project_of_rows db.trees) (lang, key) ≡ shown_view key rows
+      → view_of (project_of_rows (rows_named db)) (lang, key) ≡ shown_view key rows
   view_found lang key rows valid shows =
-      let one = one_unit db office.schema office.sound (table_apart db.trees 5 units refl office.tables) in
-      ap (option_map (λ unit. record { unit = unit; source = entry_of (template_in db.trees) key })) (finds_unit db.trees lang key rows.unit one valid shows.unit) ∙ with_parts rows.unit
+      let one = one_unit db office.schema office.sound (office.tables (codes "unit") refl) in
+      ap (option_map (λ unit. record { unit = unit; source = entry_of (template_in (rows_named db)) key })) (finds_unit (rows_named db) lang key rows.unit one valid shows.unit) ∙ with_parts rows.unit
     where
       with_parts : (found : Option Row)
-          → option_map {U = UnitView} (λ unit. record { unit = unit; source = entry_of (template_in db.trees) key }) (option_map (shown_unit key (suggestions_in db.trees lang (key_text key))) found)
+          → option_map {U = UnitView} (λ unit. record { unit = unit; source = entry_of (template_in (rows_named db)) key }) (option_map (shown_unit key (suggestions_in (rows_named db) lang (key_text key))) found)
           ≡ option_map (λ unit. record { unit = shown_unit key (map suggestion_shown rows.suggestions.items) unit; source = shown_source key rows.entry }) found
       with_parts None = refl
       with_parts (Some unit) =
@@ -86,19 +86,19 @@ module _ (db : Database) (office : AreOfficeTables db) where
   -- ---- all of it
 
   pub all_found : (lang : Text) (key : Key) (name : Text) (rows : ViewRows) (found : Option ActContext) → HasStrings key → ShowsViewRows lang (key_text key) name db rows
-      → IsShownFound key rows found → found ≡ found_of (project_of_rows db.trees) lang key name
+      → IsShownFound key rows found → found ≡ found_of (project_of_rows (rows_named db)) lang key name
   all_found lang key name rows found valid shows is = by rows.office.language rows.office.policy shows.office.language shows.office.policy is
     where
       with_header : Entry → ActContext
       with_header header = record {
-        rule = rule_at (project_of_rows db.trees) lang;
-        policy = policy_in db.trees;
-        role = role_of (project_of_rows db.trees) name;
-        view = view_of (project_of_rows db.trees) (lang, key);
+        rule = rule_at (project_of_rows (rows_named db)) lang;
+        policy = policy_in (rows_named db);
+        role = role_of (project_of_rows (rows_named db)) name;
+        view = view_of (project_of_rows (rows_named db)) (lang, key);
       }
 
       by : (language policy : Option Row) → ShowsLanguage lang db language → ShowsPolicy db policy → IsShownWith key rows language policy found
-          → found ≡ found_of (project_of_rows db.trees) lang key name
+          → found ≡ found_of (project_of_rows (rows_named db)) lang key name
       by None policy shows_language shows_policy none =
           none ∙ sym (ap (option_map with_header) (header_found lang None shows_language))
       by (Some language) None shows_language shows_policy never = absurd never

@@ -7,10 +7,10 @@ use Rattle.std.specs.List.{list_all}
 use Rattle.sqlite.specs.declared.types.Value.{Value}
 use Rattle.sqlite.specs.declared.types.Value.TheVariants.{Null, Int, Real, Text as Words, Blob}
 use Rattle.sqlite.specs.Order.{Row, column}
-use Rattle.po_read.specs.declared.entry.Entry.{Entry}
-use Rattle.po_read.specs.Strings.{is_string, is_forms}
-use Rattle.po_read.specs.Texts.{Text}
-use Rattle.po_read.specs.Valid.{IsValid}
+use Rattle.po_text.specs.declared.entry.Entry.{Entry}
+use Rattle.po_text.specs.Strings.{is_string, is_forms}
+use Rattle.po_text.specs.Texts.{Text}
+use Rattle.po_text.specs.Valid.{IsValid}
 use Rattle.units.specs.Limits.{is_name, is_lang, is_revision, is_accept_at}
 use Rattle.units.specs.Rules.{plural_field, rule_in}
 use Rattle.units.specs.declared.unit.Key.{Key}

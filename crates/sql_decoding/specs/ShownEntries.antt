@@ -1,9 +1,9 @@
 -- What the rows of an export stand for: an entry of the template with its unit, and an obsolete unit's entry.
 use Rattle.std.specs.Prelude.{◌&&◌, ℕ, Bool, true, not, List, [], ◌∷◌, codes, if◌then◌else◌, unwrap_or}
 use Rattle.sqlite.specs.Order.{Row}
-use Rattle.po_read.specs.declared.entry.Entry.{Entry}
-use Rattle.po_read.specs.Strings.{is_string}
-use Rattle.po_read.specs.Texts.{Text}
+use Rattle.po_text.specs.declared.entry.Entry.{Entry}
+use Rattle.po_text.specs.Strings.{is_string}
+use Rattle.po_text.specs.Texts.{Text}
 use Rattle.units.specs.Units.{no_previous, is_needs_editing, all_empty}
 use Rattle.units.specs.declared.unit.UnitState.{UnitState}
 use Rattle.sql_columns.specs.Readings.{previous_read}

@@ -1,8 +1,8 @@
 -- What the rows that a look at a unit shows stand for.
 use Rattle.std.specs.Prelude.{◌≡◌, [], Option, Some, None, map, option_map, unwrap_or}
 use Rattle.sqlite.specs.Order.{Row}
-use Rattle.po_read.specs.Texts.{Text}
-use Rattle.po_read.specs.declared.entry.Entry.{Entry}
+use Rattle.po_text.specs.Texts.{Text}
+use Rattle.po_text.specs.declared.entry.Entry.{Entry}
 use Rattle.plural_expr.specs.Trees.{number}
 use Rattle.plural_expr.specs.Values.{Rule}
 use Rattle.units.specs.Openings.{plain_entry}

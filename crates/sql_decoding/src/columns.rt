@@ -3,27 +3,24 @@ ghost use Rattle.std.specs.Prelude.{◌≡◌, ◌<◌, ◌↔◌, ℕ, ℤ, Lis
 ghost use Rattle.sqlite.specs.Order.{column};
 ghost use Rattle.sqlite.specs.Values.{or_null};
 ghost use Rattle.sqlite.specs.declared.types.Value.TheVariants.{Int, Text as Words};
-ghost use Rattle.po_read.specs.Strings.{is_string};
-ghost use Rattle.units.specs.Limits.{is_name, is_lang, is_revision, is_accept_at};
+ghost use Rattle.po_text.specs.Strings.{is_string};
+ghost use Rattle.units.specs.Limits.{is_name, is_lang};
 ghost use Rattle.sql_columns.specs.Readings.{previous_read};
 ghost use Rattle.units.specs.Units.{no_previous as nothing_previous};
-ghost use Rattle.sql_schema.specs.Keys.{text_at};
+ghost use Rattle.sql_schema.specs.Keys as keys;
 ghost use Rattle.sql_meaning.specs.Meaning as meaning;
 ghost use Rattle.sql_meaning.specs.Values as values;
-ghost use Rattle.sql_decoding.specs.RowTests.{holds_text, holds_text_or_null, holds_integer, natural_passes, is_number, is_key, are_texts, are_forms, are_previous, is_flag, is_state, is_role, is_vote, IsUnread};
+ghost use Rattle.sql_decoding.specs.RowTests.{holds_text, holds_text_or_null, holds_integer, is_key, are_texts, are_previous, is_role, IsUnread};
 
 use crate::faults::Failure;
-use po_read::{Forms, Items, PoString, Previous, Text};
-use request_book::bytes_fit;
-use sql_columns::{
-    accept_at_from, flag_from, forms_from, key_from, lang_from, name_from, number_from,
-    plural_from, previous_from, revision_from, role_from, state_from, texts_from, vote_from,
-};
+use crate::integers::integer_at;
+use crate::texts::text_at;
+use po_text::{Items, PoString, Previous, Text};
+use sql_columns::{name_from, plural_from};
 use sqlite::Row;
 use sqlite::types::ValueRef;
 use std::alloc::Global;
-use units::{AcceptAt, Key, Lang, Name, Revision, Role, UnitState, VoteValue, no_previous};
-use uuid::Uuid;
+use units::{Key, Lang, Role, no_previous};
 
 /// Whether a column is this text.
 pub(crate) fn is_text(row: &Row, at: usize, text: &str) -> bool
@@ -78,18 +75,7 @@ pub(crate) fn texts_at(alloc: Global, row: &Row, at: usize) -> Result<Items<Text
     if is_text(row, at, "[]") {
         return Ok(Items::new(alloc));
     }
-    let column = text_in(row, at)?;
-    Ok(texts_from(alloc, column.as_str())?)
-}
-
-/// The forms in a column.
-pub(crate) fn forms_at(alloc: Global, row: &Row, at: usize) -> Result<Forms, Failure>
-    ensures shown { IfOk result (λ v. v ≡ values.texts_at at row.now) }
-    ensures stands { OnOk result (holds_text are_forms at row.now ≡ true) }
-    ensures unread { IfErr result (IsUnread (holds_text are_forms at row.now)) }
-{
-    let column = text_in(row, at)?;
-    Ok(forms_from(alloc, column.as_str())?)
+    text_at::<Items<Text>>(alloc, row, at)
 }
 
 /// The msgid_plural in a column, none where it is null.
@@ -103,16 +89,6 @@ pub(crate) fn plural_at(alloc: Global, row: &Row, at: usize) -> Result<Option<Po
         Some(plural) => Ok(plural_from(alloc, Some(plural.as_str()))?),
         None => Ok(None),
     }
-}
-
-/// The name in a column.
-pub(crate) fn name_at(alloc: Global, row: &Row, at: usize) -> Result<Name, Failure>
-    ensures shown { IfOk result (λ v. v ≡ text_at at row.now) }
-    ensures stands { OnOk result (holds_text is_name at row.now ≡ true) }
-    ensures unread { IfErr result (IsUnread (holds_text is_name at row.now)) }
-{
-    let column = text_in(row, at)?;
-    Ok(name_from(alloc, column.as_str())?)
 }
 
 /// The text of the name in a column.
@@ -129,12 +105,11 @@ pub fn name_text_at(alloc: Global, row: &Row, at: usize) -> Result<String, Failu
 
 /// The language in a column.
 pub fn lang_at(alloc: Global, row: &Row, at: usize) -> Result<Lang, Failure>
-    ensures shown { IfOk result (λ v. v ≡ text_at at row.now) }
+    ensures shown { IfOk result (λ v. v ≡ keys.text_at at row.now) }
     ensures stands { OnOk result (holds_text is_lang at row.now ≡ true) }
     ensures unread { IfErr result (IsUnread (holds_text is_lang at row.now)) }
 {
-    let column = text_in(row, at)?;
-    Ok(lang_from(alloc, column.as_str())?)
+    text_at::<Lang>(alloc, row, at)
 }
 
 /// The key in a column.
@@ -143,73 +118,19 @@ pub fn key_at(alloc: Global, row: &Row, at: usize) -> Result<Key, Failure>
     ensures stands { OnOk result (holds_text is_key at row.now ≡ true) }
     ensures unread { IfErr result (IsUnread (holds_text is_key at row.now)) }
 {
-    let column = text_in(row, at)?;
-    Ok(key_from(alloc, column.as_str())?)
+    text_at::<Key>(alloc, row, at)
 }
 
 /// The previous strings in a column, of which most have none.
 pub(crate) fn previous_at(alloc: Global, row: &Row, at: usize) -> Result<Previous, Failure>
-    ensures shown { IfOk result (λ v. v ≡ unwrap_or (previous_read (text_at at row.now)) nothing_previous) }
+    ensures shown { IfOk result (λ v. v ≡ unwrap_or (previous_read (keys.text_at at row.now)) nothing_previous) }
     ensures stands { OnOk result (holds_text are_previous at row.now ≡ true) }
     ensures unread { IfErr result (IsUnread (holds_text are_previous at row.now)) }
 {
     if is_text(row, at, "[null,null,null]") {
         return Ok(no_previous());
     }
-    let column = text_in(row, at)?;
-    Ok(previous_from(alloc, column.as_str())?)
-}
-
-/// The number of a request in a column.
-pub(crate) fn number_at(row: &Row, at: usize) -> Result<Uuid, Failure>
-    ensures shown { IfOk result (λ v. v ≡ meaning.number_at at row.now) }
-    ensures stands { OnOk result (holds_text is_number at row.now ≡ true) }
-    ensures unread { IfErr result (IsUnread (holds_text is_number at row.now)) }
-{
-    let column = text_in(row, at)?;
-    let number = number_from(column.as_str())?;
-    bytes_fit(number.as_bytes());
-    Ok(number)
-}
-
-/// The flag in a column.
-pub(crate) fn flag_at(row: &Row, at: usize) -> Result<bool, Failure>
-    ensures shown { IfOk result (λ v. v ≡ values.flag_at at row.now) }
-    ensures stands { OnOk result (holds_integer is_flag at row.now ≡ true) }
-    ensures unread { IfErr result (IsUnread (holds_integer is_flag at row.now)) }
-{
-    let column = integer_in(row, at)?;
-    Ok(flag_from(column)?)
-}
-
-/// The state of a unit in a column.
-pub(crate) fn state_at(row: &Row, at: usize) -> Result<UnitState, Failure>
-    ensures shown { IfOk result (λ v. v ≡ values.state_at at row.now) }
-    ensures stands { OnOk result (holds_integer is_state at row.now ≡ true) }
-    ensures unread { IfErr result (IsUnread (holds_integer is_state at row.now)) }
-{
-    let column = integer_in(row, at)?;
-    Ok(state_from(column)?)
-}
-
-/// The revision in a column.
-pub(crate) fn revision_at(row: &Row, at: usize) -> Result<Revision, Failure>
-    ensures shown { IfOk result (λ v. v ≡ values.natural_at at row.now) }
-    ensures stands { OnOk result (holds_integer (natural_passes is_revision) at row.now ≡ true) }
-    ensures unread { IfErr result (IsUnread (holds_integer (natural_passes is_revision) at row.now)) }
-{
-    let column = integer_in(row, at)?;
-    Ok(revision_from(column)?)
-}
-
-/// The threshold in a column.
-pub(crate) fn threshold_at(row: &Row, at: usize) -> Result<AcceptAt, Failure>
-    ensures shown { IfOk result (λ v. v ≡ values.natural_at at row.now) }
-    ensures stands { OnOk result (holds_integer (natural_passes is_accept_at) at row.now ≡ true) }
-    ensures unread { IfErr result (IsUnread (holds_integer (natural_passes is_accept_at) at row.now)) }
-{
-    let column = integer_in(row, at)?;
-    Ok(accept_at_from(column)?)
+    text_at::<Previous>(alloc, row, at)
 }
 
 /// The role in a column.
@@ -218,16 +139,5 @@ pub fn role_at(row: &Row, at: usize) -> Result<Role, Failure>
     ensures stands { OnOk result (holds_integer is_role at row.now ≡ true) }
     ensures unread { IfErr result (IsUnread (holds_integer is_role at row.now)) }
 {
-    let column = integer_in(row, at)?;
-    Ok(role_from(column)?)
-}
-
-/// The vote in a column.
-pub(crate) fn vote_at(row: &Row, at: usize) -> Result<VoteValue, Failure>
-    ensures shown { IfOk result (λ v. v ≡ values.vote_at at row.now) }
-    ensures stands { OnOk result (holds_integer is_vote at row.now ≡ true) }
-    ensures unread { IfErr result (IsUnread (holds_integer is_vote at row.now)) }
-{
-    let column = integer_in(row, at)?;
-    Ok(vote_from(column)?)
+    integer_at(row, at)
 }

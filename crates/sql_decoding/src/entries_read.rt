@@ -1,6 +1,6 @@
 //! The entries of an export: the template's, each with its unit, and those of obsolete units.
 ghost use Rattle.std.specs.Prelude.{◌≡◌, ◌&&◌, [], true, IfOk, IfErr, OnOk, Some, None, unwrap_or, if◌then◌else◌};
-ghost use Rattle.po_read.specs.Strings.{is_string};
+ghost use Rattle.po_text.specs.Strings.{is_string};
 ghost use Rattle.sql_columns.specs.Readings.{previous_read};
 ghost use Rattle.units.specs.Units.{no_previous as nothing_previous};
 ghost use Rattle.sql_schema.specs.Keys.{text_at};
@@ -9,10 +9,12 @@ ghost use Rattle.sql_meaning.specs.Meaning as meaning;
 ghost use Rattle.sql_decoding.specs.ShownEntries.{flags_behind, message_shown, obsolete_shown, is_translated_row, has_own, is_message_row, is_obsolete_row};
 ghost use Rattle.sql_decoding.specs.RowTests.{holds_text, holds_text_or_null, is_key, IsUnread};
 
-use crate::columns::{forms_at, key_at, plural_at, previous_at, state_at, texts_at};
+use crate::columns::{key_at, plural_at, previous_at, texts_at};
 use crate::faults::Failure;
+use crate::integers::integer_at;
+use crate::texts::text_at;
 use crate::units_read::template_entry;
-use po_read::{Entry, Forms, Items, PoString, Previous, Text};
+use po_text::{Entry, Forms, Items, PoString, Previous, Text};
 use sqlite::Row;
 use std::alloc::{AllocError, Global};
 use units::{Key, UnitState, all_empty};
@@ -44,8 +46,8 @@ fn own_in(
     ensures stands { OnOk result (has_own forms state comment previous row.now ≡ true) }
     ensures unread { IfErr result (IsUnread (has_own forms state comment previous row.now)) }
 {
-    let forms = forms_at(alloc, row, forms)?;
-    let state = state_at(row, state)?;
+    let forms = text_at(alloc, row, forms)?;
+    let state = integer_at(row, state)?;
     let comment = texts_at(alloc, row, comment)?;
     let previous = previous_at(alloc, row, previous)?;
     Ok(Own {

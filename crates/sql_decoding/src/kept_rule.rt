@@ -7,7 +7,7 @@ ghost use Rattle.tables.specs.declared.faults.Lost.TheVariants.{Memory};
 use crate::columns::is_text;
 use crate::faults::Failure;
 use plural_expr::PluralForms;
-use po_read::Text;
+use po_text::Text;
 use sqlite::Row;
 
 /// A plural rule, and the two columns of a language's row that it was read of.

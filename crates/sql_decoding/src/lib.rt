@@ -1,18 +1,28 @@
-//! What one row that a query shows stands for: a record, a caller's role, an entry, a unit with its suggestions, what an act on a unit needs to
-//! know. Each reader answers what the definitions read off its rows, or fails: for want of memory, or exactly where the rows stand for no
-//! value. What a failure comes to is said here too.
+//! What one row that a query shows stands for: a record, a caller's role, an entry, a unit with its suggestions, what
+//! an act on a unit needs to know. Each reader answers what the definitions read off its rows, or fails: for want of
+//! memory, or exactly where the rows stand for no value. What a failure comes to is said here too.
 //!
-//! `columns` reads one column, `records` a record, `units_read` a unit with its suggestions and votes and a template's entry, `views` what an
-//! act on a unit needs, `entries_read` the entries of an export; `kept_rule` has the plural rule that was read last, `domains` the one domain
-//! of the tables, `faults` what a failure comes to. The spec `RowTests` says which rows stand for values.
+//! - `columns`, `integers`, `texts`: one column, one that is a whole number, and one that is a text
+//! - `records`: a record
+//! - `units_read`: a unit with its suggestions and votes, and a template's entry
+//! - `views`: what an act on a unit needs
+//! - `entries_read`: the entries of an export
+//! - `kept_rule`: the plural rule that was read last
+//! - `domains`: whether a domain is `main`, the one that the tables hold (`is_main`)
+//! - `faults`: what a failure comes to: want of memory and a failed disk are told apart
+//!
+//! Specs: `RowTests` (which rows stand for values; `proofs/ColumnsTested` has columns that pass and that don't,
+//! `RowsTold` rows), `ShownFound`, `ShownEntries`, `TablesRead`.
 #![tactic(auto)]
 
 mod columns;
 mod domains;
 mod entries_read;
 mod faults;
+mod integers;
 mod kept_rule;
 mod records;
+mod texts;
 mod units_read;
 mod views;
 

@@ -13,12 +13,11 @@ ghost use Rattle.std.specs.FinMap as maps;
 ghost use Rattle.sql_meaning.specs.Values as values;
 ghost use Rattle.sql_meaning.specs.Meaning as meaning;
 
-use crate::columns::{
-    flag_at, forms_at, key_at, name_at, number_at, plural_at, previous_at, revision_at, state_at,
-    texts_at, vote_at,
-};
+use crate::columns::{key_at, plural_at, previous_at, texts_at};
 use crate::faults::Failure;
-use po_read::{Duplicate, Entry, Forms, Items, PoString, Previous, Text};
+use crate::integers::integer_at;
+use crate::texts::text_at;
+use po_text::{Duplicate, Entry, Forms, Items, PoString, Previous, Text};
 use sql_statements::unit_rows::SuggestionRows;
 use sqlite::Row;
 use std::alloc::Global;
@@ -119,8 +118,8 @@ pub fn put_vote(alloc: Global, votes: &mut Votes, row: &Row) -> Result<(), Failu
     ensures stands { OnOk result (is_vote_on row.now ≡ true) }
     ensures unread { IfErr result (IsUnread (is_vote_on row.now)) }
 {
-    let voter = name_at(alloc, row, 0)?;
-    let value = vote_at(row, 1)?;
+    let voter = text_at(alloc, row, 0)?;
+    let value = integer_at(row, 1)?;
     votes.insert(voter, value)?;
     Ok(())
 }
@@ -144,9 +143,9 @@ pub fn suggestion_with(alloc: Global, row: &Row, votes: Votes) -> Result<Suggest
     ensures stands { OnOk result (is_suggestion row.now ≡ true) }
     ensures unread { IfErr result (IsUnread (is_suggestion row.now)) }
 {
-    let number = number_at(row, 0)?;
-    let suggester = name_at(alloc, row, 2)?;
-    let forms = forms_at(alloc, row, 3)?;
+    let number = text_at(alloc, row, 0)?;
+    let suggester = text_at(alloc, row, 2)?;
+    let forms = text_at(alloc, row, 3)?;
     Ok(Suggestion {
         number,
         suggester,
@@ -215,7 +214,7 @@ fn unit_texts(alloc: Global, row: &Row) -> Result<UnitTexts, Failure>
     ensures unread { IfErr result (IsUnread (has_unit_texts row.now)) }
 {
     let plural = plural_at(alloc, row, 0)?;
-    let forms = forms_at(alloc, row, 1)?;
+    let forms = text_at(alloc, row, 1)?;
     let comment = texts_at(alloc, row, 5)?;
     let previous = previous_at(alloc, row, 6)?;
     Ok(UnitTexts {
@@ -244,9 +243,9 @@ fn unit_numbers(row: &Row) -> Result<UnitNumbers, Failure>
     ensures unread { IfErr result (IsUnread (has_unit_numbers row.now)) }
 {
     Ok(UnitNumbers {
-        state: state_at(row, 2)?,
-        obsolete: flag_at(row, 3)?,
-        revision: revision_at(row, 4)?,
+        state: integer_at(row, 2)?,
+        obsolete: integer_at(row, 3)?,
+        revision: integer_at(row, 4)?,
     })
 }
 

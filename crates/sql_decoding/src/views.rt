@@ -7,13 +7,14 @@ ghost use Rattle.sql_meaning.specs.Shown.{shown_header, shown_policy, shown_unit
 ghost use Rattle.sql_decoding.specs.ShownFound.{suggestion_shown, shown_rule, shown_role, shown_source, shown_view, IsShownFound, found_shown};
 ghost use Rattle.sql_decoding.specs.RowTests.{holds_text, holds_integer, is_header, is_rule_of, is_role, is_policy_row, is_entry, is_language, is_unit, is_suggestion_with_votes, are_unit_rows, are_found_rows, IsUnread};
 
-use crate::columns::{flag_at, role_at, text_in, threshold_at};
+use crate::columns::{role_at, text_in};
 use crate::faults::Failure;
+use crate::integers::integer_at;
 use crate::kept_rule::{KeptRule, rule_to_keep, same_rule};
 use crate::units_read::{entry_in, unit_in};
 use deliveries::ActContext;
 use plural_expr::PluralForms;
-use po_read::Entry;
+use po_text::Entry;
 use sql_columns::{header_from, rule_from};
 use sql_statements::unit_rows::{SuggestionRows, UnitRows, ViewRows};
 use sqlite::Row;
@@ -91,12 +92,12 @@ pub fn policy_in(row: &Row) -> Result<Policy, Failure>
     ensures unread { IfErr result (IsUnread (is_policy_row row.now)) }
 {
     Ok(Policy {
-        reviews: flag_at(row, 1)?,
-        guests_suggest: flag_at(row, 2)?,
-        voting: flag_at(row, 3)?,
-        accept_at: threshold_at(row, 4)?,
-        placeholders: flag_at(row, 5)?,
-        line_ends: flag_at(row, 6)?,
+        reviews: integer_at(row, 1)?,
+        guests_suggest: integer_at(row, 2)?,
+        voting: integer_at(row, 3)?,
+        accept_at: integer_at(row, 4)?,
+        placeholders: integer_at(row, 5)?,
+        line_ends: integer_at(row, 6)?,
     })
 }
 

@@ -6,6 +6,10 @@ use Rattle.sqlite.proofs.StateLemmas.{survives_weaker}
 use Rattle.sql_streams.specs.Walks.{StaysPut}
 use Rattle.sql_schema.specs.Whole.{IsIdle, IsLookUp}
 
+pub nothing : {A E : Type 0} (r : Result A E) → IfOk r (λ _. ⊤)
+nothing (Ok x) = tt
+nothing (Err e) = tt
+
 pub walk_looks_up : {A E : Type 0} (old new : State) (r : Result A E) → IsIdle old → (HasCleanDisk new → IsTrue new.is_open → StaysPut old new) → (HasCleanDisk new → OnOk r (IsTrue new.is_open))
     → new.in_transaction ≡ false → Survives old new (λ _. ⊥) → IsLookUp old new r (λ _ _. ⊤)
 walk_looks_up old new r idle stays is_open ended survives = record {
@@ -22,7 +26,3 @@ walk_looks_up old new r idle stays is_open ended survives = record {
   ended = ended;
   survives = survives_weaker old new (λ _. ⊥) _ (λ _ db none. absurd none) survives;
 }
-  where
-    nothing : {A E : Type 0} (r : Result A E) → IfOk r (λ _. ⊤)
-    nothing (Ok x) = tt
-    nothing (Err e) = tt

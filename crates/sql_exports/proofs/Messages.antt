@@ -1,5 +1,5 @@
 -- The messages that the query shows are the template's entries in order, each with its unit.
-use Rattle.std.proofs.Common.{◌≡◌, ◌+◌, List, [], ◌∷◌, ◌++◌, map, length, Some, inl, inr, refl, sym, ap, subst, ◌∙◌, arith}
+use Rattle.std.proofs.Common.{◌≡◌, ◌+◌, List, [], ◌∷◌, ◌++◌, map, length, Some, inl, inr, refl, sym, ap, subst, ◌∙◌, arith, codes}
 use Rattle.std.specs.declared.cmp.Ordering.{Ordering}
 use Rattle.std.specs.Ordering.{is_lt}
 use Rattle.std.specs.Option.{option_map_or}
@@ -14,17 +14,15 @@ use Rattle.sqlite_rules.specs.Lists.{Has}
 use Rattle.sql_laws.specs.RowMaps.{OneEach}
 use Rattle.sql_laws.proofs.RowMaps.{get-is}
 use Rattle.sql_laws.proofs.RemovedRows.{from_mapped, has_permuted}
-use Rattle.po_read.specs.declared.entry.Entry.{Entry}
-use Rattle.po_read.specs.Texts.{Text}
+use Rattle.po_text.specs.declared.entry.Entry.{Entry}
+use Rattle.po_text.specs.Texts.{Text}
 use Rattle.units.specs.Units.{key_of}
 use Rattle.units.specs.Project.{Place, place_cmp}
 use Rattle.units.specs.Orders.{place_total, place_IsAntisymmetric}
 use Rattle.deliveries.specs.ExportedEntries.{translated}
-use Rattle.sql_schema.specs.Schema.{template_tree, unit_tree}
 use Rattle.sql_schema.specs.Keys.{second_text, columns, text_at}
 use Rattle.sql_schema.specs.Inside.{AreOfficeTables}
-use Rattle.sql_schema.proofs.Steps.{table_apart}
-use Rattle.sql_schema.proofs.TableRows.{units, one_unit}
+use Rattle.sql_schema.proofs.TableRows.{one_unit}
 use Rattle.sql_meaning.specs.Meaning.{template_in, units_in, unit_of_row, place_of_row, key_at}
 use Rattle.sql_meaning.specs.Shown.{shown_entry}
 use Rattle.sql_meaning.proofs.Units.{by_place}
@@ -33,6 +31,7 @@ use Rattle.sql_meaning.proofs.OfficeTables.{whole_template}
 use Rattle.sql_columns.specs.Readings.{key_parts}
 use Rattle.sql_statements.specs.Queries.{AreUnits, ShowsMessages, entry_places, unit_places}
 use Rattle.sql_decoding.specs.ShownEntries.{message_shown}
+use Rattle.sql_schema.specs.Layouts.{rows_named}
 
 mapped_alike : {A B : Type 0} (f g : A → B) (xs : List A) → ((x : A) → Has xs x → f x ≡ g x) → map f xs ≡ map g xs
 mapped_alike f g [] same = refl
@@ -44,9 +43,9 @@ mapped_sorted f by rows alike sorted k d low high =
     let long : length (map f rows) ≡ length rows = length-map rows f in
     rw (get_or-map f rows (k + 1) d d (omega arith), get_or-map f rows k d d (omega arith)) (ap is_lt (alike _ _) ∙ sorted k d low (omega arith))
 
-module _ (db : Database) (office : AreOfficeTables db) (lang : Text) (unit_of : Row → Row) (are : AreUnits lang db.trees unit_of) (rows : List Row) (shows : ShowsMessages unit_of db rows) where
+module _ (db : Database) (office : AreOfficeTables db) (lang : Text) (unit_of : Row → Row) (are : AreUnits lang (rows_named db) unit_of) (rows : List Row) (shows : ShowsMessages unit_of db rows) where
   abbrev entries : List Row
-  entries = db.trees template_tree
+  entries = rows_named db (codes "template")
 
   abbrev shown_of : Row → Row
   shown_of row = columns entry_places row ++ columns unit_places (unit_of row)
@@ -61,15 +60,15 @@ module _ (db : Database) (office : AreOfficeTables db) (lang : Text) (unit_of : 
     in_order = mapped_sorted cut (by_columns (5 ∷ [])) rows (λ r s. refl) shows.in_order;
   }
 
-  one_each : OneEach place_of_row (db.trees unit_tree)
-  one_each r s in_r in_s e = one_unit db office.schema office.sound (table_apart db.trees 5 units refl office.tables) r s in_r in_s (by_place.back r s tt tt e)
+  one_each : OneEach place_of_row (rows_named db (codes "unit"))
+  one_each r s in_r in_s e = one_unit db office.schema office.sound (office.tables (codes "unit") refl) r s in_r in_s (by_place.back r s tt tt e)
 
-  unit_there : (row : Row) → Has (db.trees unit_tree) row → maps.get (units_in db.trees) (place_of_row row) ≡ Some (unit_of_row db.trees row)
+  unit_there : (row : Row) → Has (rows_named db (codes "unit")) row → maps.get (units_in (rows_named db)) (place_of_row row) ≡ Some (unit_of_row (rows_named db) row)
   unit_there row there =
-      get-is place_cmp place_total place_IsAntisymmetric place_of_row (unit_of_row db.trees) (db.trees unit_tree) (place_of_row row) (Some (unit_of_row db.trees row)) one_each (row, there, refl, refl)
+      get-is place_cmp place_total place_IsAntisymmetric place_of_row (unit_of_row (rows_named db)) (rows_named db (codes "unit")) (place_of_row row) (Some (unit_of_row (rows_named db) row)) one_each (row, there, refl, refl)
 
   abbrev with_unit : Entry → Entry
-  with_unit entry = option_map_or (translated entry) (maps.get (units_in db.trees) (lang, key_of entry)) entry
+  with_unit entry = option_map_or (translated entry) (maps.get (units_in (rows_named db)) (lang, key_of entry)) entry
 
   of_row : (row : Row) → Has entries row → message_shown (shown_of row) ≡ with_unit (shown_entry (key_at 4 (cut (shown_of row))) (cut (shown_of row)))
   of_row row there =
@@ -77,8 +76,8 @@ module _ (db : Database) (office : AreOfficeTables db) (lang : Text) (unit_of : 
       let first : text_at 1 (unit_of row) ≡ lang = cc in
       let second : text_at 2 (unit_of row) ≡ second_text row = cc in
       let place : place_of_row (unit_of row) ≡ (lang, key_at 2 row) = λ i. (first i, key_parts (second i)) in
-      let found : maps.get (units_in db.trees) (lang, key_at 2 row) ≡ Some (unit_of_row db.trees (unit_of row)) =
-      subst (λ (p : Place). maps.get (units_in db.trees) p ≡ Some (unit_of_row db.trees (unit_of row))) place (unit_there (unit_of row) (are.there row there)) in
+      let found : maps.get (units_in (rows_named db)) (lang, key_at 2 row) ≡ Some (unit_of_row (rows_named db) (unit_of row)) =
+      subst (λ (p : Place). maps.get (units_in (rows_named db)) p ≡ Some (unit_of_row (rows_named db) (unit_of row))) place (unit_there (unit_of row) (are.there row there)) in
       sym (ap (λ found. option_map_or (translated (shown_entry (key_at 4 (cut (shown_of row))) (cut (shown_of row)))) found (shown_entry (key_at 4 (cut (shown_of row))) (cut (shown_of row)))) found)
 
   of_shown : (r : Row) → Has rows r → message_shown r ≡ with_unit (shown_entry (key_at 4 (cut r)) (cut r))
@@ -86,7 +85,7 @@ module _ (db : Database) (office : AreOfficeTables db) (lang : Text) (unit_of : 
       let from = from_mapped shown_of entries r (has_permuted (map shown_of entries) rows r shows.all there) in
       subst (λ x. message_shown x ≡ with_unit (shown_entry (key_at 4 (cut x)) (cut x))) (sym from.2) (of_row from.0 from.1)
 
-  pub messages_are : map message_shown rows ≡ map (λ entry. option_map_or (translated entry) (maps.get (units_in db.trees) (lang, key_of entry)) entry) (template_in db.trees)
+  pub messages_are : map message_shown rows ≡ map (λ entry. option_map_or (translated entry) (maps.get (units_in (rows_named db)) (lang, key_of entry)) entry) (template_in (rows_named db))
   messages_are =
       mapped_alike message_shown (λ r. with_unit (shown_entry (key_at 4 (cut r)) (cut r))) rows of_shown
       ∙ sym (map-map with_unit (λ r. shown_entry (key_at 4 (cut r)) (cut r)) rows)

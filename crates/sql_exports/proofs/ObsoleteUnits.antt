@@ -27,8 +27,8 @@ use Rattle.sql_laws.specs.RowMaps.{OneEach, IsFound}
 use Rattle.sql_laws.specs.ApartRows.{AreOnce}
 use Rattle.sql_laws.proofs.RowMaps.{get-found, get-is, texts_are_one, text_ties_itself}
 use Rattle.sql_laws.proofs.RemovedRows.{from_mapped, to_mapped, has_permuted}
-use Rattle.po_read.specs.declared.entry.Entry.{Entry}
-use Rattle.po_read.specs.Texts.{Text, text_cmp, text_eq}
+use Rattle.po_text.specs.declared.entry.Entry.{Entry}
+use Rattle.po_text.specs.Texts.{Text, text_cmp, text_eq}
 use Rattle.units.specs.Units.{key_text, key_cmp, all_empty}
 use Rattle.units.specs.Project.{Place, place_cmp, units_of}
 use Rattle.units.specs.Orders.{text_total, text_IsAntisymmetric, key_total, place_total, place_IsAntisymmetric}
@@ -37,12 +37,10 @@ use Rattle.units.specs.declared.unit.Unit.{Unit}
 use Rattle.deliveries.specs.ExportedEntries.{obsolete_entry}
 use Rattle.sql_columns.specs.Readings.{key_parts}
 use Rattle.sql_columns.proofs.Keys.{text_of_parts}
-use Rattle.sql_schema.specs.Schema.{unit_tree}
 use Rattle.sql_schema.specs.Keys.{text_at, has_text, columns}
 use Rattle.sql_schema.specs.Inside.{AreOfficeTables, IsInOrder}
-use Rattle.sql_schema.proofs.Steps.{table_apart}
 use Rattle.sql_schema.proofs.TextKeys.{holds_int}
-use Rattle.sql_schema.proofs.TableRows.{units, units_listed, unit_keys, one_unit}
+use Rattle.sql_schema.proofs.TableRows.{unit_keys, one_unit}
 use Rattle.sql_meaning.specs.Values.{flag_at}
 use Rattle.sql_meaning.specs.Meaning.{project_of_rows, units_in, unit_of_row, place_of_row}
 use Rattle.sql_meaning.proofs.MapEntries.{true_of, below_has, get_entry, entry_of_get}
@@ -50,6 +48,9 @@ use Rattle.sql_meaning.proofs.Units.{by_place}
 use Rattle.sql_statements.specs.Queries.{ShowsObsolete, is_obsolete_of}
 use Rattle.sql_decoding.specs.ShownEntries.{obsolete_shown, is_translated_row}
 use Rattle.sql_exports.proofs.OneOrder.{Below, same_list, ascending_mapped, twice}
+use Rattle.sql_schema.specs.Layouts.{rows_named}
+use Rattle.sql_schema.proofs.Layouts.{unit_placed}
+use Rattle.sql_schema.specs.Schema.{unit_table}
 
 -- a flag that is set is 1
 flag_one : (v : Value) → flag_at 0 (v ∷ []) ≡ true → v ≡ Int (pos 1)
@@ -156,16 +157,16 @@ rows_rise (r ∷ s ∷ rows) up texts once =
 
 module _ (db : Database) (office : AreOfficeTables db) (lang : Text) (rows : List Row) (shows : ShowsObsolete lang db rows) where
   abbrev all : List Row
-  all = db.trees unit_tree
+  all = rows_named db (codes "unit")
 
   abbrev obsolete : List Row
   obsolete = filter (is_obsolete_of lang) all
 
   one_each : OneEach place_of_row all
-  one_each r s in_r in_s e = one_unit db office.schema office.sound (table_apart db.trees 5 units refl office.tables) r s in_r in_s (by_place.back r s tt tt e)
+  one_each r s in_r in_s e = one_unit db office.schema office.sound (office.tables (codes "unit") refl) r s in_r in_s (by_place.back r s tt tt e)
 
   whole : (row : Row) → Has all row → column row 6 ≡ Int (id_in (column row 6))
-  whole row there = holds_int units units_listed 5 (codes "obsolete") refl db office.schema office.sound row there refl
+  whole row there = holds_int unit_table unit_placed 5 (codes "obsolete") refl db office.schema office.sound row there refl
 
   -- which rows are obsolete units of the language
   abbrev Holds : Row → Type 0
@@ -200,7 +201,7 @@ module _ (db : Database) (office : AreOfficeTables db) (lang : Text) (rows : Lis
   shown_once = IsDistinct-IsPermutation (eq_by_cmp text_cmp) (eq_by_cmp_equiv text_total).symm (map (text_at 5) (map cut obsolete)) (map (text_at 5) rows)
       (IsPermutation-map (text_at 5) (map cut obsolete) rows shows.all)
       (subst (IsDistinct (eq_by_cmp text_cmp)) (sym (map-map (text_at 5) cut obsolete))
-      (each_once obsolete (ascending-filter _ (is_obsolete_of lang) all (table_apart db.trees 5 units refl office.tables).once) (λ r s in_r in_s e.
+      (each_once obsolete (ascending-filter _ (is_obsolete_of lang) all (office.tables (codes "unit") refl).once) (λ r s in_r in_s e.
       let h = holds_then r in_r in
       let k = holds_then s in_s in
       let langs : text_at 1 r ≡ text_at 1 s = h.1.0 ∙ sym k.1.0 in
@@ -212,7 +213,7 @@ module _ (db : Database) (office : AreOfficeTables db) (lang : Text) (rows : Lis
   -- ---- the entries of the office are too
 
   abbrev entries : List (Place × Unit)
-  entries = maps.entries (units_in db.trees)
+  entries = maps.entries (units_in (rows_named db))
 
   abbrev in_lang : Place × Unit → Bool
   in_lang e = text_eq lang e.0.0
@@ -223,10 +224,10 @@ module _ (db : Database) (office : AreOfficeTables db) (lang : Text) (rows : Lis
   abbrev of_entry : Place × Unit → Text × Entry
   of_entry e = (key_text e.0.1, obsolete_entry e.1)
 
-  row_of : (e : Place × Unit) → Has entries e → (r : Row) × Has all r × (place_of_row r ≡ e.0) × (unit_of_row db.trees r ≡ e.1)
+  row_of : (e : Place × Unit) → Has entries e → (r : Row) × Has all r × (place_of_row r ≡ e.0) × (unit_of_row (rows_named db) r ≡ e.1)
   row_of e there =
-      subst (IsFound place_of_row (unit_of_row db.trees) all e.0) (get_entry place_cmp place_total (units_in db.trees) e there)
-      (get-found place_cmp place_total place_IsAntisymmetric place_of_row (unit_of_row db.trees) all e.0)
+      subst (IsFound place_of_row (unit_of_row (rows_named db)) all e.0) (get_entry place_cmp place_total (units_in (rows_named db)) e there)
+      (get-found place_cmp place_total place_IsAntisymmetric place_of_row (unit_of_row (rows_named db)) all e.0)
 
   is_read : (e : Place × Unit) → Has entries e → IsRead e.0.1
   is_read e there =
@@ -247,7 +248,7 @@ module _ (db : Database) (office : AreOfficeTables db) (lang : Text) (rows : Lis
 
   own_rise : IsAscending Below (map of_entry own)
   own_rise = ascending_mapped (λ a b. place_cmp a.0 b.0 ≡ Less) Below of_entry own
-      (ascending-filter _ (λ e. in_lang e && e.1.obsolete) entries (rising entries (true_of _ (entries_sorted (units_in db.trees)))))
+      (ascending-filter _ (λ e. in_lang e && e.1.obsolete) entries (rising entries (true_of _ (entries_sorted (units_in (rows_named db))))))
       (λ a b in_a in_b less.
       let x = own_is a in_a in
       let y = own_is b in_b in
@@ -256,7 +257,7 @@ module _ (db : Database) (office : AreOfficeTables db) (lang : Text) (rows : Lis
   -- ---- they are one
 
   -- a row shows the entry of its place
-  shown_is : (r : Row) (e : Place × Unit) → place_of_row r ≡ e.0 → unit_of_row db.trees r ≡ e.1 → of_shown (cut r) ≡ of_entry e
+  shown_is : (r : Row) (e : Place × Unit) → place_of_row r ≡ e.0 → unit_of_row (rows_named db) r ≡ e.1 → of_shown (cut r) ≡ of_entry e
   shown_is r e place unit =
       let text : text_at 2 r ≡ key_text e.0.1 = sym (text_of_parts (text_at 2 r)) ∙ ap (λ (p : Place). key_text p.1) place in
       λ i. (text i, obsolete_entry (unit i))
@@ -267,8 +268,8 @@ module _ (db : Database) (office : AreOfficeTables db) (lang : Text) (rows : Lis
       let from = shown_from row.0 row.1 in
       let r = from.0 in
       let holds = holds_then r from.1 in
-      let found = get-is place_cmp place_total place_IsAntisymmetric place_of_row (unit_of_row db.trees) all (place_of_row r) (Some (unit_of_row db.trees r)) one_each (r, holds.0, refl, refl) in
-      let entry = entry_of_get place_cmp place_total place_IsAntisymmetric (units_in db.trees) (place_of_row r) (unit_of_row db.trees r) found in
+      let found = get-is place_cmp place_total place_IsAntisymmetric place_of_row (unit_of_row (rows_named db)) all (place_of_row r) (Some (unit_of_row (rows_named db) r)) one_each (r, holds.0, refl, refl) in
+      let entry = entry_of_get place_cmp place_total place_IsAntisymmetric (units_in (rows_named db)) (place_of_row r) (unit_of_row (rows_named db) r) found in
       let lang_of : entry.0.0.0 ≡ lang = ap (λ (p : Place). p.0) entry.2 ∙ holds.1.0 in
       let flag_of : entry.0.1.obsolete ≡ true = ap (λ (u : Unit). u.obsolete) entry.3 ∙ ap (λ v. flag_at 0 (v ∷ [])) holds.1.1 in
       let is_own : Has own entry.0 = has_kept (λ f. in_lang f && f.1.obsolete) entries entry.0 entry.1 (and_from _ _ (is_in_lang entry.0 lang_of) flag_of) in
@@ -294,7 +295,7 @@ module _ (db : Database) (office : AreOfficeTables db) (lang : Text) (rows : Lis
   kept entry = not (all_empty entry.forms)
 
   pub obsolete_are : map obsolete_shown (filter is_translated_row rows)
-      ≡ map obsolete_entry (filter (λ unit. unit.obsolete && not (all_empty unit.forms)) (units_of (project_of_rows db.trees) lang))
+      ≡ map obsolete_entry (filter (λ unit. unit.obsolete && not (all_empty unit.forms)) (units_of (project_of_rows (rows_named db)) lang))
   obsolete_are =
       sym (map-map (λ (x : Text × Entry). x.1) of_shown (filter is_translated_row rows))
       ∙ sym (ap (map (λ (x : Text × Entry). x.1)) (filter-map (λ x. kept x.1) of_shown rows))

@@ -1,16 +1,17 @@
 -- What a sink was given of entries, and then of more of them; and look-ups, one after the other.
-use Rattle.std.proofs.Common.{◌≡◌, List, [], ◌∷◌, ◌++◌, Result, Ok, Err, OnOk, IfOk, IsTrue, sym, ap, subst, ◌∙◌, append_assoc, arith}
+use Rattle.std.proofs.Common.{◌≡◌, List, [], ◌∷◌, ◌++◌, Result, Ok, Err, OnOk, IsTrue, sym, ap, subst, ◌∙◌, append_assoc, arith}
 use Rattle.std.specs.Prelude.{⊤}
 use Rattle.sqlite.specs.Effect.{Database}
 use Rattle.sqlite.specs.State.{State, HasCleanDisk}
 use Rattle.sqlite.proofs.StateLemmas.{survives_then}
-use Rattle.po_read.specs.declared.entry.Entry.{Entry}
+use Rattle.po_text.specs.declared.entry.Entry.{Entry}
 use Rattle.tables.specs.declared.faults.EachFault.{EachFault}
 use Rattle.tables.specs.declared.faults.EachFault.TheVariants.{NoTables, NoSink}
 use Rattle.tables.specs.Sinks.{WasCutShort}
 use Rattle.sql_schema.specs.Inside.{AreOfficeTables}
 use Rattle.sql_schema.specs.Whole.{IsIdle, IsLookUp}
 use Rattle.sql_exports.specs.Handing.{Gives, TookAllBut}
+use Rattle.sql_exports.proofs.Idle.{nothing}
 
 module _ {S R : Type 0} (Took : S → List Entry → S → Type 0) (Refuses : S → Entry → R → S → Type 0) where
   -- the fault came in the first part
@@ -109,10 +110,6 @@ module _ (old mid : State) {A E : Type 0} (x : A) (P : Database → A → Type 0
     survives = first.survives;
   }
     where
-      nothing : {B F : Type 0} (r : Result B F) → IfOk r (λ _. ⊤)
-      nothing (Ok y) = tt
-      nothing (Err e) = tt
-
       open_or_not : {B F : Type 0} (r : Result B F) → IsTrue mid.is_open → OnOk r (IsTrue mid.is_open)
       open_or_not (Ok y) is_open = is_open
       open_or_not (Err e) is_open = tt

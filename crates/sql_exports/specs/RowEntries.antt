@@ -2,7 +2,7 @@
 use Rattle.std.specs.Prelude.{◌≡◌, List, [], ◌∷◌, ◌++◌, Option}
 use Rattle.std.specs.Borrow.{MutBor}
 use Rattle.std.specs.List.{filter_map}
-use Rattle.po_read.specs.declared.entry.Entry.{Entry}
+use Rattle.po_text.specs.declared.entry.Entry.{Entry}
 use Rattle.sqlite.specs.Order.{Row}
 use Rattle.tables.specs.declared.faults.EachFault.{EachFault}
 use Rattle.tables.specs.declared.faults.EachFault.TheVariants.{NoTables, NoSink}

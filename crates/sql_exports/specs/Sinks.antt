@@ -3,7 +3,7 @@ use Rattle.std.proofs.Common.{List, [], ◌∷◌, ◌++◌, Option, refl, sym, 
 use Rattle.std.specs.Borrow.{MutBor}
 use Rattle.std.specs.List.{filter_map}
 use Rattle.std.proofs.lemmas.List.Elements.{filter_map-append}
-use Rattle.po_read.specs.declared.entry.Entry.{Entry}
+use Rattle.po_text.specs.declared.entry.Entry.{Entry}
 use Rattle.sqlite.specs.Order.{Row}
 use Rattle.sql_exports.specs.RowEntries.{TookEntries}
 

@@ -1,11 +1,11 @@
 //! A sink of rows over a sink of entries.
 
-ghost use Rattle.std.specs.Prelude.{◌≡◌, ◌∷◌, [], List, Option, IfOk};
-ghost use Rattle.po_read.specs.declared.entry.Entry.{Entry as EntryValue};
+ghost use Rattle.std.specs.Prelude.{◌≡◌, Option, IfOk};
+ghost use Rattle.po_text.specs.declared.entry.Entry.{Entry as EntryValue};
 ghost use Rattle.sqlite.specs.Order.{Row as RowValue};
 ghost use Rattle.sql_exports.specs.RowEntries.{TookEntries, RefusedEntry};
 
-use po_read::Entry;
+use po_text::Entry;
 use sql_streams::RowSink;
 use sqlite::Row;
 use std::mem::replace;

@@ -9,11 +9,12 @@ ghost use Rattle.sql_schema.specs.Whole.{IsIdle, IsLookUp};
 ghost use Rattle.sql_meaning.specs.Meaning.{project_of_rows};
 ghost use Rattle.sql_exports.specs.Handing.{Gives};
 ghost use Rattle.sql_exports.specs.Entries.{messages_of, obsolete_of};
+ghost use Rattle.sql_schema.specs.Layouts.{rows_named};
 
 use crate::handing::{hand_messages, hand_obsolete};
 use crate::header::look_up_header;
 use crate::readers::{Messages, Obsolete};
-use po_read::Entry;
+use po_text::Entry;
 use sqlite::{Alter, Connection};
 use std::alloc::Global;
 use tables::{EachFault, EntrySink};
@@ -43,7 +44,7 @@ fn hand_obsolete_behind<S: Alter, K: EntrySink>(
     requires idle { IsIdle (state S.Store connection.old) }
     requires is_open { HasCleanDisk (state S.Store connection.old) → IsTrue (state S.Store connection.old).is_open }
     ensures handed { HasCleanDisk (state S.Store connection.new) → Gives K.Took K.Refuses sink.old sink.new
-        (held ∷ obsolete_of (project_of_rows (state S.Store connection.old).now.trees) lang.now) result }
+        (held ∷ obsolete_of (project_of_rows (rows_named (state S.Store connection.old).now)) lang.now) result }
     ensures looked { IsLookUp (state S.Store connection.old) (state S.Store connection.new) result (λ _ _. ⊤) }
 {
     let mut last = held;
@@ -64,10 +65,10 @@ fn hand_rows<S: Alter, K: EntrySink>(
     requires autocommit { connection.old.in_transaction ≡ false }
     requires idle { IsIdle (state S.Store connection.old) }
     requires is_open { HasCleanDisk (state S.Store connection.old) → IsTrue (state S.Store connection.old).is_open }
-    requires rules { HasCleanDisk (state S.Store connection.old) → IsProject (project_of_rows (state S.Store connection.old).now.trees) }
-    requires there { HasCleanDisk (state S.Store connection.old) → IsSome (maps.get (project_of_rows (state S.Store connection.old).now.trees).headers lang.now) }
+    requires rules { HasCleanDisk (state S.Store connection.old) → IsProject (project_of_rows (rows_named (state S.Store connection.old).now)) }
+    requires there { HasCleanDisk (state S.Store connection.old) → IsSome (maps.get (project_of_rows (rows_named (state S.Store connection.old).now)).headers lang.now) }
     ensures handed { HasCleanDisk (state S.Store connection.new) → Gives K.Took K.Refuses sink.old sink.new
-        (header ∷ messages_of (project_of_rows (state S.Store connection.old).now.trees) lang.now ++ obsolete_of (project_of_rows (state S.Store connection.old).now.trees) lang.now) result }
+        (header ∷ messages_of (project_of_rows (rows_named (state S.Store connection.old).now)) lang.now ++ obsolete_of (project_of_rows (rows_named (state S.Store connection.old).now)) lang.now) result }
     ensures looked { IsLookUp (state S.Store connection.old) (state S.Store connection.new) result (λ _ _. ⊤) }
 {
     let mut last = header;
@@ -91,9 +92,9 @@ pub fn export_entries<S: Alter, K: EntrySink>(
 ) -> Result<(), EachFault<K::Refusal>>
     requires autocommit { connection.old.in_transaction ≡ false }
     requires idle { IsIdle (state S.Store connection.old) }
-    requires rules { HasCleanDisk (state S.Store connection.old) → IsTrue (state S.Store connection.old).is_open → IsProject (project_of_rows (state S.Store connection.old).now.trees) }
+    requires rules { HasCleanDisk (state S.Store connection.old) → IsTrue (state S.Store connection.old).is_open → IsProject (project_of_rows (rows_named (state S.Store connection.old).now)) }
     ensures handed { HasCleanDisk (state S.Store connection.new) → Gives K.Took K.Refuses sink.old sink.new
-        (entries_of (project_of_rows (state S.Store connection.old).now.trees) lang.now) result }
+        (entries_of (project_of_rows (rows_named (state S.Store connection.old).now)) lang.now) result }
     ensures looked { IsLookUp (state S.Store connection.old) (state S.Store connection.new) result (λ _ _. ⊤) }
 {
     match look_up_header(connection, alloc, lang.as_str()) {

@@ -5,16 +5,17 @@ ghost use Rattle.std.specs.List.{filter_map};
 ghost use Rattle.sqlite.specs.Held.{state};
 ghost use Rattle.sqlite.specs.Order.{Row as RowValue};
 ghost use Rattle.sqlite.specs.State.{HasCleanDisk};
-ghost use Rattle.po_read.specs.declared.entry.Entry.{Entry as EntryValue};
+ghost use Rattle.po_text.specs.declared.entry.Entry.{Entry as EntryValue};
 ghost use Rattle.sqlite.specs.declared.error.Error.TheVariants.{SqliteFailure};
 ghost use Rattle.sqlite.specs.declared.error.ErrorCode.TheVariants.{OutOfMemory};
 ghost use Rattle.tables.specs.declared.faults.Lost.TheVariants.{Memory};
 ghost use Rattle.sql_schema.specs.Whole.{IsIdle, IsLookUp};
 ghost use Rattle.sql_statements.specs.Queries.{AreUnits, ShowsMessages, ShowsObsolete};
 ghost use Rattle.sql_exports.specs.Handing.{GivesAllBut, IsTold};
+ghost use Rattle.sql_schema.specs.Layouts.{rows_named};
 
 use crate::entry_rows::{EntryReader, EntryRows};
-use po_read::Entry;
+use po_text::Entry;
 use sql_statements::queries::{walk_messages, walk_obsolete};
 use sql_streams::WalkFault;
 use sqlite::{Alter, Connection, Error, ErrorCode};
@@ -52,7 +53,7 @@ pub(crate) fn hand_messages<S: Alter, R: EntryReader, K: EntrySink>(
     requires autocommit { connection.old.in_transaction ≡ false }
     requires idle { IsIdle (state S.Store connection.old) }
     requires is_open { HasCleanDisk (state S.Store connection.old) → IsTrue (state S.Store connection.old).is_open }
-    ensures handed { (unit_of : RowValue → RowValue) (entries : List EntryValue) → AreUnits lang.now (state S.Store connection.old).now.trees unit_of
+    ensures handed { (unit_of : RowValue → RowValue) (entries : List EntryValue) → AreUnits lang.now (rows_named (state S.Store connection.old).now) unit_of
         → ((rows : List RowValue) → ShowsMessages unit_of (state S.Store connection.old).now rows → filter_map R.entry rows ≡ entries)
         → HasCleanDisk (state S.Store connection.new) → GivesAllBut K.Took K.Refuses sink.old sink.new (held.old ∷ entries) held.new result }
     ensures looked { IsLookUp (state S.Store connection.old) (state S.Store connection.new) result (λ _ _. ⊤) }

@@ -1,8 +1,12 @@
-//! The entries of a language, handed to a sink as their rows come: one is held back until the next row was read, and no transaction is
-//! open while a sink takes one.
+//! The entries of a language, handed to a sink as their rows come: one is held back until the next row was read, and
+//! no transaction is open while a sink takes one.
 //!
-//! `header` looks up a language's header, `readers` tells which entry a row stands for, `entry_rows` is a sink of rows over a sink of entries,
-//! `handing` and `export` hand them on.
+//! - `header`: a language's header, looked up
+//! - `readers`: which entry a row stands for
+//! - `entry_rows`: a sink of rows over a sink of entries
+//! - `handing`, `export`: the rows of the two queries, handed on
+//!
+//! Specs: `RowEntries` (what a sink of entries took of rows), `Handing`, `Sinks`, `Entries` (those of a language).
 #![tactic(auto)]
 
 mod entry_rows;

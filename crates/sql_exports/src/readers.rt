@@ -1,9 +1,9 @@
 //! What reads the entries of an export off rows.
-ghost use Rattle.std.specs.Prelude.{◌≡◌, Some, None, if◌then◌else◌};
+ghost use Rattle.std.specs.Prelude.{Some, None, if◌then◌else◌};
 ghost use Rattle.sql_decoding.specs.ShownEntries.{message_shown, obsolete_shown, is_translated_row};
 
 use crate::entry_rows::EntryReader;
-use po_read::Entry;
+use po_text::Entry;
 use sql_decoding::{message_in, obsolete_in};
 use sqlite::Row;
 use std::alloc::Global;

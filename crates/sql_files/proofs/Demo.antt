@@ -3,7 +3,7 @@ use Rattle.std.proofs.Common.{◌≡◌, ◌≢◌, ◌<◌, ℕ, pos, List, [],
 use Rattle.std.specs.Prelude.{All, IsTrue, IsUtf8, nat_lt, false, unwrap_or, bytes_eq}
 use Rattle.std.specs.Option.{option_map_or}
 use Rattle.json.specs.Print.{escape_byte}
-use Rattle.po_read.specs.Header.{field_value}
+use Rattle.po_text.specs.Header.{field_value}
 use Rattle.po_lex.specs.Lines.{lines_of}
 use Rattle.units.specs.Rules.{plural_field}
 use Rattle.deliveries.proofs.rows.DemoRequests.{demo_project, header_de}
@@ -18,7 +18,7 @@ use Rattle.sqlite.specs.Order.{Row, column}
 use Rattle.sqlite.specs.Effect.{Database}
 use Rattle.sqlite_rules.specs.Lists.{Has}
 use Rattle.deliveries.specs.OfficeRules.{KeepsRules}
-use Rattle.po_read.specs.Strings.{is_string}
+use Rattle.po_text.specs.Strings.{is_string}
 use Rattle.units.specs.KeyTexts.{HasStrings}
 use Rattle.units.specs.Limits.{is_lang}
 use Rattle.units.specs.Openings.{demo_header, demo_unit, plain_entry}
@@ -26,31 +26,28 @@ use Rattle.units.specs.Units.{no_previous}
 use Rattle.units.specs.declared.unit.Role.TheVariants.{Translator, Manager}
 use Rattle.sql_columns.specs.Written.{ArePrevious, IsHeaderEntry, texts_text, previous_text, header_text}
 use Rattle.sql_columns.proofs.Readers.{header_found}
-use Rattle.sql_schema.specs.Creation.{AreEmpty}
 use Rattle.sql_schema.specs.Keys.{first_text, first_texts, row_number, columns}
-use Rattle.sql_schema.specs.Schema.{office_schema, record_tree, team_tree, policy_tree, template_tree, language_tree, unit_tree, suggestion_tree, vote_tree}
 use Rattle.sql_meaning.specs.Beginnings.{PutsMember, closed_row, PutsClosedPolicy, hello_row, PutsDemoEntry, PutsDemoLanguage, PutsDemoUnit, MakesDemo}
 use Rattle.sql_meaning.specs.Meaning.{project_of_rows, book_in, meaning_in}
-use Rattle.sql_meaning.proofs.Openings.{all_empty, opens_demo, demo_keeps}
-use Rattle.sql_meaning.proofs.WrittenRows.{IsTree, row_spares, suggestions_there, votes_there}
+use Rattle.sql_meaning.proofs.Openings.{opens_demo, demo_keeps}
 use Rattle.sql_decoding.specs.RowTests.{is_key, is_policy_row, is_entry_row, is_language_row, is_rule_of}
 use Rattle.sql_decoding.specs.ShownFound.{header_of_column}
 use Rattle.sql_decoding.proofs.ColumnsTested.{text_stands, null_stands, key_stands, header_stands, no_texts_stand, language_stands}
 use Rattle.sql_keepable.specs.Keepable.{IsKeepableUnit}
 use Rattle.office_rules.proofs.MainAlone.{project_keeps}
 use Rattle.sql_files.specs.Files.{HoldsOfficeRows}
-use Rattle.sql_files.proofs.Puts.{all_put, records_there, team_there, policy_there, template_there, languages_there, units_there}
+use Rattle.sql_files.proofs.Puts.{no_row, all_put}
 use Rattle.sql_files.proofs.RoleKept.{member_stands, MemberStands}
 use Rattle.sql_files.proofs.UnitKept.{unit_stands, UnitStands}
+use Rattle.sql_schema.specs.Layouts.{rows_named}
+use Rattle.sql_schema.specs.Creation.{HaveNoRows}
+use Rattle.sql_schema.proofs.Layouts.{names_differ}
 
 all_small : (bs : List ℕ) → list_all (λ b. nat_lt b 128) bs ≡ true → All (λ b. b < 128) bs
 all_small bs small = let each = AllPass-from_list_all (λ b. nat_lt b 128) bs small in λ k d within. ltb-true _ 128 (each k d within)
 
 plain : (bs : List ℕ) → list_all (λ b. nat_lt b 128) bs ≡ true → IsUtf8 bs
 plain bs small = IsUtf8-from_ascii bs (IsAscii-from_all bs (all_small bs small))
-
-no_row : {A : Type 0} (rows : List Row) (x : Row) → rows ≡ [] → Has rows x → A
-no_row rows x none there = absurd (subst (λ rs. Has rs x) none there)
 
 strings : HasStrings demo_unit.key
 strings = record { ctx = refl; id = refl }
@@ -109,83 +106,83 @@ unit_fits = record {
   suggestions = λ s there. absurd there;
 }
 
-module _ (made one two closed hello german last : Database) (empty : AreEmpty office_schema.tables made.trees) (root : PutsMember (codes "root") (pos 3) made one)
+module _ (made one two closed hello german last : Database) (empty : HaveNoRows (rows_named made)) (root : PutsMember (codes "root") (pos 3) made one)
     (ann : PutsMember (codes "ann") (pos 1) one two) (policy : PutsClosedPolicy two closed) (entry : PutsDemoEntry closed hello) (language : PutsDemoLanguage hello german)
     (unit : PutsDemoUnit german last) where
-  teamed : (t : ℕ) → IsTree t → t ≢ team_tree → two.trees t ≡ []
-  teamed t is_tree differ =
-      row_spares t is_tree team_tree first_text _ one two ann differ ∙ row_spares t is_tree team_tree first_text _ made one root differ ∙ all_empty made.trees empty t is_tree
+  teamed : (t : List ℕ) → t ≢ codes "team" → rows_named two t ≡ []
+  teamed t differ =
+      ann.others t differ ∙ root.others t differ ∙ empty t
 
-  ruled : (t : ℕ) → IsTree t → t ≢ policy_tree → t ≢ template_tree → hello.trees t ≡ two.trees t
-  ruled t is_tree no_policy no_template =
-      row_spares t is_tree template_tree row_number _ closed hello entry no_template ∙ row_spares t is_tree policy_tree row_number _ two closed policy no_policy
+  ruled : (t : List ℕ) → t ≢ codes "policy" → t ≢ codes "template" → rows_named hello t ≡ rows_named two t
+  ruled t no_policy no_template =
+      entry.others t no_template ∙ policy.others t no_policy
 
-  filled : (t : ℕ) → IsTree t → t ≢ language_tree → t ≢ unit_tree → last.trees t ≡ hello.trees t
-  filled t is_tree no_language no_unit =
-      row_spares t is_tree unit_tree first_texts _ german last unit no_unit ∙ row_spares t is_tree language_tree first_text _ hello german language no_language
+  filled : (t : List ℕ) → t ≢ codes "language" → t ≢ codes "unit" → rows_named last t ≡ rows_named hello t
+  filled t no_language no_unit =
+      unit.others t no_unit ∙ language.others t no_language
 
-  none : (t : ℕ) → IsTree t → t ≢ team_tree → t ≢ policy_tree → t ≢ template_tree → t ≢ language_tree → t ≢ unit_tree → last.trees t ≡ []
-  none t is_tree a b c d e = filled t is_tree d e ∙ ruled t is_tree b c ∙ teamed t is_tree a
+  none : (t : List ℕ) → t ≢ codes "team" → t ≢ codes "policy" → t ≢ codes "template" → t ≢ codes "language" → t ≢ codes "unit" → rows_named last t ≡ []
+  none t a b c d e = filled t d e ∙ ruled t b c ∙ teamed t a
 
-  two_members : (row : Row) → Has (two.trees team_tree) row → MemberStands row
+  two_members : (row : Row) → Has (rows_named two (codes "team")) row → MemberStands row
   two_members =
-      all_put first_text MemberStands (one.trees team_tree) (two.trees team_tree) ann.row ann.put
-      (all_put first_text MemberStands (made.trees team_tree) (one.trees team_tree) root.row root.put
-      (λ x there. no_row (made.trees team_tree) x (all_empty made.trees empty team_tree team_there) there)
+      all_put first_text MemberStands (rows_named one (codes "team")) (rows_named two (codes "team")) ann.row ann.put
+      (all_put first_text MemberStands (rows_named made (codes "team")) (rows_named one (codes "team")) root.row root.put
+      (λ x there. no_row (rows_named made (codes "team")) x (empty (codes "team")) there)
       (subst MemberStands (sym root.is_row.1) (member_stands (codes "root") refl (plain (codes "root") refl) Manager (pos 3) refl)))
       (subst MemberStands (sym ann.is_row.1) (member_stands (codes "ann") refl (plain (codes "ann") refl) Translator (pos 1) refl))
 
-  policy_last : last.trees policy_tree ≡ closed.trees policy_tree
-  policy_last = filled policy_tree policy_there (λ e. cc) (λ e. cc) ∙ row_spares policy_tree policy_there template_tree row_number _ closed hello entry (λ e. cc)
+  policy_last : rows_named last (codes "policy") ≡ rows_named closed (codes "policy")
+  policy_last = filled (codes "policy") (names_differ refl) (names_differ refl) ∙ entry.others (codes "policy") (names_differ refl)
 
-  one_policy : (row : Row) → Has (closed.trees policy_tree) row → row ≡ closed_row
+  one_policy : (row : Row) → Has (rows_named closed (codes "policy")) row → row ≡ closed_row
   one_policy =
-      all_put row_number (λ r. r ≡ closed_row) (two.trees policy_tree) (closed.trees policy_tree) policy.row policy.put
-      (λ x there. no_row (two.trees policy_tree) x (teamed policy_tree policy_there (λ e. cc)) there) policy.is_row
+      all_put row_number (λ r. r ≡ closed_row) (rows_named two (codes "policy")) (rows_named closed (codes "policy")) policy.row policy.put
+      (λ x there. no_row (rows_named two (codes "policy")) x (teamed (codes "policy") (names_differ refl)) there) policy.is_row
 
-  one_entry : (row : Row) → Has (hello.trees template_tree) row → row ≡ hello_row
+  one_entry : (row : Row) → Has (rows_named hello (codes "template")) row → row ≡ hello_row
   one_entry =
-      all_put row_number (λ r. r ≡ hello_row) (closed.trees template_tree) (hello.trees template_tree) entry.row entry.put
-      (λ x there. no_row (closed.trees template_tree) x (row_spares template_tree template_there policy_tree row_number _ two closed policy (λ e. cc) ∙ teamed template_tree template_there (λ e. cc)) there)
+      all_put row_number (λ r. r ≡ hello_row) (rows_named closed (codes "template")) (rows_named hello (codes "template")) entry.row entry.put
+      (λ x there. no_row (rows_named closed (codes "template")) x (policy.others (codes "template") (names_differ refl) ∙ teamed (codes "template") (names_differ refl)) there)
       entry.is_row
 
-  one_language : (row : Row) → Has (german.trees language_tree) row → IsTrue (is_language_row (columns (2 ∷ 3 ∷ 1 ∷ []) row))
+  one_language : (row : Row) → Has (rows_named german (codes "language")) row → IsTrue (is_language_row (columns (2 ∷ 3 ∷ 1 ∷ []) row))
   one_language =
-      all_put first_text (λ r. IsTrue (is_language_row (columns (2 ∷ 3 ∷ 1 ∷ []) r))) (hello.trees language_tree) (german.trees language_tree) language.row language.put
-      (λ x there. no_row (hello.trees language_tree) x (ruled language_tree languages_there (λ e. cc) (λ e. cc) ∙ teamed language_tree languages_there (λ e. cc)) there)
+      all_put first_text (λ r. IsTrue (is_language_row (columns (2 ∷ 3 ∷ 1 ∷ []) r))) (rows_named hello (codes "language")) (rows_named german (codes "language")) language.row language.put
+      (λ x there. no_row (rows_named hello (codes "language")) x (ruled (codes "language") (names_differ refl) (names_differ refl) ∙ teamed (codes "language") (names_differ refl)) there)
       (subst (λ r. IsTrue (is_language_row (columns (2 ∷ 3 ∷ 1 ∷ []) r))) (sym language.is_row.1) german_stands)
 
-  before : german.trees unit_tree ≡ []
+  before : rows_named german (codes "unit") ≡ []
   before =
-      row_spares unit_tree units_there language_tree first_text _ hello german language (λ e. cc) ∙ ruled unit_tree units_there (λ e. cc) (λ e. cc) ∙ teamed unit_tree units_there (λ e. cc)
+      language.others (codes "unit") (names_differ refl) ∙ ruled (codes "unit") (names_differ refl) (names_differ refl) ∙ teamed (codes "unit") (names_differ refl)
 
-  one_unit : (row : Row) → Has (last.trees unit_tree) row → UnitStands row
+  one_unit : (row : Row) → Has (rows_named last (codes "unit")) row → UnitStands row
   one_unit =
-      all_put first_texts UnitStands (german.trees unit_tree) (last.trees unit_tree) unit.row unit.put
-      (λ x there. no_row (german.trees unit_tree) x before there) (subst UnitStands (sym unit.is_row.1) (unit_stands (codes "de") demo_unit unit_fits))
+      all_put first_texts UnitStands (rows_named german (codes "unit")) (rows_named last (codes "unit")) unit.row unit.put
+      (λ x there. no_row (rows_named german (codes "unit")) x before there) (subst UnitStands (sym unit.is_row.1) (unit_stands (codes "de") demo_unit unit_fits))
 
-  rows_of_demo : KeepsRules (meaning_in last.trees) → HoldsOfficeRows last.trees
+  rows_of_demo : KeepsRules (meaning_in (rows_named last)) → HoldsOfficeRows (rows_named last)
   rows_of_demo rules = record {
     form = (policy.row, subst (λ rows. Has rows policy.row) (sym policy_last) policy.put.here, ap row_number policy.is_row, ap (λ r. column r 2) policy.is_row);
     office = record {
-      members = λ row there. two_members row (subst (λ rows. Has rows row) (filled team_tree team_there (λ e. cc) (λ e. cc) ∙ ruled team_tree team_there (λ e. cc) (λ e. cc)) there);
+      members = λ row there. two_members row (subst (λ rows. Has rows row) (filled (codes "team") (names_differ refl) (names_differ refl) ∙ ruled (codes "team") (names_differ refl) (names_differ refl)) there);
       policy = λ row there at_one. ap (λ r. is_policy_row (columns (2 ∷ 3 ∷ 4 ∷ 5 ∷ 6 ∷ 7 ∷ 8 ∷ []) r)) (one_policy row (subst (λ rows. Has rows row) policy_last there));
       entries = λ row there.
-          ap (λ r. is_entry_row (columns (3 ∷ 4 ∷ 5 ∷ 6 ∷ 2 ∷ 0 ∷ []) r)) (one_entry row (subst (λ rows. Has rows row) (filled template_tree template_there (λ e. cc) (λ e. cc)) there)) ∙ hello_stands;
-      template = (project_keeps (project_of_rows last.trees) (book_in last.trees) rules).template_valid;
-      languages = λ row there. one_language row (subst (λ rows. Has rows row) (row_spares language_tree languages_there unit_tree first_texts _ german last unit (λ e. cc)) there);
+          ap (λ r. is_entry_row (columns (3 ∷ 4 ∷ 5 ∷ 6 ∷ 2 ∷ 0 ∷ []) r)) (one_entry row (subst (λ rows. Has rows row) (filled (codes "template") (names_differ refl) (names_differ refl)) there)) ∙ hello_stands;
+      template = (project_keeps (project_of_rows (rows_named last)) (book_in (rows_named last)) rules).template_valid;
+      languages = λ row there. one_language row (subst (λ rows. Has rows row) (unit.others (codes "language") (names_differ refl)) there);
       units = one_unit;
-      suggestions = λ row there. no_row _ row (none suggestion_tree suggestions_there (λ e. cc) (λ e. cc) (λ e. cc) (λ e. cc) (λ e. cc)) there;
-      votes = λ row there. no_row _ row (none vote_tree votes_there (λ e. cc) (λ e. cc) (λ e. cc) (λ e. cc) (λ e. cc)) there;
+      suggestions = λ row there. no_row _ row (none (codes "suggestion") (names_differ refl) (names_differ refl) (names_differ refl) (names_differ refl) (names_differ refl)) there;
+      votes = λ row there. no_row _ row (none (codes "vote") (names_differ refl) (names_differ refl) (names_differ refl) (names_differ refl) (names_differ refl)) there;
     };
     book = record {
-      records = λ row there. no_row _ row (none record_tree records_there (λ e. cc) (λ e. cc) (λ e. cc) (λ e. cc) (λ e. cc)) there;
-      contents = λ row there. no_row _ row (none record_tree records_there (λ e. cc) (λ e. cc) (λ e. cc) (λ e. cc) (λ e. cc)) there;
+      records = λ row there. no_row _ row (none (codes "record") (names_differ refl) (names_differ refl) (names_differ refl) (names_differ refl) (names_differ refl)) there;
+      contents = λ row there. no_row _ row (none (codes "record") (names_differ refl) (names_differ refl) (names_differ refl) (names_differ refl) (names_differ refl)) there;
     };
     rules = rules;
   }
 
-pub demo_rows : (old new : Database) → MakesDemo old new → HoldsOfficeRows new.trees
+pub demo_rows : (old new : Database) → MakesDemo old new → HoldsOfficeRows (rows_named new)
 demo_rows old new (made, empty, ((two, (one, root, ann), (closed, policy, (hello, entry, (german, language, unit)))))) =
     rows_of_demo made one two closed hello german new empty root ann policy entry language unit
     (subst KeepsRules (sym (opens_demo old new (made, empty, ((two, (one, root, ann), (closed, policy, (hello, entry, (german, language, unit))))))).0) demo_keeps)

@@ -1,5 +1,5 @@
 -- The commit of a language keeps an office's file one: its header, and its units.
-use Rattle.std.proofs.Common.{◌≡◌, ◌≢◌, ℕ, List, [], ◌∷◌, true, false, Option, Some, None, refl, sym, ap, subst, ◌∙◌}
+use Rattle.std.proofs.Common.{◌≡◌, ◌≢◌, ℕ, List, [], ◌∷◌, true, false, Option, Some, None, refl, sym, ap, subst, ◌∙◌, codes}
 use Rattle.std.specs.Prelude.{IsTrue, IsOk, is_ok, bytes_eq, unwrap_or}
 use Rattle.std.specs.Option.{option_map_or}
 use Rattle.std.specs.FinMap as maps
@@ -7,11 +7,10 @@ use Rattle.std.proofs.lemmas.Bool.{and_from}
 use Rattle.sqlite.specs.declared.types.Value.TheVariants.{Text as Words}
 use Rattle.sqlite.specs.Order.{Row}
 use Rattle.sqlite.specs.Effect.{Database}
-use Rattle.sqlite.specs.Tree.{Trees}
 use Rattle.sqlite_rules.specs.Lists.{Has}
 use Rattle.sql_laws.proofs.RowMaps.{get-is}
-use Rattle.po_read.specs.declared.entry.Entry.{Entry}
-use Rattle.po_read.specs.Texts.{Text, text_cmp}
+use Rattle.po_text.specs.declared.entry.Entry.{Entry}
+use Rattle.po_text.specs.Texts.{Text, text_cmp}
 use Rattle.units.specs.Limits.{is_lang}
 use Rattle.units.specs.Openings.{plain_entry}
 use Rattle.units.specs.Orders.{text_total, text_IsAntisymmetric}
@@ -25,11 +24,8 @@ use Rattle.sql_columns.specs.Written.{IsHeaderEntry, header_text}
 use Rattle.sql_columns.proofs.Readers.{header_found, only_same}
 use Rattle.sql_schema.specs.Inside.{AreOfficeTables, Then}
 use Rattle.sql_schema.specs.Keys.{first_text, columns}
-use Rattle.sql_schema.specs.Schema.{record_tree, team_tree, policy_tree, template_tree, language_tree, unit_tree, suggestion_tree, vote_tree}
-use Rattle.sql_schema.proofs.Steps.{table_apart}
-use Rattle.sql_schema.proofs.TableRows.{languages, one_language}
+use Rattle.sql_schema.proofs.TableRows.{one_language}
 use Rattle.sql_meaning.specs.Meaning.{header_of_row, headers_in, project_of_rows, book_in, meaning_in}
-use Rattle.sql_meaning.proofs.WrittenRows.{IsTree, row_spares, suggestions_there, votes_there}
 use Rattle.sql_changes.specs.Commits.{PutsNumberedRecord, PutsLanguage, WritesLanguage, MakesLanguage}
 use Rattle.sql_changes.specs.UnitWrites.{WritesUnits}
 use Rattle.sql_changes.proofs.PlannedUnits.{units_in_turn}
@@ -38,10 +34,12 @@ use Rattle.sql_decoding.specs.ShownFound.{header_of_column}
 use Rattle.sql_decoding.proofs.ColumnsTested.{text_stands, header_stands, language_stands}
 use Rattle.sql_keepable.specs.Keepable.{IsKeepableLanguage, AreKeepableUnits}
 use Rattle.office_rules.proofs.MainAlone.{project_keeps}
-use Rattle.sql_files.specs.Files.{IsOfficeFile, IsKeepable, StandForAll}
-use Rattle.sql_files.proofs.Puts.{all_put, template_same, form_same, book_same, records_there, team_there, policy_there, template_there, units_there}
+use Rattle.sql_files.specs.Files.{IsKeepable, StandForAll, IsOfficeDatabase}
+use Rattle.sql_files.proofs.Puts.{all_put, template_same, form_same, book_same}
 use Rattle.sql_files.proofs.UnitKept.{units_keep}
 use Rattle.sql_files.proofs.ActKept.{stand_all, record_step}
+use Rattle.sql_schema.specs.Layouts.{NamedRows, rows_named}
+use Rattle.sql_schema.proofs.Layouts.{names_differ}
 
 -- ---- a language's row
 
@@ -69,58 +67,58 @@ language_row_stands lang header fits entry fine =
     (language_stands shown head rule refl refl fits.header_column fits.rule_column
     (and_from _ _ (header_stands head header entry refl) (ap (λ h. is_rule_of h rule) (header_back header entry) ∙ rule_fits header fine)))
 
-language_step : (old new : Trees) → ((t : ℕ) → IsTree t → t ≢ language_tree → new t ≡ old t) → ((row : Row) → Has (new language_tree) row → LanguageStands row) → StandForAll old → StandForAll new
+language_step : (old new : NamedRows) → ((t : List ℕ) → t ≢ codes "language" → new t ≡ old t) → ((row : Row) → Has (new (codes "language")) row → LanguageStands row) → StandForAll old → StandForAll new
 language_step old new apart languages it =
-    let policy = apart policy_tree policy_there (λ e. cc) in
-    let template = apart template_tree template_there (λ e. cc) in
+    let policy = apart (codes "policy") (names_differ refl) in
+    let template = apart (codes "template") (names_differ refl) in
     record {
       form = form_same old new policy it.form;
       office = record {
-        members = λ row there. it.office.members row (subst (λ rows. Has rows row) (apart team_tree team_there (λ e. cc)) there);
+        members = λ row there. it.office.members row (subst (λ rows. Has rows row) (apart (codes "team") (names_differ refl)) there);
         policy = λ row there. it.office.policy row (subst (λ rows. Has rows row) policy there);
         entries = λ row there. it.office.entries row (subst (λ rows. Has rows row) template there);
         template = template_same old new template it.office.template;
         languages = languages;
-        units = λ row there. it.office.units row (subst (λ rows. Has rows row) (apart unit_tree units_there (λ e. cc)) there);
-        suggestions = λ row there. it.office.suggestions row (subst (λ rows. Has rows row) (apart suggestion_tree suggestions_there (λ e. cc)) there);
-        votes = λ row there. it.office.votes row (subst (λ rows. Has rows row) (apart vote_tree votes_there (λ e. cc)) there);
+        units = λ row there. it.office.units row (subst (λ rows. Has rows row) (apart (codes "unit") (names_differ refl)) there);
+        suggestions = λ row there. it.office.suggestions row (subst (λ rows. Has rows row) (apart (codes "suggestion") (names_differ refl)) there);
+        votes = λ row there. it.office.votes row (subst (λ rows. Has rows row) (apart (codes "vote") (names_differ refl)) there);
       };
-      book = book_same old new (apart record_tree records_there (λ e. cc)) it.book;
+      book = book_same old new (apart (codes "record") (names_differ refl)) it.book;
     }
 
 put_step : (lang : Text) (header : Entry) → IsKeepableLanguage lang header → IsHeaderEntry header → IsOk (rule_in (Some header)) → (old new : Database) → PutsLanguage lang header old new
-    → StandForAll old.trees → StandForAll new.trees
+    → StandForAll (rows_named old) → StandForAll (rows_named new)
 put_step lang header fits entry fine old new put it =
     let made = put.0.0 in
-    language_step old.trees new.trees (λ t is_tree apart. row_spares t is_tree language_tree first_text _ old new made apart)
-    (all_put first_text LanguageStands (old.trees language_tree) (new.trees language_tree) made.row made.put it.office.languages
+    language_step (rows_named old) (rows_named new) (λ t apart. made.others t apart)
+    (all_put first_text LanguageStands (rows_named old (codes "language")) (rows_named new (codes "language")) made.row made.put it.office.languages
     (subst LanguageStands (sym made.is_row.1) (language_row_stands lang header fits entry fine))) it
 
 -- ---- the commit
 
 module _ (mid next after : Database) (lang : Text) (header : Entry) (units : List Unit) (fits : IsKeepableLanguage lang header) (entry : IsHeaderEntry header) (put : PutsLanguage lang header mid next)
-    (written : WritesUnits lang units next after) (ready : AreOfficeTables after) (rules : KeepsRules (meaning_in after.trees)) where
-  stands_there : Has (after.trees language_tree) put.0.0.row
+    (written : WritesUnits lang units next after) (ready : AreOfficeTables after) (rules : KeepsRules (meaning_in (rows_named after))) where
+  stands_there : Has (rows_named after (codes "language")) put.0.0.row
   stands_there = subst (λ rows. Has rows put.0.0.row) (sym (units_in_turn lang units next after put.0.1 written).others.languages) put.0.0.put.here
 
   -- the rules are those of the header that was written
-  header_is : maps.get (headers_in after.trees) lang ≡ Some header
+  header_is : maps.get (headers_in (rows_named after)) lang ≡ Some header
   header_is =
       let row = put.0.0.row in
-      ap (λ r. maps.get (headers_in after.trees) (first_text r)) (sym put.0.0.is_row.1)
-      ∙ get-is text_cmp text_total text_IsAntisymmetric first_text header_of_row (after.trees language_tree) (first_text row) (Some (header_of_row row))
-      (one_language after ready.schema ready.sound (table_apart after.trees 4 languages refl ready.tables)) (row, stands_there, refl, refl)
+      ap (λ r. maps.get (headers_in (rows_named after)) (first_text r)) (sym put.0.0.is_row.1)
+      ∙ get-is text_cmp text_total text_IsAntisymmetric first_text header_of_row (rows_named after (codes "language")) (first_text row) (Some (header_of_row row))
+      (one_language after ready.schema ready.sound (ready.tables (codes "language") refl)) (row, stands_there, refl, refl)
       ∙ ap (λ r. Some (header_of_row r)) put.0.0.is_row.1 ∙ ap Some (header_back header entry)
 
-  changed_step : AreKeepableUnits lang units → StandForAll mid.trees → StandForAll after.trees
-  changed_step all it = units_keep lang units all next after written (put_step lang header fits entry ((project_keeps (project_of_rows after.trees) (book_in after.trees) rules).ruled lang header header_is).2 mid next put it)
+  changed_step : AreKeepableUnits lang units → StandForAll (rows_named mid) → StandForAll (rows_named after)
+  changed_step all it = units_keep lang units all next after written (put_step lang header fits entry ((project_keeps (project_of_rows (rows_named after)) (book_in (rows_named after)) rules).ruled lang header header_is).2 mid next put it)
 
 makes_language : (old new : Database) (row : Record) (lang : Text) (header : Entry) (units : List Unit) → Then (PutsNumberedRecord row) (WritesLanguage lang header units) old new
-    → AreOfficeTables new → IsKeepable row → IsKeepableLanguage lang header → IsHeaderEntry header → AreKeepableUnits lang units → KeepsRules (meaning_in new.trees) → IsOfficeFile old.trees → IsOfficeFile new.trees
+    → AreOfficeTables new → IsKeepable row → IsKeepableLanguage lang header → IsHeaderEntry header → AreKeepableUnits lang units → KeepsRules (meaning_in (rows_named new)) → IsOfficeDatabase old → IsOfficeDatabase new
 makes_language old new row lang header units (mid, recorded, (next, put, written)) ready keepable fits entry all rules file =
     stand_all old new ready rules file (λ it. changed_step mid next new lang header units fits entry put written ready rules all (record_step old mid row recorded keepable it))
 
 pub language_keeps : (old new : Database) (row : Record) (lang : Text) (language : Language) (plan : Plan) → MakesLanguage row lang language plan old new → AreOfficeTables new
-    → IsKeepable row → IsKeepableLanguage lang language.header → IsHeaderEntry language.header → AreKeepableUnits lang plan.units → KeepsRules (meaning_in new.trees) → IsOfficeFile old.trees → IsOfficeFile new.trees
+    → IsKeepable row → IsKeepableLanguage lang language.header → IsHeaderEntry language.header → AreKeepableUnits lang plan.units → KeepsRules (meaning_in (rows_named new)) → IsOfficeDatabase old → IsOfficeDatabase new
 unfolding MakesLanguage
 language_keeps old new row lang language plan it ready keepable fits entry all rules file = makes_language old new row lang language.header plan.units it ready keepable fits entry all rules file

@@ -1,5 +1,5 @@
 -- The commit of a policy keeps an office's file one: its row, and the units that it unapproves.
-use Rattle.std.proofs.Common.{◌≡◌, ◌≢◌, ℕ, ◌+◌, ◌≤◌, ◌^◌, ℤ, pos, negsuc, ◌+ℤ◌, inl, inr, List, [], ◌∷◌, Bool, true, false, Some, refl, sym, ap, subst, ◌∙◌, arith}
+use Rattle.std.proofs.Common.{◌≡◌, ◌≢◌, ℕ, ◌+◌, ◌≤◌, ◌^◌, ℤ, pos, negsuc, ◌+ℤ◌, inl, inr, List, [], ◌∷◌, Bool, true, false, Some, refl, sym, ap, subst, ◌∙◌, arith, codes}
 use Rattle.std.specs.Prelude.{IsTrue, ◌&&◌, nat_le}
 use Rattle.std.specs.FinMap as maps
 use Rattle.std.proofs.lemmas.Bool.{and_from, and_parts, lt-ltb, le-leb, leb-true}
@@ -7,7 +7,6 @@ use Rattle.sqlite.specs.declared.types.Value.{Value}
 use Rattle.sqlite.specs.declared.types.Value.TheVariants.{Null, Int, Real, Text as Words, Blob}
 use Rattle.sqlite.specs.Order.{Row, column}
 use Rattle.sqlite.specs.Effect.{Database}
-use Rattle.sqlite.specs.Tree.{Trees}
 use Rattle.sqlite_sql.specs.Ops.{fits_i64}
 use Rattle.sqlite_rules.specs.Edit.{id_in}
 use Rattle.sqlite_rules.specs.Lists.{Has}
@@ -22,24 +21,23 @@ use Rattle.units.specs.Orders.{place_total, place_IsAntisymmetric}
 use Rattle.units.specs.declared.unit.Policy.{Policy}
 use Rattle.sql_schema.specs.Inside.{AreOfficeTables}
 use Rattle.sql_schema.specs.Keys.{row_number, columns}
-use Rattle.sql_schema.specs.Schema.{record_tree, team_tree, policy_tree, template_tree, language_tree, unit_tree, suggestion_tree, vote_tree}
-use Rattle.sql_schema.proofs.Steps.{table_apart}
-use Rattle.sql_schema.proofs.TableRows.{policies, units, one_unit}
-use Rattle.sql_statements.specs.Renewed.{is_approved_row, unapproved_row, HaveNextRevisions}
+use Rattle.sql_schema.proofs.TableRows.{one_unit}
+use Rattle.sql_statements.specs.Renewed.{unapproved_row, HaveNextRevisions}
 use Rattle.sql_meaning.specs.Meaning.{place_of_row, unit_of_row, units_in, policy_in, project_of_rows, book_in, meaning_in}
 use Rattle.sql_meaning.specs.Values.{natural, natural_at}
 use Rattle.sql_meaning.proofs.Units.{by_place}
-use Rattle.sql_meaning.proofs.WrittenRows.{IsTree, row_spares, suggestions_there, votes_there}
 use Rattle.sql_changes.specs.Commits.{policy_row, PutsPolicy, UnapprovesUnless, MakesPolicy}
 use Rattle.sql_changes.proofs.Changed.{Spares, spares_same}
 use Rattle.sql_changes.proofs.Policy.{policy_put}
 use Rattle.sql_decoding.specs.RowTests.{integer_passes, holds_integer, natural_passes, is_flag, is_state, has_place, has_unit_numbers, has_unit_texts, is_unit, is_policy_row}
 use Rattle.sql_decoding.proofs.ColumnsTested.{integer_is, flag_stands, natural_stands}
 use Rattle.office_rules.proofs.MainAlone.{project_keeps}
-use Rattle.sql_files.specs.Files.{IsOfficeFile, IsKeepable, StandForAll, TellsFirstForm}
-use Rattle.sql_files.proofs.Puts.{all_put, spared, template_same, book_same, records_there, team_there, policy_there, template_there, languages_there, units_there}
+use Rattle.sql_files.specs.Files.{IsKeepable, StandForAll, TellsFirstForm, IsOfficeDatabase}
+use Rattle.sql_files.proofs.Puts.{all_put, template_same, book_same}
 use Rattle.sql_files.proofs.UnitKept.{UnitStands, units_step}
 use Rattle.sql_files.proofs.ActKept.{stand_all, record_step}
+use Rattle.sql_schema.specs.Layouts.{NamedRows, rows_named}
+use Rattle.sql_schema.proofs.Layouts.{names_differ}
 
 -- ---- the policy's row
 
@@ -57,29 +55,29 @@ policy_stands policy accepts =
     (and_from _ _ (integer_is 4 shown (pos policy.accept_at) refl (natural_passes is_accept_at) true (natural_stands is_accept_at (pos policy.accept_at) policy.accept_at accepts refl))
     (and_from _ _ (flag 5 policy.placeholders refl) (flag 6 policy.line_ends refl)))))
 
-policy_step : (old new : Trees) → ((t : ℕ) → IsTree t → t ≢ policy_tree → new t ≡ old t) → TellsFirstForm new → ((row : Row) → Has (new policy_tree) row → PolicyStands row) → StandForAll old → StandForAll new
+policy_step : (old new : NamedRows) → ((t : List ℕ) → t ≢ codes "policy" → new t ≡ old t) → TellsFirstForm new → ((row : Row) → Has (new (codes "policy")) row → PolicyStands row) → StandForAll old → StandForAll new
 policy_step old new apart form policy it =
-    let template = apart template_tree template_there (λ e. cc) in
+    let template = apart (codes "template") (names_differ refl) in
     record {
       form = form;
       office = record {
-        members = λ row there. it.office.members row (subst (λ rows. Has rows row) (apart team_tree team_there (λ e. cc)) there);
+        members = λ row there. it.office.members row (subst (λ rows. Has rows row) (apart (codes "team") (names_differ refl)) there);
         policy = policy;
         entries = λ row there. it.office.entries row (subst (λ rows. Has rows row) template there);
         template = template_same old new template it.office.template;
-        languages = λ row there. it.office.languages row (subst (λ rows. Has rows row) (apart language_tree languages_there (λ e. cc)) there);
-        units = λ row there. it.office.units row (subst (λ rows. Has rows row) (apart unit_tree units_there (λ e. cc)) there);
-        suggestions = λ row there. it.office.suggestions row (subst (λ rows. Has rows row) (apart suggestion_tree suggestions_there (λ e. cc)) there);
-        votes = λ row there. it.office.votes row (subst (λ rows. Has rows row) (apart vote_tree votes_there (λ e. cc)) there);
+        languages = λ row there. it.office.languages row (subst (λ rows. Has rows row) (apart (codes "language") (names_differ refl)) there);
+        units = λ row there. it.office.units row (subst (λ rows. Has rows row) (apart (codes "unit") (names_differ refl)) there);
+        suggestions = λ row there. it.office.suggestions row (subst (λ rows. Has rows row) (apart (codes "suggestion") (names_differ refl)) there);
+        votes = λ row there. it.office.votes row (subst (λ rows. Has rows row) (apart (codes "vote") (names_differ refl)) there);
       };
-      book = book_same old new (apart record_tree records_there (λ e. cc)) it.book;
+      book = book_same old new (apart (codes "record") (names_differ refl)) it.book;
     }
 
-put_step : (policy : Policy) → is_accept_at policy.accept_at ≡ true → (old new : Database) → PutsPolicy policy old new → StandForAll old.trees → StandForAll new.trees
+put_step : (policy : Policy) → is_accept_at policy.accept_at ≡ true → (old new : Database) → PutsPolicy policy old new → StandForAll (rows_named old) → StandForAll (rows_named new)
 put_step policy accepts old new put it =
-    policy_step old.trees new.trees (λ t is_tree apart. row_spares t is_tree policy_tree row_number _ old new put apart)
+    policy_step (rows_named old) (rows_named new) (λ t apart. put.others t apart)
     (put.row, put.put.here, ap row_number put.is_row, ap (λ r. column r 2) put.is_row)
-    (all_put row_number PolicyStands (old.trees policy_tree) (new.trees policy_tree) put.row put.put it.office.policy
+    (all_put row_number PolicyStands (rows_named old (codes "policy")) (rows_named new (codes "policy")) put.row put.put it.office.policy
     (λ at_one. ap (λ r. is_policy_row (columns (2 ∷ 3 ∷ 4 ∷ 5 ∷ 6 ∷ 7 ∷ 8 ∷ []) r)) put.is_row ∙ policy_stands policy accepts)) it
 
 -- ---- a unit's row that is unapproved
@@ -131,29 +129,29 @@ unapproved_stands row stands revised =
 
 -- ---- what the rules say of the revision of a unit's row
 
-module _ (db : Database) (ready : AreOfficeTables db) (rules : KeepsRules (meaning_in db.trees)) (row : Row) (there : Has (db.trees unit_tree) row) where
-  stands_at : maps.get (units_in db.trees) (place_of_row row) ≡ Some (unit_of_row db.trees row)
+module _ (db : Database) (ready : AreOfficeTables db) (rules : KeepsRules (meaning_in (rows_named db))) (row : Row) (there : Has (rows_named db (codes "unit")) row) where
+  stands_at : maps.get (units_in (rows_named db)) (place_of_row row) ≡ Some (unit_of_row (rows_named db) row)
   stands_at =
-      get-is place_cmp place_total place_IsAntisymmetric place_of_row (unit_of_row db.trees) (db.trees unit_tree) (place_of_row row) (Some (unit_of_row db.trees row))
-      (λ r s in_r in_s e. one_unit db ready.schema ready.sound (table_apart db.trees 5 units refl ready.tables) r s in_r in_s (by_place.back r s tt tt e)) (row, there, refl, refl)
+      get-is place_cmp place_total place_IsAntisymmetric place_of_row (unit_of_row (rows_named db)) (rows_named db (codes "unit")) (place_of_row row) (Some (unit_of_row (rows_named db) row))
+      (λ r s in_r in_s e. one_unit db ready.schema ready.sound (ready.tables (codes "unit") refl) r s in_r in_s (by_place.back r s tt tt e)) (row, there, refl, refl)
 
   revised : is_revision (natural_at 7 row) ≡ true
   revised =
-      let it = ((project_keeps (project_of_rows db.trees) (book_in db.trees) rules).each (place_of_row row) (unit_of_row db.trees row) stands_at).revised in
+      let it = ((project_keeps (project_of_rows (rows_named db)) (book_in (rows_named db)) rules).each (place_of_row row) (unit_of_row (rows_named db) row) stands_at).revised in
       and_from _ _ (le-leb 1 (natural_at 7 row) it.0) (le-leb (natural_at 7 row) revision_limit it.1)
 
 -- ---- all units
 
-next_revisions : (db : Database) → ((row : Row) → Has (db.trees unit_tree) row → UnitStands row) → HaveNextRevisions db
+next_revisions : (db : Database) → ((row : Row) → Has (rows_named db (codes "unit")) row → UnitStands row) → HaveNextRevisions db
 next_revisions db units row there approved = next_fits row (units row there)
 
-module _ (old new : Database) (units : (row : Row) → Has (old.trees unit_tree) row → UnitStands row) where
-  unapproves_spare : (reviews : Bool) → UnapprovesUnless reviews old new → Spares unit_tree old new
-  unapproves_spare true is = spares_same unit_tree old new is
+module _ (old new : Database) (units : (row : Row) → Has (rows_named old (codes "unit")) row → UnitStands row) where
+  unapproves_spare : (reviews : Bool) → UnapprovesUnless reviews old new → Spares (codes "unit") old new
+  unapproves_spare true is = spares_same (codes "unit") old new is
   unapproves_spare false unapproves = (unapproves (next_revisions old units)).others
 
-  unapproved_units : (reviews : Bool) → UnapprovesUnless reviews old new → AreOfficeTables new → KeepsRules (meaning_in new.trees) → (row : Row) → Has (new.trees unit_tree) row → UnitStands row
-  unapproved_units true is ready rules row there = units row (subst (λ rows. Has rows row) (ap (λ (d : Database). d.trees unit_tree) is) there)
+  unapproved_units : (reviews : Bool) → UnapprovesUnless reviews old new → AreOfficeTables new → KeepsRules (meaning_in (rows_named new)) → (row : Row) → Has (rows_named new (codes "unit")) row → UnitStands row
+  unapproved_units true is ready rules row there = units row (subst (λ rows. Has rows row) (ap (λ (d : Database). rows_named d (codes "unit")) is) there)
   unapproved_units false unapproves ready rules row there = elim ((unapproves (next_revisions old units)).rows.only row there) [
     | inl was ↦ units row was.0
     | inr made ↦
@@ -161,32 +159,32 @@ module _ (old new : Database) (units : (row : Row) → Has (old.trees unit_tree)
         (unapproved_stands made.0 (units made.0 made.1) (subst (λ r. is_revision (natural_at 7 r) ≡ true) made.3 (revised new ready rules row there)))
   ]
 
-unapproved_step : (old new : Database) (reviews : Bool) → UnapprovesUnless reviews old new → AreOfficeTables new → KeepsRules (meaning_in new.trees) → StandForAll old.trees → StandForAll new.trees
+unapproved_step : (old new : Database) (reviews : Bool) → UnapprovesUnless reviews old new → AreOfficeTables new → KeepsRules (meaning_in (rows_named new)) → StandForAll (rows_named old) → StandForAll (rows_named new)
 unapproved_step old new reviews made ready rules it =
-    let same = spared unit_tree old new (unapproves_spare old new it.office.units reviews made) in
-    units_step old.trees new.trees (λ t is_tree no_unit no_suggestion no_vote. same t is_tree no_unit) (unapproved_units old new it.office.units reviews made ready rules)
-    (λ row there. it.office.suggestions row (subst (λ rows. Has rows row) (same suggestion_tree suggestions_there (λ e. cc)) there))
-    (λ row there. it.office.votes row (subst (λ rows. Has rows row) (same vote_tree votes_there (λ e. cc)) there))
+    let same = unapproves_spare old new it.office.units reviews made in
+    units_step (rows_named old) (rows_named new) (λ t no_unit no_suggestion no_vote. same t no_unit) (unapproved_units old new it.office.units reviews made ready rules)
+    (λ row there. it.office.suggestions row (subst (λ rows. Has rows row) (same (codes "suggestion") (names_differ refl)) there))
+    (λ row there. it.office.votes row (subst (λ rows. Has rows row) (same (codes "vote") (names_differ refl)) there))
     it
 
 -- ---- the commit
 
 module _ (mid next after : Database) (policy : Policy) (put : PutsPolicy policy mid next) (made : UnapprovesUnless policy.reviews next after)
-    (ready : AreOfficeTables after) (rules : KeepsRules (meaning_in after.trees)) (apart : AreApart (mid.trees policy_tree)) where
-  units_there_next : StandForAll mid.trees → (row : Row) → Has (next.trees unit_tree) row → UnitStands row
-  units_there_next it row there = it.office.units row (subst (λ rows. Has rows row) (row_spares unit_tree units_there policy_tree row_number _ mid next put (λ e. cc)) there)
+    (ready : AreOfficeTables after) (rules : KeepsRules (meaning_in (rows_named after))) (apart : AreApart (rows_named mid (codes "policy"))) where
+  units_there_next : StandForAll (rows_named mid) → (row : Row) → Has (rows_named next (codes "unit")) row → UnitStands row
+  units_there_next it row there = it.office.units row (subst (λ rows. Has rows row) (put.others (codes "unit") (names_differ refl)) there)
 
-  accepts : StandForAll mid.trees → is_accept_at policy.accept_at ≡ true
+  accepts : StandForAll (rows_named mid) → is_accept_at policy.accept_at ≡ true
   accepts it =
-      let same = spared unit_tree next after (unapproves_spare next after (units_there_next it) policy.reviews made) policy_tree policy_there (λ e. cc) in
-      let is : policy_in after.trees ≡ policy = ap (λ (rows : List Row). policy_in (λ tree. rows)) same ∙ policy_put mid next policy apart put in
-      subst (λ (p : Policy). is_accept_at p.accept_at ≡ true) is (project_keeps (project_of_rows after.trees) (book_in after.trees) rules).accepting
+      let same = unapproves_spare next after (units_there_next it) policy.reviews made (codes "policy") (names_differ refl) in
+      let is : policy_in (rows_named after) ≡ policy = ap (λ (rows : List Row). policy_in (λ name. rows)) same ∙ policy_put mid next policy apart put in
+      subst (λ (p : Policy). is_accept_at p.accept_at ≡ true) is (project_keeps (project_of_rows (rows_named after)) (book_in (rows_named after)) rules).accepting
 
-  changed_step : StandForAll mid.trees → StandForAll after.trees
+  changed_step : StandForAll (rows_named mid) → StandForAll (rows_named after)
   changed_step it = unapproved_step next after policy.reviews made ready rules (put_step policy (accepts it) mid next put it)
 
 pub policy_keeps : (old new : Database) (row : Record) (policy : Policy) → MakesPolicy row policy old new → AreOfficeTables new
-    → IsKeepable row → KeepsRules (meaning_in new.trees) → IsOfficeFile old.trees → IsOfficeFile new.trees
+    → IsKeepable row → KeepsRules (meaning_in (rows_named new)) → IsOfficeDatabase old → IsOfficeDatabase new
 policy_keeps old new row policy (mid, recorded, (next, put, made)) ready keepable rules file =
-    let apart : AreApart (mid.trees policy_tree) = subst AreApart (sym (recorded.0.others.1.1.0 (λ e. cc))) (table_apart old.trees 2 policies refl file.tables) in
+    let apart : AreApart (rows_named mid (codes "policy")) = subst AreApart (sym (recorded.0.others (codes "policy") (names_differ refl))) (file.ready.tables (codes "policy") refl) in
     stand_all old new ready rules file (λ all. changed_step mid next new policy put made ready rules apart (record_step old mid row recorded keepable all))

@@ -1,17 +1,14 @@
 -- A unit that is written, with its suggestions and the votes on them, leaves rows that stand for values; and so do the units of plans.
-use Rattle.std.proofs.Common.{◌≡◌, ◌≢◌, inl, inr, ℕ, ◌+◌, pos, List, [], ◌∷◌, map, true, Option, Some, None, arith, refl, sym, subst, ◌∙◌}
+use Rattle.std.proofs.Common.{◌≡◌, ◌≢◌, inl, inr, ℕ, ◌+◌, pos, List, [], ◌∷◌, map, true, Option, Some, None, arith, refl, sym, subst, codes}
 use Rattle.std.specs.Prelude.{IsTrue, IfSome, IsUtf8}
 use Rattle.std.specs.FinMap as maps
 use Rattle.std.proofs.lemmas.Bool.{and_from}
 use Rattle.sqlite.specs.declared.types.Value.TheVariants.{Null, Int, Text as Words}
 use Rattle.sqlite.specs.Order.{Row}
 use Rattle.sqlite.specs.Effect.{Database}
-use Rattle.sqlite.specs.Tree.{Trees}
-use Rattle.sqlite_schema.specs.declared.schema.Table.{Table}
 use Rattle.sqlite_rules.specs.Lists.{Has}
-use Rattle.sqlite_rules.proofs.ListLemmas.{all_has}
-use Rattle.po_read.specs.Strings.{is_string}
-use Rattle.po_read.specs.Texts.{Text}
+use Rattle.po_text.specs.Strings.{is_string}
+use Rattle.po_text.specs.Texts.{Text}
 use Rattle.request_book.specs.Acts.{IsNumber, vote_number}
 use Rattle.request_book.specs.Words.{number_text}
 use Rattle.deliveries.specs.ProjectActs.{LanguagePlan}
@@ -26,17 +23,17 @@ use Rattle.sql_schema.specs.Cleared.{ClearsUnit}
 use Rattle.sql_schema.specs.Inside.{PutsRow, HoldsValues}
 use Rattle.sql_schema.specs.Keys.{first_text, first_texts, columns}
 use Rattle.sql_schema.specs.Rows.{text_or_null}
-use Rattle.sql_schema.specs.Schema.{office_schema, record_tree, team_tree, policy_tree, template_tree, language_tree, unit_tree, suggestion_tree, vote_tree}
 use Rattle.sql_meaning.specs.Cells.{unit_cells, suggestion_cells, vote_cells}
 use Rattle.sql_meaning.specs.Written.{PutsRows}
-use Rattle.sql_meaning.proofs.WrittenRows.{IsTree, row_spares, suggestions_there, votes_there}
 use Rattle.sql_changes.specs.UnitWrites.{HaveNumbers, AddsSuggestions, WritesNumberedUnit, WritesUnits, WritesUnitsBack, WritesPlansBack}
 use Rattle.sql_decoding.specs.RowTests.{any_text, holds_text_or_null, is_number, is_key, are_texts, are_forms, are_previous, is_state, is_flag, is_vote, natural_passes, is_unit_row, is_suggestion_row, is_vote_row}
 use Rattle.sql_decoding.proofs.ColumnsTested.{text_stands, some_stands, null_stands, integer_is, number_stands, key_stands, texts_stand, forms_stand, previous_stand, state_stands, flag_stands, vote_stands, natural_stands}
-use Rattle.sql_keepable.specs.Keepable.{IsVoter, IsKeepableUnit, IsKeepableSuggestion, AreKeepableUnits, AreKeepablePlans}
+use Rattle.sql_keepable.specs.Keepable.{IsKeepableUnit, IsKeepableSuggestion, AreKeepableUnits, AreKeepablePlans}
 use Rattle.sql_files.specs.Files.{StandForAll}
-use Rattle.sql_files.proofs.Puts.{all_put, template_same, form_same, book_same, records_there, team_there, policy_there, template_there, languages_there, units_there}
+use Rattle.sql_files.proofs.Puts.{all_put, template_same, form_same, book_same}
 use Rattle.sql_files.proofs.RecordKept.{number_utf8}
+use Rattle.sql_schema.specs.Layouts.{NamedRows, rows_named}
+use Rattle.sql_schema.proofs.Layouts.{names_differ}
 
 abbrev pub UnitStands : Row → Type 0
 UnitStands row = IsTrue (is_unit_row (columns (3 ∷ 4 ∷ 5 ∷ 6 ∷ 7 ∷ 8 ∷ 9 ∷ 1 ∷ 2 ∷ []) row))
@@ -95,108 +92,105 @@ vote_stands_on number vote fits =
 
 -- ---- steps: what is no unit's stays
 
-module _ (old new : Trees) (apart : (t : ℕ) → IsTree t → t ≢ unit_tree → t ≢ suggestion_tree → t ≢ vote_tree → new t ≡ old t) where
-  pub units_step : ((row : Row) → Has (new unit_tree) row → UnitStands row) → ((row : Row) → Has (new suggestion_tree) row → SuggestionStands row)
-      → ((row : Row) → Has (new vote_tree) row → VoteStands row) → StandForAll old → StandForAll new
+module _ (old new : NamedRows) (apart : (t : List ℕ) → t ≢ codes "unit" → t ≢ codes "suggestion" → t ≢ codes "vote" → new t ≡ old t) where
+  pub units_step : ((row : Row) → Has (new (codes "unit")) row → UnitStands row) → ((row : Row) → Has (new (codes "suggestion")) row → SuggestionStands row)
+      → ((row : Row) → Has (new (codes "vote")) row → VoteStands row) → StandForAll old → StandForAll new
   units_step units suggestions votes it =
-      let policy = apart policy_tree policy_there (λ e. cc) (λ e. cc) (λ e. cc) in
+      let policy = apart (codes "policy") (names_differ refl) (names_differ refl) (names_differ refl) in
       record {
         form = form_same old new policy it.form;
         office = record {
-          members = λ row there. it.office.members row (subst (λ rows. Has rows row) (apart team_tree team_there (λ e. cc) (λ e. cc) (λ e. cc)) there);
+          members = λ row there. it.office.members row (subst (λ rows. Has rows row) (apart (codes "team") (names_differ refl) (names_differ refl) (names_differ refl)) there);
           policy = λ row there. it.office.policy row (subst (λ rows. Has rows row) policy there);
-          entries = λ row there. it.office.entries row (subst (λ rows. Has rows row) (apart template_tree template_there (λ e. cc) (λ e. cc) (λ e. cc)) there);
-          template = template_same old new (apart template_tree template_there (λ e. cc) (λ e. cc) (λ e. cc)) it.office.template;
-          languages = λ row there. it.office.languages row (subst (λ rows. Has rows row) (apart language_tree languages_there (λ e. cc) (λ e. cc) (λ e. cc)) there);
+          entries = λ row there. it.office.entries row (subst (λ rows. Has rows row) (apart (codes "template") (names_differ refl) (names_differ refl) (names_differ refl)) there);
+          template = template_same old new (apart (codes "template") (names_differ refl) (names_differ refl) (names_differ refl)) it.office.template;
+          languages = λ row there. it.office.languages row (subst (λ rows. Has rows row) (apart (codes "language") (names_differ refl) (names_differ refl) (names_differ refl)) there);
           units = units;
           suggestions = suggestions;
           votes = votes;
         };
-        book = book_same old new (apart record_tree records_there (λ e. cc) (λ e. cc) (λ e. cc)) it.book;
+        book = book_same old new (apart (codes "record") (names_differ refl) (names_differ refl) (names_differ refl)) it.book;
       }
 
-  still : (tree : ℕ) (P : Row → Type 0) → new tree ≡ old tree → ((row : Row) → Has (old tree) row → P row) → (row : Row) → Has (new tree) row → P row
-  still tree P same each row there = each row (subst (λ rows. Has rows row) same there)
+  still : (name : List ℕ) (P : Row → Type 0) → new name ≡ old name → ((row : Row) → Has (old name) row → P row) → (row : Row) → Has (new name) row → P row
+  still name P same each row there = each row (subst (λ rows. Has rows row) same there)
 
-unit_step : (lang : Text) (unit : Unit) → IsKeepableUnit lang unit → (old new : Database) → PutsRow unit_tree first_texts (HoldsValues (unit_cells lang unit)) old new
-    → StandForAll old.trees → StandForAll new.trees
+unit_step : (lang : Text) (unit : Unit) → IsKeepableUnit lang unit → (old new : Database) → PutsRow (codes "unit") first_texts (HoldsValues (unit_cells lang unit)) old new
+    → StandForAll (rows_named old) → StandForAll (rows_named new)
 unit_step lang unit fits old new put it =
-    units_step old.trees new.trees (λ t is_tree no_unit no_suggestion no_vote. row_spares t is_tree unit_tree first_texts _ old new put no_unit)
-    (all_put first_texts UnitStands (old.trees unit_tree) (new.trees unit_tree) put.row put.put it.office.units (subst UnitStands (sym put.is_row.1) (unit_stands lang unit fits)))
-    (λ row there. it.office.suggestions row (subst (λ rows. Has rows row) (row_spares suggestion_tree suggestions_there unit_tree first_texts _ old new put (λ e. cc)) there))
-    (λ row there. it.office.votes row (subst (λ rows. Has rows row) (row_spares vote_tree votes_there unit_tree first_texts _ old new put (λ e. cc)) there))
+    units_step (rows_named old) (rows_named new) (λ t no_unit no_suggestion no_vote. put.others t no_unit)
+    (all_put first_texts UnitStands (rows_named old (codes "unit")) (rows_named new (codes "unit")) put.row put.put it.office.units (subst UnitStands (sym put.is_row.1) (unit_stands lang unit fits)))
+    (λ row there. it.office.suggestions row (subst (λ rows. Has rows row) (put.others (codes "suggestion") (names_differ refl)) there))
+    (λ row there. it.office.votes row (subst (λ rows. Has rows row) (put.others (codes "vote") (names_differ refl)) there))
     it
 
 suggestion_step : (lang key : Text) → IsUtf8 lang → IsUtf8 key → (place : ℕ) (s : Suggestion) → IsNumber s.number → IsKeepableSuggestion s → (old new : Database)
-    → PutsRow suggestion_tree first_text (HoldsValues (suggestion_cells lang key place s)) old new → StandForAll old.trees → StandForAll new.trees
+    → PutsRow (codes "suggestion") first_text (HoldsValues (suggestion_cells lang key place s)) old new → StandForAll (rows_named old) → StandForAll (rows_named new)
 suggestion_step lang key lang_text key_column place s valid fits old new put it =
-    units_step old.trees new.trees (λ t is_tree no_unit no_suggestion no_vote. row_spares t is_tree suggestion_tree first_text _ old new put no_suggestion)
-    (λ row there. it.office.units row (subst (λ rows. Has rows row) (row_spares unit_tree units_there suggestion_tree first_text _ old new put (λ e. cc)) there))
-    (all_put first_text SuggestionStands (old.trees suggestion_tree) (new.trees suggestion_tree) put.row put.put it.office.suggestions
+    units_step (rows_named old) (rows_named new) (λ t no_unit no_suggestion no_vote. put.others t no_suggestion)
+    (λ row there. it.office.units row (subst (λ rows. Has rows row) (put.others (codes "unit") (names_differ refl)) there))
+    (all_put first_text SuggestionStands (rows_named old (codes "suggestion")) (rows_named new (codes "suggestion")) put.row put.put it.office.suggestions
     (subst SuggestionStands (sym put.is_row.1) (suggestion_stands lang key lang_text key_column place s valid fits)))
-    (λ row there. it.office.votes row (subst (λ rows. Has rows row) (row_spares vote_tree votes_there suggestion_tree first_text _ old new put (λ e. cc)) there))
+    (λ row there. it.office.votes row (subst (λ rows. Has rows row) (put.others (codes "vote") (names_differ refl)) there))
     it
 
 vote_step : (number : Text) (vote : Text × VoteValue) → (is_name vote.0 ≡ true) × IsUtf8 vote.0 → (old new : Database)
-    → PutsRow vote_tree first_texts (HoldsValues (vote_cells (number_text number) vote)) old new → StandForAll old.trees → StandForAll new.trees
+    → PutsRow (codes "vote") first_texts (HoldsValues (vote_cells (number_text number) vote)) old new → StandForAll (rows_named old) → StandForAll (rows_named new)
 vote_step number vote fits old new put it =
-    units_step old.trees new.trees (λ t is_tree no_unit no_suggestion no_vote. row_spares t is_tree vote_tree first_texts _ old new put no_vote)
-    (λ row there. it.office.units row (subst (λ rows. Has rows row) (row_spares unit_tree units_there vote_tree first_texts _ old new put (λ e. cc)) there))
-    (λ row there. it.office.suggestions row (subst (λ rows. Has rows row) (row_spares suggestion_tree suggestions_there vote_tree first_texts _ old new put (λ e. cc)) there))
-    (all_put first_texts VoteStands (old.trees vote_tree) (new.trees vote_tree) put.row put.put it.office.votes (subst VoteStands (sym put.is_row.1) (vote_stands_on number vote fits)))
+    units_step (rows_named old) (rows_named new) (λ t no_unit no_suggestion no_vote. put.others t no_vote)
+    (λ row there. it.office.units row (subst (λ rows. Has rows row) (put.others (codes "unit") (names_differ refl)) there))
+    (λ row there. it.office.suggestions row (subst (λ rows. Has rows row) (put.others (codes "suggestion") (names_differ refl)) there))
+    (all_put first_texts VoteStands (rows_named old (codes "vote")) (rows_named new (codes "vote")) put.row put.put it.office.votes (subst VoteStands (sym put.is_row.1) (vote_stands_on number vote fits)))
     it
 
 votes_step : (number : Text) (votes : List (Text × VoteValue)) → ((vote : Text × VoteValue) → Has votes vote → (is_name vote.0 ≡ true) × IsUtf8 vote.0) → (old new : Database)
-    → PutsRows vote_tree first_texts (map (vote_cells (number_text number)) votes) old new → StandForAll old.trees → StandForAll new.trees
-votes_step number [] fits old new is it = subst (λ (d : Database). StandForAll d.trees) (sym is) it
+    → PutsRows (codes "vote") first_texts (map (vote_cells (number_text number)) votes) old new → StandForAll (rows_named old) → StandForAll (rows_named new)
+votes_step number [] fits old new is it = subst (λ (d : Database). StandForAll (rows_named d)) (sym is) it
 votes_step number (vote ∷ more) fits old new (mid, put, rest) it =
     votes_step number more (λ v there. fits v (inr there)) mid new rest (vote_step number vote (fits vote (inl refl)) old mid put it)
 
 suggestions_step : (lang key : Text) → IsUtf8 lang → IsUtf8 key → (place : ℕ) (ss : List Suggestion) → HaveNumbers ss → ((s : Suggestion) → Has ss s → IsKeepableSuggestion s)
-    → (old new : Database) → AddsSuggestions lang key place ss old new → StandForAll old.trees → StandForAll new.trees
-suggestions_step lang key lang_text key_column place [] valid fits old new is it = subst (λ (d : Database). StandForAll d.trees) (sym is) it
+    → (old new : Database) → AddsSuggestions lang key place ss old new → StandForAll (rows_named old) → StandForAll (rows_named new)
+suggestions_step lang key lang_text key_column place [] valid fits old new is it = subst (λ (d : Database). StandForAll (rows_named d)) (sym is) it
 suggestions_step lang key lang_text key_column place (s ∷ more) valid fits old new (mid, (after, adds, votes), rest) it =
     let own = fits s (inl refl) in
     suggestions_step lang key lang_text key_column (place + 1) more (λ x there. valid x (inr there)) (λ x there. fits x (inr there)) mid new rest
     (votes_step s.number (maps.entries s.votes) own.voters after mid votes
     (suggestion_step lang key lang_text key_column place s (valid s (inl refl)) own old after adds.puts it))
 
-cleared_step : (lang key : Text) (old new : Database) → ClearsUnit lang key old new → StandForAll old.trees → StandForAll new.trees
+cleared_step : (lang key : Text) (old new : Database) → ClearsUnit lang key old new → StandForAll (rows_named old) → StandForAll (rows_named new)
 cleared_step lang key old new clears it =
-    units_step old.trees new.trees apart
-    (λ row there. it.office.units row (subst (λ rows. Has rows row) (same unit_tree units_there (λ e. cc) (λ e. cc)) there))
+    units_step (rows_named old) (rows_named new) apart
+    (λ row there. it.office.units row (subst (λ rows. Has rows row) (same (codes "unit") (names_differ refl) (names_differ refl)) there))
     (λ row there. it.office.suggestions row (clears.suggestions.only row there).0)
     (λ row there. it.office.votes row (clears.votes_only row there).0)
     it
   where
-    same : (t : ℕ) → IsTree t → t ≢ suggestion_tree → t ≢ vote_tree → new.trees t ≡ old.trees t
-    same t is_tree no_suggestion no_vote =
-        subst (λ k. new.trees k ≡ old.trees k) is_tree.2
-        (all_has (λ (table : Table). table.tree ≢ suggestion_tree → table.tree ≢ vote_tree → new.trees table.tree ≡ old.trees table.tree) office_schema.tables is_tree.0 clears.others is_tree.1
-        (λ e. no_suggestion (sym is_tree.2 ∙ e)) (λ e. no_vote (sym is_tree.2 ∙ e)))
+    same : (t : List ℕ) → t ≢ codes "suggestion" → t ≢ codes "vote" → rows_named new t ≡ rows_named old t
+    same t no_suggestion no_vote = clears.others t no_suggestion no_vote
 
-    apart : (t : ℕ) → IsTree t → t ≢ unit_tree → t ≢ suggestion_tree → t ≢ vote_tree → new.trees t ≡ old.trees t
-    apart t is_tree no_unit no_suggestion no_vote = same t is_tree no_suggestion no_vote
+    apart : (t : List ℕ) → t ≢ codes "unit" → t ≢ codes "suggestion" → t ≢ codes "vote" → rows_named new t ≡ rows_named old t
+    apart t no_unit no_suggestion no_vote = same t no_suggestion no_vote
 
-pub unit_keeps : (lang : Text) (unit : Unit) → IsKeepableUnit lang unit → (old new : Database) → WritesNumberedUnit lang unit old new → StandForAll old.trees → StandForAll new.trees
+pub unit_keeps : (lang : Text) (unit : Unit) → IsKeepableUnit lang unit → (old new : Database) → WritesNumberedUnit lang unit old new → StandForAll (rows_named old) → StandForAll (rows_named new)
 unit_keeps lang unit fits old new (first, put, (second, clears, (adds, valid))) it =
     suggestions_step lang (key_text unit.key) fits.language.1 fits.key_column 0 unit.suggestions valid fits.suggestions second new adds
     (cleared_step lang (key_text unit.key) first second clears (unit_step lang unit fits old first put it))
 
 -- ---- units of a plan, one after the other
 
-pub units_keep : (lang : Text) (units : List Unit) → AreKeepableUnits lang units → (old new : Database) → WritesUnits lang units old new → StandForAll old.trees → StandForAll new.trees
-units_keep lang [] fits old new is it = subst (λ (d : Database). StandForAll d.trees) (sym is) it
+pub units_keep : (lang : Text) (units : List Unit) → AreKeepableUnits lang units → (old new : Database) → WritesUnits lang units old new → StandForAll (rows_named old) → StandForAll (rows_named new)
+units_keep lang [] fits old new is it = subst (λ (d : Database). StandForAll (rows_named d)) (sym is) it
 units_keep lang (unit ∷ more) fits old new (mid, one, rest) it =
     units_keep lang more (λ u there. fits u (inr there)) mid new rest (unit_keeps lang unit (fits unit (inl refl)) old mid one.0.0 it)
 
-units_keep_back : (lang : Text) (units : List Unit) → AreKeepableUnits lang units → (old new : Database) → WritesUnitsBack lang units old new → StandForAll old.trees → StandForAll new.trees
-units_keep_back lang [] fits old new is it = subst (λ (d : Database). StandForAll d.trees) (sym is) it
+units_keep_back : (lang : Text) (units : List Unit) → AreKeepableUnits lang units → (old new : Database) → WritesUnitsBack lang units old new → StandForAll (rows_named old) → StandForAll (rows_named new)
+units_keep_back lang [] fits old new is it = subst (λ (d : Database). StandForAll (rows_named d)) (sym is) it
 units_keep_back lang (unit ∷ more) fits old new (mid, rest, one) it =
     unit_keeps lang unit (fits unit (inl refl)) mid new one.0.0 (units_keep_back lang more (λ u there. fits u (inr there)) old mid rest it)
 
 pub plans_keep : (plans : List LanguagePlan) → AreKeepablePlans plans → (old new : Database) → WritesPlansBack plans old new
-    → StandForAll old.trees → StandForAll new.trees
-plans_keep [] fits old new is it = subst (λ (d : Database). StandForAll d.trees) (sym is) it
+    → StandForAll (rows_named old) → StandForAll (rows_named new)
+plans_keep [] fits old new is it = subst (λ (d : Database). StandForAll (rows_named d)) (sym is) it
 plans_keep (p ∷ more) fits old new (mid, rest, own) it =
     units_keep_back p.0 p.1.units (fits p (inl refl)) mid new own (plans_keep more (λ q there. fits q (inr there)) old mid rest it)

@@ -15,24 +15,24 @@ ghost use Rattle.sqlite.specs.Held.{Held, state};
 ghost use Rattle.sql_decoding.specs.declared.faults.Failure.{Failure};
 ghost use Rattle.units.specs.declared.unit.UnitView.{UnitView};
 ghost use Rattle.sql_commits.specs.Acts.{MakesAct};
-ghost use Rattle.po_read.specs.Texts.{Text};
+ghost use Rattle.po_text.specs.Texts.{Text};
 ghost use Rattle.units.specs.Limits.{is_name};
 ghost use Rattle.sql_schema.specs.Whole.{IsCommit};
 ghost use Rattle.sql_meaning.specs.Beginnings.{MakesDemo, MakesOpening};
-ghost use Rattle.sql_files.specs.Files.{HoldsOfficeRows, IsOfficeFile, IsKeepable, IsLost, KeepsFile, LeavesFiles, MakesFiles, StandForAll};
+ghost use Rattle.sql_files.specs.Files.{HoldsOfficeRows, IsOfficeDatabase, IsOfficeFile, IsKeepable, IsLost, KeepsFile, LeavesFiles, MakesFiles, StandForAll};
 ghost use Rattle.sql_keepable.specs.Keepable.{IsKeepableUnit, AreKeepableUnits, AreKeepablePlans, IsKeepableLanguage, AreKeepableEntries};
 ghost use Rattle.sql_columns.specs.Written.{IsHeaderEntry};
 ghost use Rattle.units.specs.declared.unit.Unit.{Unit};
 ghost use Rattle.sql_changes.specs.UnitWrites.{WritesNumberedUnit};
 ghost use Rattle.units.specs.declared.unit.Role.{Role};
 ghost use Rattle.sqlite_catalog.specs.Listing.{IsSound};
-ghost use Rattle.sql_schema.specs.Schema.{office_schema};
 ghost use Rattle.sql_changes.specs.Commits.{MakesRole, MakesPolicy, MakesLanguage, MakesTemplate};
 ghost use Rattle.units.specs.declared.unit.Policy.{Policy};
 ghost use Rattle.deliveries.specs.declared.values.Language.{Language};
 ghost use Rattle.template_update.specs.declared.plans.Plan.{Plan};
-ghost use Rattle.po_read.specs.declared.entry.Entry.{Entry};
+ghost use Rattle.po_text.specs.declared.entry.Entry.{Entry};
 ghost use Rattle.deliveries.specs.ProjectActs.{LanguagePlan};
+ghost use Rattle.sql_schema.specs.Layouts.{Layout, schema_of, rows_named};
 
 use sqlite::Alter;
 
@@ -46,10 +46,10 @@ pub fn whatever_is_adopted()
     ensures { (db : Database) → IsDatabase db → HoldsOffice db → IsAdopted db → IsOfficeFile db.trees }
 {}
 
-/// A record alone, put where the rules go on to hold, keeps an office's file one.
+/// A record alone, put where the rules go on to hold, keeps an office's database one.
 pub fn records_keep_files()
     ensures { (old new : Database) (row : Record) → PutsNumberedRecord row old new → AreOfficeTables new
-        → IsKeepable row → KeepsRules (meaning_in new.trees) → IsOfficeFile old.trees → IsOfficeFile new.trees }
+        → IsKeepable row → KeepsRules (meaning_in (rows_named new)) → IsOfficeDatabase old → IsOfficeDatabase new }
 {}
 
 /// Where what the commit of an act on a unit makes of an office's file is one, the connection keeps it, and a stop leaves one.
@@ -61,55 +61,55 @@ pub fn commits_keep_files<S: Alter>()
 
 /// The rows of an opening are an office's.
 pub fn openings_are_rows()
-    ensures { (name : Text) → is_name name ≡ true → IsUtf8 name → (old new : Database) → MakesOpening name old new → HoldsOfficeRows new.trees }
+    ensures { (name : Text) → is_name name ≡ true → IsUtf8 name → (old new : Database) → MakesOpening name old new → HoldsOfficeRows (rows_named new) }
 {}
 
 /// A unit that is written, with its suggestions and the votes on them, leaves rows that stand for values.
 pub fn units_keep_rows()
     ensures { (lang : Text) (unit : Unit) → IsKeepableUnit lang unit → (old new : Database) → WritesNumberedUnit lang unit old new
-        → StandForAll old.trees → StandForAll new.trees }
+        → StandForAll (rows_named old) → StandForAll (rows_named new) }
 {}
 
-/// The commit of an act on a unit, where the rules go on to hold, keeps an office's file one.
+/// The commit of an act on a unit, where the rules go on to hold, keeps an office's database one.
 pub fn acts_keep_files()
     ensures { (old new : Database) (row : Record) (domain lang : Text) (view : Option UnitView) → MakesAct row domain lang view old new → AreOfficeTables new
-        → IsKeepable row → IfSome view (λ v. IsKeepableUnit lang v.unit) → KeepsRules (meaning_in new.trees)
-        → IsOfficeFile old.trees → IsOfficeFile new.trees }
+        → IsKeepable row → IfSome view (λ v. IsKeepableUnit lang v.unit) → KeepsRules (meaning_in (rows_named new))
+        → IsOfficeDatabase old → IsOfficeDatabase new }
 {}
 
-/// The commit of a role, where the rules go on to hold, keeps an office's file one.
+/// The commit of a role, where the rules go on to hold, keeps an office's database one.
 pub fn roles_keep_files()
     ensures { (old new : Database) (row : Record) (name : Text) (role : Role) → MakesRole row name role old new → AreOfficeTables new
-        → IsKeepable row → is_name name ≡ true → IsUtf8 name → KeepsRules (meaning_in new.trees)
-        → IsOfficeFile old.trees → IsOfficeFile new.trees }
+        → IsKeepable row → is_name name ≡ true → IsUtf8 name → KeepsRules (meaning_in (rows_named new))
+        → IsOfficeDatabase old → IsOfficeDatabase new }
 {}
 
-/// The commit of a policy, where the rules go on to hold, keeps an office's file one.
+/// The commit of a policy, where the rules go on to hold, keeps an office's database one.
 pub fn policies_keep_files()
     ensures { (old new : Database) (row : Record) (policy : Policy) → MakesPolicy row policy old new → AreOfficeTables new
-        → IsKeepable row → KeepsRules (meaning_in new.trees) → IsOfficeFile old.trees → IsOfficeFile new.trees }
+        → IsKeepable row → KeepsRules (meaning_in (rows_named new)) → IsOfficeDatabase old → IsOfficeDatabase new }
 {}
 
-/// The commit of a language, where the rules go on to hold, keeps an office's file one.
+/// The commit of a language, where the rules go on to hold, keeps an office's database one.
 pub fn languages_keep_files()
     ensures { (old new : Database) (row : Record) (lang : Text) (language : Language) (plan : Plan) → MakesLanguage row lang language plan old new
         → AreOfficeTables new → IsKeepable row → IsKeepableLanguage lang language.header → IsHeaderEntry language.header
-        → AreKeepableUnits lang plan.units → KeepsRules (meaning_in new.trees) → IsOfficeFile old.trees → IsOfficeFile new.trees }
+        → AreKeepableUnits lang plan.units → KeepsRules (meaning_in (rows_named new)) → IsOfficeDatabase old → IsOfficeDatabase new }
 {}
 
-/// The commit of a template with the units that are fitted to it, where the rules go on to hold, keeps an office's file one.
+/// The commit of a template with the units that are fitted to it, where the rules go on to hold, keeps an office's database one.
 pub fn templates_keep_files()
     ensures { (old new : Database) (row : Record) (entries : List Entry) (plans : List LanguagePlan) → MakesTemplate row entries plans old new
         → AreOfficeTables new → IsKeepable row → AreKeepableEntries entries → AreKeepablePlans plans
-        → KeepsRules (meaning_in new.trees) → IsOfficeFile old.trees → IsOfficeFile new.trees }
+        → KeepsRules (meaning_in (rows_named new)) → IsOfficeDatabase old → IsOfficeDatabase new }
 {}
 
-/// An opening of trees that list the office's schema reads that schema, however the texts are spelled.
+/// An opening of trees that list the tables of a layout reads that schema, however the texts are spelled.
 pub fn listed_schemas_are_read()
-    ensures { (db : Database) → IsDatabase db → IsSound office_schema db.trees → db.schema ≡ office_schema }
+    ensures { (layout : Layout) (db : Database) → IsDatabase db → IsSound (schema_of layout) db.trees → db.schema ≡ schema_of layout }
 {}
 
 /// The rows of the demo are an office's.
 pub fn demos_are_rows()
-    ensures { (old new : Database) → MakesDemo old new → HoldsOfficeRows new.trees }
+    ensures { (old new : Database) → MakesDemo old new → HoldsOfficeRows (rows_named new) }
 {}

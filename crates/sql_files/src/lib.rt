@@ -1,5 +1,10 @@
-//! When a file is an office's: which files are adopted, and what keeps a file one. Each function is a law: it does nothing, and its
-//! contract is what is proved.
+//! When a file is an office's: which files are adopted, and what keeps a file one. Each function is a law: it does
+//! nothing, and its contract is what is proved.
+//!
+//! - `laws`: what is adopted is an office's file, the rows of an opening are an office's, and each commit keeps a file
+//!   one
+//!
+//! The spec `Files` says when a file is an office's.
 #![tactic(auto)]
 
 mod laws;

@@ -9,10 +9,10 @@ use Rattle.json.proofs.Printed.Utf8.{IsUtf8-are_ascii, IsUtf8-quoted}
 use Rattle.serde_json.specs.Data.{Data, string, array}
 use Rattle.serde_json.specs.View.{items_of}
 use Rattle.serde_json.specs.Written.{comma_if, compact_text, items_text}
-use Rattle.po_read.specs.declared.entry.Entry.{Entry}
-use Rattle.po_read.specs.declared.entry.Previous.{Previous}
-use Rattle.po_read.specs.Strings.{is_string}
-use Rattle.po_read.specs.Texts.{Text}
+use Rattle.po_text.specs.declared.entry.Entry.{Entry}
+use Rattle.po_text.specs.declared.entry.Previous.{Previous}
+use Rattle.po_text.specs.Strings.{is_string}
+use Rattle.po_text.specs.Texts.{Text}
 use Rattle.request_book.specs.Words.{strings}
 use Rattle.sql_columns.specs.Written.{string_or_null, texts_text, previous_data, previous_text, header_string, header_text}
 use Rattle.units.specs.Rules.{first_form}

@@ -2,9 +2,9 @@
 use Rattle.std.specs.Prelude.{◌≡◌, List, [], Some, true, IfSome, IsUtf8, unwrap_or}
 use Rattle.std.specs.FinMap as maps
 use Rattle.sqlite_rules.specs.Lists.{Has}
-use Rattle.po_read.specs.Strings.{is_string, is_forms}
-use Rattle.po_read.specs.Texts.{Text}
-use Rattle.po_read.specs.declared.entry.Entry.{Entry}
+use Rattle.po_text.specs.Strings.{is_string, is_forms}
+use Rattle.po_text.specs.Texts.{Text}
+use Rattle.po_text.specs.declared.entry.Entry.{Entry}
 use Rattle.sql_columns.specs.Written.{ArePrevious, texts_text, previous_text, header_text}
 use Rattle.template_update.specs.declared.plans.Plan.{Plan}
 use Rattle.units.specs.KeyTexts.{HasStrings}

@@ -7,7 +7,7 @@ ghost use Rattle.sql_keepable.specs.Keepable.{IsKeepableLanguage, IsKeepableEntr
 use crate::texts::{
     entry_key_fits, forms_fit, lang_fits, list_fits, optional_fits, previous_fits, strings_fit,
 };
-use po_read::Entry;
+use po_text::Entry;
 use sql_columns::rule_column;
 use units::Lang;
 

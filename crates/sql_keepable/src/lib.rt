@@ -1,5 +1,9 @@
-//! What types keep of the values that rows are written for: their limits, and that their texts are UTF-8. Each function looks at its
-//! value, and does nothing with it: what it ensures is what clauses need.
+//! What types keep of the values that rows are written for: their limits, and that their texts are UTF-8. Each
+//! function looks at its value, and does nothing with it: what it ensures is what clauses need.
+//!
+//! - `texts`: names, keys and records
+//! - `entries`: a language with its header, and the entries of a template
+//! - `unit_parts`: units, and the units of plans
 #![tactic(auto)]
 
 mod entries;
@@ -7,5 +11,5 @@ mod texts;
 mod unit_parts;
 
 pub use entries::{entries_fit, language_fits};
-pub use texts::{key_fits, name_fits, record_fits};
+pub use texts::{entry_key_fits, key_fits, name_fits, previous_fits, record_fits};
 pub use unit_parts::{plans_fit, unit_fits, units_fit};

@@ -1,12 +1,12 @@
 //! Texts, strings and lists of them.
 ghost use Rattle.std.specs.Prelude.{◌≡◌, ◌<◌, true, All, IfSome, IsUtf8};
-ghost use Rattle.po_read.specs.Strings.{is_forms};
+ghost use Rattle.po_text.specs.Strings.{is_forms};
 ghost use Rattle.sql_columns.specs.Written.{ArePrevious, texts_text, previous_text};
 ghost use Rattle.units.specs.KeyTexts.{HasStrings};
 ghost use Rattle.units.specs.Units.{key_of, key_text};
 ghost use Rattle.sql_keepable.specs.Keepable.{IsNamed, IsLanguage, IsPlural};
 
-use po_read::{Entry, Forms, Items, PoString, Previous, Text};
+use po_text::{Entry, Forms, Items, PoString, Previous, Text};
 use request_book::Record;
 use units::{Key, Lang, Name};
 
@@ -89,16 +89,17 @@ pub fn key_fits(key: &Key)
     string_fits(&key.id);
 }
 
-/// The column of an entry's key is UTF-8.
-pub(crate) fn entry_key_fits(entry: &Entry)
-    ensures { IsUtf8 (key_text (key_of entry.now)) }
+/// The strings of an entry's key keep a string's limits, and its column is UTF-8.
+pub fn entry_key_fits(entry: &Entry)
+    ensures strings { HasStrings (key_of entry.now) }
+    ensures column { IsUtf8 (key_text (key_of entry.now)) }
 {
     optional_fits(&entry.ctx);
     string_fits(&entry.id);
 }
 
 /// Previous strings keep a string's limits, and their column is UTF-8.
-pub(crate) fn previous_fits(previous: &Previous)
+pub fn previous_fits(previous: &Previous)
     ensures strings { ArePrevious previous.now }
     ensures column { IsUtf8 (previous_text previous.now) }
 {

@@ -7,7 +7,7 @@ use Rattle.std.specs.Ordering.{ordering_then, is_eq}
 use Rattle.std.specs.FinMap.{IsAntisymmetric}
 use Rattle.std.proofs.lemmas.Cmp.{on_total, then_total}
 use Rattle.std.proofs.lemmas.Map.Lookups.{exact_pairs}
-use Rattle.po_read.specs.Texts.{Text, text_cmp}
+use Rattle.po_text.specs.Texts.{Text, text_cmp}
 use Rattle.units.specs.Orders.{text_total, text_IsAntisymmetric}
 use Rattle.sql_decoding.specs.TablesRead.{by_texts}
 

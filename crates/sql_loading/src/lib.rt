@@ -1,7 +1,10 @@
 //! The whole office, whose one domain is `main`, from all rows of its tables into maps.
 //!
-//! `office_tables` puts in the team, the policy, the template and the languages, `unit_tables` finds votes and suggestions by their numbers and
-//! units, `office_read` has the whole.
+//! - `office_read`: the whole office (`office_in`)
+//! - `office_tables`: the team, the policy, the template and the languages, put in
+//! - `unit_tables`: votes and suggestions, found by their numbers and units
+//!
+//! The spec `MainChanged` is for inner functions.
 #![tactic(auto)]
 
 mod office_read;

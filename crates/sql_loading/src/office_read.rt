@@ -17,7 +17,7 @@ ghost use Rattle.tables.specs.declared.faults.Lost.TheVariants.{Memory, Disk};
 use crate::office_tables::{put_languages, put_policy, put_team, put_template};
 use crate::unit_tables::{all_suggestions, suggestions_on};
 use office_maps::{OfficeMaps, OrderedKey, Place};
-use po_read::Items;
+use po_text::Items;
 use sql_decoding::{Failure, key_at, lang_at, unit_with};
 use sql_statements::whole_office::{UnitTables, WholeOffice};
 use sqlite::Row;

@@ -14,7 +14,7 @@ ghost use Rattle.sql_meaning.specs.Values as values;
 
 use deliveries::{Change, DomainChange, Language};
 use office_maps::OfficeMaps;
-use po_read::{Catalogue, Entry, Items};
+use po_text::{Catalogue, Entry, Items};
 use sql_columns::rule_from;
 use sql_decoding::{
     Failure, header_in, lang_at, name_text_at, policy_in, role_at, template_entry, text_in,

@@ -3,14 +3,14 @@ ghost use Rattle.std.specs.Prelude.{◌≡◌, ◌&&◌, ℕ, Bool, true, List, 
 ghost use Rattle.std.specs.List.{list_all};
 ghost use Rattle.std.specs.Ordering.{is_eq};
 ghost use Rattle.std.specs.FinMap as maps;
-ghost use Rattle.po_read.specs.Texts.{Text};
+ghost use Rattle.po_text.specs.Texts.{Text};
 ghost use Rattle.sql_schema.specs.Keys.{text_at, has_text};
 ghost use Rattle.sql_meaning.specs.Values.{vote_at};
 ghost use Rattle.sql_meaning.specs.OfficeShown.{votes_shown, is_of_unit, suggestions_shown};
 ghost use Rattle.sql_decoding.specs.TablesRead.{votes_of, suggestions_of, with_own_votes, suggestions_among, by_texts, two_bytes};
 ghost use Rattle.sql_decoding.specs.RowTests.{holds_text, any_text, has_place, is_suggestion, is_suggestion_row, is_vote_row, IsUnread};
 
-use po_read::{Duplicate, Items};
+use po_text::{Duplicate, Items};
 use sql_decoding::{Failure, put_vote, suggestion_with, text_in};
 use sql_statements::whole_office::UnitTables;
 use sqlite::Row;

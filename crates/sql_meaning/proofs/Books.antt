@@ -1,26 +1,25 @@
 -- The book that the rows of `record` stand for: what a query by number finds of it, and what a new row makes of it.
-use Rattle.std.proofs.Common.{◌≡◌, [], ◌∷◌, Option, Some, None, IsSome, option_map, unwrap_or, refl, sym, ap, subst, ◌∙◌}
+use Rattle.std.proofs.Common.{◌≡◌, [], ◌∷◌, Option, Some, None, IsSome, option_map, unwrap_or, refl, sym, ap, subst, ◌∙◌, codes}
 use Rattle.std.specs.Cmp.Lexicographic.{nat_list_cmp_total}
 use Rattle.std.specs.FinMap as maps
 use Rattle.std.specs.FinMap.{slice_cmp-IsAntisymmetric, nat_cmp-IsAntisymmetric, IsAntisymmetric}
 use Rattle.sqlite.specs.Order.{Row}
 use Rattle.sqlite.specs.Effect.{Database}
-use Rattle.sqlite.specs.Tree.{Trees}
 use Rattle.sql_laws.specs.RowMaps.{OneEach, IsFound}
-use Rattle.po_read.specs.Texts.{Text, text_cmp}
+use Rattle.po_text.specs.Texts.{Text, text_cmp}
 use Rattle.request_book.specs.Acts.{IsNumber}
 use Rattle.request_book.specs.Book.{Recorded, with_record}
 use Rattle.request_book.specs.Words.{number_text}
 use Rattle.request_book.specs.declared.book.Record.{Record}
 use Rattle.sql_columns.specs.Readings.{number_read}
 use Rattle.sql_columns.proofs.Readers.{number_written, number_found}
-use Rattle.sql_schema.specs.Schema.{record_tree}
 use Rattle.sql_schema.specs.Keys.{first_text, columns}
 use Rattle.sql_schema.specs.Inside.{PutsRow, HoldsValues}
 use Rattle.sql_meaning.specs.Meaning.{AreNumbered, number_at, recorded_in, book_in}
 use Rattle.sql_meaning.specs.Shown.{shown_record}
 use Rattle.sql_meaning.specs.Cells.{record_cells}
 use Rattle.sql_meaning.proofs.Lookups.{AreOneKey, IsKeyOf, finds, puts, all_read}
+use Rattle.sql_schema.specs.Layouts.{NamedRows, rows_named}
 
 -- the order of texts
 pub same_texts : IsAntisymmetric text_cmp
@@ -52,26 +51,26 @@ number_asked number valid = record {
   back = λ r reads is. named r reads ∙ ap number_text is;
 }
 
-pub finds_record : (trees : Trees) (number : Text) (found : Option Row) → AreNumbered trees → OneEach first_text (trees record_tree) → IsNumber number
-    → IsFound first_text (columns (2 ∷ 3 ∷ 4 ∷ [])) (trees record_tree) (number_text number) found
-    → maps.get (book_in trees) number ≡ option_map shown_record found
-finds_record trees number found numbered one valid it =
-    finds first_text (number_at 1) HasNumber text_cmp nat_list_cmp_total same_texts recorded_in (trees record_tree) (number_text number) number (columns (2 ∷ 3 ∷ 4 ∷ [])) shown_record found
+pub finds_record : (tables : NamedRows) (number : Text) (found : Option Row) → AreNumbered tables → OneEach first_text (tables (codes "record")) → IsNumber number
+    → IsFound first_text (columns (2 ∷ 3 ∷ 4 ∷ [])) (tables (codes "record")) (number_text number) found
+    → maps.get (book_in tables) number ≡ option_map shown_record found
+finds_record tables number found numbered one valid it =
+    finds first_text (number_at 1) HasNumber text_cmp nat_list_cmp_total same_texts recorded_in (tables (codes "record")) (number_text number) number (columns (2 ∷ 3 ∷ 4 ∷ [])) shown_record found
     numbered one by_number (number_asked number valid) (λ r is. refl) it
 
-module _ (old new : Database) (r : Record) (valid : IsNumber r.number) (numbered : AreNumbered old.trees)
-    (made : PutsRow record_tree first_text (HoldsValues (record_cells r)) old new) where
+module _ (old new : Database) (r : Record) (valid : IsNumber r.number) (numbered : AreNumbered (rows_named old))
+    (made : PutsRow (codes "record") first_text (HoldsValues (record_cells r)) old new) where
   row_is : first_text made.row ≡ number_text r.number
   row_is = ap first_text made.is_row.1
 
   row_numbered : HasNumber made.row
   row_numbered = subst IsSome (sym (number_found (first_text made.row) r.number valid row_is)) refl
 
-  pub numbered_still : AreNumbered new.trees
-  numbered_still = all_read first_text (number_at 1) HasNumber (old.trees record_tree) (new.trees record_tree) made.row numbered row_numbered made.put
+  pub numbered_still : AreNumbered (rows_named new)
+  numbered_still = all_read first_text (number_at 1) HasNumber (rows_named old (codes "record")) (rows_named new (codes "record")) made.row numbered row_numbered made.put
 
-  pub book_put : OneEach first_text (old.trees record_tree) → book_in new.trees ≡ with_record (book_in old.trees) r
+  pub book_put : OneEach first_text (rows_named old (codes "record")) → book_in (rows_named new) ≡ with_record (book_in (rows_named old)) r
   book_put one =
-      puts first_text (number_at 1) HasNumber text_cmp nat_list_cmp_total same_texts recorded_in (old.trees record_tree) (new.trees record_tree) made.row numbered row_numbered one by_number made.put
-      ∙ ap (λ n. maps.insert (book_in old.trees) n (recorded_in made.row)) (number_is made.row r.number valid row_is)
-      ∙ ap (λ (v : Recorded). maps.insert (book_in old.trees) r.number v) (ap recorded_in made.is_row.1)
+      puts first_text (number_at 1) HasNumber text_cmp nat_list_cmp_total same_texts recorded_in (rows_named old (codes "record")) (rows_named new (codes "record")) made.row numbered row_numbered one by_number made.put
+      ∙ ap (λ n. maps.insert (book_in (rows_named old)) n (recorded_in made.row)) (number_is made.row r.number valid row_is)
+      ∙ ap (λ (v : Recorded). maps.insert (book_in (rows_named old)) r.number v) (ap recorded_in made.is_row.1)

@@ -1,5 +1,5 @@
 -- The team, the policy, the headers and the template that the rows stand for: what reads of the whole tables show of them.
-use Rattle.std.proofs.Common.{◌≡◌, inl, inr, pos, true, false, List, [], ◌∷◌, map, Option, Some, None, unwrap_or, refl, sym, ap, subst, ◌∙◌}
+use Rattle.std.proofs.Common.{◌≡◌, inl, inr, pos, true, false, List, [], ◌∷◌, map, Option, Some, None, unwrap_or, refl, sym, ap, subst, ◌∙◌, codes}
 use Rattle.std.proofs.lemmas.Bool.{false_from_ne_true}
 use Rattle.std.specs.declared.cmp.Ordering.TheVariants.{Equal}
 use Rattle.std.specs.Ordering.{int_cmp, int_eq, is_eq}
@@ -24,15 +24,13 @@ use Rattle.sql_laws.specs.RowMaps.{OneEach}
 use Rattle.sql_laws.specs.ApartRows.{AreApart, AreOnce}
 use Rattle.sql_laws.proofs.RowMaps.{get-is}
 use Rattle.sql_laws.proofs.RemovedRows.{from_mapped, has_permuted}
-use Rattle.po_read.specs.Texts.{text_cmp}
-use Rattle.po_read.specs.declared.entry.Entry.{Entry}
+use Rattle.po_text.specs.Texts.{text_cmp}
+use Rattle.po_text.specs.declared.entry.Entry.{Entry}
 use Rattle.units.specs.Openings.{closed_policy}
-use Rattle.sql_schema.specs.Schema.{team_tree, policy_tree, template_tree, language_tree}
 use Rattle.sql_schema.specs.Keys.{text_at, first_text, row_number, columns}
 use Rattle.sql_schema.specs.Inside.{AreOfficeTables, IsInOrder}
 use Rattle.sql_statements.specs.Answers.{ShowsPolicy}
-use Rattle.sql_schema.proofs.Steps.{table_apart}
-use Rattle.sql_schema.proofs.TableRows.{members, one_member, policies, entries, languages, one_language}
+use Rattle.sql_schema.proofs.TableRows.{one_member, one_language}
 use Rattle.sql_meaning.specs.Values.{integer_of, integer_at, role_at}
 use Rattle.sql_meaning.specs.Meaning.{team_in, policy_in, policy_of, template_in, entry_of_row, headers_in, header_of_row, key_at}
 use Rattle.sql_meaning.specs.Shown.{shown_entry, shown_header}
@@ -44,6 +42,7 @@ use Rattle.sql_meaning.proofs.ShownMaps.{map_is, inserted_answers}
 use Rattle.sql_statements.specs.Tables.{ShowsTeam, ShowsTemplate, ShowsLanguages}
 use Rattle.sql_meaning.specs.OfficeShown.{team_shown, policy_shown, template_shown, headers_shown}
 use Rattle.sql_meaning.proofs.WholeRows.{in_order_of_one}
+use Rattle.sql_schema.specs.Layouts.{rows_named}
 
 integer_is : (v : Value) → is_int v ≡ true → v ≡ Int (integer_of v)
 integer_is (Int n) e = refl
@@ -71,34 +70,34 @@ each_once (row ∷ rows) up one = (
 module _ (db : Database) (office : AreOfficeTables db) where
   -- ---- the team, and the languages' headers
 
-  pub whole_team : (rows : List Row) → ShowsTeam db rows → team_in db.trees ≡ team_shown rows
+  pub whole_team : (rows : List Row) → ShowsTeam db rows → team_in (rows_named db) ≡ team_shown rows
   whole_team rows shows =
-      map_is text_cmp nat_list_cmp_total same_texts first_text (role_at 2) (columns (2 ∷ 1 ∷ [])) (text_at 1) (role_at 0) (db.trees team_tree) rows
-      (λ r there. refl) (λ r there. refl) shows.all (team_shown rows) (one_member db office.schema office.sound (table_apart db.trees 1 members refl office.tables))
+      map_is text_cmp nat_list_cmp_total same_texts first_text (role_at 2) (columns (2 ∷ 1 ∷ [])) (text_at 1) (role_at 0) (rows_named db (codes "team")) rows
+      (λ r there. refl) (λ r there. refl) shows.all (team_shown rows) (one_member db office.schema office.sound (office.tables (codes "team") refl))
       (inserted_answers text_cmp nat_list_cmp_total same_texts (text_at 1) (role_at 0) rows)
 
-  pub whole_headers : (rows : List Row) → ShowsLanguages db rows → headers_in db.trees ≡ headers_shown rows
+  pub whole_headers : (rows : List Row) → ShowsLanguages db rows → headers_in (rows_named db) ≡ headers_shown rows
   whole_headers rows shows =
-      map_is text_cmp nat_list_cmp_total same_texts first_text header_of_row (columns (2 ∷ 3 ∷ 1 ∷ [])) (text_at 2) shown_header (db.trees language_tree) rows
-      (λ r there. refl) (λ r there. refl) shows.all (headers_shown rows) (one_language db office.schema office.sound (table_apart db.trees 4 languages refl office.tables))
+      map_is text_cmp nat_list_cmp_total same_texts first_text header_of_row (columns (2 ∷ 3 ∷ 1 ∷ [])) (text_at 2) shown_header (rows_named db (codes "language")) rows
+      (λ r there. refl) (λ r there. refl) shows.all (headers_shown rows) (one_language db office.schema office.sound (office.tables (codes "language") refl))
       (inserted_answers text_cmp nat_list_cmp_total same_texts (text_at 2) shown_header rows)
 
   -- ---- the policy
 
-  policies_apart : AreApart (db.trees policy_tree)
-  policies_apart = table_apart db.trees 2 policies refl office.tables
+  policies_apart : AreApart (rows_named db (codes "policy"))
+  policies_apart = office.tables (codes "policy") refl
 
-  pub whole_policy : (found : Option Row) → ShowsPolicy db found → policy_in db.trees ≡ policy_shown found
+  pub whole_policy : (found : Option Row) → ShowsPolicy db found → policy_in (rows_named db) ≡ policy_shown found
   whole_policy (Some shown) it = policy_found db office shown it
   whole_policy None it =
-      ap (λ o. unwrap_or o closed_policy) (get-is int_cmp int_cmp_total int_cmp-IsAntisymmetric (integer_at 0) policy_of (db.trees policy_tree) (pos 1) None (one_rowid (db.trees policy_tree) policies_apart)
+      ap (λ o. unwrap_or o closed_policy) (get-is int_cmp int_cmp_total int_cmp-IsAntisymmetric (integer_at 0) policy_of (rows_named db (codes "policy")) (pos 1) None (one_rowid (rows_named db (codes "policy")) policies_apart)
       (λ r there e. it r there (integer_is (row_number r) (policies_apart.ints r there) ∙ ap Int e)))
 
   -- ---- the template
 
   module _ (rows : List Row) (shows : ShowsTemplate db rows) where
     abbrev all : List Row
-    all = db.trees template_tree
+    all = rows_named db (codes "template")
 
     abbrev shown : Row → Row
     shown = columns (3 ∷ 4 ∷ 5 ∷ 6 ∷ 2 ∷ 0 ∷ [])
@@ -107,7 +106,7 @@ module _ (db : Database) (office : AreOfficeTables db) where
     entry_shown row = shown_entry (key_at 4 row) row
 
     entries_apart : AreApart all
-    entries_apart = table_apart db.trees 3 entries refl office.tables
+    entries_apart = office.tables (codes "template") refl
 
     up : IsInOrder 5 rows
     up = in_order_of_one 5 rows shows.in_order
@@ -122,7 +121,7 @@ module _ (db : Database) (office : AreOfficeTables db) where
         (IsPermutation-map (integer_at 5) (map shown all) rows shows.all)
         (subst (IsDistinct int_eq) (sym (map-map (integer_at 5) shown all)) (each_once all entries_apart.once (one_rowid all entries_apart)))
 
-    pub whole_template : template_in db.trees ≡ template_shown rows
+    pub whole_template : template_in (rows_named db) ≡ template_shown rows
     whole_template =
         ap maps.values (map_is int_cmp int_cmp_total int_cmp-IsAntisymmetric (integer_at 0) entry_of_row shown (integer_at 5) entry_shown all rows
         (λ r there. refl) (λ r there. refl) shows.all (in_order 5 entry_shown rows up shown_places shown_once) (one_rowid all entries_apart)

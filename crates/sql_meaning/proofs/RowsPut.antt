@@ -1,5 +1,5 @@
 -- What one row makes of the team, the policy, the template, the headers and the units that the tables stand for.
-use Rattle.std.proofs.Common.{◌≡◌, inl, inr, ℤ, pos, List, [], ◌∷◌, length, map, filter, arith, Some, unwrap_or, refl, sym, ap, subst, ◌∙◌}
+use Rattle.std.proofs.Common.{◌≡◌, inl, inr, ℤ, pos, List, [], ◌∷◌, length, map, filter, arith, Some, unwrap_or, refl, sym, ap, subst, ◌∙◌, codes}
 use Rattle.std.specs.declared.cmp.Ordering.{Ordering}
 use Rattle.std.specs.Cmp.{IsTotalOrder, int_cmp_total}
 use Rattle.std.specs.Ordering.{int_cmp}
@@ -11,8 +11,8 @@ use Rattle.sqlite.specs.Effect.{Database}
 use Rattle.sqlite_rules.specs.Lists.{Has}
 use Rattle.sql_laws.specs.RowMaps.{OneEach, IsPut, map_of}
 use Rattle.sql_laws.proofs.RowMaps.{map_of-put, one_each_put}
-use Rattle.po_read.specs.declared.entry.Entry.{Entry}
-use Rattle.po_read.specs.Texts.{Text, text_cmp}
+use Rattle.po_text.specs.declared.entry.Entry.{Entry}
+use Rattle.po_text.specs.Texts.{Text, text_cmp}
 use Rattle.units.specs.KeyTexts.{HasStrings}
 use Rattle.units.specs.Project.{place_cmp}
 use Rattle.units.specs.Orders.{text_total, text_IsAntisymmetric, place_total, place_IsAntisymmetric}
@@ -25,7 +25,6 @@ use Rattle.sql_columns.specs.Numbers.{role_number}
 use Rattle.sql_columns.specs.Written.{ArePrevious, IsHeaderEntry, header_text}
 use Rattle.sql_columns.proofs.Keys.{parts_of_text}
 use Rattle.sql_columns.proofs.Readers.{header_found}
-use Rattle.sql_schema.specs.Schema.{team_tree, policy_tree, template_tree, language_tree, unit_tree, suggestion_tree, vote_tree}
 use Rattle.sql_schema.specs.Keys.{text_at, first_text, first_texts, row_number, has_text, is_on_unit}
 use Rattle.sql_schema.specs.Inside.{PutsRow, HoldsValues}
 use Rattle.sql_meaning.specs.Cells.{unit_cells}
@@ -34,7 +33,8 @@ use Rattle.sql_meaning.specs.Meaning.{number_at, team_in, policy_of, policy_in, 
 use Rattle.sql_meaning.proofs.MapEntries.{map_of-put_agreeing}
 use Rattle.sql_meaning.proofs.Units.{by_place}
 use Rattle.sql_meaning.proofs.UnitValues.{unit_read_back}
-use Rattle.sql_meaning.proofs.WrittenRows.{row_spares, suggestions_there, votes_there}
+use Rattle.sql_schema.specs.Layouts.{rows_named}
+use Rattle.sql_schema.proofs.Layouts.{names_differ}
 
 -- ---- the first row of a table
 
@@ -67,35 +67,35 @@ role_back Translator n e = let is : pos 1 ≡ n = cc in ap (λ m. role_at 0 (Int
 role_back Reviewer n e = let is : pos 2 ≡ n = cc in ap (λ m. role_at 0 (Int m ∷ [])) (sym is)
 role_back Manager n e = let is : pos 3 ≡ n = cc in ap (λ m. role_at 0 (Int m ∷ [])) (sym is)
 
-module _ (old new : Database) (name : Text) (role : Role) (n : ℤ) (written : role_number role ≡ Some n) (one : OneEach first_text (old.trees team_tree))
-    (made : PutsRow team_tree first_text (HoldsValues (Words name ∷ Int n ∷ [])) old new) where
-  pub team_put : team_in new.trees ≡ maps.insert (team_in old.trees) name role
+module _ (old new : Database) (name : Text) (role : Role) (n : ℤ) (written : role_number role ≡ Some n) (one : OneEach first_text (rows_named old (codes "team")))
+    (made : PutsRow (codes "team") first_text (HoldsValues (Words name ∷ Int n ∷ [])) old new) where
+  pub team_put : team_in (rows_named new) ≡ maps.insert (team_in (rows_named old)) name role
   team_put =
-      map_of-put text_cmp text_total text_IsAntisymmetric first_text (role_at 2) (old.trees team_tree) (new.trees team_tree) made.row one made.put
-      ∙ ap (λ row. maps.insert (team_in old.trees) (first_text row) (role_at 2 row)) made.is_row.1
-      ∙ ap (maps.insert (team_in old.trees) name) (role_back role n written)
+      map_of-put text_cmp text_total text_IsAntisymmetric first_text (role_at 2) (rows_named old (codes "team")) (rows_named new (codes "team")) made.row one made.put
+      ∙ ap (λ row. maps.insert (team_in (rows_named old)) (first_text row) (role_at 2 row)) made.is_row.1
+      ∙ ap (maps.insert (team_in (rows_named old)) name) (role_back role n written)
 
-  pub one_member_each : OneEach first_text (new.trees team_tree)
-  one_member_each = one_each_put text_cmp text_total text_IsAntisymmetric first_text (role_at 2) (old.trees team_tree) (new.trees team_tree) made.row one made.put
+  pub one_member_each : OneEach first_text (rows_named new (codes "team"))
+  one_member_each = one_each_put text_cmp text_total text_IsAntisymmetric first_text (role_at 2) (rows_named old (codes "team")) (rows_named new (codes "team")) made.row one made.put
 
 -- ---- policy
 
-pub policy_first : (old new : Database) (cells : Row) → old.trees policy_tree ≡ [] → integer_at 0 cells ≡ pos 1 → PutsRow policy_tree row_number (λ row. row ≡ cells) old new
-    → policy_in new.trees ≡ policy_of cells
+pub policy_first : (old new : Database) (cells : Row) → rows_named old (codes "policy") ≡ [] → integer_at 0 cells ≡ pos 1 → PutsRow (codes "policy") row_number (λ row. row ≡ cells) old new
+    → policy_in (rows_named new) ≡ policy_of cells
 policy_first old new cells none at_one made =
     ap (λ m. unwrap_or (maps.get m (pos 1)) closed_policy)
-    (first_row int_cmp int_cmp_total int_cmp-IsAntisymmetric row_number (integer_at 0) policy_of (old.trees policy_tree) (new.trees policy_tree) made.row none made.put
+    (first_row int_cmp int_cmp_total int_cmp-IsAntisymmetric row_number (integer_at 0) policy_of (rows_named old (codes "policy")) (rows_named new (codes "policy")) made.row none made.put
     ∙ ap (λ row. maps.insert maps.empty (integer_at 0 row) (policy_of row)) made.is_row
     ∙ ap (λ k. maps.insert maps.empty k (policy_of cells)) at_one)
     ∙ ap (λ o. unwrap_or o closed_policy) (maps.get-insert int_cmp_total maps.empty (pos 1) (policy_of cells) (pos 1))
 
 -- ---- template
 
-pub template_first : (old new : Database) (cells : Row) → old.trees template_tree ≡ [] → PutsRow template_tree row_number (λ row. row ≡ cells) old new
-    → template_in new.trees ≡ entry_of_row cells ∷ []
+pub template_first : (old new : Database) (cells : Row) → rows_named old (codes "template") ≡ [] → PutsRow (codes "template") row_number (λ row. row ≡ cells) old new
+    → template_in (rows_named new) ≡ entry_of_row cells ∷ []
 template_first old new cells none made =
     ap maps.values
-    (first_row int_cmp int_cmp_total int_cmp-IsAntisymmetric row_number (integer_at 0) entry_of_row (old.trees template_tree) (new.trees template_tree) made.row none made.put
+    (first_row int_cmp int_cmp_total int_cmp-IsAntisymmetric row_number (integer_at 0) entry_of_row (rows_named old (codes "template")) (rows_named new (codes "template")) made.row none made.put
     ∙ ap (λ row. maps.insert maps.empty (integer_at 0 row) (entry_of_row row)) made.is_row)
     ∙ only_value (integer_at 0 cells) (entry_of_row cells)
   where
@@ -104,26 +104,26 @@ template_first old new cells none made =
 
 -- ---- language
 
-pub header_put : (old new : Database) (lang : Text) (header : Entry) (column rule : Text) → IsHeaderEntry header → column ≡ header_text header → OneEach first_text (old.trees language_tree)
-    → PutsRow language_tree first_text (HoldsValues (Words lang ∷ Words column ∷ Words rule ∷ [])) old new → headers_in new.trees ≡ maps.insert (headers_in old.trees) lang header
+pub header_put : (old new : Database) (lang : Text) (header : Entry) (column rule : Text) → IsHeaderEntry header → column ≡ header_text header → OneEach first_text (rows_named old (codes "language"))
+    → PutsRow (codes "language") first_text (HoldsValues (Words lang ∷ Words column ∷ Words rule ∷ [])) old new → headers_in (rows_named new) ≡ maps.insert (headers_in (rows_named old)) lang header
 header_put old new lang header column rule fits written one made =
-    map_of-put text_cmp text_total text_IsAntisymmetric first_text header_of_row (old.trees language_tree) (new.trees language_tree) made.row one made.put
-    ∙ ap (λ row. maps.insert (headers_in old.trees) (first_text row) (header_of_row row)) made.is_row.1
-    ∙ ap (λ o. maps.insert (headers_in old.trees) lang (unwrap_or o (plain_entry [] []))) (header_found column header fits written)
+    map_of-put text_cmp text_total text_IsAntisymmetric first_text header_of_row (rows_named old (codes "language")) (rows_named new (codes "language")) made.row one made.put
+    ∙ ap (λ row. maps.insert (headers_in (rows_named old)) (first_text row) (header_of_row row)) made.is_row.1
+    ∙ ap (λ o. maps.insert (headers_in (rows_named old)) lang (unwrap_or o (plain_entry [] []))) (header_found column header fits written)
 
 -- ---- unit
 
 -- the row of a unit whose suggestions are those that stand there already
 module _ (old new : Database) (lang : Text) (unit : Unit) (strings : HasStrings unit.key) (previous : ArePrevious unit.previous)
-    (suggested : suggestions_in old.trees lang (key_text unit.key) ≡ unit.suggestions) (one : OneEach first_texts (old.trees unit_tree))
-    (made : PutsRow unit_tree first_texts (HoldsValues (unit_cells lang unit)) old new) where
-  same_suggestions : new.trees suggestion_tree ≡ old.trees suggestion_tree
-  same_suggestions = row_spares suggestion_tree suggestions_there unit_tree first_texts _ old new made (λ e. cc)
+    (suggested : suggestions_in (rows_named old) lang (key_text unit.key) ≡ unit.suggestions) (one : OneEach first_texts (rows_named old (codes "unit")))
+    (made : PutsRow (codes "unit") first_texts (HoldsValues (unit_cells lang unit)) old new) where
+  same_suggestions : rows_named new (codes "suggestion") ≡ rows_named old (codes "suggestion")
+  same_suggestions = made.others (codes "suggestion") (names_differ refl)
 
-  same_votes : new.trees vote_tree ≡ old.trees vote_tree
-  same_votes = row_spares vote_tree votes_there unit_tree first_texts _ old new made (λ e. cc)
+  same_votes : rows_named new (codes "vote") ≡ rows_named old (codes "vote")
+  same_votes = made.others (codes "vote") (names_differ refl)
 
-  suggestions_still : (l k : Text) → suggestions_in new.trees l k ≡ suggestions_in old.trees l k
+  suggestions_still : (l k : Text) → suggestions_in (rows_named new) l k ≡ suggestions_in (rows_named old) l k
   suggestions_still l k = λ i.
       maps.values (map_of int_cmp (integer_at 4) (λ row. record {
         number = number_at 1 row;
@@ -132,22 +132,22 @@ module _ (old new : Database) (lang : Text) (unit : Unit) (strings : HasStrings 
         votes = map_of text_cmp (text_at 2) (vote_at 3) (filter (has_text 1 (text_at 1 row)) (same_votes i));
       }) (filter (is_on_unit l k) (same_suggestions i)))
 
-  row_is : unit_of_row new.trees made.row ≡ unit
-  row_is = unit_read_back new.trees lang unit made.row made.is_row strings previous (suggestions_still lang (key_text unit.key) ∙ suggested)
+  row_is : unit_of_row (rows_named new) made.row ≡ unit
+  row_is = unit_read_back (rows_named new) lang unit made.row made.is_row strings previous (suggestions_still lang (key_text unit.key) ∙ suggested)
 
   place_is : place_of_row made.row ≡ (lang, unit.key)
   place_is = ap place_of_row made.is_row.1 ∙ (λ i. (lang, parts_of_text unit.key strings i))
 
-  at_place : IsPut place_of_row (old.trees unit_tree) (new.trees unit_tree) made.row
+  at_place : IsPut place_of_row (rows_named old (codes "unit")) (rows_named new (codes "unit")) made.row
   at_place = record {
     only = λ x there. elim (made.put.only x there) [ inl is ↦ inl is | inr was ↦ inr (was.0, λ e. was.1 (by_place.back x made.row tt tt e)) ];
     here = made.put.here;
     kept = λ x there differ. made.put.kept x there (λ e. differ (by_place.forth x made.row tt tt e));
   }
 
-  pub unit_put : units_in new.trees ≡ maps.insert (units_in old.trees) (lang, unit.key) unit
+  pub unit_put : units_in (rows_named new) ≡ maps.insert (units_in (rows_named old)) (lang, unit.key) unit
   unit_put =
-      map_of-put_agreeing place_cmp place_total place_IsAntisymmetric place_of_row (unit_of_row old.trees) (unit_of_row new.trees) (old.trees unit_tree) (new.trees unit_tree) made.row
+      map_of-put_agreeing place_cmp place_total place_IsAntisymmetric place_of_row (unit_of_row (rows_named old)) (unit_of_row (rows_named new)) (rows_named old (codes "unit")) (rows_named new (codes "unit")) made.row
       (λ r s in_r in_s e. one r s in_r in_s (by_place.back r s tt tt e)) at_place
-      (λ x there differ. λ i. record (unit_of_row new.trees x) { suggestions = suggestions_still (text_at 1 x) (text_at 2 x) i })
-      ∙ (λ i. maps.insert (units_in old.trees) (place_is i) (row_is i))
+      (λ x there differ. λ i. record (unit_of_row (rows_named new) x) { suggestions = suggestions_still (text_at 1 x) (text_at 2 x) i })
+      ∙ (λ i. maps.insert (units_in (rows_named old)) (place_is i) (row_is i))

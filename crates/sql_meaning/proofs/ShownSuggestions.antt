@@ -1,5 +1,5 @@
 -- A unit's suggestions, as the rows of `suggestion` stand for them: what a query by language and key finds, in the order of the places.
-use Rattle.std.proofs.Common.{◌≡◌, inl, inr, ℕ, false, List, [], ◌∷◌, map, filter, refl, sym, ap, subst, ◌∙◌}
+use Rattle.std.proofs.Common.{◌≡◌, inl, inr, ℕ, false, List, [], ◌∷◌, map, filter, refl, sym, ap, subst, ◌∙◌, codes}
 use Rattle.std.proofs.lemmas.Bool.{false_from_ne_true}
 use Rattle.std.specs.declared.cmp.Ordering.TheVariants.{Equal}
 use Rattle.std.specs.Ordering.{int_cmp, int_eq, is_eq}
@@ -11,7 +11,7 @@ use Rattle.std.proofs.lemmas.Map.Keys.{IsDistinct-IsPermutation}
 use Rattle.std.specs.FinMap as maps
 use Rattle.std.specs.FinMap.{int_cmp-IsAntisymmetric}
 use Rattle.sqlite.specs.Order.{Row, value_cmp}
-use Rattle.sqlite.specs.Tree.{Trees, rowid}
+use Rattle.sqlite.specs.Tree.{rowid}
 use Rattle.sqlite_value.proofs.OrderLemmas.{value_cmp_total}
 use Rattle.sqlite_trees.proofs.ListLemmas.{map-map, all-map, ascending-filter}
 use Rattle.sqlite_rules.specs.Lists.{Has}
@@ -19,8 +19,7 @@ use Rattle.sqlite_rules.proofs.ListLemmas.{all_has, all_from, has_filtered}
 use Rattle.sql_laws.specs.RowMaps.{OneEach}
 use Rattle.sql_laws.specs.ApartRows.{AreOnce}
 use Rattle.sql_laws.proofs.RemovedRows.{from_mapped, has_permuted}
-use Rattle.po_read.specs.Texts.{Text}
-use Rattle.sql_schema.specs.Schema.{suggestion_tree}
+use Rattle.po_text.specs.Texts.{Text}
 use Rattle.sql_schema.specs.Keys.{is_on_unit, columns}
 use Rattle.sql_schema.specs.Inside.{IsInOrder}
 use Rattle.sql_meaning.specs.Values.{integer_at}
@@ -28,6 +27,8 @@ use Rattle.sql_meaning.specs.Meaning.{suggestion_of_row, suggestions_in}
 use Rattle.sql_meaning.specs.Shown.{shown_suggestion}
 use Rattle.sql_meaning.proofs.ShownMaps.{map_is}
 use Rattle.sql_meaning.proofs.RowsInOrder.{HoldsIntegers, in_order, in_order_answers, values_in_order}
+use Rattle.sql_schema.specs.Layouts.{NamedRows}
+use Rattle.sql_schema.proofs.Layouts.{listed}
 
 -- no row stands twice in a table, so integers that tell its rows apart come once
 each_once : (place : ℕ) (rows : List Row) → AreOnce rows → OneEach (integer_at place) rows → IsDistinct int_eq (map (integer_at place) rows)
@@ -45,11 +46,11 @@ each_once place (row ∷ rows) up one = (
         let itself : value_cmp (rowid row) (rowid r) ≡ Equal = subst (λ s. value_cmp (rowid row) (rowid s) ≡ Equal) same (tied_itself value_cmp_total (rowid row)) in
         cc)
 
-module _ (trees : Trees) (lang key : Text) (rows : List Row) (table : AreOnce (trees suggestion_tree)) (ints : HoldsIntegers 4 (trees suggestion_tree))
-    (one : OneEach (integer_at 4) (filter (is_on_unit lang key) (trees suggestion_tree)))
-    (listed : IsPermutation (map (columns (1 ∷ 4 ∷ 5 ∷ 6 ∷ [])) (filter (is_on_unit lang key) (trees suggestion_tree))) rows) where
+module _ (tables : NamedRows) (lang key : Text) (rows : List Row) (table : AreOnce (tables (codes "suggestion"))) (ints : HoldsIntegers 4 (tables (codes "suggestion")))
+    (one : OneEach (integer_at 4) (filter (is_on_unit lang key) (tables (codes "suggestion"))))
+    (listed : IsPermutation (map (columns (1 ∷ 4 ∷ 5 ∷ 6 ∷ [])) (filter (is_on_unit lang key) (tables (codes "suggestion")))) rows) where
   abbrev all : List Row
-  all = filter (is_on_unit lang key) (trees suggestion_tree)
+  all = filter (is_on_unit lang key) (tables (codes "suggestion"))
 
   abbrev shown : Row → Row
   shown = columns (1 ∷ 4 ∷ 5 ∷ 6 ∷ [])
@@ -57,16 +58,16 @@ module _ (trees : Trees) (lang key : Text) (rows : List Row) (table : AreOnce (t
   shown_ints : HoldsIntegers 1 rows
   shown_ints row there =
       let from = from_mapped shown all row (has_permuted (map shown all) rows row listed there) in
-      rw from.2 (ints from.0 (has_filtered (is_on_unit lang key) (trees suggestion_tree) from.0 from.1).0)
+      rw from.2 (ints from.0 (has_filtered (is_on_unit lang key) (tables (codes "suggestion")) from.0 from.1).0)
 
   shown_once : IsDistinct int_eq (map (integer_at 1) rows)
   shown_once = IsDistinct-IsPermutation int_eq (eq_by_cmp_equiv int_cmp_total).symm (map (integer_at 1) (map shown all)) (map (integer_at 1) rows)
       (IsPermutation-map (integer_at 1) (map shown all) rows listed)
-      (subst (IsDistinct int_eq) (sym (map-map (integer_at 1) shown all)) (each_once 4 all (ascending-filter _ (is_on_unit lang key) (trees suggestion_tree) table) one))
+      (subst (IsDistinct int_eq) (sym (map-map (integer_at 1) shown all)) (each_once 4 all (ascending-filter _ (is_on_unit lang key) (tables (codes "suggestion")) table) one))
 
-  pub finds_suggestions : IsInOrder 1 rows → suggestions_in trees lang key ≡ map (shown_suggestion trees) rows
+  pub finds_suggestions : IsInOrder 1 rows → suggestions_in tables lang key ≡ map (shown_suggestion tables) rows
   finds_suggestions up =
-      ap maps.values (map_is int_cmp int_cmp_total int_cmp-IsAntisymmetric (integer_at 4) (suggestion_of_row trees) shown (integer_at 1) (shown_suggestion trees) all rows
-      (λ r there. refl) (λ r there. refl) listed (in_order 1 (shown_suggestion trees) rows up shown_ints shown_once) one
-      (in_order_answers 1 (shown_suggestion trees) rows up shown_ints shown_once))
-      ∙ values_in_order 1 (shown_suggestion trees) rows up shown_ints shown_once
+      ap maps.values (map_is int_cmp int_cmp_total int_cmp-IsAntisymmetric (integer_at 4) (suggestion_of_row tables) shown (integer_at 1) (shown_suggestion tables) all rows
+      (λ r there. refl) (λ r there. refl) listed (in_order 1 (shown_suggestion tables) rows up shown_ints shown_once) one
+      (in_order_answers 1 (shown_suggestion tables) rows up shown_ints shown_once))
+      ∙ values_in_order 1 (shown_suggestion tables) rows up shown_ints shown_once

@@ -3,10 +3,9 @@ use Rattle.std.proofs.Common.{◌≡◌, ℕ, List, [], ◌∷◌, Bool, true, f
 use Rattle.std.proofs.lemmas.Bool.{and_from}
 use Rattle.sqlite.specs.declared.types.Value.TheVariants.{Int}
 use Rattle.sqlite.specs.Order.{Row}
-use Rattle.sqlite.specs.Tree.{Trees}
 use Rattle.sql_laws.proofs.RowMaps.{text_ties_itself}
-use Rattle.po_read.specs.declared.entry.Previous.{Previous}
-use Rattle.po_read.specs.Texts.{Text}
+use Rattle.po_text.specs.declared.entry.Previous.{Previous}
+use Rattle.po_text.specs.Texts.{Text}
 use Rattle.units.specs.KeyTexts.{HasStrings}
 use Rattle.units.specs.Units.{key_text, no_previous}
 use Rattle.units.specs.declared.unit.Suggestion.{Suggestion}
@@ -28,6 +27,7 @@ use Rattle.sql_schema.specs.Rows.{text_or_null}
 use Rattle.sql_meaning.specs.Values.{text_or_null_at, flag_at, state_at, vote_at}
 use Rattle.sql_meaning.specs.Meaning.{suggestions_in, votes_in, suggestion_of_row, unit_of_row}
 use Rattle.sql_meaning.specs.Cells.{unit_cells, suggestion_cells, vote_cells}
+use Rattle.sql_schema.specs.Layouts.{NamedRows}
 
 text_or_null_back : (o : Option Text) → text_or_null_at 0 (text_or_null o ∷ []) ≡ o
 text_or_null_back None = refl
@@ -58,9 +58,9 @@ pub numbers_apart : (a b : Text) → IsNumber a → IsNumber b → number_text a
 numbers_apart a b fit_a fit_b is =
     sym (ap (λ o. unwrap_or o []) (number_found (number_text a) a fit_a refl)) ∙ ap (λ o. unwrap_or o []) (number_found (number_text a) b fit_b is)
 
-pub unit_read_back : (trees : Trees) (lang : Text) (unit : Unit) (row : Row) → HoldsValues (unit_cells lang unit) row → HasStrings unit.key → ArePrevious unit.previous
-    → suggestions_in trees lang (key_text unit.key) ≡ unit.suggestions → unit_of_row trees row ≡ unit
-unit_read_back trees lang unit row (id, is) strings previous suggestions =
+pub unit_read_back : (tables : NamedRows) (lang : Text) (unit : Unit) (row : Row) → HoldsValues (unit_cells lang unit) row → HasStrings unit.key → ArePrevious unit.previous
+    → suggestions_in tables lang (key_text unit.key) ≡ unit.suggestions → unit_of_row tables row ≡ unit
+unit_read_back tables lang unit row (id, is) strings previous suggestions =
     let key = parts_of_text unit.key strings in
     let plural = text_or_null_back unit.plural in
     let forms = texts_back unit.forms in
@@ -68,7 +68,7 @@ unit_read_back trees lang unit row (id, is) strings previous suggestions =
     let obsolete = flag_back unit.obsolete in
     let comment = texts_back unit.comment in
     let before = previous_back unit.previous previous in
-    ap (unit_of_row trees) is ∙ (λ i. record {
+    ap (unit_of_row tables) is ∙ (λ i. record {
       key = key i;
       plural = plural i;
       forms = forms i;
@@ -80,12 +80,12 @@ unit_read_back trees lang unit row (id, is) strings previous suggestions =
       suggestions = suggestions i;
     })
 
-pub suggestion_read_back : (trees : Trees) (lang key : Text) (place : ℕ) (s : Suggestion) (row : Row) → HoldsValues (suggestion_cells lang key place s) row → IsNumber s.number
-    → votes_in trees (number_text s.number) ≡ s.votes → suggestion_of_row trees row ≡ s
-suggestion_read_back trees lang key place s row (id, is) fit votes =
+pub suggestion_read_back : (tables : NamedRows) (lang key : Text) (place : ℕ) (s : Suggestion) (row : Row) → HoldsValues (suggestion_cells lang key place s) row → IsNumber s.number
+    → votes_in tables (number_text s.number) ≡ s.votes → suggestion_of_row tables row ≡ s
+suggestion_read_back tables lang key place s row (id, is) fit votes =
     let number = ap (λ o. unwrap_or o []) (number_found (number_text s.number) s.number fit refl) in
     let forms = texts_back s.forms in
-    ap (suggestion_of_row trees) is ∙ (λ i. record { number = number i; suggester = s.suggester; forms = forms i; votes = votes i })
+    ap (suggestion_of_row tables) is ∙ (λ i. record { number = number i; suggester = s.suggester; forms = forms i; votes = votes i })
 
 pub is_on_its_unit : (lang key : Text) (place : ℕ) (s : Suggestion) (row : Row) → HoldsValues (suggestion_cells lang key place s) row → is_on_unit lang key row ≡ true
 is_on_its_unit lang key place s row (id, is) = ap (is_on_unit lang key) is ∙ and_from _ _ (text_ties_itself lang) (text_ties_itself key)

@@ -11,20 +11,21 @@ use Rattle.sql_statements.specs.WholeOffice.{ShowsWholeOffice}
 use Rattle.sql_meaning.specs.OfficeShown.{project_shown}
 use Rattle.sql_meaning.proofs.OfficeTables.{whole_team, whole_policy, whole_headers, whole_template}
 use Rattle.sql_meaning.proofs.UnitTables.{whole_units}
+use Rattle.sql_schema.specs.Layouts.{rows_named}
 
-pub whole_office : (db : Database) → AreOfficeTables db → (rows : WholeOffice) → ShowsWholeOffice db rows → project_shown rows ≡ project_of_rows db.trees
+pub whole_office : (db : Database) → AreOfficeTables db → (rows : WholeOffice) → ShowsWholeOffice db rows → project_shown rows ≡ project_of_rows (rows_named db)
 whole_office db office rows shows =
     let template = whole_template db office rows.office.template.items shows.office.template in
     let headers = whole_headers db office rows.office.languages.items shows.office.languages in
     let units = whole_units db office rows.units shows.units in
     let team = whole_team db office rows.office.team.items shows.office.team in
     let policy = whole_policy db office rows.office.policy shows.office.policy in
-    let read : project_of_rows db.trees ≡ project_shown rows = λ i. record { template = template i; headers = headers i; units = units i; team = team i; policy = policy i } in
+    let read : project_of_rows (rows_named db) ≡ project_shown rows = λ i. record { template = template i; headers = headers i; units = units i; team = team i; policy = policy i } in
     sym read
 
 -- what the whole read answers is the project that was committed
 pub office_looked_up : (old new : State) (rows : WholeOffice) → IsIdle old → IsLookUp {E = Error} old new (Ok rows) ShowsWholeOffice → HasCleanDisk new
-    → project_shown rows ≡ project_of_rows old.now.trees
+    → project_shown rows ≡ project_of_rows (rows_named old.now)
 office_looked_up old new rows idle read clean =
     let early : HasCleanDisk old = omega (arith, read.survives.clean) in
     let was = read.same clean (read.is_open clean) in

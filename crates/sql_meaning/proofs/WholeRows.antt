@@ -18,6 +18,7 @@ use Rattle.sqlite_rules.specs.Lists.{Has}
 use Rattle.sqlite_rules.proofs.ListLemmas.{has_at}
 use Rattle.sql_schema.specs.Inside.{IsInOrder}
 use Rattle.sql_statements.specs.Tables.{by_columns}
+use Rattle.sql_schema.proofs.Layouts.{listed}
 
 -- ---- rows that are kept, and cut
 

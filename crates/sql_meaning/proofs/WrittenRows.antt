@@ -1,5 +1,5 @@
 -- The rows that are put for a unit's suggestions and for the votes on them: each table's one after the other, no two with one key.
-use Rattle.std.proofs.Common.{◌≡◌, ◌≢◌, inl, inr, ℕ, ◌+◌, ◌<◌, ℤ, pos, List, [], ◌∷◌, ◌++◌, map, true, refl, sym, ap, subst, ◌∙◌, arith}
+use Rattle.std.proofs.Common.{◌≡◌, ◌≢◌, inl, inr, ℕ, ◌+◌, ◌<◌, ℤ, pos, List, [], ◌∷◌, ◌++◌, map, true, refl, sym, ap, subst, ◌∙◌, arith, codes}
 use Rattle.std.specs.Prelude.{⊤}
 use Rattle.std.proofs.lemmas.Int.{ints}
 use Rattle.std.proofs.lemmas.Bool.{and_parts, and_from}
@@ -11,24 +11,23 @@ use Rattle.std.specs.FinMap.Entries.{below_all}
 use Rattle.std.specs.declared.cmp.Ordering.TheVariants.{Less}
 use Rattle.sqlite.specs.Order.{Row}
 use Rattle.sqlite.specs.Effect.{Database}
-use Rattle.sqlite_schema.specs.declared.schema.Table.{Table}
 use Rattle.sqlite_rules.specs.Lists.{Has}
-use Rattle.sqlite_rules.proofs.ListLemmas.{all_has, has_left, has_right, has_either}
+use Rattle.sqlite_rules.proofs.ListLemmas.{has_left, has_right, has_either}
 use Rattle.sql_laws.proofs.RemovedRows.{from_mapped, to_mapped}
-use Rattle.po_read.specs.Texts.{Text, text_cmp}
+use Rattle.po_text.specs.Texts.{Text, text_cmp}
 use Rattle.units.specs.Orders.{text_total}
 use Rattle.units.specs.declared.unit.Suggestion.{Suggestion}
 use Rattle.units.specs.declared.votes.VoteValue.{VoteValue}
 use Rattle.request_book.specs.Acts.{IsNumber}
 use Rattle.request_book.specs.Words.{number_text}
-use Rattle.sql_schema.specs.Schema.{office_schema, suggestion_tree, vote_tree}
 use Rattle.sql_schema.specs.Keys.{first_text, first_texts}
-use Rattle.sql_schema.specs.Inside.{PutsRow}
 use Rattle.sql_meaning.specs.Cells.{suggestion_cells, vote_cells}
 use Rattle.sql_meaning.specs.Written.{PutsRows, PutsSuggestions}
 use Rattle.sql_meaning.proofs.MapEntries.{apart_keys, true_of}
 use Rattle.sql_meaning.proofs.RowsInTurn.{ArePutInTurn, AreDistinct, IsOther, key_of_cells, in_turn_append, distinct_append}
 use Rattle.sql_meaning.proofs.UnitValues.{numbers_apart}
+use Rattle.sql_schema.specs.Layouts.{rows_named}
+use Rattle.sql_schema.proofs.Layouts.{names_differ}
 
 -- ---- suggestions, each with its place from this one on
 
@@ -138,54 +137,38 @@ votes_distinct (s ∷ more) fit own =
 
 -- ---- what is put into which table
 
--- the tree of one of the tables
-abbrev pub IsTree : ℕ → Type 0
-IsTree tree = (table : Table) × Has office_schema.tables table × (table.tree ≡ tree)
+module _ (t : List ℕ) where
+  rows_spare : {K : Type 0} (name : List ℕ) (key : Row → K) (all : List Row) (old new : Database) → PutsRows name key all old new → t ≢ name → rows_named new t ≡ rows_named old t
+  rows_spare name key [] old new is apart = ap (λ (d : Database). rows_named d t) is
+  rows_spare name key (cells ∷ more) old new (mid, put, rest) apart = rows_spare name key more mid new rest apart ∙ put.others t apart
 
-module _ (t : ℕ) (is_tree : IsTree t) where
-  pub row_spares : {K : Type 0} (tree : ℕ) (key : Row → K) (IsRow : Row → Type 0) (old new : Database) → PutsRow tree key IsRow old new → t ≢ tree → new.trees t ≡ old.trees t
-  row_spares tree key IsRow old new put apart =
-      subst (λ k. new.trees k ≡ old.trees k) is_tree.2
-      (all_has (λ (table : Table). table.tree ≢ tree → new.trees table.tree ≡ old.trees table.tree) office_schema.tables is_tree.0 put.others is_tree.1 (λ e. apart (sym is_tree.2 ∙ e)))
-
-  rows_spare : {K : Type 0} (tree : ℕ) (key : Row → K) (all : List Row) (old new : Database) → PutsRows tree key all old new → t ≢ tree → new.trees t ≡ old.trees t
-  rows_spare tree key [] old new is apart = ap (λ (d : Database). d.trees t) is
-  rows_spare tree key (cells ∷ more) old new (mid, put, rest) apart = rows_spare tree key more mid new rest apart ∙ row_spares tree key _ old mid put apart
-
-  pub suggestions_spare : (lang key : Text) (place : ℕ) (ss : List Suggestion) (old new : Database) → PutsSuggestions lang key place ss old new → t ≢ suggestion_tree → t ≢ vote_tree
-      → new.trees t ≡ old.trees t
-  suggestions_spare lang key place [] old new is no_suggestion no_vote = ap (λ (d : Database). d.trees t) is
+  pub suggestions_spare : (lang key : Text) (place : ℕ) (ss : List Suggestion) (old new : Database) → PutsSuggestions lang key place ss old new → t ≢ codes "suggestion" → t ≢ codes "vote"
+      → rows_named new t ≡ rows_named old t
+  suggestions_spare lang key place [] old new is no_suggestion no_vote = ap (λ (d : Database). rows_named d t) is
   suggestions_spare lang key place (s ∷ more) old new (mid, (after, put, votes), rest) no_suggestion no_vote =
-      suggestions_spare lang key (place + 1) more mid new rest no_suggestion no_vote ∙ rows_spare vote_tree first_texts (votes_of s) after mid votes no_vote
-      ∙ row_spares suggestion_tree first_text _ old after put no_suggestion
+      suggestions_spare lang key (place + 1) more mid new rest no_suggestion no_vote ∙ rows_spare (codes "vote") first_texts (votes_of s) after mid votes no_vote ∙ put.others t no_suggestion
 
-pub suggestions_there : IsTree suggestion_tree
-suggestions_there = (_, inr (inr (inr (inr (inr (inr (inl refl)))))), refl)
-
-pub votes_there : IsTree vote_tree
-votes_there = (_, inr (inr (inr (inr (inr (inr (inr (inl refl))))))), refl)
-
-puts_in_turn : {K : Type 0} (tree : ℕ) (key : Row → K) (all : List Row) (old new : Database) → PutsRows tree key all old new → ArePutInTurn key all (old.trees tree) (new.trees tree)
-puts_in_turn tree key [] old new is = ap (λ (d : Database). d.trees tree) is
-puts_in_turn tree key (cells ∷ more) old new (mid, put, rest) = (mid.trees tree, put.row, put.is_row, put.put, puts_in_turn tree key more mid new rest)
+puts_in_turn : {K : Type 0} (name : List ℕ) (key : Row → K) (all : List Row) (old new : Database) → PutsRows name key all old new → ArePutInTurn key all (rows_named old name) (rows_named new name)
+puts_in_turn name key [] old new is = ap (λ (d : Database). rows_named d name) is
+puts_in_turn name key (cells ∷ more) old new (mid, put, rest) = (rows_named mid name, put.row, put.is_row, put.put, puts_in_turn name key more mid new rest)
 
 pub suggestions_in_turn : (lang key : Text) (place : ℕ) (ss : List Suggestion) (old new : Database) → PutsSuggestions lang key place ss old new
-    → ArePutInTurn first_text (suggestion_rows lang key place ss) (old.trees suggestion_tree) (new.trees suggestion_tree)
-suggestions_in_turn lang key place [] old new is = ap (λ (d : Database). d.trees suggestion_tree) is
+    → ArePutInTurn first_text (suggestion_rows lang key place ss) (rows_named old (codes "suggestion")) (rows_named new (codes "suggestion"))
+suggestions_in_turn lang key place [] old new is = ap (λ (d : Database). rows_named d (codes "suggestion")) is
 suggestions_in_turn lang key place (s ∷ more) old new (mid, (after, put, votes), rest) =
-    let same = rows_spare suggestion_tree suggestions_there vote_tree first_texts (votes_of s) after mid votes (λ e. cc) in (
-      after.trees suggestion_tree,
+    let same = rows_spare (codes "suggestion") (codes "vote") first_texts (votes_of s) after mid votes (names_differ refl) in (
+      rows_named after (codes "suggestion"),
       put.row,
       put.is_row,
       put.put,
-      subst (λ rows. ArePutInTurn first_text (suggestion_rows lang key (place + 1) more) rows (new.trees suggestion_tree)) same (suggestions_in_turn lang key (place + 1) more mid new rest),
+      subst (λ rows. ArePutInTurn first_text (suggestion_rows lang key (place + 1) more) rows (rows_named new (codes "suggestion"))) same (suggestions_in_turn lang key (place + 1) more mid new rest),
     )
 
 pub votes_in_turn : (lang key : Text) (place : ℕ) (ss : List Suggestion) (old new : Database) → PutsSuggestions lang key place ss old new
-    → ArePutInTurn first_texts (vote_rows ss) (old.trees vote_tree) (new.trees vote_tree)
-votes_in_turn lang key place [] old new is = ap (λ (d : Database). d.trees vote_tree) is
+    → ArePutInTurn first_texts (vote_rows ss) (rows_named old (codes "vote")) (rows_named new (codes "vote"))
+votes_in_turn lang key place [] old new is = ap (λ (d : Database). rows_named d (codes "vote")) is
 votes_in_turn lang key place (s ∷ more) old new (mid, (after, put, votes), rest) =
-    let same = row_spares vote_tree votes_there suggestion_tree first_text _ old after put (λ e. cc) in
-    let own = puts_in_turn vote_tree first_texts (votes_of s) after mid votes in
-    in_turn_append first_texts (votes_of s) (vote_rows more) (old.trees vote_tree) (mid.trees vote_tree) (new.trees vote_tree)
-    (subst (λ rows. ArePutInTurn first_texts (votes_of s) rows (mid.trees vote_tree)) same own) (votes_in_turn lang key (place + 1) more mid new rest)
+    let same = put.others (codes "vote") (names_differ refl) in
+    let own = puts_in_turn (codes "vote") first_texts (votes_of s) after mid votes in
+    in_turn_append first_texts (votes_of s) (vote_rows more) (rows_named old (codes "vote")) (rows_named mid (codes "vote")) (rows_named new (codes "vote"))
+    (subst (λ rows. ArePutInTurn first_texts (votes_of s) rows (rows_named mid (codes "vote"))) same own) (votes_in_turn lang key (place + 1) more mid new rest)

@@ -5,7 +5,7 @@ use Rattle.sqlite.specs.declared.types.Value.TheVariants.{Null, Int, Text as Wor
 use Rattle.sqlite.specs.Order.{Row}
 use Rattle.sqlite.specs.Effect.{Database}
 use Rattle.sqlite.specs.State.{State, HasCleanDisk}
-use Rattle.po_read.specs.Texts.{Text}
+use Rattle.po_text.specs.Texts.{Text}
 use Rattle.units.specs.Office.{Office}
 use Rattle.units.specs.Openings.{plain_entry, demo_header, demo_unit}
 use Rattle.sql_columns.specs.Written.{texts_text, header_text}
@@ -13,19 +13,19 @@ use Rattle.sql_schema.specs.Creation.{IsBlank, MakesTables}
 use Rattle.sql_schema.specs.Inside.{PutsRow, HoldsValues, Then}
 use Rattle.sql_schema.specs.Keys.{first_text, first_texts, row_number}
 use Rattle.sql_schema.specs.Rows.{text_or_null}
-use Rattle.sql_schema.specs.Schema.{team_tree, policy_tree, template_tree, language_tree, unit_tree}
 use Rattle.sql_meaning.specs.Cells.{unit_cells}
 use Rattle.sql_meaning.specs.Meaning.{meaning_in, AreNumbered}
+use Rattle.sql_schema.specs.Layouts.{rows_named}
 
 abbrev pub PutsMember : Text → ℤ → Database → Database → Type 0
-PutsMember name role = PutsRow team_tree first_text (HoldsValues (Words name ∷ Int role ∷ []))
+PutsMember name role = PutsRow (codes "team") first_text (HoldsValues (Words name ∷ Int role ∷ []))
 
 -- the first form of the tables, and a policy that allows nothing but translations
 abbrev pub closed_row : Row
 closed_row = Int (pos 1) ∷ Null ∷ Int (pos 1) ∷ Int (pos 0) ∷ Int (pos 0) ∷ Int (pos 0) ∷ Int (pos 0) ∷ Int (pos 0) ∷ Int (pos 0) ∷ []
 
 abbrev pub PutsClosedPolicy : Database → Database → Type 0
-PutsClosedPolicy = PutsRow policy_tree row_number (λ row. row ≡ closed_row)
+PutsClosedPolicy = PutsRow (codes "policy") row_number (λ row. row ≡ closed_row)
 
 abbrev pub MakesOpening : Text → Database → Database → Type 0
 MakesOpening name = Then MakesTables (Then (PutsMember name (pos 3)) PutsClosedPolicy)
@@ -39,15 +39,15 @@ abbrev pub hello_row : Row
 hello_row = Int (pos 0) ∷ Null ∷ Words (codes "Hello") ∷ text_or_null None ∷ Words (texts_text []) ∷ Words (texts_text []) ∷ Words (texts_text []) ∷ []
 
 abbrev pub PutsDemoEntry : Database → Database → Type 0
-PutsDemoEntry = PutsRow template_tree row_number (λ row. row ≡ hello_row)
+PutsDemoEntry = PutsRow (codes "template") row_number (λ row. row ≡ hello_row)
 
 abbrev pub PutsDemoLanguage : Database → Database → Type 0
 PutsDemoLanguage =
-    PutsRow language_tree first_text
+    PutsRow (codes "language") first_text
     (HoldsValues (Words (codes "de") ∷ Words (header_text (plain_entry [] demo_header)) ∷ Words (codes "nplurals=2; plural=n != 1;") ∷ []))
 
 abbrev pub PutsDemoUnit : Database → Database → Type 0
-PutsDemoUnit = PutsRow unit_tree first_texts (HoldsValues (unit_cells (codes "de") demo_unit))
+PutsDemoUnit = PutsRow (codes "unit") first_texts (HoldsValues (unit_cells (codes "de") demo_unit))
 
 abbrev pub PutsDemoMessage : Database → Database → Type 0
 PutsDemoMessage = Then PutsDemoEntry (Then PutsDemoLanguage PutsDemoUnit)
@@ -57,7 +57,7 @@ MakesDemo = Then MakesTables (Then PutsDemoTeam (Then PutsClosedPolicy PutsDemoM
 
 -- the rows are those of this office, of which nothing is recorded
 abbrev pub MeansOnly : Office → Database → Database → Type 0
-MeansOnly office old new = (meaning_in new.trees ≡ record { office = office; book = maps.empty }) × AreNumbered new.trees
+MeansOnly office old new = (meaning_in (rows_named new) ≡ record { office = office; book = maps.empty }) × AreNumbered (rows_named new)
 
 -- Between transactions a connection that isn't shut shows a database with no table, as it was committed.
 pub record HasNoTables (s : State) : Type 0 where

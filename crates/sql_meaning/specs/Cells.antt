@@ -2,7 +2,7 @@
 use Rattle.std.specs.Prelude.{ℕ, pos, [], ◌∷◌, Some}
 use Rattle.sqlite.specs.declared.types.Value.TheVariants.{Int, Text as Words}
 use Rattle.sqlite.specs.Order.{Row}
-use Rattle.po_read.specs.Texts.{Text}
+use Rattle.po_text.specs.Texts.{Text}
 use Rattle.units.specs.Units.{key_text}
 use Rattle.units.specs.declared.unit.Unit.{Unit}
 use Rattle.units.specs.declared.unit.Suggestion.{Suggestion}

@@ -3,8 +3,8 @@ use Rattle.std.specs.Prelude.{List, Bool, map, filter, fold, Option, option_map,
 use Rattle.std.specs.declared.cmp.Ordering.{Ordering}
 use Rattle.std.specs.FinMap as maps
 use Rattle.sqlite.specs.Order.{Row}
-use Rattle.po_read.specs.declared.entry.Entry.{Entry}
-use Rattle.po_read.specs.Texts.{Text, text_cmp}
+use Rattle.po_text.specs.declared.entry.Entry.{Entry}
+use Rattle.po_text.specs.Texts.{Text, text_cmp}
 use Rattle.units.specs.Project.{Project, Place, place_cmp}
 use Rattle.units.specs.Openings.{closed_policy}
 use Rattle.units.specs.declared.unit.Unit.{Unit}

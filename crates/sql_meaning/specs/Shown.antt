@@ -2,9 +2,8 @@
 use Rattle.std.specs.Prelude.{false, List, [], ◌∷◌, fold, unwrap_or}
 use Rattle.std.specs.FinMap as maps
 use Rattle.sqlite.specs.Order.{Row}
-use Rattle.sqlite.specs.Tree.{Trees}
-use Rattle.po_read.specs.declared.entry.Entry.{Entry}
-use Rattle.po_read.specs.Texts.{text_cmp}
+use Rattle.po_text.specs.declared.entry.Entry.{Entry}
+use Rattle.po_text.specs.Texts.{text_cmp}
 use Rattle.units.specs.Openings.{plain_entry}
 use Rattle.units.specs.Units.{no_previous}
 use Rattle.units.specs.declared.unit.Key.{Key}
@@ -17,6 +16,7 @@ use Rattle.sql_columns.specs.Readings.{previous_read, header_read}
 use Rattle.sql_schema.specs.Keys.{text_at}
 use Rattle.sql_meaning.specs.Values.{natural_at, text_or_null_at, texts_at, flag_at, state_at, vote_at}
 use Rattle.sql_meaning.specs.Meaning.{number_at, votes_in}
+use Rattle.sql_schema.specs.Layouts.{NamedRows}
 
 -- content, status, body
 abbrev pub shown_record : Row → Recorded
@@ -45,8 +45,8 @@ abbrev pub shown_votes : List Row → maps.FinMap text_cmp VoteValue
 shown_votes = fold (λ votes shown. maps.insert votes (text_at 0 shown) (vote_at 1 shown)) maps.empty
 
 -- number, place, suggester, forms: a suggestion, with the votes on it
-abbrev pub shown_suggestion : Trees → Row → Suggestion
-shown_suggestion trees shown = record { number = number_at 0 shown; suggester = text_at 2 shown; forms = texts_at 3 shown; votes = votes_in trees (text_at 0 shown) }
+abbrev pub shown_suggestion : NamedRows → Row → Suggestion
+shown_suggestion tables shown = record { number = number_at 0 shown; suggester = text_at 2 shown; forms = texts_at 3 shown; votes = votes_in tables (text_at 0 shown) }
 
 -- plural, extracted, refs, flags: the template's entry of a key
 abbrev pub shown_entry : Key → Row → Entry

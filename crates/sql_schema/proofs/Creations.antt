@@ -18,15 +18,16 @@ use Rattle.sqlite_rules.proofs.ListLemmas.{all_has, all_from, has_either}
 use Rattle.sql_laws.proofs.Writes.{same_ok, went_on}
 use Rattle.sql_laws.proofs.KeptCommits.{execute_keeps_commit}
 use Rattle.sql_schema.specs.Inside.{StaysInside}
-use Rattle.sql_schema.specs.Creation.{schema_of, AreEmpty, HasTables, IsBegun, CreatesInside}
+use Rattle.sql_schema.specs.Schema.{schema_with}
+use Rattle.sql_schema.specs.Creation.{AreEmpty, HasTables, IsBegun, CreatesInside}
 
 -- The text makes this table after those.
 pub record IsCreation (tables : List Table) (table : Table) (text : List ℕ) : Type 0 where
-  pub command : command_of (understood (schema_of tables) text) ≡ CreateTable
-  pub statement : statement_of text (understood (schema_of tables) text) ≡ text
-  pub plain : IsPlain (understood (schema_of tables) text)
+  pub command : command_of (understood (schema_with tables) text) ≡ CreateTable
+  pub statement : statement_of text (understood (schema_with tables) text) ≡ text
+  pub plain : IsPlain (understood (schema_with tables) text)
   pub defines : table_defined_by text ≡ Ok table
-  pub uncounted : lacks_sequence (created (schema_of tables) table) ≡ false
+  pub uncounted : lacks_sequence (created (schema_with tables) table) ≡ false
 
 -- the new table is empty, and the others keep their rows
 empty_after : (schema : Schema) (table : Table) (old new : Trees) → AreEmpty schema.tables old → KeepsRows schema.tables old new
@@ -41,22 +42,22 @@ empty_after schema table old new was kept fresh = all_from (λ t. new t.tree ≡
 module _ (tables : List Table) (table : Table) (text : List ℕ) (is : IsCreation tables table text) where
   creates : (old new : State) (count : ℕ) → HasTables tables old → Executes text [] old new (Ok count) → HasTables (tables ++ table ∷ []) new
   creates old new count has ran =
-      let w = subst (λ t. Writes old new None CreateTable t [] count) is.statement (runs_as text [] old new (schema_of tables) has.schema CreateTable is.command is.plain count ran) in
+      let w = subst (λ t. Writes old new None CreateTable t [] count) is.statement (runs_as text [] old new (schema_with tables) has.schema CreateTable is.command is.plain count ran) in
       let whole = went_on w.changed in
       let first = went_on whole.1 in
       let made = first.1 in
       let same : made.table ≡ table = same_ok (sym made.defined ∙ is.defines) in
-      let schema : first.0.schema ≡ created (schema_of tables) table = made.is ∙ ap (λ s. created s made.table) has.schema ∙ ap (created (schema_of tables)) same in
+      let schema : first.0.schema ≡ created (schema_with tables) table = made.is ∙ ap (λ s. created s made.table) has.schema ∙ ap (created (schema_with tables)) same in
       let plain : lacks_sequence first.0.schema ≡ false = ap lacks_sequence schema ∙ is.uncounted in
       let now : new.now ≡ first.0 = ap (λ (p : Tally × Database). p.1) (same_ok whole.2) ∙ same_ok (rw plain at first.2) in
-      let grown : created (schema_of tables) table ≡ schema_of (tables ++ table ∷ []) = sym (fold-append created _ tables (table ∷ [])) in
+      let grown : created (schema_with tables) table ≡ schema_with (tables ++ table ∷ []) = sym (fold-append created _ tables (table ∷ [])) in
       let kept = subst (λ s. KeepsRows s.tables old.now.trees first.0.trees) has.schema made.others in
       let fresh = subst (λ s. first.0.trees (next_tree s) ≡ []) has.schema made.empty in
-      let empty = empty_after (schema_of tables) table old.now.trees first.0.trees has.empty kept fresh in
+      let empty = empty_after (schema_with tables) table old.now.trees first.0.trees has.empty kept fresh in
       record {
         schema = ap (λ (d : Database). d.schema) now ∙ schema ∙ grown;
         sound = w.sound;
-        empty = subst (λ s. AreEmpty s.tables new.now.trees) grown (subst (λ (d : Database). AreEmpty (created (schema_of tables) table).tables d.trees) (sym now) empty);
+        empty = subst (λ s. AreEmpty s.tables new.now.trees) grown (subst (λ (d : Database). AreEmpty (created (schema_with tables) table).tables d.trees) (sym now) empty);
       }
 
   went : (old new : State) (r : Result ℕ Error) → (IsTrue old.is_open → HasTables tables old) → ExecutesInside 0 text [] old new r

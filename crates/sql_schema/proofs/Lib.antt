@@ -1,11 +1,12 @@
+pub mod Layouts
 pub mod TablesMade
 pub mod Steps
 pub mod Sequences
 pub mod Insertions
 pub mod TextKeys
 pub mod TableRows
+pub mod Parents
 pub mod RowNumbers
-pub mod UnitKeys
 pub mod Whole
 pub mod Creations
 pub mod TablesInTurn

@@ -30,20 +30,23 @@ use Rattle.sql_laws.proofs.Comparisons.{texts_compared}
 use Rattle.sql_laws.proofs.PlainQueries.{answers_permuted}
 use Rattle.sql_laws.proofs.KeptCommits.{query_unchanged, failed_query_keeps_commit, query_open}
 use Rattle.sql_laws.proofs.RemovedRows.{from_mapped, to_mapped, has_permuted}
-use Rattle.sql_schema.specs.Schema.{office_schema}
+use Rattle.sqlite.specs.Query.{Query}
+use Rattle.sqlite.specs.Table.{Table}
+use Rattle.sql_schema.specs.Layouts.{Layout, schema_of, HasLayout, placed, rows_named, IsPlaced}
+use Rattle.sql_schema.proofs.Layouts.{rows_placed, listed}
 use Rattle.sql_schema.specs.Keys.{text_at, has_text, columns}
 use Rattle.sql_schema.proofs.TextKeys.{HoldsTexts}
 use Rattle.sql_schema.specs.Inside.{AreTables, IsReady, IsSteady, StaysInside, IsRead, ShowsAll, ShowsKey}
 
 -- ---- a statement that writes nothing
 
-module _ (sql : List ℕ) (params : Row) (old new : State) (plain : IsPlain (understood office_schema sql)) {A : Type 0} (rows_of : A → List Row)
+module _ (sql : List ℕ) (params : Row) (old new : State) (plain : (layout : Layout) → IsPlain (understood (schema_of layout) sql)) {A : Type 0} (rows_of : A → List Row)
     (IsAnswer : Database → A → Type 0) (answers : (a : A) → IsReady old → Shown sql params old new (rows_of a) → IsAnswer old.now a) where
   same_ready : new.now ≡ old.now → IsReady old → IsReady new
   same_ready same ready = record {
-    schema = ap (λ (d : Database). d.schema) same ∙ ready.schema;
+    schema = subst HasLayout (sym same) ready.schema;
     sound = subst IsDatabase (sym same) ready.sound;
-    tables = subst (λ (d : Database). AreTables d.trees) (sym same) ready.tables;
+    tables = subst (λ (d : Database). AreTables (rows_named d)) (sym same) ready.tables;
   }
 
   went : (r : Result A Error) → IsTrue old.in_transaction → (IsTrue old.is_open → IsReady old) → IfOk r (λ a. Shown sql params old new (rows_of a))
@@ -53,7 +56,7 @@ module _ (sql : List ℕ) (params : Row) (old new : State) (plain : IsPlain (und
   went (Ok a) inside ready shown failed =
       let was = query_open sql params old new (rows_of a) shown in
       let it = ready was.0 in
-      let same = query_unchanged sql params old new (rows_of a) (subst (λ s. IsPlain (understood s sql)) (sym it.schema) plain) shown in (
+      let same = query_unchanged sql params old new (rows_of a) (subst (λ s. IsPlain (understood s sql)) (sym it.schema.1) (plain it.schema.0)) shown in (
         answers a it shown,
         same.0.now_is,
         same_ready same.0.now_is it,
@@ -106,11 +109,15 @@ pub shows_columns : (params : Row) (places : List ℕ) (row : Row) → shows par
 shows_columns params [] row = refl
 shows_columns params (place ∷ places) row = ap (λ (more : Row). column row place ∷ more) (shows_columns params places row)
 
+-- Under a layout the text is this query, which reads tables alone.
+pub record Asks (layout : Layout) (text : List ℕ) (query : Query) (names : List (List ℕ)) : Type 0 where
+  pub command : command_of (understood (schema_of layout) text) ≡ Select (record { lets = []; body = query }) names
+  pub own_tables : reads_listing (schema_of layout) text ≡ false
+  pub plain : IsPlain (understood (schema_of layout) text)
+
 -- the text is a query over one table, which shows these columns of the rows that pass the tests
-abbrev pub IsQuery : List ℕ → ℕ → List Term → List ℕ → List (List ℕ) → Type 0
-IsQuery text tree terms places names =
-    (command_of (understood office_schema text) ≡ Select (record { lets = []; body = plain_query tree terms (map (col 1) places) }) names)
-    × (reads_listing office_schema text ≡ false) × IsPlain (understood office_schema text)
+abbrev pub IsQuery : List ℕ → Table → List Term → List ℕ → List (List ℕ) → Type 0
+IsQuery text table terms places names = (layout : Layout) → Asks layout text (plain_query (placed layout table).tree terms (map (col 1) places)) names
 
 -- what the query answers, however it ends
 abbrev pub ReadsAll : List ℕ → Row → (Database → List Row → Type 0) → Type 1
@@ -126,23 +133,30 @@ ReadsLast text params IsAnswer = (old new : State) (rows rest : List Row) (last 
     → rows ≡ rest ++ option_to_list last → (0 < length rows → IsSome last) → IsRead {E = Error} old new (Ok last) IsAnswer
 
 -- the tests of the query come to this one
-abbrev pub AreTests : ℕ → Row → List Term → (Row → Bool) → Type 0
-AreTests tree params terms test = (db : Database) → db.schema ≡ office_schema → IsDatabase db → AreTables db.trees → (row : Row) → Has (db.trees tree) row
+abbrev pub AreTests : List ℕ → Row → List Term → (Row → Bool) → Type 0
+AreTests name params terms test = (db : Database) → HasLayout db → IsDatabase db → AreTables (rows_named db) → (row : Row) → Has (rows_named db name) row
     → passes params terms row ≡ test row
 
-module _ (text : List ℕ) (tree : ℕ) (terms : List Term) (places : List ℕ) (names : List (List ℕ)) (means : IsQuery text tree terms places names)
-    (params : Row) (test : Row → Bool) (tests : AreTests tree params terms test) where
-  shows_all : (old new : State) (rows : List Row) → IsReady old → Shown text params old new rows → ShowsAll tree test (columns places) old.now rows
-  shows_all old new rows ready h =
-      let project = map (col 1) places in
-      let read = reads_as text params old new office_schema ready.schema _ means.0 means.2 means.1 rows h in
-      let whole = answers_permuted tree terms project (overlay old.now.trees []) params rows (read.answer Null) in
-      subst (λ l. IsPermutation l rows) (ap (λ l. map (shows params project) (filter (passes params terms) l)) (own_table old.now.trees tree)
-      ∙ ap (λ (f : Row → Row). map f (filter (passes params terms) (old.now.trees tree))) (fun_ext (shows_columns params places))
-      ∙ ap (map (columns places)) (filtered_same (passes params terms) test (old.now.trees tree) (tests old.now ready.schema ready.sound ready.tables))) whole
+-- a statement that computes no tables first reads a table's own rows
+pub rows_read : (layout : Layout) (table : Table) → IsPlaced layout table → (db : Database) → db.schema ≡ schema_of layout → overlay db.trees [] (placed layout table).tree ≡ rows_named db table.name
+rows_read layout table is_placed db is = own_table db.trees (placed layout table).tree ∙ sym (rows_placed layout table is_placed db is)
 
-  pub reads_all : ReadsAll text params (ShowsAll tree test (columns places))
-  reads_all A rows_of old new r = queries_inside text params old new means.2 rows_of (λ db a. ShowsAll tree test (columns places) db (rows_of a)) (λ a ready h. shows_all old new (rows_of a) ready h) r
+module _ (text : List ℕ) (table : Table) (is_placed : (layout : Layout) → IsPlaced layout table) (terms : List Term) (places : List ℕ) (names : List (List ℕ)) (means : IsQuery text table terms places names)
+    (params : Row) (test : Row → Bool) (tests : AreTests table.name params terms test) where
+  shows_all : (old new : State) (rows : List Row) → IsReady old → Shown text params old new rows → ShowsAll table.name test (columns places) old.now rows
+  shows_all old new rows ready h =
+      let layout = ready.schema.0 in
+      let project = map (col 1) places in
+      let asks = means layout in
+      let read = reads_as text params old new (schema_of layout) ready.schema.1 _ asks.command asks.plain asks.own_tables rows h in
+      let whole = answers_permuted (placed layout table).tree terms project (overlay old.now.trees []) params rows (read.answer Null) in
+      subst (λ l. IsPermutation l rows) (ap (λ l. map (shows params project) (filter (passes params terms) l)) (rows_read layout table (is_placed layout) old.now ready.schema.1)
+      ∙ ap (λ (f : Row → Row). map f (filter (passes params terms) (rows_named old.now table.name))) (fun_ext (shows_columns params places))
+      ∙ ap (map (columns places)) (filtered_same (passes params terms) test (rows_named old.now table.name) (tests old.now ready.schema ready.sound ready.tables))) whole
+
+  pub reads_all : ReadsAll text params (ShowsAll table.name test (columns places))
+  reads_all A rows_of old new r =
+      queries_inside text params old new (λ layout. (means layout).plain) rows_of (λ db a. ShowsAll table.name test (columns places) db (rows_of a)) (λ a ready h. shows_all old new (rows_of a) ready h) r
 
 -- ---- the last row alone
 
@@ -155,19 +169,19 @@ has_end [] x = inl refl
 has_end (y ∷ xs) x = inr (has_end xs x)
 
 -- the test holds where the key is this
-module _ {K : Type 0} (tree : ℕ) (test : Row → Bool) (shown : Row → Row) (key : Row → K) (sought : K)
+module _ {K : Type 0} (name : List ℕ) (test : Row → Bool) (shown : Row → Row) (key : Row → K) (sought : K)
     (only : (row : Row) → test row ≡ true → key row ≡ sought) (all : (row : Row) → key row ≡ sought → test row ≡ true) where
-  shows_key : (db : Database) (rows rest : List Row) (last : Option Row) → ShowsAll tree test shown db rows → rows ≡ rest ++ option_to_list last
-      → (0 < length rows → IsSome last) → ShowsKey tree key shown sought db last
+  shows_key : (db : Database) (rows rest : List Row) (last : Option Row) → ShowsAll name test shown db rows → rows ≡ rest ++ option_to_list last
+      → (0 < length rows → IsSome last) → ShowsKey name key shown sought db last
   shows_key db rows rest None answer split some = λ row there keyed.
-      let listed = to_mapped shown _ row (has_kept test (db.trees tree) row there (all row keyed)) in
+      let listed = to_mapped shown _ row (has_kept test (rows_named db name) row there (all row keyed)) in
       absurd (let e = some (some_member rows (shown row) (has_permuted rows _ _ (IsPermutation-sym _ rows answer) listed)) in cc)
   shows_key db rows rest (Some v) answer split some =
       let back = from_mapped shown _ v (has_permuted _ rows v answer (subst (λ l. Has l v) (sym split) (has_end rest v))) in
-      let was = has_filtered test (db.trees tree) back.0 back.1 in
+      let was = has_filtered test (rows_named db name) back.0 back.1 in
       (back.0, was.0, only back.0 was.1, sym back.2)
 
-  pub reads_key : (text : List ℕ) (params : Row) → ReadsAll text params (ShowsAll tree test shown) → ReadsLast text params (ShowsKey tree key shown sought)
+  pub reads_key : (text : List ℕ) (params : Row) → ReadsAll text params (ShowsAll name test shown) → ReadsLast text params (ShowsKey name key shown sought)
   reads_key text params reads old new rows rest last steady shows survives split some =
       let read = reads (List Row) (λ l. l) old new (Ok rows) steady shows (λ _. tt) survives in
       record {
@@ -196,14 +210,14 @@ test_from_text : (place : ℕ) (text : List ℕ) (row : Row) → text_at place r
 test_from_text place text row e = rw e (text_ties_itself text)
 
 -- the rows whose column is a text
-module _ (text : List ℕ) (tree place : ℕ) (places : List ℕ) (names : List (List ℕ)) (means : IsQuery text tree (is_given place 0 ∷ []) places names)
-    (texts : HoldsTexts tree place) (sought : List ℕ) where
-  pub reads_with_text : ReadsAll text (Text sought ∷ []) (ShowsAll tree (has_text place sought) (columns places))
-  reads_with_text = reads_all text tree (is_given place 0 ∷ []) places names means (Text sought ∷ []) (has_text place sought)
+module _ (text : List ℕ) (table : Table) (is_placed : (layout : Layout) → IsPlaced layout table) (place : ℕ) (places : List ℕ) (names : List (List ℕ)) (means : IsQuery text table (is_given place 0 ∷ []) places names)
+    (texts : HoldsTexts table.name place) (sought : List ℕ) where
+  pub reads_with_text : ReadsAll text (Text sought ∷ []) (ShowsAll table.name (has_text place sought) (columns places))
+  reads_with_text = reads_all text table is_placed (is_given place 0 ∷ []) places names means (Text sought ∷ []) (has_text place sought)
       (λ db has sound tables row there. rw (given_is (Text sought ∷ []) row place 0 sought (texts db has sound row there) refl) (and-true _))
 
-  pub reads_by_text : ReadsLast text (Text sought ∷ []) (ShowsKey tree (text_at place) (columns places) sought)
-  reads_by_text = reads_key tree (has_text place sought) (columns places) (text_at place) sought (text_from_test place sought) (test_from_text place sought) text (Text sought ∷ []) reads_with_text
+  pub reads_by_text : ReadsLast text (Text sought ∷ []) (ShowsKey table.name (text_at place) (columns places) sought)
+  reads_by_text = reads_key table.name (has_text place sought) (columns places) (text_at place) sought (text_from_test place sought) (test_from_text place sought) text (Text sought ∷ []) reads_with_text
 
 texts_from_tests : (first second : ℕ) (a b : List ℕ) (row : Row) → (has_text first a row && has_text second b row) ≡ true → text_at first row ∷ text_at second row ∷ [] ≡ a ∷ b ∷ []
 texts_from_tests first second a b row e =
@@ -218,15 +232,15 @@ tests_from_texts first second a b row e =
     and_from _ _ (test_from_text first a row one) (test_from_text second b row two)
 
 -- the rows whose two columns are texts
-module _ (text : List ℕ) (tree first second : ℕ) (places : List ℕ) (names : List (List ℕ)) (means : IsQuery text tree (is_given first 0 ∷ is_given second 1 ∷ []) places names)
-    (firsts : HoldsTexts tree first) (seconds : HoldsTexts tree second) (a b : List ℕ) where
-  pub reads_with_texts : ReadsAll text (Text a ∷ Text b ∷ []) (ShowsAll tree (λ row. has_text first a row && has_text second b row) (columns places))
-  reads_with_texts = reads_all text tree (is_given first 0 ∷ is_given second 1 ∷ []) places names means (Text a ∷ Text b ∷ []) (λ row. has_text first a row && has_text second b row)
+module _ (text : List ℕ) (table : Table) (is_placed : (layout : Layout) → IsPlaced layout table) (first second : ℕ) (places : List ℕ) (names : List (List ℕ))
+    (means : IsQuery text table (is_given first 0 ∷ is_given second 1 ∷ []) places names) (firsts : HoldsTexts table.name first) (seconds : HoldsTexts table.name second) (a b : List ℕ) where
+  pub reads_with_texts : ReadsAll text (Text a ∷ Text b ∷ []) (ShowsAll table.name (λ row. has_text first a row && has_text second b row) (columns places))
+  reads_with_texts = reads_all text table is_placed (is_given first 0 ∷ is_given second 1 ∷ []) places names means (Text a ∷ Text b ∷ []) (λ row. has_text first a row && has_text second b row)
       (λ db has sound tables row there. rw (
         given_is (Text a ∷ Text b ∷ []) row first 0 a (firsts db has sound row there) refl,
         given_is (Text a ∷ Text b ∷ []) row second 1 b (seconds db has sound row there) refl,
       ) (ap (λ c. has_text first a row && c) (and-true _)))
 
-  pub reads_by_texts : ReadsLast text (Text a ∷ Text b ∷ []) (ShowsKey tree (λ row. text_at first row ∷ text_at second row ∷ []) (columns places) (a ∷ b ∷ []))
-  reads_by_texts = reads_key tree (λ row. has_text first a row && has_text second b row) (columns places) (λ row. text_at first row ∷ text_at second row ∷ []) (a ∷ b ∷ [])
+  pub reads_by_texts : ReadsLast text (Text a ∷ Text b ∷ []) (ShowsKey table.name (λ row. text_at first row ∷ text_at second row ∷ []) (columns places) (a ∷ b ∷ []))
+  reads_by_texts = reads_key table.name (λ row. has_text first a row && has_text second b row) (columns places) (λ row. text_at first row ∷ text_at second row ∷ []) (a ∷ b ∷ [])
       (texts_from_tests first second a b) (tests_from_texts first second a b) text (Text a ∷ Text b ∷ []) reads_with_texts

@@ -1,32 +1,12 @@
 -- A statement inside a transaction, and one statement after another.
-use Rattle.std.proofs.Common.{◌≡◌, inl, inr, ℕ, List, Result, Ok, Err, OnOk, IsTrue, sym, subst, arith}
-use Rattle.std.proofs.lemmas.Bool.Decides.{eqb_tells}
+use Rattle.std.proofs.Common.{◌≡◌, ℕ, List, Result, Ok, Err, OnOk, IsTrue, sym, subst, arith}
 use Rattle.std.specs.Result.{result_and}
 use Rattle.sqlite.specs.Order.{Row}
 use Rattle.sqlite.specs.Effect.{Database}
 use Rattle.sqlite.specs.declared.error.Error.{Error}
 use Rattle.sqlite.specs.State.{State, HasCleanDisk, Survives, Executes, ExecutesInside}
-use Rattle.sqlite.specs.Tree.{Trees}
-use Rattle.sqlite_schema.specs.declared.schema.Table.{Table}
-use Rattle.sqlite_rules.proofs.ListLemmas.{all_has, all_from, has_got}
-use Rattle.std.specs.List.{AllByRecursion}
-use Rattle.std.proofs.Common.{slice_get, Some, ◌≢◌}
-use Rattle.sql_laws.specs.ApartRows.{AreApart}
 use Rattle.sql_laws.proofs.KeptCommits.{execute_keeps_commit}
-use Rattle.sql_schema.specs.Schema.{office_schema}
-use Rattle.sql_schema.specs.Inside.{AreTables, IsReady, IsSteady, StaysInside, IsInside}
-
--- a table of the schema has its rowids apart
-pub table_apart : (trees : Trees) (at : ℕ) (table : Table) → slice_get office_schema.tables at ≡ Some table → AreTables trees → AreApart (trees table.tree)
-table_apart trees at table got tables = all_has (λ (t : Table). AreApart (trees t.tree)) office_schema.tables table tables (has_got office_schema.tables at table got)
-
--- one table changes
-pub one_changes : (old new : Trees) (tree : ℕ) → AreTables old → AreApart (new tree)
-    → AllByRecursion (λ t. t.tree ≢ tree → new t.tree ≡ old t.tree) office_schema.tables → AreTables new
-one_changes old new tree were changed others = all_from (λ t. AreApart (new t.tree)) office_schema.tables (λ t there. elim (eqb_tells t.tree tree) [
-  | inl same ↦ subst (λ k. AreApart (new k)) (sym same.1) changed
-  | inr other ↦ subst AreApart (sym (all_has (λ (t : Table). t.tree ≢ tree → new t.tree ≡ old t.tree) office_schema.tables t others there other.1)) (all_has (λ (t : Table). AreApart (old t.tree)) office_schema.tables t were there)
-])
+use Rattle.sql_schema.specs.Inside.{IsReady, IsSteady, StaysInside, IsInside}
 
 module _ (sql : List ℕ) (params : Row) (old new : State) (Makes : Database → Database → Type 0) where
   went : (r : Result ℕ Error) → (IsTrue old.is_open → IsReady old) → ExecutesInside 0 sql params old new r

@@ -1,133 +1,146 @@
--- The eight tables as they stand in the schema: what their columns of texts hold, and that rows of one key are one row.
-use Rattle.std.proofs.Common.{◌≡◌, [], ◌∷◌, codes, inl, inr, refl}
-use Rattle.sqlite.specs.Order.{Row}
-use Rattle.sqlite.specs.Effect.{Database, IsDatabase}
-use Rattle.sqlite_schema.specs.declared.schema.Table.{Table}
-use Rattle.sqlite_schema.specs.declared.schema.Index.{Index}
-use Rattle.sqlite_catalog.specs.Listing.{automatic}
+-- The tables of an office, wherever a layout has them: what their columns of texts hold, and that rows of one key are one row.
+use Rattle.std.proofs.Common.{◌≡◌, ℕ, ℤ, List, [], ◌∷◌, ◌&&◌, codes, true, refl, ◌∙◌}
+use Rattle.std.proofs.lemmas.Bool.{and_from}
+use Rattle.std.specs.Ordering.{is_eq, nat_cmp}
+use Rattle.std.specs.Cmp.{eq_by_cmp_equiv}
+use Rattle.std.specs.Cmp.Lexicographic.{slice_cmp}
+use Rattle.sqlite.specs.declared.types.Value.TheVariants.{Int, Text}
+use Rattle.sqlite.specs.Order.{Row, column, value_cmp}
+use Rattle.sqlite_value.specs.Keys.{plain, first_key}
+use Rattle.sqlite_value.proofs.OrderLemmas.{value_cmp_total}
+use Rattle.sqlite_schema.specs.Rules.{agree}
+use Rattle.sqlite_rules.specs.Edit.{id_in}
 use Rattle.sqlite_rules.specs.Lists.{Has}
+use Rattle.sqlite.specs.Effect.{Database, IsDatabase}
 use Rattle.sql_laws.specs.RowMaps.{OneEach}
 use Rattle.sql_laws.specs.ApartRows.{AreApart}
-use Rattle.sql_schema.specs.Schema.{office_schema, record_table, record_tree, team_table, team_tree, policy_table, policy_tree, template_table, template_tree, language_table, language_tree, unit_table, unit_tree, suggestion_table, suggestion_tree, vote_table, vote_tree}
-use Rattle.sql_schema.specs.Keys.{first_text, first_texts}
-use Rattle.sql_schema.proofs.TextKeys.{HoldsTexts, holds_text, one_first_text, one_first_texts}
+use Rattle.sql_laws.proofs.Comparisons.{texts_compared, ints_compared, agree-texts}
+use Rattle.sql_laws.proofs.RowMaps.{text_ties_itself}
+use Rattle.sql_schema.specs.Schema.{record_table, team_table, template_table, language_table, unit_table, suggestion_table, vote_table}
+use Rattle.sql_schema.specs.Layouts.{Layout, made_new, HasLayout, rows_named}
+use Rattle.sql_schema.specs.Keys.{text_at, first_text, first_texts, second_text}
+use Rattle.sql_schema.proofs.Layouts.{record_placed, team_placed, template_placed, language_placed, unit_placed, suggestion_placed, vote_placed}
+use Rattle.sql_schema.proofs.TextKeys.{HoldsTexts, IsKeyed, holds_text, holds_int, one_of_key, one_first_text, one_first_texts}
 
 -- rows of one key are one row, in a database of the office
-abbrev OneEachIn : {K : Type 0} → Table → (Row → K) → Type 0
-OneEachIn table key = (db : Database) → db.schema ≡ office_schema → IsDatabase db → AreApart (db.trees table.tree) → OneEach key (db.trees table.tree)
+abbrev pub OneEachIn : {K : Type 0} → List ℕ → (Row → K) → Type 0
+OneEachIn name key = (db : Database) → HasLayout db → IsDatabase db → AreApart (rows_named db name) → OneEach key (rows_named db name)
 
 -- ---- record
 
-abbrev pub records : Table
-records = record record_table { tree = record_tree }
+pub record_numbers : HoldsTexts (codes "record") 1
+record_numbers db has sound row there = holds_text record_table record_placed 0 (codes "number") refl db has sound row there refl
 
-pub records_listed : Has office_schema.tables records
-records_listed = inl refl
+pub record_keyed : (layout : Layout) → IsKeyed layout record_table (1 ∷ [])
+record_keyed made_new = record { index = _; found = refl; order = refl }
 
-pub record_numbers : HoldsTexts record_tree 1
-record_numbers db has sound row there = holds_text records records_listed 0 (codes "number") refl db has sound row there refl
-
-pub one_record : OneEachIn records first_text
-one_record db has sound apart = one_first_text records records_listed (automatic records 0 (1 ∷ []) 1) (inl refl) refl refl db has sound apart refl (record_numbers db has sound)
+pub one_record : OneEachIn (codes "record") first_text
+one_record db has sound apart = one_first_text record_table record_placed record_keyed db has sound apart (record_numbers db has sound)
 
 -- ---- team
 
-abbrev pub members : Table
-members = record team_table { tree = team_tree }
+pub member_names : HoldsTexts (codes "team") 1
+member_names db has sound row there = holds_text team_table team_placed 0 (codes "name") refl db has sound row there refl
 
-pub members_listed : Has office_schema.tables members
-members_listed = inr (inl refl)
+pub team_keyed : (layout : Layout) → IsKeyed layout team_table (1 ∷ [])
+team_keyed made_new = record { index = _; found = refl; order = refl }
 
-pub member_names : HoldsTexts team_tree 1
-member_names db has sound row there = holds_text members members_listed 0 (codes "name") refl db has sound row there refl
-
-pub one_member : OneEachIn members first_text
-one_member db has sound apart = one_first_text members members_listed (automatic members 0 (1 ∷ []) 3) (inr (inl refl)) refl refl db has sound apart refl (member_names db has sound)
-
--- ---- policy
-
-abbrev pub policies : Table
-policies = record policy_table { tree = policy_tree }
+pub one_member : OneEachIn (codes "team") first_text
+one_member db has sound apart = one_first_text team_table team_placed team_keyed db has sound apart (member_names db has sound)
 
 -- ---- template
 
-abbrev pub entries : Table
-entries = record template_table { tree = template_tree }
+pub entry_keys : HoldsTexts (codes "template") 2
+entry_keys db has sound row there = holds_text template_table template_placed 1 (codes "key") refl db has sound row there refl
 
-pub entry_keys : HoldsTexts template_tree 2
-entry_keys db has sound row there = holds_text entries (inr (inr (inr (inl refl)))) 1 (codes "key") refl db has sound row there refl
+pub entry_keyed : (layout : Layout) → IsKeyed layout template_table (2 ∷ [])
+entry_keyed made_new = record { index = _; found = refl; order = refl }
+
+-- a place is a row's number, and a key is one entry's too
+pub one_entry : OneEachIn (codes "template") second_text
+one_entry db has sound apart r s in_r in_s e =
+    one_of_key template_table template_placed (2 ∷ []) entry_keyed db has sound apart r s in_r in_s
+    (agree-texts r s 2 2 (second_text r) (second_text s) (entry_keys db has sound r in_r) (entry_keys db has sound s in_s) ∙ and_from _ _ (rw e (text_ties_itself (second_text s))) refl)
 
 -- ---- language
 
-abbrev pub languages : Table
-languages = record language_table { tree = language_tree }
+pub language_codes : HoldsTexts (codes "language") 1
+language_codes db has sound row there = holds_text language_table language_placed 0 (codes "lang") refl db has sound row there refl
 
-pub languages_listed : Has office_schema.tables languages
-languages_listed = inr (inr (inr (inr (inl refl))))
+pub language_keyed : (layout : Layout) → IsKeyed layout language_table (1 ∷ [])
+language_keyed made_new = record { index = _; found = refl; order = refl }
 
-pub language_codes : HoldsTexts language_tree 1
-language_codes db has sound row there = holds_text languages languages_listed 0 (codes "lang") refl db has sound row there refl
-
-pub one_language : OneEachIn languages first_text
-one_language db has sound apart =
-    one_first_text languages languages_listed (automatic languages 0 (1 ∷ []) 8) (inr (inr (inr (inl refl)))) refl refl db has sound apart refl (language_codes db has sound)
+pub one_language : OneEachIn (codes "language") first_text
+one_language db has sound apart = one_first_text language_table language_placed language_keyed db has sound apart (language_codes db has sound)
 
 -- ---- unit
 
-abbrev pub units : Table
-units = record unit_table { tree = unit_tree }
+pub unit_langs : HoldsTexts (codes "unit") 1
+unit_langs db has sound row there = holds_text unit_table unit_placed 0 (codes "lang") refl db has sound row there refl
 
-abbrev pub unit_index : Index
-unit_index = automatic units 0 (1 ∷ 2 ∷ []) 10
+pub unit_keys : HoldsTexts (codes "unit") 2
+unit_keys db has sound row there = holds_text unit_table unit_placed 1 (codes "key") refl db has sound row there refl
 
-pub units_listed : Has office_schema.tables units
-units_listed = inr (inr (inr (inr (inr (inl refl)))))
+pub unit_keyed : (layout : Layout) → IsKeyed layout unit_table (1 ∷ 2 ∷ [])
+unit_keyed made_new = record { index = _; found = refl; order = refl }
 
-pub unit_langs : HoldsTexts unit_tree 1
-unit_langs db has sound row there = holds_text units units_listed 0 (codes "lang") refl db has sound row there refl
-
-pub unit_keys : HoldsTexts unit_tree 2
-unit_keys db has sound row there = holds_text units units_listed 1 (codes "key") refl db has sound row there refl
-
-pub one_unit : OneEachIn units first_texts
-one_unit db has sound apart =
-    one_first_texts units units_listed unit_index (inr (inr (inr (inr (inl refl))))) refl refl db has sound apart refl (unit_langs db has sound) (unit_keys db has sound)
+pub one_unit : OneEachIn (codes "unit") first_texts
+one_unit db has sound apart = one_first_texts unit_table unit_placed unit_keyed db has sound apart (unit_langs db has sound) (unit_keys db has sound)
 
 -- ---- suggestion
 
-abbrev pub suggestions : Table
-suggestions = record suggestion_table { tree = suggestion_tree }
+pub suggestion_numbers : HoldsTexts (codes "suggestion") 1
+suggestion_numbers db has sound row there = holds_text suggestion_table suggestion_placed 0 (codes "number") refl db has sound row there refl
 
-pub suggestions_listed : Has office_schema.tables suggestions
-suggestions_listed = inr (inr (inr (inr (inr (inr (inl refl))))))
+pub suggestion_langs : HoldsTexts (codes "suggestion") 2
+suggestion_langs db has sound row there = holds_text suggestion_table suggestion_placed 1 (codes "lang") refl db has sound row there refl
 
-pub suggestion_numbers : HoldsTexts suggestion_tree 1
-suggestion_numbers db has sound row there = holds_text suggestions suggestions_listed 0 (codes "number") refl db has sound row there refl
+pub suggestion_keys : HoldsTexts (codes "suggestion") 3
+suggestion_keys db has sound row there = holds_text suggestion_table suggestion_placed 2 (codes "key") refl db has sound row there refl
 
-pub suggestion_langs : HoldsTexts suggestion_tree 2
-suggestion_langs db has sound row there = holds_text suggestions suggestions_listed 1 (codes "lang") refl db has sound row there refl
+pub suggestion_keyed : (layout : Layout) → IsKeyed layout suggestion_table (1 ∷ [])
+suggestion_keyed made_new = record { index = _; found = refl; order = refl }
 
-pub suggestion_keys : HoldsTexts suggestion_tree 3
-suggestion_keys db has sound row there = holds_text suggestions suggestions_listed 2 (codes "key") refl db has sound row there refl
+pub one_suggestion : OneEachIn (codes "suggestion") first_text
+one_suggestion db has sound apart = one_first_text suggestion_table suggestion_placed suggestion_keyed db has sound apart (suggestion_numbers db has sound)
 
-pub one_suggestion : OneEachIn suggestions first_text
-one_suggestion db has sound apart =
-    one_first_text suggestions suggestions_listed (automatic suggestions 0 (1 ∷ []) 12) (inr (inr (inr (inr (inr (inl refl)))))) refl refl db has sound apart refl (suggestion_numbers db has sound)
+pub suggestion_places : (db : Database) → HasLayout db → IsDatabase db → (row : Row) → Has (rows_named db (codes "suggestion")) row → column row 4 ≡ Int (id_in (column row 4))
+suggestion_places db has sound row there = holds_int suggestion_table suggestion_placed 3 (codes "place") refl db has sound row there refl
+
+pub suggestion_place_keyed : (layout : Layout) → IsKeyed layout suggestion_table (2 ∷ 3 ∷ 4 ∷ [])
+suggestion_place_keyed made_new = record { index = _; found = refl; order = refl }
+
+-- two texts and an integer agree where they are equal
+agree_three : (r s : Row) (a b p q : List ℕ) (m n : ℤ) → column r 2 ≡ Text a → column s 2 ≡ Text b → column r 3 ≡ Text p → column s 3 ≡ Text q
+    → column r 4 ≡ Int m → column s 4 ≡ Int n
+    → agree plain (2 ∷ 3 ∷ 4 ∷ []) r (2 ∷ 3 ∷ 4 ∷ []) s
+    ≡ (is_eq (slice_cmp nat_cmp a b) && (is_eq (slice_cmp nat_cmp p q) && (is_eq (value_cmp (Int m) (Int n)) && true)))
+unfolding first_key
+agree_three r s a b p q m n r2 s2 r3 s3 r4 s4 = rw (r2, s2, r3, s3, r4, s4, texts_compared a b, texts_compared p q, ints_compared (Int m) (Int n) refl refl) refl
+
+-- suggestions at one place of one unit are one
+pub one_place : (db : Database) → HasLayout db → IsDatabase db → AreApart (rows_named db (codes "suggestion"))
+    → (r s : Row) → Has (rows_named db (codes "suggestion")) r → Has (rows_named db (codes "suggestion")) s → text_at 2 r ≡ text_at 2 s → text_at 3 r ≡ text_at 3 s
+    → id_in (column r 4) ≡ id_in (column s 4) → r ≡ s
+one_place db has sound apart r s in_r in_s lang key place =
+    let same_lang : is_eq (slice_cmp nat_cmp (text_at 2 r) (text_at 2 s)) ≡ true = rw lang (text_ties_itself (text_at 2 s)) in
+    let same_key : is_eq (slice_cmp nat_cmp (text_at 3 r) (text_at 3 s)) ≡ true = rw key (text_ties_itself (text_at 3 s)) in
+    let same_place : is_eq (value_cmp (Int (id_in (column r 4))) (Int (id_in (column s 4)))) ≡ true = rw place ((eq_by_cmp_equiv value_cmp_total).refl (Int (id_in (column s 4)))) in
+    one_of_key suggestion_table suggestion_placed (2 ∷ 3 ∷ 4 ∷ []) suggestion_place_keyed db has sound apart r s in_r in_s
+    (agree_three r s (text_at 2 r) (text_at 2 s) (text_at 3 r) (text_at 3 s) _ _ (suggestion_langs db has sound r in_r) (suggestion_langs db has sound s in_s)
+    (suggestion_keys db has sound r in_r) (suggestion_keys db has sound s in_s) (suggestion_places db has sound r in_r) (suggestion_places db has sound s in_s)
+    ∙ and_from _ _ same_lang (and_from _ _ same_key (and_from _ _ same_place refl)))
 
 -- ---- vote
 
-abbrev pub votes : Table
-votes = record vote_table { tree = vote_tree }
+pub vote_numbers : HoldsTexts (codes "vote") 1
+vote_numbers db has sound row there = holds_text vote_table vote_placed 0 (codes "number") refl db has sound row there refl
 
-pub votes_listed : Has office_schema.tables votes
-votes_listed = inr (inr (inr (inr (inr (inr (inr (inl refl)))))))
+pub vote_voters : HoldsTexts (codes "vote") 2
+vote_voters db has sound row there = holds_text vote_table vote_placed 1 (codes "voter") refl db has sound row there refl
 
-pub vote_numbers : HoldsTexts vote_tree 1
-vote_numbers db has sound row there = holds_text votes votes_listed 0 (codes "number") refl db has sound row there refl
+pub vote_keyed : (layout : Layout) → IsKeyed layout vote_table (1 ∷ 2 ∷ [])
+vote_keyed made_new = record { index = _; found = refl; order = refl }
 
-pub vote_voters : HoldsTexts vote_tree 2
-vote_voters db has sound row there = holds_text votes votes_listed 1 (codes "voter") refl db has sound row there refl
-
-pub one_vote : OneEachIn votes first_texts
-one_vote db has sound apart =
-    one_first_texts votes votes_listed (automatic votes 0 (1 ∷ 2 ∷ []) 15) (inr (inr (inr (inr (inr (inr (inr (inl refl)))))))) refl refl db has sound apart refl (vote_numbers db has sound) (vote_voters db has sound)
+pub one_vote : OneEachIn (codes "vote") first_texts
+one_vote db has sound apart = one_first_texts vote_table vote_placed vote_keyed db has sound apart (vote_numbers db has sound) (vote_voters db has sound)

@@ -5,12 +5,14 @@ use Rattle.std.specs.Result.{IsErr}
 use Rattle.sqlite.specs.declared.error.Error.{Error}
 use Rattle.sqlite.specs.Held.{Held, state}
 use Rattle.sqlite.specs.State.{HasCleanDisk, Survives, ExecutesInside}
-use Rattle.sqlite_rules.proofs.ListLemmas.{all_has, all_from}
+use Rattle.sqlite.specs.Schema.{Schema}
 use Rattle.sqlite_trees.specs.declared.store.Store as store
 use Rattle.sql_laws.specs.ApartRows.{AreApart}
-use Rattle.sql_schema.specs.Schema.{office_schema, office_tables}
-use Rattle.sql_schema.specs.Creation.{IsFresh, IsBegun, CreatesInside, MakesTables}
+use Rattle.sql_schema.specs.Schema.{office_tables}
+use Rattle.sql_schema.specs.Layouts.{made_new, rows_named}
+use Rattle.sql_schema.specs.Creation.{AreEmpty, HasTables, IsFresh, IsBegun, CreatesInside, HaveNoRows, MakesTables}
 use Rattle.sql_schema.specs.Inside.{IsInside}
+use Rattle.sql_schema.proofs.Layouts.{of_names}
 use Rattle.sql_schema.proofs.Creations.{creates_inside}
 use Rattle.sql_schema.proofs.Sequences.{creates_both, creates_fails, begun_next}
 use Rattle.sql_schema.proofs.TablesInTurn.{table_texts, text_makes}
@@ -58,18 +60,21 @@ module _ {S : Type 0} (g : store.Ghosts S) (old new : Held S) where
   pub counted : (count k : ℕ) → CreatesInside {A = ℕ} {E = Error} (state g old) (state g new) (Ok count) (take k office_tables) → MadeSoFar g old new k
   counted count k it = inr (record { made = it.made; stays = it.stays; kept = it.kept; survives = it.survives })
 
-  -- after the last there are all eight
+  none_has_rows : HasTables office_tables (state g new) → HaveNoRows (rows_named (state g new).now)
+  none_has_rows has = of_names (λ rows. rows ≡ []) (state g new).now.schema (state g new).now.trees refl
+      (subst (λ (s : Schema). AreEmpty s.tables (state g new).now.trees) (sym has.schema) has.empty)
+
+  -- after the last there are all of them
   pub all_made : {U : Type 0} (u : U) (k : ℕ) → 8 ≤ k → MadeSoFar g old new k → IsInside {A = U} {E = Error} (state g old) (state g new) (Ok u) MakesTables
   all_made u k past (inl none) = absurd (omega (arith, past, none.0))
   all_made u k past (inr made) =
       let it = subst (CreatesInside {A = ℕ} {E = Error} (state g old) (state g new) (Ok 0)) (take_all k office_tables past) made in
-      let trees = (state g new).now.trees in
       record {
-        made = λ clean. (it.made clean).empty;
+        made = λ clean. none_has_rows (it.made clean);
         ready = λ clean. let has = it.made clean in record {
-          schema = has.schema;
+          schema = (made_new, has.schema);
           sound = has.sound;
-          tables = all_from (λ t. AreApart (trees t.tree)) office_schema.tables (λ t there. subst AreApart (sym (all_has (λ t. trees t.tree ≡ []) office_schema.tables t has.empty there)) none_apart);
+          tables = λ name own. subst AreApart (sym (none_has_rows has name)) none_apart;
         };
         stays = it.stays;
         kept = it.kept;

@@ -1,18 +1,13 @@
 -- What the tables are made from, and what there is after each of them.
-use Rattle.std.specs.Prelude.{◌≡◌, List, [], fold, Result, OnOk, IsTrue}
+use Rattle.std.specs.Prelude.{◌≡◌, ℕ, List, [], Result, OnOk, IsTrue}
 use Rattle.std.specs.List.{AllByRecursion}
 use Rattle.sqlite.specs.Effect.{Database, IsDatabase}
 use Rattle.sqlite.specs.State.{State, HasCleanDisk, KeepsCommit, Survives}
 use Rattle.sqlite.specs.Table.{Table}
-use Rattle.sqlite.specs.Schema.{Schema}
-use Rattle.sqlite.specs.Change.{created}
 use Rattle.sqlite.specs.Tree.{Trees}
-use Rattle.sql_schema.specs.Schema.{no_schema, office_schema}
+use Rattle.sql_schema.specs.Schema.{no_schema, schema_with}
+use Rattle.sql_schema.specs.Layouts.{NamedRows, rows_named}
 use Rattle.sql_schema.specs.Inside.{StaysInside}
-
--- the schema of these tables, made in this order where there was none
-abbrev pub schema_of : List Table → Schema
-schema_of tables = fold created no_schema tables
 
 -- none of the tables has a row
 abbrev pub AreEmpty : List Table → Trees → Type 0
@@ -20,9 +15,9 @@ AreEmpty tables trees = AllByRecursion (λ t. trees t.tree ≡ []) tables
 
 -- The connection shows these tables and no others, and none has a row.
 pub record HasTables (tables : List Table) (s : State) : Type 0 where
-  pub schema : s.now.schema ≡ schema_of tables
+  pub schema : s.now.schema ≡ schema_with tables
   pub sound : IsDatabase s.now
-  pub empty : AreEmpty (schema_of tables).tables s.now.trees
+  pub empty : AreEmpty (schema_with tables).tables s.now.trees
 
 -- A transaction is open, over these tables unless the connection is shut.
 pub record IsBegun (tables : List Table) (s : State) : Type 0 where
@@ -46,6 +41,10 @@ pub record IsFresh (s : State) : Type 0 where
   pub inside : HasCleanDisk s → IsTrue s.in_transaction
   pub blank : HasCleanDisk s → IsTrue s.is_open → IsBlank s
 
--- afterwards none of the eight tables has a row
+-- no table has a row
+abbrev pub HaveNoRows : NamedRows → Type 0
+HaveNoRows rows = (name : List ℕ) → rows name ≡ []
+
+-- afterwards no table has a row
 abbrev pub MakesTables : Database → Database → Type 0
-MakesTables old new = AreEmpty office_schema.tables new.trees
+MakesTables old new = HaveNoRows (rows_named new)

@@ -1,32 +1,30 @@
 -- What a statement inside a transaction needs, does and keeps. This project's own words; what a connection shows is that of the kit's
 -- `sqlite`.
-use Rattle.std.specs.Prelude.{◌≡◌, ◌≢◌, ℕ, ℤ, Bool, List, ◌∷◌, map, filter, Option, Result, OnOk, IfOk, IsTrue}
+use Rattle.std.specs.Prelude.{true, ◌≡◌, ℕ, ℤ, Bool, List, ◌∷◌, map, filter, Option, Result, OnOk, IfOk, IsTrue}
 use Rattle.std.specs.List.Sorted.{IsPermutation, IsSortedByKey}
-use Rattle.std.specs.List.{AllByRecursion}
 use Rattle.sqlite.specs.declared.types.Value.TheVariants.{Int}
 use Rattle.sqlite.specs.Order.{Row, column, value_cmp}
 use Rattle.sqlite.specs.Effect.{Database, IsDatabase}
 use Rattle.sqlite.specs.State.{State, HasCleanDisk, KeepsCommit, Survives}
-use Rattle.sqlite.specs.Tree.{Trees}
 use Rattle.sql_laws.specs.ApartRows.{AreApart}
 use Rattle.sql_laws.specs.RowMaps.{IsPut, IsFound}
-use Rattle.sql_schema.specs.Schema.{office_schema}
+use Rattle.sql_schema.specs.Layouts.{NamedRows, HasLayout, rows_named, SparesOthers, is_office_table}
 
--- the eight tables, each with its rowids apart
-abbrev pub AreTables : Trees → Type 0
-AreTables trees = AllByRecursion (λ t. AreApart (trees t.tree)) office_schema.tables
+-- each table of an office has its rowids apart
+abbrev pub AreTables : NamedRows → Type 0
+AreTables rows = (name : List ℕ) → is_office_table name ≡ true → AreApart (rows name)
 
--- The eight tables, which obey their schema.
+-- The tables of an office in some layout, which obey their schema.
 pub record AreOfficeTables (db : Database) : Type 0 where
-  pub schema : db.schema ≡ office_schema
+  pub schema : HasLayout db
   pub sound : IsDatabase db
-  pub tables : AreTables db.trees
+  pub tables : AreTables (rows_named db)
 
 -- the connection shows them
 abbrev pub IsReady : State → Type 0
 IsReady s = AreOfficeTables s.now
 
--- A transaction is open, over the eight tables unless the connection is shut.
+-- A transaction is open, over an office's tables unless the connection is shut.
 pub record IsSteady (s : State) : Type 0 where
   pub inside : HasCleanDisk s → IsTrue s.in_transaction
   pub ready : HasCleanDisk s → IsTrue s.is_open → IsReady s
@@ -53,12 +51,13 @@ Then First Second old new = (mid : Database) × First old mid × Second mid new
 abbrev pub HoldsValues : Row → Row → Type 0
 HoldsValues values row = (id : ℤ) × (row ≡ Int id ∷ values)
 
--- One row is put into a table, in the place of the row with its key if there is one, and the other tables are as they were.
-pub record PutsRow {K : Type 0} (tree : ℕ) (key : Row → K) (IsRow : Row → Type 0) (old new : Database) : Type 0 where
+-- One row is put into the table of this name, in the place of the row with its key if there is one, and the other tables are as they were.
+pub record PutsRow {K : Type 0} (name : List ℕ) (key : Row → K) (IsRow : Row → Type 0) (old new : Database) : Type 0 where
   pub row : Row
   pub is_row : IsRow row
-  pub put : IsPut key (old.trees tree) (new.trees tree) row
-  pub others : AllByRecursion (λ t. t.tree ≢ tree → new.trees t.tree ≡ old.trees t.tree) office_schema.tables
+  pub put : IsPut key (rows_named old name) (rows_named new name) row
+  pub others : SparesOthers name (rows_named old) (rows_named new)
+  pub schema : new.schema ≡ old.schema
 
 -- A query answers by what the connection shows, and changes nothing; however it ends, nothing is committed.
 pub record IsRead {A E : Type 0} (old new : State) (result : Result A E) (IsAnswer : Database → A → Type 0) : Type 0 where
@@ -69,13 +68,13 @@ pub record IsRead {A E : Type 0} (old new : State) (result : Result A E) (IsAnsw
   pub kept : HasCleanDisk new → KeepsCommit old new
   pub survives : Survives old new (λ _. ⊥)
 
--- the row with a key as a query shows it, or none where no row has the key
-abbrev pub ShowsKey : {K : Type 0} → ℕ → (Row → K) → (Row → Row) → K → Database → Option Row → Type 0
-ShowsKey tree key shown q db found = IsFound key shown (db.trees tree) q found
+-- the row with a key as a query shows it, or none where no row of the table has the key
+abbrev pub ShowsKey : {K : Type 0} → List ℕ → (Row → K) → (Row → Row) → K → Database → Option Row → Type 0
+ShowsKey name key shown q db found = IsFound key shown (rows_named db name) q found
 
--- the rows that pass a test as a query shows them, each once, in any order
-abbrev pub ShowsAll : ℕ → (Row → Bool) → (Row → Row) → Database → List Row → Type 0
-ShowsAll tree test shown db rows = IsPermutation (map shown (filter test (db.trees tree))) rows
+-- the rows of a table that pass a test as a query shows them, each once, in any order
+abbrev pub ShowsAll : List ℕ → (Row → Bool) → (Row → Row) → Database → List Row → Type 0
+ShowsAll name test shown db rows = IsPermutation (map shown (filter test (rows_named db name))) rows
 
 -- no row has less in this column than the row before it
 abbrev pub IsInOrder : ℕ → List Row → Type 0

@@ -1,4 +1,5 @@
 pub mod Schema
+pub mod Layouts
 pub mod Keys
 pub mod Rows
 pub mod Inside

@@ -66,33 +66,21 @@ made name columns key primary uniques checks references = record {
 -- ---- the tables
 
 -- each request that was decided: its number, its content's canonical text, and its reply's status and body
-abbrev pub record_text : List ℕ
-record_text = codes "CREATE TABLE record (number TEXT NOT NULL PRIMARY KEY, content TEXT NOT NULL, status INTEGER NOT NULL, body TEXT NOT NULL) STRICT"
-
 abbrev pub record_table : Table
 record_table = made (codes "record")
     (text_column (codes "number") ∷ text_column (codes "content") ∷ int_column (codes "status") ∷ text_column (codes "body") ∷ [])
     None (1 ∷ []) ((1 ∷ []) ∷ []) [] []
-
-abbrev pub team_text : List ℕ
-team_text = codes "CREATE TABLE team (name TEXT NOT NULL PRIMARY KEY, role INTEGER NOT NULL CHECK (role BETWEEN 1 AND 3)) STRICT"
 
 abbrev pub team_table : Table
 team_table = made (codes "team") (text_column (codes "name") ∷ int_column (codes "role") ∷ [])
     None (1 ∷ []) ((1 ∷ []) ∷ []) (is_between 2 (pos 1) (pos 3) ∷ []) []
 
 -- one row
-abbrev pub policy_text : List ℕ
-policy_text = codes "CREATE TABLE policy (one INTEGER PRIMARY KEY CHECK (one BETWEEN 1 AND 1), schema INTEGER NOT NULL, reviews INTEGER NOT NULL, guests_suggest INTEGER NOT NULL, voting INTEGER NOT NULL, accept_at INTEGER NOT NULL, placeholders INTEGER NOT NULL, line_ends INTEGER NOT NULL) STRICT"
-
 abbrev pub policy_table : Table
 policy_table = made (codes "policy")
     (rowid_column (codes "one") ∷ int_column (codes "schema") ∷ int_column (codes "reviews") ∷ int_column (codes "guests_suggest")
     ∷ int_column (codes "voting") ∷ int_column (codes "accept_at") ∷ int_column (codes "placeholders") ∷ int_column (codes "line_ends") ∷ [])
     (Some 0) (0 ∷ []) [] (is_between 0 (pos 1) (pos 1) ∷ []) []
-
-abbrev pub template_text : List ℕ
-template_text = codes "CREATE TABLE template (place INTEGER PRIMARY KEY, key TEXT NOT NULL UNIQUE, plural TEXT, extracted TEXT NOT NULL, refs TEXT NOT NULL, flags TEXT NOT NULL) STRICT"
 
 abbrev pub template_table : Table
 template_table = made (codes "template")
@@ -100,15 +88,9 @@ template_table = made (codes "template")
     ∷ text_column (codes "refs") ∷ text_column (codes "flags") ∷ [])
     (Some 0) (0 ∷ []) ((2 ∷ []) ∷ []) [] []
 
-abbrev pub language_text : List ℕ
-language_text = codes "CREATE TABLE language (lang TEXT NOT NULL PRIMARY KEY, header TEXT NOT NULL, plural TEXT NOT NULL) STRICT"
-
 abbrev pub language_table : Table
 language_table = made (codes "language") (text_column (codes "lang") ∷ text_column (codes "header") ∷ text_column (codes "plural") ∷ [])
     None (1 ∷ []) ((1 ∷ []) ∷ []) [] []
-
-abbrev pub unit_text : List ℕ
-unit_text = codes "CREATE TABLE unit (lang TEXT NOT NULL, key TEXT NOT NULL, plural TEXT, forms TEXT NOT NULL, state INTEGER NOT NULL CHECK (state BETWEEN 0 AND 3), obsolete INTEGER NOT NULL CHECK (obsolete BETWEEN 0 AND 1), revision INTEGER NOT NULL, comment TEXT NOT NULL, previous TEXT NOT NULL, PRIMARY KEY (lang, key)) STRICT"
 
 abbrev pub unit_table : Table
 unit_table = made (codes "unit")
@@ -118,9 +100,6 @@ unit_table = made (codes "unit")
     None (1 ∷ 2 ∷ []) ((1 ∷ 2 ∷ []) ∷ []) (is_between 5 (pos 0) (pos 3) ∷ is_between 6 (pos 0) (pos 1) ∷ []) []
 
 -- a suggestion's number is that of the request that made it
-abbrev pub suggestion_text : List ℕ
-suggestion_text = codes "CREATE TABLE suggestion (number TEXT NOT NULL PRIMARY KEY REFERENCES record (number), lang TEXT NOT NULL, key TEXT NOT NULL, place INTEGER NOT NULL, suggester TEXT NOT NULL, forms TEXT NOT NULL, UNIQUE (lang, key, place), FOREIGN KEY (lang, key) REFERENCES unit (lang, key) ON DELETE CASCADE) STRICT"
-
 abbrev pub suggestion_table : Table
 suggestion_table = made (codes "suggestion")
     (text_column (codes "number") ∷ text_column (codes "lang") ∷ text_column (codes "key") ∷ int_column (codes "place")
@@ -129,9 +108,6 @@ suggestion_table = made (codes "suggestion")
     (refers (1 ∷ []) (codes "record") (codes "number" ∷ []) NoAction ∷ refers (2 ∷ 3 ∷ []) (codes "unit") (codes "lang" ∷ codes "key" ∷ []) Cascade ∷ [])
 
 -- 1 for, -1 against
-abbrev pub vote_text : List ℕ
-vote_text = codes "CREATE TABLE vote (number TEXT NOT NULL REFERENCES suggestion (number) ON DELETE CASCADE, voter TEXT NOT NULL, value INTEGER NOT NULL CHECK (value BETWEEN -1 AND 1) CHECK (value <> 0), PRIMARY KEY (number, voter)) STRICT"
-
 abbrev pub vote_table : Table
 vote_table = made (codes "vote") (text_column (codes "number") ∷ text_column (codes "voter") ∷ int_column (codes "value") ∷ [])
     None (1 ∷ 2 ∷ []) ((1 ∷ 2 ∷ []) ∷ []) (is_between 3 (negsuc 0) (pos 1) ∷ is_not 3 (pos 0) ∷ [])
@@ -147,29 +123,6 @@ no_schema = record { tables = []; indexes = []; views = [] }
 abbrev pub office_tables : List Table
 office_tables = record_table ∷ team_table ∷ policy_table ∷ template_table ∷ language_table ∷ unit_table ∷ suggestion_table ∷ vote_table ∷ []
 
-abbrev pub office_schema : Schema
-office_schema = fold created no_schema office_tables
-
-abbrev pub record_tree : ℕ
-record_tree = 0
-
-abbrev pub team_tree : ℕ
-team_tree = 2
-
-abbrev pub policy_tree : ℕ
-policy_tree = 4
-
-abbrev pub template_tree : ℕ
-template_tree = 5
-
-abbrev pub language_tree : ℕ
-language_tree = 7
-
-abbrev pub unit_tree : ℕ
-unit_tree = 9
-
-abbrev pub suggestion_tree : ℕ
-suggestion_tree = 11
-
-abbrev pub vote_tree : ℕ
-vote_tree = 14
+-- the schema of these tables, made in this order where there was none
+abbrev pub schema_with : List Table → Schema
+schema_with tables = fold created no_schema tables

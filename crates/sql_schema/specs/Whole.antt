@@ -4,7 +4,7 @@ use Rattle.sqlite.specs.Effect.{Database}
 use Rattle.sqlite.specs.State.{State, HasCleanDisk, Survives}
 use Rattle.sql_schema.specs.Inside.{IsReady, AreOfficeTables}
 
--- Between transactions a connection that isn't shut shows the eight tables as they were committed.
+-- Between transactions a connection that isn't shut shows an office's tables as they were committed.
 pub record IsIdle (s : State) : Type 0 where
   pub ready : HasCleanDisk s → IsTrue s.is_open → IsReady s
   pub settled : HasCleanDisk s → IsTrue s.is_open → s.now ≡ s.committed

@@ -1,4 +1,4 @@
-//! What makes the eight tables.
+//! The texts that make the eight tables, with what each column has.
 ghost use Rattle.std.specs.Prelude.{◌≡◌};
 ghost use Rattle.sqlite.specs.Held.{state};
 ghost use Rattle.sql_schema.specs.Creation.{IsFresh, MakesTables};
@@ -6,16 +6,82 @@ ghost use Rattle.sql_schema.specs.Inside.{IsInside};
 
 use sqlite::{Alter, Error, Transaction};
 
+/// The requests that were decided.
+///
+/// - `number`: the request's number (RFC 9562), 36 characters in lower case
+/// - `content`: its canonical text
+/// - `status`, `body`: its reply
+const RECORD: &str =
+    "CREATE TABLE record (number TEXT NOT NULL PRIMARY KEY, content TEXT NOT NULL, status INTEGER NOT NULL, body TEXT NOT NULL) STRICT";
+
+/// The team. A guest has no row.
+///
+/// - `name`: the member's name
+/// - `role`: 1 translator, 2 reviewer, 3 manager
+const TEAM: &str =
+    "CREATE TABLE team (name TEXT NOT NULL PRIMARY KEY, role INTEGER NOT NULL CHECK (role BETWEEN 1 AND 3)) STRICT";
+
+/// The policy, in one row. What holds is 1, what doesn't 0.
+///
+/// - `one`: always 1
+/// - `schema`: the number of this schema, 1
+/// - `reviews`, `guests_suggest`, `voting`: whether there are reviews, whether guests suggest, whether callers vote
+/// - `accept_at`: the sum of votes from which a suggestion is accepted
+/// - `placeholders`, `line_ends`: whether these checks are enforced
+const POLICY: &str =
+    "CREATE TABLE policy (one INTEGER PRIMARY KEY CHECK (one BETWEEN 1 AND 1), schema INTEGER NOT NULL, reviews INTEGER NOT NULL, guests_suggest INTEGER NOT NULL, voting INTEGER NOT NULL, accept_at INTEGER NOT NULL, placeholders INTEGER NOT NULL, line_ends INTEGER NOT NULL) STRICT";
+
+/// The template's entries.
+///
+/// - `place`: their order
+/// - `key`: the entry's key: the msgid, or the context, U+0004 and the msgid
+/// - `plural`: its msgid_plural, or null
+/// - `extracted`, `refs`, `flags`: its extracted comments, references and flags, each a list in JSON
+const TEMPLATE: &str =
+    "CREATE TABLE template (place INTEGER PRIMARY KEY, key TEXT NOT NULL UNIQUE, plural TEXT, extracted TEXT NOT NULL, refs TEXT NOT NULL, flags TEXT NOT NULL) STRICT";
+
+/// The languages.
+///
+/// - `lang`: the language's name
+/// - `header`: its header: comments, flags, previous strings and the string, in JSON
+/// - `plural`: the value of its `Plural-Forms`
+const LANGUAGE: &str =
+    "CREATE TABLE language (lang TEXT NOT NULL PRIMARY KEY, header TEXT NOT NULL, plural TEXT NOT NULL) STRICT";
+
+/// The units of all languages.
+///
+/// - `lang`, `key`: the unit's language, and its key as in the template
+/// - `plural`: its msgid_plural, or null
+/// - `forms`: its forms, a list in JSON
+/// - `state`: 0 untranslated, 1 needs editing, 2 translated, 3 approved
+/// - `obsolete`: 1 where the template has no such key
+/// - `revision`: a number that rises by 1 with each change
+/// - `comment`: its comment's lines, a list in JSON
+/// - `previous`: context, msgid and msgid_plural as they were, in JSON, null for each that is absent
+const UNIT: &str =
+    "CREATE TABLE unit (lang TEXT NOT NULL, key TEXT NOT NULL, plural TEXT, forms TEXT NOT NULL, state INTEGER NOT NULL CHECK (state BETWEEN 0 AND 3), obsolete INTEGER NOT NULL CHECK (obsolete BETWEEN 0 AND 1), revision INTEGER NOT NULL, comment TEXT NOT NULL, previous TEXT NOT NULL, PRIMARY KEY (lang, key)) STRICT";
+
+/// The suggestions of units, which go with their unit.
+///
+/// - `number`: that of the request that made it
+/// - `lang`, `key`: its unit
+/// - `place`: their order in the unit
+/// - `suggester`: the name of the caller
+/// - `forms`: its forms, a list in JSON
+const SUGGESTION: &str =
+    "CREATE TABLE suggestion (number TEXT NOT NULL PRIMARY KEY REFERENCES record (number), lang TEXT NOT NULL, key TEXT NOT NULL, place INTEGER NOT NULL, suggester TEXT NOT NULL, forms TEXT NOT NULL, UNIQUE (lang, key, place), FOREIGN KEY (lang, key) REFERENCES unit (lang, key) ON DELETE CASCADE) STRICT";
+
+/// The votes on suggestions, which go with their suggestion.
+///
+/// - `number`: the suggestion's
+/// - `voter`: the name of the caller
+/// - `value`: 1 for, -1 against
+const VOTE: &str =
+    "CREATE TABLE vote (number TEXT NOT NULL REFERENCES suggestion (number) ON DELETE CASCADE, voter TEXT NOT NULL, value INTEGER NOT NULL CHECK (value BETWEEN -1 AND 1) CHECK (value <> 0), PRIMARY KEY (number, voter)) STRICT";
+
 /// The text that makes each table, in the order in which they are made.
 const TABLES: [&str; 8] = [
-    "CREATE TABLE record (number TEXT NOT NULL PRIMARY KEY, content TEXT NOT NULL, status INTEGER NOT NULL, body TEXT NOT NULL) STRICT",
-    "CREATE TABLE team (name TEXT NOT NULL PRIMARY KEY, role INTEGER NOT NULL CHECK (role BETWEEN 1 AND 3)) STRICT",
-    "CREATE TABLE policy (one INTEGER PRIMARY KEY CHECK (one BETWEEN 1 AND 1), schema INTEGER NOT NULL, reviews INTEGER NOT NULL, guests_suggest INTEGER NOT NULL, voting INTEGER NOT NULL, accept_at INTEGER NOT NULL, placeholders INTEGER NOT NULL, line_ends INTEGER NOT NULL) STRICT",
-    "CREATE TABLE template (place INTEGER PRIMARY KEY, key TEXT NOT NULL UNIQUE, plural TEXT, extracted TEXT NOT NULL, refs TEXT NOT NULL, flags TEXT NOT NULL) STRICT",
-    "CREATE TABLE language (lang TEXT NOT NULL PRIMARY KEY, header TEXT NOT NULL, plural TEXT NOT NULL) STRICT",
-    "CREATE TABLE unit (lang TEXT NOT NULL, key TEXT NOT NULL, plural TEXT, forms TEXT NOT NULL, state INTEGER NOT NULL CHECK (state BETWEEN 0 AND 3), obsolete INTEGER NOT NULL CHECK (obsolete BETWEEN 0 AND 1), revision INTEGER NOT NULL, comment TEXT NOT NULL, previous TEXT NOT NULL, PRIMARY KEY (lang, key)) STRICT",
-    "CREATE TABLE suggestion (number TEXT NOT NULL PRIMARY KEY REFERENCES record (number), lang TEXT NOT NULL, key TEXT NOT NULL, place INTEGER NOT NULL, suggester TEXT NOT NULL, forms TEXT NOT NULL, UNIQUE (lang, key, place), FOREIGN KEY (lang, key) REFERENCES unit (lang, key) ON DELETE CASCADE) STRICT",
-    "CREATE TABLE vote (number TEXT NOT NULL REFERENCES suggestion (number) ON DELETE CASCADE, voter TEXT NOT NULL, value INTEGER NOT NULL CHECK (value BETWEEN -1 AND 1) CHECK (value <> 0), PRIMARY KEY (number, voter)) STRICT",
+    RECORD, TEAM, POLICY, TEMPLATE, LANGUAGE, UNIT, SUGGESTION, VOTE,
 ];
 
 /// Makes the eight tables in a database that has no table. None of them has a row yet.

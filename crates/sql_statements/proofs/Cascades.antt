@@ -24,15 +24,17 @@ use Rattle.sqlite_rules.proofs.TableLemmas.{int_is}
 use Rattle.sql_laws.specs.ApartRows.{AreApart, IsRemoved}
 use Rattle.sql_laws.proofs.ApartRows.{apart_edited}
 use Rattle.sql_laws.proofs.RemovedRows.{is_removed}
-use Rattle.sql_schema.proofs.TableRows.{suggestions, votes}
-use Rattle.sql_schema.specs.Schema.{office_schema, suggestion_tree, vote_tree}
+use Rattle.sqlite.specs.Schema.{Schema}
+use Rattle.sqlite.specs.Table.{Table}
+use Rattle.sql_schema.specs.Layouts.{Layout, made_new, schema_of, placed}
+use Rattle.sql_schema.specs.Schema.{suggestion_table, vote_table}
 
 -- ---- what a removal sets off
 
-abbrev pub clearing : List Row → Work
-clearing olds = record {
+abbrev pub clearing : Layout → List Row → Work
+clearing layout olds = record {
   depth = 0;
-  child = votes;
+  child = placed layout vote_table;
   ref = record { columns = 1 ∷ []; parent = codes "suggestion"; parent_columns = codes "number" ∷ []; on_delete = Cascade; on_update = NoAction; is_deferred = false };
   places = 1 ∷ [];
   order = plain;
@@ -44,117 +46,125 @@ shape : (b : Bool) (w : Work) → cons_option (if b then Some w else None) [] ++
 shape true w = refl
 shape false w = refl
 
-works_are : (olds : List Row) → works office_schema Enforced 0 suggestion_tree olds [] ≡ (if list_any (loses plain (1 ∷ [])) (pairs olds []) then clearing olds ∷ [] else [])
+works_are : (layout : Layout) (olds : List Row)
+    → works (schema_of layout) Enforced 0 (placed layout suggestion_table).tree olds [] ≡ (if list_any (loses plain (1 ∷ [])) (pairs olds []) then clearing layout olds ∷ [] else [])
 unfolding same_name joined everything
-works_are olds = shape _ (clearing olds)
+works_are made_new olds = shape _ (clearing made_new olds)
 
-no_more : (olds : List Row) → works office_schema Enforced 1 vote_tree olds [] ≡ []
+no_more : (layout : Layout) (olds : List Row) → works (schema_of layout) Enforced 1 (placed layout vote_table).tree olds [] ≡ []
 unfolding same_name joined everything
-no_more olds = refl
+no_more made_new olds = refl
 
-abbrev pub taking : Trees → List ℤ → Edit
-taking db ids = edit_of db suggestions ids Given 0 []
+abbrev pub taking : Layout → Trees → List ℤ → Edit
+taking layout db ids = edit_of db (placed layout suggestion_table) ids Given 0 []
 
--- ---- what is done of it
+module _ (layout : Layout) where
+  abbrev schema : Schema
+  schema = schema_of layout
 
--- the votes on the rows that are gone go, if there are any
-abbrev Clears : Trees → List Row → Trees → Type 0
-Clears next olds final = (ids : List ℤ) × AreChildren next (clearing olds) ids
-    × (((ids ≡ []) × (final ≡ next)) ⊎ Applies office_schema Enforced next (action_edit next (clearing olds) ids) final)
+  abbrev votes : Table
+  votes = placed layout vote_table
 
--- that, or nothing where no row that is gone has a number
-abbrev pub Cascades : Trees → List Row → Trees → Type 0
-Cascades next olds final = ((list_any (loses plain (1 ∷ [])) (pairs olds []) ≡ false) × (final ≡ next)) ⊎ Clears next olds final
+  -- ---- what is done of it
 
-at_end : (n : ℕ) (db final : Trees) → Leads office_schema Enforced n db [] (Ok final) → final ≡ db
-at_end zero db final h = let e = h.1 in cc
-at_end (suc n) db final h = absurd (omega (arith, ap length h.2, length-append h.0 (h.1 ∷ [])))
+  -- the votes on the rows that are gone go, if there are any
+  abbrev Clears : Trees → List Row → Trees → Type 0
+  Clears next olds final = (ids : List ℤ) × AreChildren next (clearing layout olds) ids
+      × (((ids ≡ []) × (final ≡ next)) ⊎ Applies schema Enforced next (action_edit next (clearing layout olds) ids) final)
 
-alone : {X : Type 0} (below : List X) (w x : X) → w ∷ [] ≡ below ++ x ∷ [] → (below ≡ []) × (x ≡ w)
-alone [] w x e = let same : w ≡ x = cc in (refl, sym same)
-alone (y ∷ below) w x e = absurd (omega (arith, ap length e, length-append below (x ∷ [])))
+  -- that, or nothing where no row that is gone has a number
+  abbrev pub Cascades : Trees → List Row → Trees → Type 0
+  Cascades next olds final = ((list_any (loses plain (1 ∷ [])) (pairs olds []) ≡ false) × (final ≡ next)) ⊎ Clears next olds final
 
-leads_one : (n : ℕ) (db final : Trees) (olds : List Row) → Leads office_schema Enforced n db (clearing olds ∷ []) (Ok final) → Clears db olds final
-leads_one zero db final olds h = absurd (let e = h.0 in cc)
-leads_one (suc n) db final olds h =
-    let a = alone h.0 (clearing olds) h.1 h.2 in
-    let acts : Acts office_schema Enforced (Leads office_schema Enforced n) db (clearing olds) [] (Ok final) =
-    subst (λ w. Acts office_schema Enforced (Leads office_schema Enforced n) db w [] (Ok final)) a.1 (subst (λ b. Acts office_schema Enforced (Leads office_schema Enforced n) db h.1 b (Ok final)) a.0 h.3) in
-    go acts.0 acts.1 acts.2
-  where
-    went : (ids : List ℤ) → Goes office_schema Enforced (Leads office_schema Enforced n) db (action_edit db (clearing olds) ids) 1 [] (Ok final)
-        → Applies office_schema Enforced db (action_edit db (clearing olds) ids) final
-    went ids (inl refused) = absurd (let e = refused.2 in cc)
-    went ids (inr (inl big)) = absurd (let e = big.3 in cc)
-    went ids (inr (inr on)) =
-        let rest : Leads office_schema Enforced n on.0 [] (Ok final) = subst (λ l. Leads office_schema Enforced n on.0 l (Ok final)) (no_more (taken_by db (action_edit db (clearing olds) ids))) on.2 in
-        subst (Applies office_schema Enforced db (action_edit db (clearing olds) ids)) (sym (at_end n on.0 final rest)) on.1
+  at_end : (n : ℕ) (db final : Trees) → Leads schema Enforced n db [] (Ok final) → final ≡ db
+  at_end zero db final h = let e = h.1 in cc
+  at_end (suc n) db final h = absurd (omega (arith, ap length h.2, length-append h.0 (h.1 ∷ [])))
 
-    go : (ids : List ℤ) → AreChildren db (clearing olds) ids → ActsOn office_schema Enforced (Leads office_schema Enforced n) db (clearing olds) [] (Ok final) ids
-        → Clears db olds final
-    go [] children h = ([], children, inl (refl, at_end n db final h))
-    go (id ∷ ids) children h = (id ∷ ids, children, inr (went (id ∷ ids) h))
+  alone : {X : Type 0} (below : List X) (w x : X) → w ∷ [] ≡ below ++ x ∷ [] → (below ≡ []) × (x ≡ w)
+  alone [] w x e = let same : w ≡ x = cc in (refl, sym same)
+  alone (y ∷ below) w x e = absurd (omega (arith, ap length e, length-append below (x ∷ [])))
 
-pub cascaded : (db final : Trees) (ids : List ℤ) → Writes office_schema Enforced db (taking db ids) (Ok final)
-    → (next : Trees) × Applies office_schema Enforced db (taking db ids) next × Cascades next (taken_by db (taking db ids)) final
-cascaded db final ids (inl refused) = absurd (let e = refused.2 in cc)
-cascaded db final ids (inr (inl big)) = absurd (let e = big.3 in cc)
-cascaded db final ids (inr (inr on)) = (on.0, on.1, settled (list_any (loses plain (1 ∷ [])) (pairs olds [])) refl)
-  where
-    olds : List Row
-    olds = taken_by db (taking db ids)
+  leads_one : (n : ℕ) (db final : Trees) (olds : List Row) → Leads schema Enforced n db (clearing layout olds ∷ []) (Ok final) → Clears db olds final
+  leads_one zero db final olds h = absurd (let e = h.0 in cc)
+  leads_one (suc n) db final olds h =
+      let a = alone h.0 (clearing layout olds) h.1 h.2 in
+      let acts : Acts schema Enforced (Leads schema Enforced n) db (clearing layout olds) [] (Ok final) =
+      subst (λ w. Acts schema Enforced (Leads schema Enforced n) db w [] (Ok final)) a.1 (subst (λ b. Acts schema Enforced (Leads schema Enforced n) db h.1 b (Ok final)) a.0 h.3) in
+      go acts.0 acts.1 acts.2
+    where
+      went : (ids : List ℤ) → Goes schema Enforced (Leads schema Enforced n) db (action_edit db (clearing layout olds) ids) 1 [] (Ok final)
+          → Applies schema Enforced db (action_edit db (clearing layout olds) ids) final
+      went ids (inl refused) = absurd (let e = refused.2 in cc)
+      went ids (inr (inl big)) = absurd (let e = big.3 in cc)
+      went ids (inr (inr on)) =
+          let rest : Leads schema Enforced n on.0 [] (Ok final) = subst (λ l. Leads schema Enforced n on.0 l (Ok final)) (no_more layout (taken_by db (action_edit db (clearing layout olds) ids))) on.2 in
+          subst (Applies schema Enforced db (action_edit db (clearing layout olds) ids)) (sym (at_end n on.0 final rest)) on.1
 
-    by_case : (b : Bool) → list_any (loses plain (1 ∷ [])) (pairs olds []) ≡ b
-        → Leads office_schema Enforced on.2.0 on.0 (if b then clearing olds ∷ [] else []) (Ok final) → Cascades on.0 olds final
-    by_case true e h = inr (leads_one on.2.0 on.0 final olds h)
-    by_case false e h = inl (e, at_end on.2.0 on.0 final h)
+      go : (ids : List ℤ) → AreChildren db (clearing layout olds) ids → ActsOn schema Enforced (Leads schema Enforced n) db (clearing layout olds) [] (Ok final) ids
+          → Clears db olds final
+      go [] children h = ([], children, inl (refl, at_end n db final h))
+      go (id ∷ ids) children h = (id ∷ ids, children, inr (went (id ∷ ids) h))
 
-    settled : (b : Bool) → list_any (loses plain (1 ∷ [])) (pairs olds []) ≡ b → Cascades on.0 olds final
-    settled b e =
-        let stack : Leads office_schema Enforced on.2.0 on.0 (if list_any (loses plain (1 ∷ [])) (pairs olds []) then clearing olds ∷ [] else []) (Ok final) =
-        subst (λ l. Leads office_schema Enforced on.2.0 on.0 l (Ok final)) (works_are olds) on.2.1 in
-        by_case b e (subst (λ b. Leads office_schema Enforced on.2.0 on.0 (if b then clearing olds ∷ [] else []) (Ok final)) e stack)
+  pub cascaded : (db final : Trees) (ids : List ℤ) → Writes schema Enforced db (taking layout db ids) (Ok final)
+      → (next : Trees) × Applies schema Enforced db (taking layout db ids) next × Cascades next (taken_by db (taking layout db ids)) final
+  cascaded db final ids (inl refused) = absurd (let e = refused.2 in cc)
+  cascaded db final ids (inr (inl big)) = absurd (let e = big.3 in cc)
+  cascaded db final ids (inr (inr on)) = (on.0, on.1, settled (list_any (loses plain (1 ∷ [])) (pairs olds [])) refl)
+    where
+      olds : List Row
+      olds = taken_by db (taking layout db ids)
 
--- ---- what is left
+      by_case : (b : Bool) → list_any (loses plain (1 ∷ [])) (pairs olds []) ≡ b
+          → Leads schema Enforced on.2.0 on.0 (if b then clearing layout olds ∷ [] else []) (Ok final) → Cascades on.0 olds final
+      by_case true e h = inr (leads_one on.2.0 on.0 final olds h)
+      by_case false e h = inl (e, at_end on.2.0 on.0 final h)
 
--- the vote is on one of the rows that are gone
-abbrev pub is_gone_with : List Row → Row → Bool
-is_gone_with olds vote = list_any (is_child_of (clearing olds) vote) (pairs olds [])
+      settled : (b : Bool) → list_any (loses plain (1 ∷ [])) (pairs olds []) ≡ b → Cascades on.0 olds final
+      settled b e =
+          let stack : Leads schema Enforced on.2.0 on.0 (if list_any (loses plain (1 ∷ [])) (pairs olds []) then clearing layout olds ∷ [] else []) (Ok final) =
+          subst (λ l. Leads schema Enforced on.2.0 on.0 l (Ok final)) (works_are layout olds) on.2.1 in
+          by_case b e (subst (λ b. Leads schema Enforced on.2.0 on.0 (if b then clearing layout olds ∷ [] else []) (Ok final)) e stack)
 
-pub votes_left : (next final : Trees) (olds : List Row) → AreApart (next vote_tree) → Cascades next olds final
-    → IsRemoved (is_gone_with olds) (next vote_tree) (final vote_tree)
-votes_left next final olds apart (inl h) = record {
-  only = λ x there. (
-    subst (λ (t : Trees). Has (t vote_tree) x) h.1 there,
-    false_from_ne_true (is_gone_with olds x) (λ e.
-        let m = some_has (is_child_of (clearing olds) x) (pairs olds []) e in
-        let lost : loses plain (1 ∷ []) m.0 ≡ true = (and_parts _ _ m.2).0 in
-        let some = some_from (loses plain (1 ∷ [])) (pairs olds []) m.0 m.1 lost in
-        let none = h.0 in cc),
-  );
-  kept = λ x there out. subst (λ (t : Trees). Has (t vote_tree) x) (sym h.1) there;
-}
-votes_left next final olds apart (inr (ids, children, inl h)) = record {
-  only = λ x there. let was = subst (λ (t : Trees). Has (t vote_tree) x) h.1 there in (
-    was,
-    false_from_ne_true (is_gone_with olds x) (λ e. subst (λ l. Has l (id_in (rowid x))) h.0 (children.complete x (id_in (rowid x)) was e (int_is (rowid x) (apart.ints x was)))),
-  );
-  kept = λ x there out. subst (λ (t : Trees). Has (t vote_tree) x) (sym h.1) there;
-}
-votes_left next final olds apart (inr (ids, children, inr applies)) =
-    subst (IsRemoved (is_gone_with olds) (next vote_tree)) (sym applies.rows) (is_removed (is_gone_with olds) (next vote_tree) ids apart (record { sound = children.sound; complete = children.complete }))
+  -- ---- what is left
 
-pub votes_apart_left : (next final : Trees) (olds : List Row) → AreApart (next vote_tree) → Cascades next olds final → AreApart (final vote_tree)
-votes_apart_left next final olds apart (inl h) = subst (λ (t : Trees). AreApart (t vote_tree)) (sym h.1) apart
-votes_apart_left next final olds apart (inr (ids, children, inl h)) = subst (λ (t : Trees). AreApart (t vote_tree)) (sym h.1) apart
-votes_apart_left next final olds apart (inr (ids, children, inr applies)) = apart_edited office_schema Enforced next final (action_edit next (clearing olds) ids) applies apart
+  -- the vote is on one of the rows that are gone
+  abbrev pub is_gone_with : List Row → Row → Bool
+  is_gone_with olds vote = list_any (is_child_of (clearing layout olds) vote) (pairs olds [])
 
-pub others_left : (next final : Trees) (olds : List Row) → Cascades next olds final
-    → AllByRecursion (λ t. t.tree ≢ vote_tree → final t.tree ≡ next t.tree) office_schema.tables
-others_left next final olds (inl h) = all_from (λ t. t.tree ≢ vote_tree → final t.tree ≡ next t.tree) office_schema.tables (λ t there differ. ap (λ (f : Trees). f t.tree) h.1)
-others_left next final olds (inr (ids, children, inl h)) =
-    all_from (λ t. t.tree ≢ vote_tree → final t.tree ≡ next t.tree) office_schema.tables (λ t there differ. ap (λ (f : Trees). f t.tree) h.1)
-others_left next final olds (inr (ids, children, inr applies)) = applies.tables
+  pub votes_left : (next final : Trees) (olds : List Row) → AreApart (next votes.tree) → Cascades next olds final
+      → IsRemoved (is_gone_with olds) (next votes.tree) (final votes.tree)
+  votes_left next final olds apart (inl h) = record {
+    only = λ x there. (
+      subst (λ (t : Trees). Has (t votes.tree) x) h.1 there,
+      false_from_ne_true (is_gone_with olds x) (λ e.
+          let m = some_has (is_child_of (clearing layout olds) x) (pairs olds []) e in
+          let lost : loses plain (1 ∷ []) m.0 ≡ true = (and_parts _ _ m.2).0 in
+          let some = some_from (loses plain (1 ∷ [])) (pairs olds []) m.0 m.1 lost in
+          let none = h.0 in cc),
+    );
+    kept = λ x there out. subst (λ (t : Trees). Has (t votes.tree) x) (sym h.1) there;
+  }
+  votes_left next final olds apart (inr (ids, children, inl h)) = record {
+    only = λ x there. let was = subst (λ (t : Trees). Has (t votes.tree) x) h.1 there in (
+      was,
+      false_from_ne_true (is_gone_with olds x) (λ e. subst (λ l. Has l (id_in (rowid x))) h.0 (children.complete x (id_in (rowid x)) was e (int_is (rowid x) (apart.ints x was)))),
+    );
+    kept = λ x there out. subst (λ (t : Trees). Has (t votes.tree) x) (sym h.1) there;
+  }
+  votes_left next final olds apart (inr (ids, children, inr applies)) =
+      subst (IsRemoved (is_gone_with olds) (next votes.tree)) (sym applies.rows) (is_removed (is_gone_with olds) (next votes.tree) ids apart (record { sound = children.sound; complete = children.complete }))
+
+  pub votes_apart_left : (next final : Trees) (olds : List Row) → AreApart (next votes.tree) → Cascades next olds final → AreApart (final votes.tree)
+  votes_apart_left next final olds apart (inl h) = subst (λ (t : Trees). AreApart (t votes.tree)) (sym h.1) apart
+  votes_apart_left next final olds apart (inr (ids, children, inl h)) = subst (λ (t : Trees). AreApart (t votes.tree)) (sym h.1) apart
+  votes_apart_left next final olds apart (inr (ids, children, inr applies)) = apart_edited schema Enforced next final (action_edit next (clearing layout olds) ids) applies apart
+
+  pub others_left : (next final : Trees) (olds : List Row) → Cascades next olds final
+      → AllByRecursion (λ t. t.tree ≢ votes.tree → final t.tree ≡ next t.tree) schema.tables
+  others_left next final olds (inl h) = all_from (λ t. t.tree ≢ votes.tree → final t.tree ≡ next t.tree) schema.tables (λ t there differ. ap (λ (f : Trees). f t.tree) h.1)
+  others_left next final olds (inr (ids, children, inl h)) =
+      all_from (λ t. t.tree ≢ votes.tree → final t.tree ≡ next t.tree) schema.tables (λ t there differ. ap (λ (f : Trees). f t.tree) h.1)
+  others_left next final olds (inr (ids, children, inr applies)) = applies.tables
 
 -- ---- the rows that are gone
 

@@ -1,5 +1,5 @@
 -- What the query over the obsolete units answers.
-use Rattle.std.proofs.Common.{◌≡◌, ℕ, List, [], ◌∷◌, ◌++◌, ◌&&◌, pos, map, filter, codes, false, refl, sym, ap, subst, ◌∙◌}
+use Rattle.std.proofs.Common.{◌≡◌, ℕ, List, [], ◌∷◌, ◌++◌, ◌&&◌, pos, map, filter, codes, refl, sym, ap, subst, ◌∙◌}
 use Rattle.std.proofs.Math.Path.{fun_ext}
 use Rattle.std.proofs.Math.Bool.{and-true}
 use Rattle.std.specs.List.Sorted.{IsPermutation}
@@ -9,12 +9,11 @@ use Rattle.sqlite.specs.Order.{Row}
 use Rattle.sqlite.specs.Term.{Term, lit, col, op2}
 use Rattle.sqlite_sql.specs.declared.ops.CompareOp.TheVariants as compare
 use Rattle.sqlite_sql.specs.declared.ops.BinaryOp.TheVariants as by
-use Rattle.sqlite.specs.Command.TheVariants.{Select}
 use Rattle.sqlite.specs.Program.{overlay}
 use Rattle.sqlite.specs.Query.{IsAnswer}
 use Rattle.sqlite.specs.State.{State, Begins, Shown}
-use Rattle.sqlite.specs.Listing.{understood, reads_listing}
-use Rattle.sqlite.proofs.Callers.{IsPlain, command_of, reads_as, begins_as}
+use Rattle.sqlite.specs.Listing.{understood}
+use Rattle.sqlite.proofs.Callers.{IsPlain, reads_as, begins_as}
 use Rattle.sqlite_tied.specs.Compute.{everything}
 use Rattle.sqlite_rules.specs.Lists.{Has}
 use Rattle.sql_laws.specs.PlainQueries.{passes, shows}
@@ -22,13 +21,16 @@ use Rattle.sql_laws.specs.OrderedQueries.{ordered_query}
 use Rattle.sql_laws.proofs.PlainQueries.{ordered_permuted}
 use Rattle.sql_laws.proofs.OrderedQueries.{answers_in_order}
 use Rattle.sql_laws.proofs.Comparisons.{ints_compared}
-use Rattle.sql_schema.specs.Schema.{office_schema, unit_tree}
+use Rattle.sql_schema.proofs.OrderedQueries.{IsOrderedQuery}
 use Rattle.sql_schema.specs.Keys.{has_text, columns}
 use Rattle.sql_schema.specs.Inside.{IsReady}
-use Rattle.sql_schema.proofs.Queries.{own_table, shows_columns, filtered_same, is_given, given_is}
+use Rattle.sql_schema.proofs.Queries.{rows_read, shows_columns, filtered_same, is_given, given_is}
 use Rattle.sql_schema.proofs.TextKeys.{holds_int}
-use Rattle.sql_schema.proofs.TableRows.{units, units_listed, unit_langs}
+use Rattle.sql_schema.proofs.TableRows.{unit_langs}
 use Rattle.sql_statements.specs.Queries.{ShowsObsolete, is_obsolete_of}
+use Rattle.sql_schema.specs.Layouts.{Layout, made_new, schema_of, placed, rows_named}
+use Rattle.sql_schema.proofs.Layouts.{unit_placed}
+use Rattle.sql_schema.specs.Schema.{unit_table}
 
 abbrev pub obsolete_text : List ℕ
 obsolete_text = codes "SELECT plural, forms, state, comment, previous, key FROM unit WHERE lang = ?1 AND obsolete = 1 ORDER BY key"
@@ -39,38 +41,45 @@ terms = is_given 1 0 ∷ op2 (by.Compare compare.Eq Binary) (col 1 6) (lit (Int 
 abbrev places : List ℕ
 places = 3 ∷ 4 ∷ 5 ∷ 8 ∷ 9 ∷ 2 ∷ []
 
-obsolete_is : (command_of (understood office_schema obsolete_text) ≡ Select (record { lets = []; body = ordered_query unit_tree terms (map (col 1) places) (col 1 2) })
-    (codes "plural" ∷ codes "forms" ∷ codes "state" ∷ codes "comment" ∷ codes "previous" ∷ codes "key" ∷ []))
-    × (reads_listing office_schema obsolete_text ≡ false) × IsPlain (understood office_schema obsolete_text)
+obsolete_is : IsOrderedQuery obsolete_text unit_table terms places 2 (codes "plural" ∷ codes "forms" ∷ codes "state" ∷ codes "comment" ∷ codes "previous" ∷ codes "key" ∷ [])
 unfolding understood everything
-obsolete_is = (refl, refl, (refl, refl))
+obsolete_is made_new = record { command = refl; own_tables = refl; plain = (refl, refl) }
 
 module _ (lang : List ℕ) (s : State) (ready : IsReady s) where
   abbrev params : Row
   params = Text lang ∷ []
 
-  tests : (row : Row) → Has (s.now.trees unit_tree) row → passes params terms row ≡ is_obsolete_of lang row
+  abbrev layout : Layout
+  layout = ready.schema.0
+
+  abbrev tree : ℕ
+  tree = (placed layout unit_table).tree
+
+  abbrev units : List Row
+  units = rows_named s.now (codes "unit")
+
+  tests : (row : Row) → Has units row → passes params terms row ≡ is_obsolete_of lang row
   tests row there =
-      let whole = holds_int units units_listed 5 (codes "obsolete") refl s.now ready.schema ready.sound row there refl in
+      let whole = holds_int unit_table unit_placed 5 (codes "obsolete") refl s.now ready.schema ready.sound row there refl in
       rw (given_is params row 1 0 lang (unit_langs s.now ready.schema ready.sound row there) refl, whole) (rw (ints_compared (Int _) (Int (pos 1)) refl refl) (ap (λ b. has_text 1 lang row && b) (and-true _)))
 
-  obsolete_shown : (rows : List Row) → IsAnswer (ordered_query unit_tree terms (map (col 1) places) (col 1 2)) (overlay s.now.trees []) params rows → ShowsObsolete lang s.now rows
+  obsolete_shown : (rows : List Row) → IsAnswer (ordered_query tree terms (map (col 1) places) (col 1 2)) (overlay s.now.trees []) params rows → ShowsObsolete lang s.now rows
   obsolete_shown rows answer = record {
     all = subst (λ l. IsPermutation l rows)
-        (ap (λ l. map (shows params (map (col 1) places)) (filter (passes params terms) l)) (own_table s.now.trees unit_tree)
-        ∙ ap (λ (f : Row → Row). map f (filter (passes params terms) (s.now.trees unit_tree))) (fun_ext (shows_columns params places))
-        ∙ ap (map (columns places)) (filtered_same (passes params terms) (is_obsolete_of lang) (s.now.trees unit_tree) tests))
-        (ordered_permuted unit_tree terms (map (col 1) places) _ (overlay s.now.trees []) params rows answer);
-    in_order = answers_in_order unit_tree 5 terms (map (col 1) places) (col 1 2) (overlay s.now.trees []) params rows (λ row. refl) answer;
+        (ap (λ l. map (shows params (map (col 1) places)) (filter (passes params terms) l)) (rows_read layout unit_table (unit_placed layout) s.now ready.schema.1)
+        ∙ ap (λ (f : Row → Row). map f (filter (passes params terms) units)) (fun_ext (shows_columns params places))
+        ∙ ap (map (columns places)) (filtered_same (passes params terms) (is_obsolete_of lang) units tests))
+        (ordered_permuted tree terms (map (col 1) places) _ (overlay s.now.trees []) params rows answer);
+    in_order = answers_in_order tree 5 terms (map (col 1) places) (col 1 2) (overlay s.now.trees []) params rows (λ row. refl) answer;
   }
 
   pub obsolete_all : (rows : List Row) → Shown obsolete_text params s s rows → ShowsObsolete lang s.now rows
-  obsolete_all rows h = obsolete_shown rows ((reads_as obsolete_text params s s office_schema ready.schema _ obsolete_is.0 obsolete_is.2 obsolete_is.1 rows h).answer Null)
+  obsolete_all rows h = obsolete_shown rows ((reads_as obsolete_text params s s (schema_of layout) ready.schema.1 _ (obsolete_is layout).command (obsolete_is layout).plain (obsolete_is layout).own_tables rows h).answer Null)
 
   pub obsolete_begun : (rows : List Row) → Begins obsolete_text params s rows → (tail : List Row) × ShowsObsolete lang s.now (rows ++ tail)
   obsolete_begun rows h =
-      let read = begins_as obsolete_text params s s office_schema ready.schema _ obsolete_is.0 obsolete_is.2 obsolete_is.1 rows h in
+      let read = begins_as obsolete_text params s s (schema_of layout) ready.schema.1 _ (obsolete_is layout).command (obsolete_is layout).plain (obsolete_is layout).own_tables rows h in
       (read.1.0, obsolete_shown (rows ++ read.1.0) (read.1.1 Null))
 
 pub obsolete_plain : (s : State) → IsReady s → IsPlain (understood s.now.schema obsolete_text)
-obsolete_plain s ready = subst (λ t. IsPlain (understood t obsolete_text)) (sym ready.schema) obsolete_is.2
+obsolete_plain s ready = subst (λ t. IsPlain (understood t obsolete_text)) (sym ready.schema.1) (obsolete_is ready.schema.0).plain

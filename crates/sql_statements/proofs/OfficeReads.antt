@@ -18,36 +18,37 @@ use Rattle.sqlite_trees.specs.View.{is_int}
 use Rattle.sqlite_rules.specs.Edit.{id_in}
 use Rattle.sqlite_rules.proofs.TableLemmas.{int_is}
 use Rattle.sql_laws.proofs.Comparisons.{ints_compared}
-use Rattle.sql_schema.specs.Schema.{team_tree, language_tree, policy_tree}
 use Rattle.sql_schema.specs.Inside.{ShowsKey}
 use Rattle.sql_schema.specs.Keys.{first_text, row_number, columns}
-use Rattle.sql_schema.proofs.TableRows.{member_names, language_codes, policies}
-use Rattle.sql_schema.proofs.Steps.{table_apart}
+use Rattle.sql_schema.proofs.TableRows.{member_names, language_codes}
 use Rattle.sql_schema.proofs.Queries.{IsQuery, ReadsLast, AreTests, is_given, reads_all, reads_key, reads_by_text}
+use Rattle.sql_schema.specs.Layouts.{made_new}
+use Rattle.sql_schema.proofs.Layouts.{team_placed, policy_placed, language_placed}
+use Rattle.sql_schema.specs.Schema.{team_table, policy_table, language_table}
 
 -- ---- a member's role
 
 abbrev member_text : List ℕ
 member_text = codes "SELECT role FROM team WHERE name = ?1"
 
-member_is : IsQuery member_text team_tree (is_given 1 0 ∷ []) (2 ∷ []) (codes "role" ∷ [])
+member_is : IsQuery member_text team_table (is_given 1 0 ∷ []) (2 ∷ []) (codes "role" ∷ [])
 unfolding understood everything
-member_is = (refl, refl, (refl, refl))
+member_is made_new = record { command = refl; own_tables = refl; plain = (refl, refl) }
 
-pub finds_member : (name : List ℕ) → ReadsLast member_text (Text name ∷ []) (ShowsKey team_tree first_text (columns (2 ∷ [])) name)
-finds_member = reads_by_text member_text team_tree 1 (2 ∷ []) _ member_is member_names
+pub finds_member : (name : List ℕ) → ReadsLast member_text (Text name ∷ []) (ShowsKey (codes "team") first_text (columns (2 ∷ [])) name)
+finds_member = reads_by_text member_text team_table team_placed 1 (2 ∷ []) _ member_is member_names
 
 -- ---- a language's header and plural rule
 
 abbrev language_text : List ℕ
 language_text = codes "SELECT header, plural FROM language WHERE lang = ?1"
 
-language_is : IsQuery language_text language_tree (is_given 1 0 ∷ []) (2 ∷ 3 ∷ []) (codes "header" ∷ codes "plural" ∷ [])
+language_is : IsQuery language_text language_table (is_given 1 0 ∷ []) (2 ∷ 3 ∷ []) (codes "header" ∷ codes "plural" ∷ [])
 unfolding understood everything
-language_is = (refl, refl, (refl, refl))
+language_is made_new = record { command = refl; own_tables = refl; plain = (refl, refl) }
 
-pub finds_language : (lang : List ℕ) → ReadsLast language_text (Text lang ∷ []) (ShowsKey language_tree first_text (columns (2 ∷ 3 ∷ [])) lang)
-finds_language = reads_by_text language_text language_tree 1 (2 ∷ 3 ∷ []) _ language_is language_codes
+pub finds_language : (lang : List ℕ) → ReadsLast language_text (Text lang ∷ []) (ShowsKey (codes "language") first_text (columns (2 ∷ 3 ∷ [])) lang)
+finds_language = reads_by_text language_text language_table language_placed 1 (2 ∷ 3 ∷ []) _ language_is language_codes
 
 -- ---- the policy
 
@@ -57,10 +58,10 @@ policy_text = codes "SELECT schema, reviews, guests_suggest, voting, accept_at, 
 abbrev policy_terms : List Term
 policy_terms = op2 (by.Compare compare.Eq Binary) (col 1 0) (lit (Int (pos 1))) ∷ []
 
-policy_is : IsQuery policy_text policy_tree policy_terms (2 ∷ 3 ∷ 4 ∷ 5 ∷ 6 ∷ 7 ∷ 8 ∷ [])
+policy_is : IsQuery policy_text policy_table policy_terms (2 ∷ 3 ∷ 4 ∷ 5 ∷ 6 ∷ 7 ∷ 8 ∷ [])
     (codes "schema" ∷ codes "reviews" ∷ codes "guests_suggest" ∷ codes "voting" ∷ codes "accept_at" ∷ codes "placeholders" ∷ codes "line_ends" ∷ [])
 unfolding understood everything
-policy_is = (refl, refl, (refl, refl))
+policy_is made_new = record { command = refl; own_tables = refl; plain = (refl, refl) }
 
 -- the policy's row has the rowid 1
 abbrev is_one : Value → Bool
@@ -76,12 +77,12 @@ one_from_test v e =
 test_from_one : (v : Value) → v ≡ Int (pos 1) → is_one v ≡ true
 test_from_one v e = rw e ((eq_by_cmp_equiv value_cmp_total).refl (Int (pos 1)))
 
-policy_tests : AreTests policy_tree [] policy_terms (λ row. is_one (row_number row))
+policy_tests : AreTests (codes "policy") [] policy_terms (λ row. is_one (row_number row))
 policy_tests db has sound tables row there =
-    let whole : is_int (row_number row) ≡ true = (table_apart db.trees 2 policies refl tables).ints row there in
+    let whole : is_int (row_number row) ≡ true = (tables (codes "policy") refl).ints row there in
     and-true _ ∙ ints_compared (row_number row) (Int (pos 1)) whole refl ∙ sym (ap (λ b. b && is_eq (value_cmp (row_number row) (Int (pos 1)))) whole)
 
-pub finds_policy : ReadsLast policy_text [] (ShowsKey policy_tree row_number (columns (2 ∷ 3 ∷ 4 ∷ 5 ∷ 6 ∷ 7 ∷ 8 ∷ [])) (Int (pos 1)))
-finds_policy = reads_key policy_tree (λ row. is_one (row_number row)) (columns (2 ∷ 3 ∷ 4 ∷ 5 ∷ 6 ∷ 7 ∷ 8 ∷ [])) row_number (Int (pos 1))
+pub finds_policy : ReadsLast policy_text [] (ShowsKey (codes "policy") row_number (columns (2 ∷ 3 ∷ 4 ∷ 5 ∷ 6 ∷ 7 ∷ 8 ∷ [])) (Int (pos 1)))
+finds_policy = reads_key (codes "policy") (λ row. is_one (row_number row)) (columns (2 ∷ 3 ∷ 4 ∷ 5 ∷ 6 ∷ 7 ∷ 8 ∷ [])) row_number (Int (pos 1))
     (λ row. one_from_test (row_number row)) (λ row. test_from_one (row_number row)) policy_text []
-    (reads_all policy_text policy_tree policy_terms (2 ∷ 3 ∷ 4 ∷ 5 ∷ 6 ∷ 7 ∷ 8 ∷ []) _ policy_is [] (λ row. is_one (row_number row)) policy_tests)
+    (reads_all policy_text policy_table policy_placed policy_terms (2 ∷ 3 ∷ 4 ∷ 5 ∷ 6 ∷ 7 ∷ 8 ∷ []) _ policy_is [] (λ row. is_one (row_number row)) policy_tests)

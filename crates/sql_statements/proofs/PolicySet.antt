@@ -23,13 +23,14 @@ use Rattle.sqlite_rules.specs.Keys.{conflicts}
 use Rattle.sqlite_rules.proofs.TableLemmas.{int_is}
 use Rattle.sql_laws.specs.PlainQueries.{shows}
 use Rattle.sql_laws.proofs.Comparisons.{ints_compared}
-use Rattle.sql_schema.specs.Schema.{office_schema, policy_tree}
+use Rattle.sql_schema.specs.Schema.{policy_table}
 use Rattle.sql_schema.specs.Keys.{row_number}
 use Rattle.sql_schema.proofs.RowNumbers.{one_row_number}
 use Rattle.sql_schema.proofs.Insertions.{Puts, cast_null, cast_int}
-use Rattle.sql_schema.proofs.TableRows.{policies}
 use Rattle.sql_statements.proofs.Untouched.{none_refers, drop_false}
 use Rattle.sql_statements.proofs.Upserts.{IsUpsert, IsPuttable, puts_or_renews}
+use Rattle.sql_schema.specs.Layouts.{Layout, made_new, schema_of, placed, rows_named}
+use Rattle.sql_schema.proofs.Layouts.{policy_placed}
 
 -- ---- the text
 
@@ -42,9 +43,9 @@ upsert_terms = lit (Int (pos 1)) ∷ lit Null ∷ col 0 0 ∷ col 0 1 ∷ col 0 
 abbrev becomes : List Term
 becomes = col 1 0 ∷ col 1 0 ∷ lit Null ∷ col 0 10 ∷ col 0 11 ∷ col 0 12 ∷ col 0 13 ∷ col 0 14 ∷ col 0 15 ∷ col 0 16 ∷ []
 
-upsert_is : IsUpsert upsert_text 2 9 7 policies upsert_terms (0 ∷ []) becomes
+upsert_is : (layout : Layout) → IsUpsert layout upsert_text 9 7 policy_table upsert_terms (0 ∷ []) becomes
 unfolding understood same_name joined everything
-upsert_is = record { got = refl; uncounted = refl; is = refl; plain = (refl, refl); stored = λ trees. refl; none = none_refers policy_tree (λ olds news. refl) }
+upsert_is made_new = record { is_placed = policy_placed made_new; uncounted = refl; is = refl; plain = (refl, refl); none = none_refers (schema_of made_new) (placed made_new policy_table).tree (λ olds news. refl) }
 
 -- ---- the values
 
@@ -56,7 +57,7 @@ module _ (schema reviews guests_suggest voting accept_at placeholders line_ends 
   abbrev pub policy_row : Row
   policy_row = Int (pos 1) ∷ Null ∷ values
 
-  cast_policy : cast_row policies policy_row ≡ policy_row
+  cast_policy : cast_row policy_table policy_row ≡ policy_row
   cast_policy = rw (cast_int (pos 1), cast_null, cast_int schema, cast_int reviews, cast_int guests_suggest, cast_int voting, cast_int accept_at, cast_int placeholders, cast_int line_ends) refl
 
   agrees : (r : Row) → is_int (rowid r) ≡ true → agree plain (0 ∷ []) r (0 ∷ []) policy_row ≡ (is_eq (value_cmp (rowid r) (Int (pos 1))) && true)
@@ -66,17 +67,21 @@ module _ (schema reviews guests_suggest voting accept_at placeholders line_ends 
   is_one : (n : ℤ) → is_eq (value_cmp (Int n) (Int (pos 1))) ≡ true → n ≡ pos 1
   is_one n e = int_cmp-IsAntisymmetric n (pos 1) ((Equal-is (int_cmp n (pos 1))).0 (ap is_eq (sym (value_cmp-Int n (pos 1))) ∙ e))
 
-  same_rowid : (r : Row) → is_int (rowid r) ≡ true → conflicts (Some (0 ∷ [])) office_schema.indexes policies policy_row r ≡ true → rowid r ≡ Int (pos 1)
-  same_rowid r whole h =
-      let agreed : agree plain (0 ∷ []) r (0 ∷ []) policy_row ≡ true = drop_false _ h in
+  conflict_is : (layout : Layout) (r : Row) → conflicts (Some (0 ∷ [])) (schema_of layout).indexes (placed layout policy_table) policy_row r ≡ true
+      → agree plain (0 ∷ []) r (0 ∷ []) policy_row ≡ true
+  conflict_is made_new r h = drop_false _ h
+
+  same_rowid : (layout : Layout) (r : Row) → is_int (rowid r) ≡ true → conflicts (Some (0 ∷ [])) (schema_of layout).indexes (placed layout policy_table) policy_row r ≡ true → rowid r ≡ Int (pos 1)
+  same_rowid layout r whole h =
+      let agreed = conflict_is layout r h in
       let tied = (and_parts _ _ (sym (agrees r whole) ∙ agreed)).0 in
       let is = int_is (rowid r) whole in
       is ∙ ap Int (is_one (id_in (rowid r)) (subst (λ v. is_eq (value_cmp v (Int (pos 1))) ≡ true) is tied))
 
-  shows_it : (r : Row) → rowid r ≡ Int (pos 1) → shows (values ++ rowid r ∷ shown policies policy_row) becomes r ≡ rowid r ∷ policy_row
+  shows_it : (r : Row) → rowid r ≡ Int (pos 1) → shows (values ++ rowid r ∷ shown policy_table policy_row) becomes r ≡ rowid r ∷ policy_row
   shows_it r first = rw first refl
 
-  is_puttable : IsPuttable 7 9 policies upsert_terms (0 ∷ []) becomes values policy_row row_number (λ row. row ≡ policy_row) (λ rows. policy_row) (λ r. policy_row)
+  is_puttable : IsPuttable 7 9 policy_table upsert_terms (0 ∷ []) becomes values policy_row row_number (λ row. row ≡ policy_row) (λ rows. policy_row) (λ r. policy_row)
   is_puttable = record {
     given = refl;
     follows = λ v rest. refl;
@@ -85,8 +90,8 @@ module _ (schema reviews guests_suggest voting accept_at placeholders line_ends 
     new_fits = λ rows. refl;
     renewed_cast = λ r whole. cast_policy;
     renewed_fits = λ r whole. refl;
-    meets = λ db has sound r there whole rows h. let first = same_rowid r whole h in (first, shows_it r first);
+    meets = λ db has sound r there whole rows h. let first = same_rowid has.0 r whole h in (first, shows_it r first);
   }
 
-  pub sets_policy : Puts upsert_text values policy_tree row_number (λ row. row ≡ policy_row)
-  sets_policy = puts_or_renews upsert_is is_puttable (λ db has sound. one_row_number (db.trees policy_tree))
+  pub sets_policy : Puts upsert_text values (codes "policy") row_number (λ row. row ≡ policy_row)
+  sets_policy = puts_or_renews upsert_is is_puttable (λ db has sound. one_row_number (rows_named db (codes "policy")))

@@ -1,5 +1,5 @@
 -- What UPDATE does to a table of the office, where no reference to it acts.
-use Rattle.std.proofs.Common.{◌≡◌, inl, inr, ℕ, List, [], ◌∷◌, map, filter, drop, Bool, true, None, Option, Some, Ok, slice_get, Result, IsTrue, refl, sym, ap, subst, ◌∙◌}
+use Rattle.std.proofs.Common.{◌≡◌, inl, inr, ℕ, List, [], ◌∷◌, map, filter, drop, Bool, true, None, Option, Some, Ok, slice_get, Result, IsTrue, refl, sym, ap, subst, ◌∙◌, subst₂}
 use Rattle.std.specs.List.Sorted.{IsPermutation}
 use Rattle.std.proofs.lemmas.List.Sorted.{IsPermutation-sym}
 use Rattle.sqlite.specs.declared.types.Value.TheVariants.{Null, Int}
@@ -35,10 +35,12 @@ use Rattle.sql_laws.proofs.PlainQueries.{answers_permuted}
 use Rattle.sql_laws.proofs.RemovedRows.{from_mapped, to_mapped, has_permuted, is_removed}
 use Rattle.sql_laws.proofs.RenewedRows.{numbered-given}
 use Rattle.sql_laws.proofs.Writes.{same_ok, went_on}
-use Rattle.sql_schema.specs.Schema.{office_schema}
 use Rattle.sql_schema.specs.Inside.{IsReady, IsSteady, IsInside}
-use Rattle.sql_schema.proofs.Steps.{executes_inside, one_changes, table_apart}
+use Rattle.sql_schema.proofs.Queries.{own_table}
+use Rattle.sql_schema.proofs.Steps.{executes_inside}
 use Rattle.sql_statements.specs.Renewed.{AreRenewed, RenewsRows}
+use Rattle.sql_schema.specs.Layouts.{Layout, schema_of, HasLayout, index_named, placed, rows_named, IsPlaced}
+use Rattle.sql_schema.proofs.Layouts.{apart_before, one_changed}
 
 -- ---- what UPDATE makes of the trees, where it has no RETURNING
 
@@ -61,25 +63,24 @@ updated limit mode params old after text at table tally there q done =
 abbrev pub renewal : ℕ → List Term → List Term → Program
 renewal tree terms becomes = record { lets = []; body = plain_query tree terms becomes }
 
--- A text that renews the rows of a table that pass its tests.
-pub record IsRenewal (text : List ℕ) (at : ℕ) (table : Table) (terms becomes : List Term) : Type 0 where
-  pub got : slice_get office_schema.tables at ≡ Some table
-  pub is : command_of (understood office_schema text) ≡ Update at (renewal table.tree terms becomes)
-  pub plain : IsPlain (understood office_schema text)
-  pub stored : (trees : Trees) → overlay trees [] table.tree ≡ trees table.tree
-  pub none : (n : Row) (rest olds : List Row) → works office_schema Enforced 0 table.tree olds (n ∷ rest) ≡ []
-  pub no_rows : works office_schema Enforced 0 table.tree [] [] ≡ []
+-- Under a layout the text renews the rows of a table that pass its tests.
+pub record IsRenewal (layout : Layout) (text : List ℕ) (table : Table) (terms becomes : List Term) : Type 0 where
+  pub is_placed : IsPlaced layout table
+  pub is : command_of (understood (schema_of layout) text) ≡ Update (index_named (schema_of layout) table.name) (renewal (placed layout table).tree terms becomes)
+  pub plain : IsPlain (understood (schema_of layout) text)
+  pub none : (n : Row) (rest olds : List Row) → works (schema_of layout) Enforced 0 (placed layout table).tree olds (n ∷ rest) ≡ []
+  pub no_rows : works (schema_of layout) Enforced 0 (placed layout table).tree [] [] ≡ []
 
 -- What a text of UPDATE, run inside a transaction, does: it renews the rows of a table that pass a test, where a premise holds of the tables.
-abbrev pub Renews : List ℕ → Row → ℕ → (Row → Bool) → (Row → Row) → (Database → Type 0) → Type 1
-Renews text params tree test renewed Premise = (old new : State) (r : Result ℕ Error) → IsSteady old
+abbrev pub Renews : List ℕ → Row → List ℕ → (Row → Bool) → (Row → Row) → (Database → Type 0) → Type 1
+Renews text params name test renewed Premise = (old new : State) (r : Result ℕ Error) → IsSteady old
     → (HasCleanDisk new → IsTrue old.in_transaction → ExecutesInside 0 text params old new r) → Survives old new (λ _. ⊥)
-    → IsInside old new r (λ before after. Premise before → RenewsRows tree test renewed before after)
+    → IsInside old new r (λ before after. Premise before → RenewsRows name test renewed before after)
 
-module _ {text : List ℕ} {at : ℕ} {table : Table} {terms becomes : List Term} (is_renewal : IsRenewal text at table terms becomes) (params : Row) (test : Row → Bool) (renewed : Row → Row) (Premise : Database → Type 0)
+module _ {text : List ℕ} {table : Table} {terms becomes : List Term} (is_renewal : (layout : Layout) → IsRenewal layout text table terms becomes) (params : Row) (test : Row → Bool) (renewed : Row → Row) (Premise : Database → Type 0)
     (leads : (row : Row) → shows params becomes row ≡ rowid row ∷ drop 1 (shows params becomes row))
-    (tested : (db : Database) → db.schema ≡ office_schema → IsDatabase db → (row : Row) → Has (db.trees table.tree) row → passes params terms row ≡ test row)
-    (shown : (db : Database) → db.schema ≡ office_schema → IsDatabase db → Premise db → (row : Row) → Has (db.trees table.tree) row → is_int (rowid row) ≡ true → test row ≡ true
+    (tested : (db : Database) → HasLayout db → IsDatabase db → (row : Row) → Has (rows_named db table.name) row → passes params terms row ≡ test row)
+    (shown : (db : Database) → HasLayout db → IsDatabase db → Premise db → (row : Row) → Has (rows_named db table.name) row → is_int (rowid row) ≡ true → test row ≡ true
     → cast_row table (drop 1 (shows params becomes row)) ≡ renewed row) where
   -- ---- rows that were taken out by their ids, and put back as they became
 
@@ -131,43 +132,54 @@ module _ {text : List ℕ} {at : ℕ} {table : Table} {terms becomes : List Term
             subst (λ l. Has l (renewed x)) (sym is) (put_all_adds news (without_all old (ids_of rows)) (renewed x) fresh came);
       }
 
-  none_act : (news olds : List Row) (x : Row) → Has news x → works office_schema Enforced 0 table.tree olds news ≡ []
-  none_act [] olds x there = absurd there
-  none_act (n ∷ rest) olds x there = is_renewal.none n rest olds
+  none_act : (layout : Layout) (news olds : List Row) (x : Row) → Has news x → works (schema_of layout) Enforced 0 (placed layout table).tree olds news ≡ []
+  none_act layout [] olds x there = absurd there
+  none_act layout (n ∷ rest) olds x there = (is_renewal layout).none n rest olds
 
-  no_works : (db : Trees) (rows : List Row) → works office_schema Enforced 0 table.tree (taken_by db (edit_of db table (ids_of rows) Given 1 rows)) (edit_of db table (ids_of rows) Given 1 rows).news ≡ []
-  no_works db [] = is_renewal.no_rows
-  no_works db (x ∷ more) =
-      let edit : Edit = edit_of db table (ids_of (x ∷ more)) Given 1 (x ∷ more) in
-      none_act edit.news (taken_by db edit) (cast_row table (drop 1 x)) (inl refl)
+  abbrev edit_at : Layout → Trees → List Row → Edit
+  edit_at layout db rows = edit_of db (placed layout table) (ids_of rows) Given 1 rows
+
+  no_works : (layout : Layout) (db : Trees) (rows : List Row) → works (schema_of layout) Enforced 0 (placed layout table).tree (taken_by db (edit_at layout db rows)) (edit_at layout db rows).news ≡ []
+  no_works layout db [] = (is_renewal layout).no_rows
+  no_works layout db (x ∷ more) =
+      let edit : Edit = edit_at layout db (x ∷ more) in
+      none_act layout edit.news (taken_by db edit) (cast_row table (drop 1 x)) (inl refl)
 
   renews : (old new : State) (count : ℕ) → IsReady old → Executes text params old new (Ok count)
-      → (Premise old.now → RenewsRows table.tree test renewed old.now new.now) × IsReady new
+      → (Premise old.now → RenewsRows table.name test renewed old.now new.now) × IsReady new
   renews old new count ready ran =
+      let layout = ready.schema.0 in
+      let schema = schema_of layout in
+      let is = is_renewal layout in
+      let place = placed layout table in
+      let at = index_named schema table.name in
       let db = old.now.trees in
-      let command = Update at (renewal table.tree terms becomes) in
-      let statement = statement_of text (understood office_schema text) in
-      let w = runs_as text params old new office_schema ready.schema command is_renewal.is is_renewal.plain count ran in
-      let here : Does old.step_limit (mode_of old) params (record { schema = office_schema; trees = db }) statement None command (Ok (w.tally, new.now)) =
-      subst (λ s. Does old.step_limit (mode_of old) params (record { schema = s; trees = db }) statement None command (Ok (w.tally, new.now))) ready.schema w.changed in
-      let did = updated old.step_limit (mode_of old) params (record { schema = office_schema; trees = db }) new.now statement at table w.tally is_renewal.got (renewal table.tree terms becomes) here in
+      let command = Update at (renewal place.tree terms becomes) in
+      let statement = statement_of text (understood schema text) in
+      let w = runs_as text params old new schema ready.schema.1 command is.is is.plain count ran in
+      let here : Does old.step_limit (mode_of old) params (record { schema = schema; trees = db }) statement None command (Ok (w.tally, new.now)) =
+      subst (λ s. Does old.step_limit (mode_of old) params (record { schema = s; trees = db }) statement None command (Ok (w.tally, new.now))) ready.schema.1 w.changed in
+      let did = updated old.step_limit (mode_of old) params (record { schema = schema; trees = db }) new.now statement at place w.tally is.is_placed.got (renewal place.tree terms becomes) here in
       let rows : List Row = did.1 in
-      let edit : Edit = edit_of db table (ids_of rows) Given 1 rows in
-      let apart : AreApart (db table.tree) = table_apart db at table is_renewal.got ready.tables in
-      let answer = subst (λ stored. IsPermutation (map (shows params becomes) (filter (passes params terms) stored)) rows) (is_renewal.stored db)
-      (answers_permuted table.tree terms becomes (overlay db []) params rows (did.2.answer Null)) in
-      let applies = one_step office_schema Enforced db new.now.trees edit (no_works db rows) did.3 in
-      let now_apart = apart_edited office_schema Enforced db new.now.trees edit applies apart in
+      let edit : Edit = edit_at layout db rows in
+      let apart : AreApart (db place.tree) = apart_before table old.now ready is.is_placed in
+      let answer = subst (λ stored. IsPermutation (map (shows params becomes) (filter (passes params terms) stored)) rows) (own_table db place.tree)
+      (answers_permuted place.tree terms becomes (overlay db []) params rows (did.2.answer Null)) in
+      let applies = one_step schema Enforced db new.now.trees edit (no_works layout db rows) did.3 in
+      let changed = one_changed table old.now ready is.is_placed new.now did.0 w.sound (apart_edited schema Enforced db new.now.trees edit applies apart) applies.tables in
       let news : edit.news ≡ map (λ x. cast_row table (drop 1 x)) rows = numbered-given _ _ in
-      let same = tested old.now ready.schema ready.sound in (
+      let named = λ (r : Row) (there : Has (db place.tree) r). subst (λ l. Has l r) (sym changed.before) there in
+      let same = λ (r : Row) (there : Has (db place.tree) r). tested old.now ready.schema ready.sound r (named r there) in (
         λ premise.
-            let becomes_it = λ (r : Row) (there : Has (db table.tree) r) (passed : test r ≡ true). shown old.now ready.schema ready.sound premise r there (apart.ints r there) passed in
+            let becomes_it = λ (r : Row) (there : Has (db place.tree) r) (passed : test r ≡ true). shown old.now ready.schema ready.sound premise r (named r there) (apart.ints r there) passed in
+            let are = are_renewed (db place.tree) rows apart answer (new.now.trees place.tree) edit.news applies.rows applies.fresh news same becomes_it in
             record {
-              rows = are_renewed (db table.tree) rows apart answer (new.now.trees table.tree) edit.news applies.rows applies.fresh news same becomes_it;
-              others = applies.tables;
+              rows = subst₂ (AreRenewed test renewed) (sym changed.before) (sym changed.after) are;
+              others = changed.others;
+              schema = changed.schema;
             },
-        record { schema = did.0; sound = w.sound; tables = one_changes db new.now.trees table.tree ready.tables now_apart applies.tables },
+        changed.ready,
       )
 
-  pub renews_rows : Renews text params table.tree test renewed Premise
-  renews_rows old new r steady runs survives = executes_inside text params old new (λ before after. Premise before → RenewsRows table.tree test renewed before after) r steady runs survives (renews old new)
+  pub renews_rows : Renews text params table.name test renewed Premise
+  renews_rows old new r steady runs survives = executes_inside text params old new (λ before after. Premise before → RenewsRows table.name test renewed before after) r steady runs survives (renews old new)

@@ -9,33 +9,30 @@ use Rattle.sqlite.specs.Collation.TheVariants.{Binary}
 use Rattle.sqlite.specs.declared.types.Value.TheVariants.{Null}
 use Rattle.sqlite.specs.Order.{Row}
 use Rattle.sqlite.specs.Term.{col}
-use Rattle.sqlite.specs.Command.TheVariants.{Select}
 use Rattle.sqlite.specs.Program.{overlay}
 use Rattle.sqlite.specs.Query.{Query, IsAnswer, Output, output, output_cmp}
 use Rattle.sqlite.specs.Tree.{Trees}
-use Rattle.sqlite.specs.Listing.{understood, reads_listing}
 use Rattle.sqlite.specs.State.{State, Shown}
-use Rattle.sqlite.proofs.Callers.{IsPlain, command_of, reads_as}
+use Rattle.sqlite.proofs.Callers.{reads_as}
 use Rattle.sqlite_rules.specs.Lists.{Has}
 use Rattle.sqlite_rules.proofs.ListLemmas.{has_at}
 use Rattle.sql_laws.specs.PlainQueries.{plain_query, passes}
 use Rattle.sql_laws.proofs.PlainQueries.{outputs_are, ordered_permuted}
 use Rattle.sql_laws.proofs.RemovedRows.{from_mapped, has_permuted}
-use Rattle.sql_schema.specs.Schema.{office_schema}
+use Rattle.sqlite.specs.Table.{Table}
 use Rattle.sql_schema.specs.Keys.{columns}
 use Rattle.sql_schema.specs.Inside.{IsReady}
-use Rattle.sql_schema.proofs.Queries.{ReadsAll, queries_inside, own_table, shows_columns}
+use Rattle.sql_schema.proofs.Queries.{Asks, ReadsAll, queries_inside, rows_read, shows_columns}
 use Rattle.sql_statements.specs.Tables.{by_columns, ShowsTable}
+use Rattle.sql_schema.specs.Layouts.{Layout, schema_of, placed, IsPlaced}
 
 -- these columns of a table's rows, upwards by some of them, one after the other
 abbrev pub table_query : ℕ → List ℕ → List ℕ → Query
 table_query tree places by =
     record (plain_query tree [] (map (col 1) places)) { order = map (λ place. (col 1 place, record { collation = Binary; descending = false })) by }
 
-abbrev pub IsTableQuery : List ℕ → ℕ → List ℕ → List ℕ → List (List ℕ) → Type 0
-IsTableQuery text tree places by names =
-    (command_of (understood office_schema text) ≡ Select (record { lets = []; body = table_query tree places by }) names)
-    × (reads_listing office_schema text ≡ false) × IsPlain (understood office_schema text)
+abbrev pub IsTableQuery : List ℕ → Table → List ℕ → List ℕ → List (List ℕ) → Type 0
+IsTableQuery text table places by names = (layout : Layout) → Asks layout text (table_query (placed layout table).tree places by) names
 
 -- what is in the order of outputs is in an order of what they show, where the two compare alike
 shown_sorted : (outputs : List Output) (compare : Output → Output → Ordering) (by : Row → Row → Ordering)
@@ -56,7 +53,8 @@ all_pass : (rows : List Row) → filter (passes [] []) rows ≡ rows
 all_pass [] = refl
 all_pass (row ∷ rows) = ap (λ more. row ∷ more) (all_pass rows)
 
-module _ (text : List ℕ) (tree : ℕ) (places by order : List ℕ) (names : List (List ℕ)) (means : IsTableQuery text tree places by names)
+-- the answer of such a query on a tree
+module _ (tree : ℕ) (places by order : List ℕ)
     (alike : (r s : Row) → output_cmp (table_query tree places by) (output (table_query tree places by) ([] ∷ r ∷ [])) (output (table_query tree places by) ([] ∷ s ∷ []))
     ≡ by_columns order (columns places r) (columns places s)) where
   abbrev query : Query
@@ -87,15 +85,21 @@ module _ (text : List ℕ) (tree : ℕ) (places by order : List ℕ) (names : Li
         subst (λ l. IsPermutation l rows) (ap (λ (f : Row → Row). map f (filter (passes [] []) (db tree))) (fun_ext (shows_columns [] places)) ∙ ap (map (columns places)) (all_pass (db tree)))
         (ordered_permuted tree [] (map (col 1) places) _ db [] rows answer)
 
-  shows_table : (old new : State) (rows : List Row) → IsReady old → Shown text [] old new rows → ShowsTable tree places order old.now rows
+module _ (text : List ℕ) (table : Table) (is_placed : (layout : Layout) → IsPlaced layout table) (places by order : List ℕ) (names : List (List ℕ)) (means : IsTableQuery text table places by names)
+    (alike : (tree : ℕ) (r s : Row) → output_cmp (table_query tree places by) (output (table_query tree places by) ([] ∷ r ∷ [])) (output (table_query tree places by) ([] ∷ s ∷ []))
+    ≡ by_columns order (columns places r) (columns places s)) where
+  shows_table : (old new : State) (rows : List Row) → IsReady old → Shown text [] old new rows → ShowsTable table.name places order old.now rows
   shows_table old new rows ready h =
-      let read = reads_as text [] old new office_schema ready.schema _ means.0 means.2 means.1 rows h in
+      let layout = ready.schema.0 in
+      let tree = (placed layout table).tree in
+      let asks = means layout in
+      let read = reads_as text [] old new (schema_of layout) ready.schema.1 _ asks.command asks.plain asks.own_tables rows h in
       let answer = read.answer Null in
       record {
-        all = subst (λ l. IsPermutation (map (columns places) l) rows) (own_table old.now.trees tree) (all_shown (overlay old.now.trees []) rows answer);
-        in_order = in_order (overlay old.now.trees []) rows answer;
+        all = subst (λ l. IsPermutation (map (columns places) l) rows) (rows_read layout table (is_placed layout) old.now ready.schema.1) (all_shown tree places by order (alike tree) (overlay old.now.trees []) rows answer);
+        in_order = in_order tree places by order (alike tree) (overlay old.now.trees []) rows answer;
       }
 
-  pub reads_table : ReadsAll text [] (ShowsTable tree places order)
+  pub reads_table : ReadsAll text [] (ShowsTable table.name places order)
   reads_table A rows_of old new r =
-      queries_inside text [] old new means.2 rows_of (λ db a. ShowsTable tree places order db (rows_of a)) (λ a ready h. shows_table old new (rows_of a) ready h) r
+      queries_inside text [] old new (λ layout. (means layout).plain) rows_of (λ db a. ShowsTable table.name places order db (rows_of a)) (λ a ready h. shows_table old new (rows_of a) ready h) r

@@ -23,16 +23,17 @@ use Rattle.sqlite_rules.specs.Edit.{id_in}
 use Rattle.sqlite_rules.specs.Lists.{Has}
 use Rattle.sqlite_rules.proofs.TableLemmas.{int_is}
 use Rattle.sql_laws.specs.PlainQueries.{passes, shows}
-use Rattle.sql_laws.proofs.Columns.{text_or_null_at}
 use Rattle.sql_laws.proofs.Comparisons.{ints_compared}
-use Rattle.sql_schema.specs.Schema.{office_schema, unit_tree, nullable_column}
 use Rattle.sql_schema.specs.Rows.{text_or_null, unit_row}
 use Rattle.sql_schema.proofs.Insertions.{cast_int, cast_text_or_null}
-use Rattle.sql_schema.proofs.TableRows.{units, units_listed, unit_langs, unit_keys}
-use Rattle.sql_schema.proofs.TextKeys.{holds_text, holds_int}
-use Rattle.sql_schema.proofs.UnitKeys.{none_act}
+use Rattle.sql_schema.proofs.TableRows.{unit_langs, unit_keys}
+use Rattle.sql_schema.proofs.TextKeys.{holds_text, holds_text_or_null, holds_int}
+use Rattle.sql_statements.proofs.Untouched.{none_refers}
 use Rattle.sql_statements.specs.Renewed.{is_approved_row, unapproved_row, HaveNextRevisions}
 use Rattle.sql_statements.proofs.Renewals.{IsRenewal, Renews, renews_rows}
+use Rattle.sql_schema.specs.Layouts.{Layout, made_new, schema_of, HasLayout, placed, rows_named}
+use Rattle.sql_schema.proofs.Layouts.{unit_placed}
+use Rattle.sql_schema.specs.Schema.{unit_table}
 
 -- ---- the text
 
@@ -46,14 +47,13 @@ abbrev becomes : List Term
 becomes =
     col 1 0 ∷ col 1 0 ∷ col 1 1 ∷ col 1 2 ∷ col 1 3 ∷ col 1 4 ∷ lit (Int (pos 2)) ∷ col 1 6 ∷ op2 (by.Arith arithmetic.Add) (col 1 7) (lit (Int (pos 1))) ∷ col 1 8 ∷ col 1 9 ∷ []
 
-update_is : IsRenewal update_text 5 units update_terms becomes
+update_is : (layout : Layout) → IsRenewal layout update_text unit_table update_terms becomes
 unfolding understood same_name joined everything
-update_is = record {
-  got = refl;
+update_is made_new = record {
+  is_placed = unit_placed made_new;
   is = refl;
   plain = (refl, refl);
-  stored = λ trees. refl;
-  none = λ n rest olds. none_act (n ∷ rest) olds n (inl refl);
+  none = none_refers (schema_of made_new) (placed made_new unit_table).tree (λ olds news. refl);
   no_rows = refl;
 }
 
@@ -64,30 +64,30 @@ unfolding binary
 plus_one n fits = rw fits refl
 
 cast_unit : (id : ℤ) (lang key : List ℕ) (plural : Option (List ℕ)) (forms : List ℕ) (state obsolete revision : ℤ) (comment previous : List ℕ)
-    → cast_row units (Int id ∷ unit_row lang key plural forms state obsolete revision comment previous) ≡ Int id ∷ unit_row lang key plural forms state obsolete revision comment previous
+    → cast_row unit_table (Int id ∷ unit_row lang key plural forms state obsolete revision comment previous) ≡ Int id ∷ unit_row lang key plural forms state obsolete revision comment previous
 cast_unit id lang key plural forms state obsolete revision comment previous = rw (cast_int id, cast_int state, cast_int obsolete, cast_int revision, cast_text_or_null plural) refl
 
-module _ (db : Database) (has : db.schema ≡ office_schema) (sound : IsDatabase db) (row : Row) (there : Has (db.trees unit_tree) row) where
+module _ (db : Database) (has : HasLayout db) (sound : IsDatabase db) (row : Row) (there : Has (rows_named db (codes "unit")) row) where
   state_is : column row 5 ≡ Int (id_in (column row 5))
-  state_is = holds_int units units_listed 4 (codes "state") refl db has sound row there refl
+  state_is = holds_int unit_table unit_placed 4 (codes "state") refl db has sound row there refl
 
   obsolete_is : column row 6 ≡ Int (id_in (column row 6))
-  obsolete_is = holds_int units units_listed 5 (codes "obsolete") refl db has sound row there refl
+  obsolete_is = holds_int unit_table unit_placed 5 (codes "obsolete") refl db has sound row there refl
 
   revision_is : column row 7 ≡ Int (id_in (column row 7))
-  revision_is = holds_int units units_listed 6 (codes "revision") refl db has sound row there refl
+  revision_is = holds_int unit_table unit_placed 6 (codes "revision") refl db has sound row there refl
 
   forms_are : column row 4 ≡ Text (bytes (column row 4))
-  forms_are = holds_text units units_listed 3 (codes "forms") refl db has sound row there refl
+  forms_are = holds_text unit_table unit_placed 3 (codes "forms") refl db has sound row there refl
 
   comment_is : column row 8 ≡ Text (bytes (column row 8))
-  comment_is = holds_text units units_listed 7 (codes "comment") refl db has sound row there refl
+  comment_is = holds_text unit_table unit_placed 7 (codes "comment") refl db has sound row there refl
 
   previous_is : column row 9 ≡ Text (bytes (column row 9))
-  previous_is = holds_text units units_listed 8 (codes "previous") refl db has sound row there refl
+  previous_is = holds_text unit_table unit_placed 8 (codes "previous") refl db has sound row there refl
 
   plural_is : (plural : Option (List ℕ)) × (column row 3 ≡ text_or_null plural)
-  plural_is = elim (text_or_null_at db.schema db.trees units row 2 (nullable_column (codes "plural")) sound.obeys (subst (λ s. Has s.tables units) (sym has) units_listed) there refl refl refl refl) [
+  plural_is = elim (holds_text_or_null unit_table unit_placed 2 (codes "plural") refl db has sound row there refl) [
     | inl none ↦ (None, none)
     | inr some ↦ (Some some.0, some.1)
   ]
@@ -97,15 +97,15 @@ module _ (db : Database) (has : db.schema ≡ office_schema) (sound : IsDatabase
   tested = and-true _ ∙ ints_compared (column row 5) (Int (pos 3)) (subst (λ v. is_int v ≡ true) (sym state_is) refl) refl
 
   -- the unit's row, column by column
-  becomes_it : (whole : is_int (rowid row) ≡ true) → fits_i64 (id_in (column row 7) +ℤ pos 1) ≡ true → cast_row units (drop 1 (shows [] becomes row)) ≡ unapproved_row row
+  becomes_it : (whole : is_int (rowid row) ≡ true) → fits_i64 (id_in (column row 7) +ℤ pos 1) ≡ true → cast_row unit_table (drop 1 (shows [] becomes row)) ≡ unapproved_row row
   becomes_it whole fits =
       let plus : binary (by.Arith arithmetic.Add) (column row 7) (Int (pos 1)) ≡ Int (id_in (column row 7) +ℤ pos 1) = subst (λ v. binary (by.Arith arithmetic.Add) v (Int (pos 1)) ≡ Int (id_in (column row 7) +ℤ pos 1)) (sym revision_is) (plus_one _ fits) in
       let cells : unapproved_row row
       ≡ Int (id_in (rowid row)) ∷ unit_row (bytes (column row 1)) (bytes (column row 2)) plural_is.0 (bytes (column row 4)) (pos 2) (id_in (column row 6)) (id_in (column row 7) +ℤ pos 1) (bytes (column row 8)) (bytes (column row 9)) =
       λ i. int_is (rowid row) whole i ∷ unit_langs db has sound row there i ∷ unit_keys db has sound row there i ∷ plural_is.1 i ∷ forms_are i ∷ Int (pos 2) ∷ obsolete_is i ∷ Int (id_in (column row 7) +ℤ pos 1) ∷ comment_is i ∷ previous_is i ∷ [] in
       let given : drop 1 (shows [] becomes row) ≡ unapproved_row row = λ i. column row 0 ∷ column row 1 ∷ column row 2 ∷ column row 3 ∷ column row 4 ∷ Int (pos 2) ∷ column row 6 ∷ plus i ∷ column row 8 ∷ column row 9 ∷ [] in
-      ap (cast_row units) (given ∙ cells) ∙ cast_unit _ _ _ plural_is.0 _ _ _ _ _ _ ∙ sym cells
+      ap (cast_row unit_table) (given ∙ cells) ∙ cast_unit _ _ _ plural_is.0 _ _ _ _ _ _ ∙ sym cells
 
-pub unapproves_units : Renews update_text [] unit_tree is_approved_row unapproved_row HaveNextRevisions
+pub unapproves_units : Renews update_text [] (codes "unit") is_approved_row unapproved_row HaveNextRevisions
 unapproves_units = renews_rows update_is [] is_approved_row unapproved_row HaveNextRevisions (λ row. refl) tested
     (λ db has sound premise row there whole passed. becomes_it db has sound row there whole (premise row there passed))

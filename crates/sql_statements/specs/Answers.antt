@@ -1,40 +1,39 @@
 -- What the queries show of the rows, column by column: of one row by its key, or of several.
-use Rattle.std.specs.Prelude.{pos, ℕ, List, [], ◌∷◌, Option}
+use Rattle.std.specs.Prelude.{pos, ℕ, List, [], ◌∷◌, Option, codes}
 use Rattle.sqlite.specs.declared.types.Value.TheVariants.{Int}
 use Rattle.sqlite.specs.Order.{Row}
 use Rattle.sqlite.specs.Effect.{Database}
-use Rattle.sql_schema.specs.Schema.{record_tree, team_tree, policy_tree, template_tree, language_tree, unit_tree, suggestion_tree, vote_tree}
 use Rattle.sql_schema.specs.Keys.{first_text, first_texts, second_text, row_number, has_text, is_on_unit, columns}
 use Rattle.sql_schema.specs.Inside.{ShowsKey, ShowsAll, IsInOrder}
 
 -- content, status, body
 abbrev pub ShowsRecord : List ℕ → Database → Option Row → Type 0
-ShowsRecord = ShowsKey record_tree first_text (columns (2 ∷ 3 ∷ 4 ∷ []))
+ShowsRecord = ShowsKey (codes "record") first_text (columns (2 ∷ 3 ∷ 4 ∷ []))
 
 -- role
 abbrev pub ShowsMember : List ℕ → Database → Option Row → Type 0
-ShowsMember = ShowsKey team_tree first_text (columns (2 ∷ []))
+ShowsMember = ShowsKey (codes "team") first_text (columns (2 ∷ []))
 
 -- header, plural
 abbrev pub ShowsLanguage : List ℕ → Database → Option Row → Type 0
-ShowsLanguage = ShowsKey language_tree first_text (columns (2 ∷ 3 ∷ []))
+ShowsLanguage = ShowsKey (codes "language") first_text (columns (2 ∷ 3 ∷ []))
 
 -- schema, and the six values
 abbrev pub ShowsPolicy : Database → Option Row → Type 0
-ShowsPolicy = ShowsKey policy_tree row_number (columns (2 ∷ 3 ∷ 4 ∷ 5 ∷ 6 ∷ 7 ∷ 8 ∷ [])) (Int (pos 1))
+ShowsPolicy = ShowsKey (codes "policy") row_number (columns (2 ∷ 3 ∷ 4 ∷ 5 ∷ 6 ∷ 7 ∷ 8 ∷ [])) (Int (pos 1))
 
 -- plural, forms, state, obsolete, revision, comment, previous
 abbrev pub ShowsUnit : List ℕ → List ℕ → Database → Option Row → Type 0
-ShowsUnit lang key = ShowsKey unit_tree first_texts (columns (3 ∷ 4 ∷ 5 ∷ 6 ∷ 7 ∷ 8 ∷ 9 ∷ [])) (lang ∷ key ∷ [])
+ShowsUnit lang key = ShowsKey (codes "unit") first_texts (columns (3 ∷ 4 ∷ 5 ∷ 6 ∷ 7 ∷ 8 ∷ 9 ∷ [])) (lang ∷ key ∷ [])
 
 -- plural, extracted, refs, flags
 abbrev pub ShowsEntry : List ℕ → Database → Option Row → Type 0
-ShowsEntry = ShowsKey template_tree second_text (columns (3 ∷ 4 ∷ 5 ∷ 6 ∷ []))
+ShowsEntry = ShowsKey (codes "template") second_text (columns (3 ∷ 4 ∷ 5 ∷ 6 ∷ []))
 
 -- number, place, suggester, forms, in the order of the places
 abbrev pub ShowsSuggestions : List ℕ → List ℕ → Database → List Row → Type 0
-ShowsSuggestions lang key db rows = ShowsAll suggestion_tree (is_on_unit lang key) (columns (1 ∷ 4 ∷ 5 ∷ 6 ∷ [])) db rows × IsInOrder 1 rows
+ShowsSuggestions lang key db rows = ShowsAll (codes "suggestion") (is_on_unit lang key) (columns (1 ∷ 4 ∷ 5 ∷ 6 ∷ [])) db rows × IsInOrder 1 rows
 
 -- voter, value
 abbrev pub ShowsVotes : List ℕ → Database → List Row → Type 0
-ShowsVotes number = ShowsAll vote_tree (has_text 1 number) (columns (2 ∷ 3 ∷ []))
+ShowsVotes number = ShowsAll (codes "vote") (has_text 1 number) (columns (2 ∷ 3 ∷ []))

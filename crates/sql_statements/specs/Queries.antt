@@ -1,6 +1,6 @@
 -- What an export reads: the template's entries in the order of their places, each beside its unit, and the obsolete units in the order of
 -- their keys.
-use Rattle.std.specs.Prelude.{◌≡◌, ◌&&◌, ℕ, Bool, pos, List, [], ◌∷◌, ◌++◌, map}
+use Rattle.std.specs.Prelude.{◌≡◌, ◌&&◌, ℕ, Bool, pos, List, [], ◌∷◌, ◌++◌, map, codes}
 use Rattle.sqlite.specs.declared.types.Value.TheVariants.{Int}
 use Rattle.std.specs.List.Sorted.{IsPermutation, IsSorted}
 use Rattle.std.specs.declared.cmp.Ordering.{Ordering}
@@ -8,20 +8,19 @@ use Rattle.std.specs.declared.cmp.Ordering.TheVariants.{Equal}
 use Rattle.std.specs.Ordering.{on, then_cmp, is_eq}
 use Rattle.sqlite.specs.Order.{Row, column, value_cmp}
 use Rattle.sqlite.specs.Effect.{Database}
-use Rattle.sqlite.specs.Tree.{Trees}
 use Rattle.sqlite_rules.specs.Lists.{Has}
-use Rattle.sql_schema.specs.Schema.{template_tree, unit_tree}
 use Rattle.sql_schema.specs.Keys.{first_texts, second_text, has_text, columns}
 use Rattle.sql_schema.specs.Inside.{ShowsAll, IsInOrder}
+use Rattle.sql_schema.specs.Layouts.{NamedRows, rows_named}
 
 -- rows by one of their columns
 abbrev pub by_column : ℕ → Row → Row → Ordering
 by_column place = then_cmp (on (λ row. column row place) value_cmp) (λ a b. Equal)
 
 -- each row of the template has this row of the language's units, which is of its key
-pub record AreUnits (lang : List ℕ) (trees : Trees) (unit_of : Row → Row) : Type 0 where
-  pub there : (row : Row) → Has (trees template_tree) row → Has (trees unit_tree) (unit_of row)
-  pub keyed : (row : Row) → Has (trees template_tree) row → first_texts (unit_of row) ≡ lang ∷ second_text row ∷ []
+pub record AreUnits (lang : List ℕ) (rows : NamedRows) (unit_of : Row → Row) : Type 0 where
+  pub there : (row : Row) → Has (rows (codes "template")) row → Has (rows (codes "unit")) (unit_of row)
+  pub keyed : (row : Row) → Has (rows (codes "template")) row → first_texts (unit_of row) ≡ lang ∷ second_text row ∷ []
 
 -- plural, extracted, refs, flags, key, place
 abbrev pub entry_places : List ℕ
@@ -33,7 +32,7 @@ unit_places = 4 ∷ 5 ∷ 8 ∷ 9 ∷ []
 
 -- Each entry of the template beside its unit, by place.
 pub record ShowsMessages (unit_of : Row → Row) (db : Database) (rows : List Row) : Type 0 where
-  pub all : IsPermutation (map (λ row. columns entry_places row ++ columns unit_places (unit_of row)) (db.trees template_tree)) rows
+  pub all : IsPermutation (map (λ row. columns entry_places row ++ columns unit_places (unit_of row)) (rows_named db (codes "template"))) rows
   pub in_order : IsSorted (by_column 5) rows
 
 -- an obsolete unit of a language
@@ -42,5 +41,5 @@ is_obsolete_of lang row = has_text 1 lang row && is_eq (value_cmp (column row 6)
 
 -- Each obsolete unit of a language, by key: its plural, forms, state, comment, previous and key.
 pub record ShowsObsolete (lang : List ℕ) (db : Database) (rows : List Row) : Type 0 where
-  pub all : ShowsAll unit_tree (is_obsolete_of lang) (columns (3 ∷ 4 ∷ 5 ∷ 8 ∷ 9 ∷ 2 ∷ [])) db rows
+  pub all : ShowsAll (codes "unit") (is_obsolete_of lang) (columns (3 ∷ 4 ∷ 5 ∷ 8 ∷ 9 ∷ 2 ∷ [])) db rows
   pub in_order : IsInOrder 5 rows

@@ -1,6 +1,5 @@
 -- Rows of a table become others where they stand: those of approved units under a policy without reviews.
-use Rattle.std.specs.Prelude.{◌≡◌, ◌≢◌, ◌⊎◌, ℕ, pos, ◌+ℤ◌, Bool, true, false, List, [], ◌∷◌}
-use Rattle.std.specs.List.{AllByRecursion}
+use Rattle.std.specs.Prelude.{◌≡◌, ◌⊎◌, ℕ, pos, ◌+ℤ◌, Bool, true, false, List, [], ◌∷◌, codes}
 use Rattle.std.specs.Ordering.{is_eq}
 use Rattle.sqlite.specs.declared.types.Value.TheVariants.{Int}
 use Rattle.sqlite.specs.Order.{Row, column, value_cmp}
@@ -8,7 +7,7 @@ use Rattle.sqlite.specs.Effect.{Database}
 use Rattle.sqlite_sql.specs.Ops.{fits_i64}
 use Rattle.sqlite_rules.specs.Edit.{id_in}
 use Rattle.sqlite_rules.specs.Lists.{Has}
-use Rattle.sql_schema.specs.Schema.{office_schema, unit_tree}
+use Rattle.sql_schema.specs.Layouts.{rows_named, SparesOthers}
 
 -- The rows that pass a test become what they are to become, and the others stay.
 pub record AreRenewed (test : Row → Bool) (renewed : Row → Row) (old new : List Row) : Type 0 where
@@ -16,10 +15,11 @@ pub record AreRenewed (test : Row → Bool) (renewed : Row → Row) (old new : L
   pub kept : (x : Row) → Has old x → test x ≡ false → Has new x
   pub made : (x : Row) → Has old x → test x ≡ true → Has new (renewed x)
 
--- Those of one table do, and the other tables are as they were.
-pub record RenewsRows (tree : ℕ) (test : Row → Bool) (renewed : Row → Row) (old new : Database) : Type 0 where
-  pub rows : AreRenewed test renewed (old.trees tree) (new.trees tree)
-  pub others : AllByRecursion (λ t. t.tree ≢ tree → new.trees t.tree ≡ old.trees t.tree) office_schema.tables
+-- Those of the table of this name do, and the other tables are as they were.
+pub record RenewsRows (name : List ℕ) (test : Row → Bool) (renewed : Row → Row) (old new : Database) : Type 0 where
+  pub rows : AreRenewed test renewed (rows_named old name) (rows_named new name)
+  pub others : SparesOthers name (rows_named old) (rows_named new)
+  pub schema : new.schema ≡ old.schema
 
 -- a unit's row whose state is 3: approved
 abbrev pub is_approved_row : Row → Bool
@@ -32,8 +32,8 @@ unapproved_row row =
 
 -- 64 bits hold the revision after that of each approved unit
 abbrev pub HaveNextRevisions : Database → Type 0
-HaveNextRevisions db = (row : Row) → Has (db.trees unit_tree) row → is_approved_row row ≡ true → fits_i64 (id_in (column row 7) +ℤ pos 1) ≡ true
+HaveNextRevisions db = (row : Row) → Has (rows_named db (codes "unit")) row → is_approved_row row ≡ true → fits_i64 (id_in (column row 7) +ℤ pos 1) ≡ true
 
 -- no unit stays approved
 abbrev pub UnapprovesUnits : Database → Database → Type 0
-UnapprovesUnits old new = HaveNextRevisions old → RenewsRows unit_tree is_approved_row unapproved_row old new
+UnapprovesUnits old new = HaveNextRevisions old → RenewsRows (codes "unit") is_approved_row unapproved_row old new

@@ -1,12 +1,11 @@
 //! The table of languages.
-ghost use Rattle.std.specs.Prelude.{◌≡◌, ◌∷◌, []};
+ghost use Rattle.std.specs.Prelude.{◌≡◌, ◌∷◌, [], codes};
 ghost use Rattle.sqlite.specs.Held.{state};
 ghost use Rattle.sql_schema.specs.Inside.{IsSteady, IsRead, IsInside, PutsRow, HoldsValues};
 ghost use Rattle.sql_statements.specs.Answers.{ShowsLanguage};
 ghost use Rattle.sql_statements.specs.Tables.{ShowsLanguages};
 ghost use Rattle.sqlite.specs.declared.types.Value.TheVariants.{Text};
 ghost use Rattle.sql_schema.specs.Keys.{first_text};
-ghost use Rattle.sql_schema.specs.Schema.{language_tree};
 
 use sqlite::{Alter, Error, Row, Transaction, params};
 
@@ -33,7 +32,7 @@ pub fn put_language<S: Alter>(
     requires steady { IsSteady (state S.Store tx.old.conn.now) }
     ensures same_reference { tx.new.conn.ghost_name ≡ tx.old.conn.ghost_name }
     ensures put { IsInside (state S.Store tx.old.conn.now) (state S.Store tx.new.conn.now) result
-        (PutsRow language_tree first_text (HoldsValues (Text lang.now ∷ Text header.now ∷ Text plural.now ∷ []))) }
+        (PutsRow (codes "language") first_text (HoldsValues (Text lang.now ∷ Text header.now ∷ Text plural.now ∷ []))) }
 {
     tx.execute(
         "INSERT INTO language (lang, header, plural) VALUES (?1, ?2, ?3)",

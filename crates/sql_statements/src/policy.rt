@@ -1,10 +1,9 @@
 //! The table of the policy, which has one row.
-ghost use Rattle.std.specs.Prelude.{◌≡◌, ◌∷◌, [], pos};
+ghost use Rattle.std.specs.Prelude.{◌≡◌, ◌∷◌, [], pos, codes};
 ghost use Rattle.sqlite.specs.Held.{state};
 ghost use Rattle.sqlite.specs.declared.types.Value.TheVariants.{Null, Int};
 ghost use Rattle.sql_schema.specs.Inside.{IsSteady, IsInside, PutsRow, IsRead};
 ghost use Rattle.sql_schema.specs.Keys.{row_number};
-ghost use Rattle.sql_schema.specs.Schema.{policy_tree};
 ghost use Rattle.sql_statements.specs.Answers.{ShowsPolicy};
 
 use sqlite::{Alter, Error, Row, Transaction, params};
@@ -24,7 +23,7 @@ pub fn set_policy<S: Alter>(
     requires steady { IsSteady (state S.Store tx.old.conn.now) }
     ensures same_reference { tx.new.conn.ghost_name ≡ tx.old.conn.ghost_name }
     ensures put { IsInside (state S.Store tx.old.conn.now) (state S.Store tx.new.conn.now) result
-        (PutsRow policy_tree row_number (λ row. row ≡ Int (pos 1) ∷ Null ∷ Int schema ∷ Int reviews ∷ Int guests_suggest ∷ Int voting ∷ Int accept_at ∷ Int placeholders ∷ Int line_ends ∷ [])) }
+        (PutsRow (codes "policy") row_number (λ row. row ≡ Int (pos 1) ∷ Null ∷ Int schema ∷ Int reviews ∷ Int guests_suggest ∷ Int voting ∷ Int accept_at ∷ Int placeholders ∷ Int line_ends ∷ [])) }
 {
     tx.execute(
         "INSERT INTO policy (one, schema, reviews, guests_suggest, voting, accept_at, placeholders, line_ends) VALUES (1, ?1, ?2, ?3, ?4, ?5, ?6, ?7) ON CONFLICT (one) DO UPDATE SET schema = excluded.schema, reviews = excluded.reviews, guests_suggest = excluded.guests_suggest, voting = excluded.voting, accept_at = excluded.accept_at, placeholders = excluded.placeholders, line_ends = excluded.line_ends",

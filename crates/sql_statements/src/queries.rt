@@ -7,6 +7,7 @@ ghost use Rattle.sqlite.specs.State.{HasCleanDisk};
 ghost use Rattle.sql_schema.specs.Whole.{IsIdle, IsLookUp};
 ghost use Rattle.sql_statements.specs.Queries.{AreUnits, ShowsMessages, ShowsObsolete};
 ghost use Rattle.sql_streams.specs.Walks.{HandsOut};
+ghost use Rattle.sql_schema.specs.Layouts.{rows_named};
 
 use sql_streams::{RowSink, WalkFault, walk};
 use sqlite::{Alter, Connection, params};
@@ -20,7 +21,7 @@ pub fn walk_messages<S: Alter, K: RowSink>(
     requires autocommit { connection.old.in_transaction ≡ false }
     requires idle { IsIdle (state S.Store connection.old) }
     requires is_open { HasCleanDisk (state S.Store connection.old) → IsTrue (state S.Store connection.old).is_open }
-    ensures handed { (unit_of : RowValue → RowValue) → AreUnits lang.now (state S.Store connection.old).now.trees unit_of → HasCleanDisk (state S.Store connection.new)
+    ensures handed { (unit_of : RowValue → RowValue) → AreUnits lang.now (rows_named (state S.Store connection.old).now) unit_of → HasCleanDisk (state S.Store connection.new)
         → HandsOut K.Took K.Refuses (ShowsMessages unit_of (state S.Store connection.old).now) sink.old sink.new result }
     ensures looked { IsLookUp (state S.Store connection.old) (state S.Store connection.new) result (λ _ _. ⊤) }
 {

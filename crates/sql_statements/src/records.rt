@@ -1,10 +1,9 @@
 //! The table of records.
-ghost use Rattle.std.specs.Prelude.{◌≡◌, ◌∷◌, []};
+ghost use Rattle.std.specs.Prelude.{◌≡◌, ◌∷◌, [], codes};
 ghost use Rattle.sqlite.specs.Held.{state};
 ghost use Rattle.sqlite.specs.declared.types.Value.TheVariants.{Int, Text};
 ghost use Rattle.sql_schema.specs.Inside.{IsSteady, IsInside, PutsRow, HoldsValues, IsRead};
 ghost use Rattle.sql_schema.specs.Keys.{first_text};
-ghost use Rattle.sql_schema.specs.Schema.{record_tree};
 ghost use Rattle.sql_statements.specs.RecordTable.{ShowsRecords};
 ghost use Rattle.sql_statements.specs.Answers.{ShowsRecord};
 
@@ -22,7 +21,7 @@ pub fn put_record<S: Alter>(
     requires steady { IsSteady (state S.Store tx.old.conn.now) }
     ensures same_reference { tx.new.conn.ghost_name ≡ tx.old.conn.ghost_name }
     ensures put { IsInside (state S.Store tx.old.conn.now) (state S.Store tx.new.conn.now) result
-        (PutsRow record_tree first_text (HoldsValues (Text number.now ∷ Text content.now ∷ Int status ∷ Text body.now ∷ []))) }
+        (PutsRow (codes "record") first_text (HoldsValues (Text number.now ∷ Text content.now ∷ Int status ∷ Text body.now ∷ []))) }
 {
     tx.execute(
         "INSERT INTO record (number, content, status, body) VALUES (?1, ?2, ?3, ?4)",

@@ -1,11 +1,10 @@
 //! The table of suggestions.
-ghost use Rattle.std.specs.Prelude.{◌≡◌, ◌∷◌, []};
+ghost use Rattle.std.specs.Prelude.{◌≡◌, ◌∷◌, [], codes};
 ghost use Rattle.sqlite.specs.Held.{state};
 ghost use Rattle.sqlite.specs.declared.types.Value.TheVariants.{Int, Text};
 ghost use Rattle.sql_schema.specs.Cleared.{ClearsUnit};
 ghost use Rattle.sql_schema.specs.Inside.{IsSteady, IsInside, HoldsValues, IsRead};
 ghost use Rattle.sql_schema.specs.Keys.{first_text};
-ghost use Rattle.sql_schema.specs.Schema.{suggestion_tree};
 ghost use Rattle.sql_statements.specs.Added.{AddsRow};
 ghost use Rattle.sql_statements.specs.Tables.{ShowsSuggestions as ShowsAllSuggestions};
 ghost use Rattle.sql_statements.specs.Answers.{ShowsSuggestions};
@@ -44,7 +43,7 @@ pub fn add_suggestion<'a, S: Alter>(
     requires steady { IsSteady (state S.Store tx.old.conn.now) }
     ensures same_reference { tx.new.conn.ghost_name ≡ tx.old.conn.ghost_name }
     ensures added { IsInside (state S.Store tx.old.conn.now) (state S.Store tx.new.conn.now) result
-        (AddsRow suggestion_tree first_text (HoldsValues (Text number.now ∷ Text lang.now ∷ Text key.now ∷ Int place ∷ Text suggester.now ∷ Text forms.now ∷ []))) }
+        (AddsRow (codes "suggestion") first_text (HoldsValues (Text number.now ∷ Text lang.now ∷ Text key.now ∷ Int place ∷ Text suggester.now ∷ Text forms.now ∷ []))) }
 {
     tx.execute(
         "INSERT INTO suggestion (number, lang, key, place, suggester, forms) VALUES (?1, ?2, ?3, ?4, ?5, ?6)",

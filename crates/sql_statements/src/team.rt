@@ -1,10 +1,9 @@
 //! The table of the team.
-ghost use Rattle.std.specs.Prelude.{◌≡◌, ◌∷◌, []};
+ghost use Rattle.std.specs.Prelude.{◌≡◌, ◌∷◌, [], codes};
 ghost use Rattle.sqlite.specs.Held.{state};
 ghost use Rattle.sqlite.specs.declared.types.Value.TheVariants.{Int, Text};
 ghost use Rattle.sql_schema.specs.Inside.{IsSteady, IsInside, PutsRow, HoldsValues, IsRead};
 ghost use Rattle.sql_schema.specs.Keys.{first_text, has_text};
-ghost use Rattle.sql_schema.specs.Schema.{team_tree};
 ghost use Rattle.sql_statements.specs.Taken.{TakesRows};
 ghost use Rattle.sql_statements.specs.Tables.{ShowsTeam};
 ghost use Rattle.sql_statements.specs.Answers.{ShowsMember};
@@ -16,7 +15,7 @@ pub fn set_member<S: Alter>(tx: &mut Transaction<'_, S>, name: &str, role: i64) 
     requires steady { IsSteady (state S.Store tx.old.conn.now) }
     ensures same_reference { tx.new.conn.ghost_name ≡ tx.old.conn.ghost_name }
     ensures put { IsInside (state S.Store tx.old.conn.now) (state S.Store tx.new.conn.now) result
-        (PutsRow team_tree first_text (HoldsValues (Text name.now ∷ Int role ∷ []))) }
+        (PutsRow (codes "team") first_text (HoldsValues (Text name.now ∷ Int role ∷ []))) }
 {
     tx.execute(
         "INSERT INTO team (name, role) VALUES (?1, ?2) ON CONFLICT (name) DO UPDATE SET role = excluded.role",
@@ -29,7 +28,7 @@ pub fn set_member<S: Alter>(tx: &mut Transaction<'_, S>, name: &str, role: i64) 
 pub fn remove_member<S: Alter>(tx: &mut Transaction<'_, S>, name: &str) -> Result<(), Error>
     requires steady { IsSteady (state S.Store tx.old.conn.now) }
     ensures same_reference { tx.new.conn.ghost_name ≡ tx.old.conn.ghost_name }
-    ensures taken { IsInside (state S.Store tx.old.conn.now) (state S.Store tx.new.conn.now) result (TakesRows team_tree (has_text 1 name.now)) }
+    ensures taken { IsInside (state S.Store tx.old.conn.now) (state S.Store tx.new.conn.now) result (TakesRows (codes "team") (has_text 1 name.now)) }
 {
     tx.execute("DELETE FROM team WHERE name = ?1", params![name])
         .and(Ok(()))

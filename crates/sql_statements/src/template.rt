@@ -1,10 +1,9 @@
 //! The table of the template.
-ghost use Rattle.std.specs.Prelude.{◌≡◌, ◌∷◌, [], true};
+ghost use Rattle.std.specs.Prelude.{◌≡◌, ◌∷◌, [], true, codes};
 ghost use Rattle.sqlite.specs.Held.{state};
 ghost use Rattle.sqlite.specs.declared.types.Value.TheVariants.{Null, Int, Text};
 ghost use Rattle.sql_schema.specs.Inside.{IsSteady, IsInside, PutsRow, IsRead};
 ghost use Rattle.sql_schema.specs.Keys.{row_number};
-ghost use Rattle.sql_schema.specs.Schema.{template_tree};
 ghost use Rattle.sql_statements.specs.Taken.{TakesRows};
 ghost use Rattle.sql_statements.specs.Tables.{ShowsTemplate};
 ghost use Rattle.sql_statements.specs.Answers.{ShowsEntry};
@@ -17,7 +16,7 @@ use sqlite::{Alter, Error, Row, Transaction, params};
 pub fn empty_template<S: Alter>(tx: &mut Transaction<'_, S>) -> Result<(), Error>
     requires steady { IsSteady (state S.Store tx.old.conn.now) }
     ensures same_reference { tx.new.conn.ghost_name ≡ tx.old.conn.ghost_name }
-    ensures taken { IsInside (state S.Store tx.old.conn.now) (state S.Store tx.new.conn.now) result (TakesRows template_tree (λ row. true)) }
+    ensures taken { IsInside (state S.Store tx.old.conn.now) (state S.Store tx.new.conn.now) result (TakesRows (codes "template") (λ row. true)) }
 {
     tx.execute("DELETE FROM template", &[]).and(Ok(()))
 }
@@ -63,7 +62,7 @@ pub fn put_entry<'a, S: Alter>(
     requires steady { IsSteady (state S.Store tx.old.conn.now) }
     ensures same_reference { tx.new.conn.ghost_name ≡ tx.old.conn.ghost_name }
     ensures put { IsInside (state S.Store tx.old.conn.now) (state S.Store tx.new.conn.now) result
-        (PutsRow template_tree row_number (λ row. row ≡ Int place ∷ Null ∷ Text key.now ∷ text_or_null (option_copied plural.entry) ∷ Text extracted.now ∷ Text refs.now ∷ Text flags.now ∷ [])) }
+        (PutsRow (codes "template") row_number (λ row. row ≡ Int place ∷ Null ∷ Text key.now ∷ text_or_null (option_copied plural.entry) ∷ Text extracted.now ∷ Text refs.now ∷ Text flags.now ∷ [])) }
 {
     tx.execute(
         "INSERT INTO template (place, key, plural, extracted, refs, flags) VALUES (?1, ?2, ?3, ?4, ?5, ?6)",

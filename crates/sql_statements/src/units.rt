@@ -1,5 +1,5 @@
 //! The table of units.
-ghost use Rattle.std.specs.Prelude.{◌≡◌, []};
+ghost use Rattle.std.specs.Prelude.{◌≡◌, [], codes};
 ghost use Rattle.sqlite.specs.Held.{state, state as state_of};
 ghost use Rattle.sql_schema.specs.Inside.{IsSteady, IsInside, PutsRow, HoldsValues, IsRead};
 ghost use Rattle.sql_schema.specs.Keys.{first_texts};
@@ -9,7 +9,6 @@ ghost use Rattle.sql_statements.specs.Tables.{ShowsUnits};
 ghost use Rattle.sql_statements.specs.Answers.{ShowsUnit};
 ghost use Rattle.std.specs.Option.{option_copied};
 ghost use Rattle.sql_schema.specs.Rows.{unit_row};
-ghost use Rattle.sql_schema.specs.Schema.{unit_tree};
 
 use sqlite::{Alter, Error, Row, Transaction, params};
 
@@ -85,7 +84,7 @@ pub fn put_unit<'a, S: Alter>(
     requires steady { IsSteady (state_of S.Store tx.old.conn.now) }
     ensures same_reference { tx.new.conn.ghost_name ≡ tx.old.conn.ghost_name }
     ensures put { IsInside (state_of S.Store tx.old.conn.now) (state_of S.Store tx.new.conn.now) result
-        (PutsRow unit_tree first_texts (HoldsValues (unit_row lang.now key.now (option_copied plural.entry) forms.now state obsolete revision comment.now previous.now))) }
+        (PutsRow (codes "unit") first_texts (HoldsValues (unit_row lang.now key.now (option_copied plural.entry) forms.now state obsolete revision comment.now previous.now))) }
 {
     tx.execute(
         "INSERT INTO unit (lang, key, plural, forms, state, obsolete, revision, comment, previous) VALUES (?1, ?2, ?3, ?4, ?5, ?6, ?7, ?8, ?9) ON CONFLICT (lang, key) DO UPDATE SET plural = excluded.plural, forms = excluded.forms, state = excluded.state, obsolete = excluded.obsolete, revision = excluded.revision, comment = excluded.comment, previous = excluded.previous",

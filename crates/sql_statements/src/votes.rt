@@ -1,10 +1,9 @@
 //! The table of votes.
-ghost use Rattle.std.specs.Prelude.{◌≡◌, ◌∷◌, []};
+ghost use Rattle.std.specs.Prelude.{◌≡◌, ◌∷◌, [], codes};
 ghost use Rattle.sqlite.specs.Held.{state};
 ghost use Rattle.sqlite.specs.declared.types.Value.TheVariants.{Int, Text};
 ghost use Rattle.sql_schema.specs.Inside.{IsSteady, IsInside, PutsRow, HoldsValues, IsRead};
 ghost use Rattle.sql_schema.specs.Keys.{first_texts};
-ghost use Rattle.sql_schema.specs.Schema.{vote_tree};
 ghost use Rattle.sql_statements.specs.Tables.{ShowsVotes as ShowsAllVotes};
 ghost use Rattle.sql_statements.specs.Answers.{ShowsVotes};
 
@@ -21,7 +20,7 @@ pub fn put_vote<S: Alter>(
     requires steady { IsSteady (state S.Store tx.old.conn.now) }
     ensures same_reference { tx.new.conn.ghost_name ≡ tx.old.conn.ghost_name }
     ensures put { IsInside (state S.Store tx.old.conn.now) (state S.Store tx.new.conn.now) result
-        (PutsRow vote_tree first_texts (HoldsValues (Text number.now ∷ Text voter.now ∷ Int value ∷ []))) }
+        (PutsRow (codes "vote") first_texts (HoldsValues (Text number.now ∷ Text voter.now ∷ Int value ∷ []))) }
 {
     tx.execute(
         "INSERT INTO vote (number, voter, value) VALUES (?1, ?2, ?3)",

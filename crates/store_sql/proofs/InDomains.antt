@@ -1,12 +1,11 @@
 -- What is found in a domain of an office that has `main` alone, and what a commit there leaves of it.
-use Rattle.std.proofs.Common.{◌≡◌, [], true, false, None, Result, ap, ◌∙◌}
+use Rattle.std.proofs.Common.{◌≡◌, [], true, false, Result, ap, ◌∙◌}
 use Rattle.std.specs.Option.{option_map_or}
 use Rattle.std.specs.FinMap as maps
 use Rattle.std.proofs.lemmas.Result.{IfOk-weaker}
 use Rattle.sqlite.specs.Effect.{Database}
 use Rattle.sqlite.specs.State.{State}
-use Rattle.po_read.specs.declared.entry.Entry.{Entry}
-use Rattle.po_read.specs.Texts.{Text, text_cmp}
+use Rattle.po_text.specs.Texts.{Text, text_cmp}
 use Rattle.units.specs.Project.{Project}
 use Rattle.units.specs.Office.{main, empty_domain, same_domain, as_project, project_in}
 use Rattle.deliveries.specs.ExportedEntries.{catalogue_of}

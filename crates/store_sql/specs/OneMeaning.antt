@@ -1,12 +1,12 @@
 -- Of what a stop may leave there is one proof at most, so a struct can keep it in a ghost field.
 use base.Stored.{Coded, Coded-set, coded_ℕ, coded_list, coded×, coded_via}
 use Rattle.std.specs.FinMap as maps
-use Rattle.po_read.specs.contracts.entry.Entry as entry
+use Rattle.po_text.specs.contracts.entry.Entry as entry
 use Rattle.units.specs.contracts.unit.Unit as unit
 use Rattle.units.specs.contracts.unit.Key as key
 use Rattle.units.specs.contracts.unit.Role as role
 use Rattle.units.specs.contracts.unit.Policy as policy
-use Rattle.po_read.specs.Texts.{Text}
+use Rattle.po_text.specs.Texts.{Text}
 use Rattle.units.specs.Office.{Office, Domain}
 use Rattle.request_book.specs.Book.{OfficeWithBook, Recorded}
 

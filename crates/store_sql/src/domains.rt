@@ -10,6 +10,7 @@ ghost use Rattle.sql_schema.specs.Whole.{IsIdle, IsLookUp};
 ghost use Rattle.sql_meaning.specs.Meaning.{project_of_rows};
 ghost use Rattle.sql_exports.specs.Handing.{Gives};
 ghost use Rattle.store_sql.specs.Kept.{KeepsOffice};
+ghost use Rattle.sql_schema.specs.Layouts.{rows_named};
 
 use crate::look_ups::look_up_policy;
 use crate::views::read_view;
@@ -46,7 +47,7 @@ pub(crate) fn view_in<S: Alter>(
     requires autocommit { connection.old.in_transaction ≡ false }
     requires keeps { KeepsOffice (state S.Store connection.old) }
     ensures found { IsLookUp (state S.Store connection.old) (state S.Store connection.new) result
-        (λ db r. r ≡ found_of (project_in (main_alone (project_of_rows db.trees)) domain.now) lang.now key.now name.now) }
+        (λ db r. r ≡ found_of (project_in (main_alone (project_of_rows (rows_named db))) domain.now) lang.now key.now name.now) }
 {
     if is_main(domain) {
         return read_view(connection, alloc, lang, key, name, kept);
@@ -66,7 +67,7 @@ pub(crate) fn hand_in<S: Alter, K: EntrySink>(
     requires autocommit { connection.old.in_transaction ≡ false }
     requires keeps { KeepsOffice (state S.Store connection.old) }
     ensures handed { HasCleanDisk (state S.Store connection.new) → Gives K.Took K.Refuses sink.old sink.new
-        (entries_of (project_in (main_alone (project_of_rows (state S.Store connection.old).now.trees)) domain.now) lang.now) result }
+        (entries_of (project_in (main_alone (project_of_rows (rows_named (state S.Store connection.old).now))) domain.now) lang.now) result }
     ensures looked { IsLookUp (state S.Store connection.old) (state S.Store connection.new) result (λ _ _. ⊤) }
 {
     if is_main(domain) {

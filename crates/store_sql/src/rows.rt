@@ -1,4 +1,7 @@
-//! The rows of tables, by the clauses of the trait.
+//! A connection to an office's tables and what was read of it: what `SqliteTables` does, by the clauses of the trait.
+//!
+//! `SqliteTables` adds the two facts that the trait's laws hand to callers, as ghost fields, and takes nothing apart: the connection, the flag and
+//! the maps change here alone, each change keeps the invariant of `Rows`, and that the two facts follow from it is shown once, in `rules`.
 ghost use Rattle.std.specs.Prelude.{◌≡◌, ◌≢◌, Bool, false, true, Ok, Err, IfOk, IfErr, OnOk, OnErr, is_some, option_map};
 ghost use Rattle.std.specs.Coded.{coded×, coded_bool};
 ghost use Rattle.std.specs.FinMap as maps;
@@ -36,7 +39,6 @@ use crate::records::read_record;
 use crate::views::read_role;
 use crate::whole_office::{forget, keep, let_go, read_office};
 use deliveries::{ActContext, Change};
-use office_entries::counts_in;
 use office_maps::OfficeMaps;
 use request_book::Record;
 use sql_adoption::{OpenFault, adopted_office};
@@ -46,7 +48,7 @@ use sql_keepable::key_fits;
 use sqlite::{Alter, Connection};
 use std::alloc::Global;
 use std::marker::Model;
-use tables::{Counts, EachFault, EntrySink, Lost, Start};
+use tables::{Counts, EachFault, EntrySink, Lost, Start, counts_in};
 use units::{Key, Lang, Name, Role, UnitView};
 use uuid::Uuid;
 

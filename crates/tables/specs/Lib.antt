@@ -5,3 +5,7 @@ pub mod Entries
 pub mod Counts
 pub mod Kept
 pub mod Starts
+pub mod Handing
+pub mod Counting
+pub mod MapsMeaning
+pub mod PlainMeaning

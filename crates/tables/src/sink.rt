@@ -1,9 +1,9 @@
 //! What takes entries.
 
 ghost use Rattle.std.specs.Prelude.{◌≡◌, ◌∷◌, ◌++◌, [], List, OnOk, IfErr};
-ghost use Rattle.po_read.specs.declared.entry.Entry.{Entry as EntryValue};
+ghost use Rattle.po_text.specs.declared.entry.Entry.{Entry as EntryValue};
 
-use po_read::Entry;
+use po_text::Entry;
 
 /// Takes entries, one by one. Two relations say what it took: of the sink before, the entries and the sink after.
 pub trait EntrySink {

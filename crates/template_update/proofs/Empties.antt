@@ -3,7 +3,7 @@ use Rattle.std.proofs.Common.{◌≡◌, ℕ, ◌<◌, ◌≤◌, zero, suc, Boo
 use Rattle.std.specs.List.{list_all}
 use Rattle.std.proofs.lemmas.Bool.{le-leb}
 use Rattle.std.proofs.lemmas.List.{length-replicate}
-use Rattle.po_read.specs.Strings.{is_string, is_forms}
+use Rattle.po_text.specs.Strings.{is_string, is_forms}
 
 pub all_strings : (n : ℕ) → list_all is_string (replicate n []) ≡ true
 all_strings zero = refl

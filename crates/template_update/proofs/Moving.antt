@@ -1,8 +1,8 @@
 -- A unit's update in two steps, and the revisions that it gives.
 use Rattle.std.proofs.Common.{◌≡◌, ℕ, ◌+◌, Bool, true, false, not, cond, nat_le, nat_eq, [], Option, Some, None, refl, sym, ap, ◌∙◌}
 use Rattle.plural_expr.specs.Values.{Rule}
-use Rattle.po_read.specs.declared.entry.Entry.{Entry}
-use Rattle.po_read.specs.Texts.{Text, maybe_text_eq}
+use Rattle.po_text.specs.declared.entry.Entry.{Entry}
+use Rattle.po_text.specs.Texts.{Text, maybe_text_eq}
 use Rattle.units.specs.declared.unit.Unit.{Unit}
 use Rattle.units.specs.Limits.{revision_limit}
 use Rattle.units.specs.Units.{forms_needed}

@@ -1,8 +1,8 @@
 -- Worked rows on templates and languages.
 use Rattle.std.specs.Prelude.{◌≡◌, List, [], ◌∷◌, ◌++◌, true, Some, None, codes, refl}
 use Rattle.std.specs.FinMap as maps
-use Rattle.po_read.specs.declared.entry.Entry.{Entry}
-use Rattle.po_read.specs.Texts.{Text}
+use Rattle.po_text.specs.declared.entry.Entry.{Entry}
+use Rattle.po_text.specs.Texts.{Text}
 use Rattle.plural_expr.specs.Values.{Rule}
 use Rattle.plural_expr.specs.Trees.{Tree}
 use Rattle.units.specs.Openings.{demo_unit, plain_entry, closed_policy}

@@ -1,8 +1,8 @@
 -- A unit's update in two steps, its revision apart: this project's own words, for inner functions.
 use Rattle.std.specs.Prelude.{ℕ, ◌+◌, if◌then◌else◌, Option, Some, None}
 use Rattle.plural_expr.specs.Values.{Rule}
-use Rattle.po_read.specs.declared.entry.Entry.{Entry}
-use Rattle.po_read.specs.Texts.{Text}
+use Rattle.po_text.specs.declared.entry.Entry.{Entry}
+use Rattle.po_text.specs.Texts.{Text}
 use Rattle.units.specs.declared.unit.Unit.{Unit}
 use Rattle.template_update.specs.declared.update.UnitUpdate.{UnitUpdate}
 use Rattle.template_update.specs.declared.update.UnitUpdate.TheVariants.{Changed, Kept, Gone, Revived, Untouched}

@@ -2,7 +2,7 @@
 use Rattle.std.specs.Prelude.{◌≡◌, List, map, Bool, true, false, Option, MatchOption}
 use Rattle.std.specs.List.{list_all}
 use Rattle.plural_expr.specs.Values.{Rule}
-use Rattle.po_read.specs.declared.entry.Entry.{Entry}
+use Rattle.po_text.specs.declared.entry.Entry.{Entry}
 use Rattle.units.specs.declared.unit.Unit.{Unit}
 use Rattle.template_update.specs.declared.update.UnitUpdate.{UnitUpdate}
 use Rattle.template_update.specs.declared.updates.UpdatedUnits.{UpdatedUnits}

@@ -1,10 +1,10 @@
 -- The template that a PO text gives. Entries, flags and the header entry are those of the GNU gettext manual, "The Format of PO
 -- Files"; what a template keeps of them is this project's own rule.
 use Rattle.std.specs.Prelude.{List, [], ◌∷◌, map, filter, Bool, not, ◌&&◌}
-use Rattle.po_read.specs.declared.entry.Entry.{Entry}
-use Rattle.po_read.specs.Entries.{is_header}
-use Rattle.po_read.specs.Texts.{Text, text_eq}
-use Rattle.po_read.specs.Valid.{fuzzy}
+use Rattle.po_text.specs.declared.entry.Entry.{Entry}
+use Rattle.po_text.specs.Entries.{is_header}
+use Rattle.po_text.specs.Texts.{Text, text_eq}
+use Rattle.po_text.specs.Valid.{fuzzy}
 use Rattle.units.specs.Units.{has_flag, no_previous}
 
 abbrev pub is_fuzzy : Entry → Bool

@@ -4,8 +4,8 @@
 use Rattle.std.specs.Prelude.{◌==◌, ◌||◌, ◌&&◌, List, [], length, replicate, Bool, false, not, nat_le, if◌then◌else◌, Option, Some, None}
 use Rattle.std.specs.List.{list_all}
 use Rattle.plural_expr.specs.Values.{Rule}
-use Rattle.po_read.specs.declared.entry.Entry.{Entry}
-use Rattle.po_read.specs.Texts.{Text, maybe_text_eq}
+use Rattle.po_text.specs.declared.entry.Entry.{Entry}
+use Rattle.po_text.specs.Texts.{Text, maybe_text_eq}
 use Rattle.units.specs.declared.unit.Unit.{Unit}
 use Rattle.units.specs.declared.unit.UnitState.TheVariants.{Untranslated, NeedsEditing}
 use Rattle.units.specs.Limits.{unit_limit, revision_limit}

@@ -3,7 +3,7 @@
 ghost use Rattle.std.specs.Prelude.{◌≡◌, ◌+◌, ◌++◌, ℕ, List, map, length, count_by, not, Some};
 ghost use Rattle.std.specs.List.{IsDistinct};
 ghost use Rattle.plural_expr.specs.Values.{Rule};
-ghost use Rattle.po_read.specs.declared.entry.Entry.{Entry};
+ghost use Rattle.po_text.specs.declared.entry.Entry.{Entry};
 ghost use Rattle.units.specs.declared.unit.Policy.{Policy};
 ghost use Rattle.units.specs.declared.unit.Unit.{Unit};
 ghost use Rattle.units.specs.Units.{key_of};

@@ -1,4 +1,14 @@
 //! What a new template makes of a language's units, and which units a language's first text gives.
+//!
+//! - `template`: the template of a text (`template_of`), and which entry is the header
+//! - `planning`, `plans`: what a new template makes of one language's units (`plan`), and its outcome (`Plan`,
+//!   `Counts`)
+//! - `update`, `updates`, `refit`: what becomes of each unit, by its key and by the template's msgid_plural
+//! - `loading`: the units that a language's first text gives (`load`)
+//! - `index`: entries and units by their keys
+//! - `laws`: what each plan and each load keeps
+//!
+//! Specs: `Templates`, `Updates`, `Units`, `Loads`, `Laws`; inner functions have `Moves`, `Steps` and `Views`.
 #![tactic(auto)]
 
 mod index;

@@ -2,7 +2,7 @@
 
 ghost use Rattle.std.specs.Prelude.{◌≡◌, ◌≤◌, ◌++◌, List, length, map, filter, count_by, IfOk};
 ghost use Rattle.std.specs.Option.{option_copied};
-ghost use Rattle.po_read.specs.declared.entry.Entry.{Entry as EntryValue};
+ghost use Rattle.po_text.specs.declared.entry.Entry.{Entry as EntryValue};
 ghost use Rattle.units.specs.Units.{key_of};
 ghost use Rattle.units.specs.Project.{entry_of};
 ghost use Rattle.template_update.specs.Loads as spec;
@@ -16,7 +16,7 @@ use crate::refit::{first_revision, key_of, new_unit, refit};
 use crate::template::is_header;
 use checks::{Source, result_state};
 use plural_expr::PluralForms;
-use po_read::{Catalogue, Duplicate, Entry, Forms, Items, PoString, Previous, Text};
+use po_text::{Catalogue, Duplicate, Entry, Forms, Items, PoString, Previous, Text};
 use std::alloc::{AllocError, Global};
 use units::{Keyed, Memory, Policy, Unit, UnitState, all_empty, has_flag, some_empty};
 

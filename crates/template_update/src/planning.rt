@@ -1,7 +1,7 @@
 //! What a new template makes of one language's units.
 
 ghost use Rattle.std.specs.Prelude.{◌≡◌, ◌≤◌, ◌++◌, List, length, map, nat_le, IfOk, Some, None, if◌then◌else◌};
-ghost use Rattle.po_read.specs.declared.entry.Entry.{Entry as EntryValue};
+ghost use Rattle.po_text.specs.declared.entry.Entry.{Entry as EntryValue};
 ghost use Rattle.units.specs.declared.unit.Unit.{Unit as UnitValue};
 ghost use Rattle.units.specs.Limits.{unit_limit};
 ghost use Rattle.units.specs.Units.{key_of};
@@ -18,7 +18,7 @@ use crate::refit::new_unit;
 use crate::update::{UnitUpdate, counts_of, updated_unit};
 use crate::updates::UpdatedUnits;
 use plural_expr::PluralForms;
-use po_read::{Catalogue, Entry, Items};
+use po_text::{Catalogue, Entry, Items};
 use std::alloc::{AllocError, Global};
 use units::{Keyed, Memory, Unit};
 

@@ -1,5 +1,5 @@
 //! A language's units afterwards.
-use po_read::Items;
+use po_text::Items;
 use units::Unit;
 
 /// The numbers of a reply.

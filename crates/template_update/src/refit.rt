@@ -2,14 +2,14 @@
 
 ghost use Rattle.std.specs.Prelude.{◌≡◌, ◌<◌, ◌≤◌, IfOk, Some, replicate, []};
 ghost use Rattle.std.specs.Option.{option_copied};
-ghost use Rattle.po_read.specs.Strings.{form_limit};
-ghost use Rattle.po_read.specs.Texts.{maybe_text_eq};
+ghost use Rattle.po_text.specs.Strings.{form_limit};
+ghost use Rattle.po_text.specs.Texts.{maybe_text_eq};
 ghost use Rattle.units.specs.Units.{in_state, key_of};
 ghost use Rattle.units.specs.declared.unit.UnitState.TheVariants.{NeedsEditing, Untranslated};
 ghost use Rattle.template_update.specs.Units as spec;
 
 use plural_expr::PluralForms;
-use po_read::{Duplicate, Entry, Forms, Items, PoString, Previous};
+use po_text::{Duplicate, Entry, Forms, Items, PoString, Previous};
 use std::alloc::{AllocError, Global};
 use units::{Key, Revision, Unit, UnitState, all_empty, forms_needed, no_previous};
 

@@ -10,7 +10,7 @@ ghost use Rattle.template_update.specs.Moves as moves;
 use crate::plans::Counts;
 use crate::refit::{is_same, refit};
 use plural_expr::PluralForms;
-use po_read::{Duplicate, Entry, Items, PoString};
+use po_text::{Duplicate, Entry, Items, PoString};
 use std::alloc::{AllocError, Global};
 use units::{Revision, Unit, forms_needed, has_flag};
 

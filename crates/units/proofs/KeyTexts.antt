@@ -3,8 +3,8 @@ use Rattle.std.proofs.Common.{◌≡◌, Bool, true, false, ◌&&◌, [], ◌∷
 use Rattle.std.specs.Prelude.{◌↔◌}
 use Rattle.std.specs.Option.{option_map_or}
 use Rattle.std.specs.List.{list_all}
-use Rattle.po_read.specs.Strings.{is_string, is_string_byte}
-use Rattle.po_read.specs.Texts.{Text}
+use Rattle.po_text.specs.Strings.{is_string, is_string_byte}
+use Rattle.po_text.specs.Texts.{Text}
 use Rattle.units.specs.Units.{key_text}
 use Rattle.units.specs.KeyTexts.{HasStrings}
 use Rattle.units.specs.declared.unit.Key.{Key}

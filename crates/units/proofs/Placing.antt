@@ -14,7 +14,7 @@ use Rattle.std.specs.declared.cmp.Ordering.{Ordering}
 use Rattle.std.specs.declared.cmp.Ordering.TheVariants.{Less, Equal, Greater}
 use Rattle.std.specs.FinMap.{FinMap, entries, entries_sorted, empty, find, put, is_sorted, from_sorted, insert, remove, get, len, values, entries-from_sorted, entries-insert, get-entries, get-from_sorted, get-remove, len-entries, len-empty, same_entries_map, same_map}
 use Rattle.std.specs.FinMap.Entries.{below_all, where_key, is_sorted-where_key, find-where_key}
-use Rattle.po_read.specs.Texts.{Text, text_cmp}
+use Rattle.po_text.specs.Texts.{Text, text_cmp}
 use Rattle.units.specs.declared.votes.VoteValue.{VoteValue}
 use Rattle.units.specs.declared.votes.VoteValue.TheVariants.{Against, For}
 use Rattle.units.specs.Ballots.{StandsAfter, IsPlaceOf, IsNewPlaceOf, is_for, vote_eq}

@@ -4,7 +4,7 @@ use Rattle.std.proofs.lemmas.Int.{ints}
 use Rattle.std.proofs.lemmas.List.Sums.{sum_by-append, sum_by-cons, sum_by-take-drop, sum_by-set, count_by-le-length}
 use Rattle.std.specs.Prelude.{count_by, slice_set}
 use Rattle.std.specs.FinMap.{is_sorted, from_sorted}
-use Rattle.po_read.specs.Texts.{Text, text_cmp}
+use Rattle.po_text.specs.Texts.{Text, text_cmp}
 use Rattle.units.specs.declared.votes.VoteValue.{VoteValue}
 use Rattle.units.specs.declared.votes.VoteValue.TheVariants.{Against, For}
 use Rattle.units.specs.Ballots.{vote_eq, vote_weight, vote_sum}

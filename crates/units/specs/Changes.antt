@@ -2,7 +2,7 @@
 -- of Weblate's documentation ("Translation workflows").
 use Rattle.std.specs.Prelude.{List, map, if◌then◌else◌}
 use Rattle.std.specs.FinMap as maps
-use Rattle.po_read.specs.Texts.{Text, text_cmp}
+use Rattle.po_text.specs.Texts.{Text, text_cmp}
 use Rattle.units.specs.Units.{is_approved, in_state, next_revision}
 use Rattle.units.specs.Project.{Project, Place}
 use Rattle.units.specs.Office.{Office, Domain, as_project, domain_of, empty_domain}

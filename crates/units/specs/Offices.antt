@@ -1,7 +1,7 @@
 -- The rules that an office keeps: each domain keeps those of a project. This project's own rule.
 use Rattle.std.specs.Prelude.{◌≤◌, IsSome}
 use Rattle.std.specs.FinMap as maps
-use Rattle.po_read.specs.Texts.{Text}
+use Rattle.po_text.specs.Texts.{Text}
 use Rattle.units.specs.Limits.{domain_limit}
 use Rattle.units.specs.Office.{Office, main, project_in}
 use Rattle.units.specs.Projects.{IsProject}

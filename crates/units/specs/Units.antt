@@ -7,8 +7,8 @@ use Rattle.std.specs.declared.cmp.Ordering.{Ordering}
 use Rattle.std.specs.Ordering.{on, then_cmp}
 use Rattle.std.specs.Option.{option_map_or, option_cmp}
 use Rattle.std.specs.List.{list_any, list_all}
-use Rattle.po_read.specs.declared.entry.Entry.{Entry}
-use Rattle.po_read.specs.declared.entry.Previous.{Previous}
+use Rattle.po_text.specs.declared.entry.Entry.{Entry}
+use Rattle.po_text.specs.declared.entry.Previous.{Previous}
 use Rattle.plural_expr.specs.Values.{Rule}
 use Rattle.units.specs.declared.unit.Key.{Key}
 use Rattle.units.specs.declared.unit.Unit.{Unit}
@@ -20,7 +20,7 @@ use Rattle.units.specs.declared.unit.Role.{Role}
 use Rattle.units.specs.declared.unit.Role.TheVariants.{Guest, Translator, Reviewer, Manager}
 use Rattle.units.specs.declared.unit.Suggestion.{Suggestion}
 pub use Rattle.units.specs.Ballots.{is_for, vote_eq, vote_sum}
-use Rattle.po_read.specs.Texts.{Text, text_cmp, text_eq, is_empty}
+use Rattle.po_text.specs.Texts.{Text, text_cmp, text_eq, is_empty}
 
 -- ---- keys
 

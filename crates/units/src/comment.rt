@@ -4,7 +4,7 @@ ghost use Rattle.std.specs.List.{list_all};
 ghost use Rattle.po_lex.specs.Lines.{is_comment_text};
 ghost use Rattle.units.specs.Limits as limits;
 
-use po_read::{Duplicate, Items, Text};
+use po_text::{Duplicate, Items, Text};
 use std::alloc::AllocError;
 use std::marker::Model;
 

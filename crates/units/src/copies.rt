@@ -2,7 +2,7 @@
 ghost use Rattle.std.specs.Prelude.{◌≡◌, Ok, IfOk};
 
 use crate::unit::{Key, Suggestion, Unit, UnitAct, UnitAction, UnitView};
-use po_read::{Duplicate, Forms, Items, PoString, Previous, Text};
+use po_text::{Duplicate, Forms, Items, PoString, Previous, Text};
 use std::alloc::AllocError;
 
 /// Both values, where both are there.

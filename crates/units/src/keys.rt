@@ -4,14 +4,14 @@ ghost use Rattle.std.specs.Prelude.{◌≡◌, ◌↔◌, ◌+◌, ◌++◌, ◌
 ghost use Rattle.std.specs.Option.{option_cmp, option_copied};
 ghost use Rattle.std.specs.Ordering.{on, then_cmp, as_partial_cmp, eq_by_cmp};
 ghost use Rattle.std.specs.Cmp.{partial_equiv_from_equiv, eq_by_cmp_equiv, partial_order_from_total};
-ghost use Rattle.po_read.specs.Texts.{text_cmp};
+ghost use Rattle.po_text.specs.Texts.{text_cmp};
 ghost use Rattle.units.specs.declared.unit.Key.{Key as KeyValue};
 ghost use Rattle.units.specs.Units.{key_text, key_cmp, key_of as entry_key};
 ghost use Rattle.units.specs.Orders.{key_total};
 ghost use Rattle.units.specs.KeyTexts.{HasStrings};
 
 use crate::unit::{Key, Unit};
-use po_read::{Entry, PoString, Text};
+use po_text::{Entry, PoString, Text};
 use std::alloc::{AllocError, Global};
 use std::cmp::Ordering;
 use std::marker::Model;

@@ -1,4 +1,13 @@
-//! Data of the office, and streams of bytes.
+//! Data of the office: units, the acts on them, and the names that an office gives.
+//!
+//! - `unit`: units, suggestions, roles, the policy, the acts on one unit and why one is refused
+//! - `states`: what roles may do, what units show and which forms they need
+//! - `votes`: the votes of a suggestion
+//! - `comment`: the lines of a comment that an act gives
+//! - `names`: names, languages, revisions and the threshold of votes
+//! - `keys`: keys in the order of their texts, borrowed from units and entries
+//! - `copies`: copies of units and of their parts
+//! - `memory`: want of memory
 #![tactic(auto)]
 
 mod comment;
@@ -7,9 +16,7 @@ mod keys;
 mod memory;
 mod names;
 mod states;
-mod streams;
 mod unit;
-mod vec_sink;
 mod votes;
 
 pub use comment::CommentLines;
@@ -17,10 +24,8 @@ pub use keys::{KeyRef, Keyed, equal_texts};
 pub use memory::Memory;
 pub use names::{AcceptAt, Lang, Name, Revision};
 pub use states::{all_empty, forms_needed, has_flag, is_read_only, no_previous, some_empty};
-pub use streams::{ByteSink, ByteSource, SinkFault, SourceFault};
 pub use unit::{
     Key, Policy, Refusal, Role, ShownState, Suggestion, Unit, UnitAct, UnitAction, UnitState,
     UnitView,
 };
-pub use vec_sink::VecSink;
 pub use votes::{VoteValue, Votes};

@@ -7,12 +7,12 @@ ghost use Rattle.std.specs.Cmp.Lexicographic.{pointwise, nat_list_eq_equiv};
 ghost use Rattle.units.specs.Limits as limits;
 
 use arrayvec::ArrayString;
-use po_read::Duplicate;
+use po_text::Duplicate;
 use std::alloc::{AllocError, Global};
 use std::fmt;
 use std::marker::Model;
 
-/// The name of a caller: 1 to 32 bytes of `a` to `z`, `0` to `9`, `.`, `-` and `_`, the first a letter. (This
+/// The name of a caller or of a domain: 1 to 32 bytes of `a` to `z`, `0` to `9`, `.`, `-` and `_`, the first a letter. (This
 /// project's own rule.)
 #[derive(Drop, Debug)]
 pub struct Name {

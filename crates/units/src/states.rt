@@ -5,7 +5,7 @@ ghost use Rattle.units.specs.Units as spec;
 
 use crate::unit::{Role, ShownState, Unit, UnitState, UnitView};
 use plural_expr::PluralForms;
-use po_read::{Entry, PoString, Previous};
+use po_text::{Entry, PoString, Previous};
 
 impl Role {
     /// Whether this role has fewer rights than another: a guest has the fewest, then come translator, reviewer and

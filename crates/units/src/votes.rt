@@ -1,11 +1,11 @@
 //! The votes of a suggestion, which contracts see as the map from each voter to the vote.
 ghost use Rattle.std.specs.Prelude.{◌≡◌, ◌<◌, ◌^◌, true, length, IfOk, OnOk, OnErr, IsTrue, MatchResult};
 ghost use Rattle.std.specs.FinMap as map;
-ghost use Rattle.po_read.specs.Texts.{text_cmp};
+ghost use Rattle.po_text.specs.Texts.{text_cmp};
 ghost use Rattle.units.specs.Ballots.{StandsAfter, IsPlaceOf, IsNewPlaceOf, vote_weight};
 
 use crate::names::Name;
-use po_read::Duplicate;
+use po_text::Duplicate;
 use std::alloc::{AllocError, Global};
 use std::marker::Model;
 

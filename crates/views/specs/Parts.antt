@@ -2,7 +2,7 @@
 use Rattle.std.specs.Prelude.{ℕ, List, map, Option, Some, None}
 use Rattle.serde_json.specs.Data.{Data, null, string, array}
 use Rattle.serde_json.specs.View.{items_of}
-use Rattle.po_read.specs.Texts.{Text}
+use Rattle.po_text.specs.Texts.{Text}
 use Rattle.request_book.specs.Words.{natural}
 
 abbrev pub text_or_null : Option Text → Data

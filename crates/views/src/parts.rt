@@ -5,7 +5,7 @@ ghost use Rattle.serde_json.specs.View.{view, members_view};
 ghost use Rattle.request_book.specs.Words.{strings};
 ghost use Rattle.views.specs.Parts.{text_or_null, naturals};
 
-use po_read::{PoString, Text};
+use po_text::{PoString, Text};
 use serde_json::{Map, Value};
 use std::alloc::{AllocError, Global};
 

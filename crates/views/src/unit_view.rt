@@ -10,7 +10,7 @@ ghost use Rattle.views.specs.UnitTexts.{checked_source, findings_of, findings_fi
 use crate::parts::{numbers_value, object_value, strings_value, text_or_null, texts_value};
 use checks::{Findings, Source, findings};
 use plural_expr::PluralForms;
-use po_read::Text;
+use po_text::Text;
 use serde_json::{Map, Value, put};
 use std::alloc::{AllocError, Global};
 use units::{Memory, ShownState, Suggestion, Unit, UnitView};

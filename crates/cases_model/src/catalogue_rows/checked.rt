@@ -3,7 +3,7 @@ use crate::catalogue_rows::stage::Stage;
 use crate::catalogue_rows::texts::plain;
 use crate::words::policy;
 use checks::{Findings, Source, brace_names, directives, findings, result_state};
-use po_read::Entry;
+use po_text::Entry;
 use std::alloc::{AllocError, Global};
 
 const BRACKETS: [&str; 2] = ["[", "]"];

@@ -1,10 +1,11 @@
 //! The entries of rows.
 ghost use Rattle.std.specs.Prelude.{◌≡◌, IfSome, true};
-ghost use Rattle.po_read.specs.Strings.{is_string};
+ghost use Rattle.po_text.specs.Strings.{is_string};
 
 use crate::catalogue_rows::stage::Stage;
 use crate::catalogue_rows::texts::{around, plain};
-use po_read::{Catalogue, Duplicate, Entry, Forms, Items, PoString, Previous, Text, read};
+use po_read::read;
+use po_text::{Catalogue, Duplicate, Entry, Forms, Items, PoString, Previous, Text};
 use std::alloc::Global;
 use std::mem::replace;
 

@@ -1,6 +1,6 @@
 //! What the rows above set.
 use plural_expr::PluralForms;
-use po_read::Entry;
+use po_text::Entry;
 use std::alloc::Global;
 
 /// The text that was kept, the rules so far, of which the last is that of the next row, and the entries.

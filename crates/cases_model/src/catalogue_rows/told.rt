@@ -1,5 +1,5 @@
 //! Entries as items.
-use po_read::{Entry, PoString, Text};
+use po_text::{Entry, PoString, Text};
 use std::alloc::AllocError;
 
 fn tell_item(told: &mut String, name: &str, value: &str) -> Result<(), AllocError> {

@@ -1,10 +1,11 @@
 //! What the writer makes of entries.
 
 use crate::catalogue_rows::stage::Stage;
-use po_read::{Entry, read};
+use byte_streams::{ByteSink, VecSink};
+use po_read::read;
+use po_text::Entry;
 use po_write::{CatalogueWriter, WriteFault, write_catalogue, write_entry};
 use std::alloc::{AllocError, Global};
-use units::{ByteSink, VecSink};
 
 /// A sink that is full after so many bytes.
 fn sink(alloc: Global, most: usize) -> VecSink {

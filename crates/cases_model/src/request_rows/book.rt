@@ -1,10 +1,10 @@
 //! What is kept of requests, and faults.
 use crate::request_rows::stage::Stage;
 use crate::words::word;
-use po_read::{Duplicate, Text};
+use byte_streams::{SinkFault, SourceFault};
+use po_text::{Duplicate, Text};
 use request_book::{Class, Record, Reply, Request, RequestFault, canon, classify};
 use std::alloc::Global;
-use units::{SinkFault, SourceFault};
 
 /// The record of a request that got this reply.
 fn record(alloc: Global, request: &Request, reply: Reply) -> Option<Record> {

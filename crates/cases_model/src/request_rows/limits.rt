@@ -1,6 +1,6 @@
 //! Names, languages, numbers, roles, comments and refusals.
 use crate::words::{comment, role, word, yes_or_no};
-use po_read::Duplicate;
+use po_text::Duplicate;
 use std::alloc::Global;
 use std::fmt::Display;
 use units::{AcceptAt, Refusal, Revision};

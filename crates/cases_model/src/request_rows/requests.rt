@@ -1,6 +1,6 @@
 //! Requests as JSON texts, and their canonical texts.
 use crate::words::word;
-use po_read::Duplicate;
+use po_text::Duplicate;
 use request_book::{Act, Request, RequestFault, canon};
 use std::alloc::Global;
 

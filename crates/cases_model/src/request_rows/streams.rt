@@ -2,8 +2,8 @@
 ghost use Rattle.std.specs.Prelude.{Some};
 
 use crate::words::word;
+use byte_streams::{ByteSink, ByteSource, SinkFault, SourceFault, VecSink};
 use std::alloc::Global;
-use units::{ByteSink, ByteSource, SinkFault, SourceFault, VecSink};
 
 /// A source over memory that gives one byte a read.
 #[derive(Drop)]

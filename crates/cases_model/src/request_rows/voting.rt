@@ -1,6 +1,6 @@
 //! The votes of a suggestion.
 use crate::words::word;
-use po_read::Duplicate;
+use po_text::Duplicate;
 use std::alloc::Global;
 use units::{Name, VoteValue, Votes};
 

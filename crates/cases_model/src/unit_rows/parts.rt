@@ -1,8 +1,9 @@
 //! Forms, entries, suggestions and units of rows.
 ghost use Rattle.std.specs.Prelude.{◌≡◌, IfSome, true};
-ghost use Rattle.po_read.specs.Strings.{is_string};
+ghost use Rattle.po_text.specs.Strings.{is_string};
 
-use po_read::{Duplicate, Entry, Forms, Items, PoString, read};
+use po_read::read;
+use po_text::{Duplicate, Entry, Forms, Items, PoString};
 use std::alloc::Global;
 use units::{Key, Name, Revision, Suggestion, Unit, UnitState, Votes};
 use uuid::Uuid;

@@ -3,7 +3,7 @@ use crate::unit_rows::parts::{entry, forms, unit};
 use crate::unit_rows::stage::Stage;
 use crate::unit_rows::words::state;
 use crate::words::{word, yes_or_no};
-use po_read::{Duplicate, Entry, Items};
+use po_text::{Duplicate, Entry, Items};
 use std::alloc::Global;
 use units::{Revision, UnitState, UnitView, all_empty, has_flag, some_empty};
 

@@ -1,5 +1,5 @@
 //! What the rows above set.
-use po_read::{Catalogue, Items};
+use po_text::{Catalogue, Items};
 use review::Decision;
 use std::alloc::Global;
 use template_update::Plan;

@@ -7,7 +7,7 @@ use crate::unit_rows::words::TWO;
 use crate::words::policy;
 use language::{catalogue, push_units};
 use plural_expr::PluralForms;
-use po_read::{Catalogue, Items};
+use po_text::{Catalogue, Items};
 use std::alloc::Global;
 use template_update::{Plan, load, plan, template_of};
 use told::{tell_entries, tell_plan};

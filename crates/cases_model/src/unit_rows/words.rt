@@ -1,5 +1,5 @@
 //! The words of a row.
-use po_read::PoString;
+use po_text::PoString;
 use std::alloc::AllocError;
 use units::{Revision, UnitState};
 

@@ -2,11 +2,10 @@
 use crate::desk_rows::exports::exported;
 use crate::places::Place;
 use office::{Desk, QueryFault};
-use po_read::PoString;
+use po_text::PoString;
 use request_book::{Reply, Request};
 use std::alloc::Global;
-use store::Lost;
-use tables::Tables;
+use tables::{Lost, Tables};
 use units::Key;
 
 /// What desks are asked alike.

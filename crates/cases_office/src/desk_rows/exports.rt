@@ -5,10 +5,11 @@ use crate::desk_rows::offices::Offices;
 use crate::desks::sink;
 use crate::places::Place;
 use crate::words::replaced;
+use byte_streams::VecSink;
 use office::{Desk, ExportFault, ExportReceipt};
 use std::alloc::Global;
 use tables::Tables;
-use units::{Lang, Name, VecSink};
+use units::{Lang, Name};
 
 /// What stands in a request behind this, up to the next quote.
 fn text_behind<'a>(line: &'a str, front: &str) -> Option<&'a str> {

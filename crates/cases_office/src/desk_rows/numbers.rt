@@ -1,7 +1,7 @@
 //! The numbers of faults.
 use office::{ExportFault, QueryFault};
 use std::alloc::Global;
-use store::Lost;
+use tables::Lost;
 
 /// The number of the fault of this name.
 pub(crate) fn number_of(alloc: Global, name: &str) -> Option<String> {

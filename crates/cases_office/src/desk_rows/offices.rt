@@ -8,8 +8,8 @@ use office::Desk;
 use request_book::Request;
 use sqlite::{Alter, Connection, MemStore};
 use std::alloc::Global;
-use store::{PlainTables, Start};
 use store_sql::SqliteTables;
+use tables::{PlainTables, Start};
 
 /// Offices that get the same requests. (What stands over any offices never sees their types: each function that owns tables on SQLite is
 /// dear to prove.)

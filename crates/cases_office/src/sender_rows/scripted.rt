@@ -8,7 +8,7 @@ use client::{Link, LinkFault};
 use office::Desk;
 use std::alloc::Global;
 use std::time::Duration;
-use store::PlainTables;
+use tables::PlainTables;
 
 /// A desk behind a network that follows a script.
 #[derive(Drop)]

@@ -6,11 +6,11 @@ use crate::sender_rows::texts::lines_told;
 use crate::words::{behind, word};
 use client::send_all;
 use office::Desk;
-use po_read::Text;
+use po_text::Text;
 use request_book::{Reply, Request};
 use sender::Sender;
 use std::alloc::Global;
-use store::PlainTables;
+use tables::PlainTables;
 
 /// The requests of lists, and the desk of the last link.
 #[derive(Drop)]

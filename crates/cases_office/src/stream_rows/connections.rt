@@ -6,7 +6,7 @@ use crate::stream_rows::words::{has, words_and_text};
 use http_api::{ServeFault, Served, serve};
 use office::Desk;
 use std::alloc::Global;
-use store::PlainTables;
+use tables::PlainTables;
 
 pub(crate) fn outcome_told(alloc: Global, outcome: Result<Served, ServeFault>) -> Option<String> {
     match outcome {

@@ -2,7 +2,7 @@
 use crate::stream_rows::named::NamedTexts;
 use office::Desk;
 use std::alloc::Global;
-use store::PlainTables;
+use tables::PlainTables;
 
 /// The text of those commands that have none of their own, the texts with names, the desks so far, of which the last is that of
 /// the row before, and the bytes of the file between two rows.

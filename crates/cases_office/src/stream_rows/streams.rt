@@ -2,9 +2,9 @@
 ghost use Rattle.std.specs.Prelude.{None, false};
 
 use crate::stream_rows::words::{has, most};
+use byte_streams::{ByteSink, ByteSource, SinkFault, SourceFault, VecSink};
 use client::{Link, send_lines};
 use std::alloc::Global;
-use units::{ByteSink, ByteSource, SinkFault, SourceFault, VecSink};
 
 /// A source that gives a piece at a time, and fails once it gave so many bytes.
 #[derive(Drop)]

@@ -4,8 +4,8 @@ use Rattle.std.specs.Prelude.{not, is_some, option_map}
 use Rattle.std.specs.Option.{option_map_or}
 use Rattle.std.specs.Ordering.{is_eq, ordering_then}
 use Rattle.std.specs.FinMap as maps
-use Rattle.po_read.specs.Texts.{Text}
-use Rattle.po_read.specs.declared.entry.Entry.{Entry}
+use Rattle.po_text.specs.Texts.{Text}
+use Rattle.po_text.specs.declared.entry.Entry.{Entry}
 use Rattle.units.specs.Project.{Project, Place, place_cmp, place_eq, role_of, view_of}
 use Rattle.units.specs.Office.{Office, office_place_eq, same_domain, project_in, with_project}
 use Rattle.units.specs.Orders.{place_total}

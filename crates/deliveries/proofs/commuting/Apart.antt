@@ -3,7 +3,7 @@ use Rattle.std.proofs.Common.{◌≡◌, Bool, true, false, cond, refl, sym, ◌
 use Rattle.std.specs.Prelude.{option_map}
 use Rattle.std.specs.FinMap as maps
 use Rattle.std.specs.Cmp.{eq_by_cmp_equiv}
-use Rattle.po_read.specs.Texts.{Text}
+use Rattle.po_text.specs.Texts.{Text}
 use Rattle.units.specs.Project.{Project, Place, place_cmp, place_eq, role_of, entry_of}
 use Rattle.units.specs.Rules.{rule_at}
 use Rattle.units.specs.declared.unit.Unit.{Unit}

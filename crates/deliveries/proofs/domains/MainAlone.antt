@@ -2,8 +2,8 @@
 use Rattle.std.proofs.Common.{◌≡◌, List, [], ◌∷◌, Bool, true, false, cond, Option, Some, None, is_some, refl, sym, ap, ◌∙◌, map, append-nil}
 use Rattle.std.specs.Prelude.{unwrap_or, option_map, flat_map}
 use Rattle.std.specs.FinMap as maps
-use Rattle.po_read.specs.declared.entry.Entry.{Entry}
-use Rattle.po_read.specs.Texts.{Text, text_cmp}
+use Rattle.po_text.specs.declared.entry.Entry.{Entry}
+use Rattle.po_text.specs.Texts.{Text, text_cmp}
 use Rattle.units.specs.Project.{Project, role_of, view_of}
 use Rattle.units.specs.Office.{Domain, main, empty_domain, same_domain, as_project, project_in, domain_of, with_project}
 use Rattle.units.specs.Rules.{rule_at}

@@ -8,7 +8,7 @@ use Rattle.std.proofs.lemmas.List.Elements.{filter-append}
 use Rattle.std.proofs.Math.Seq.{append_snoc}
 use Rattle.std.specs.FinMap as maps
 use Rattle.std.specs.Cmp.Lexicographic.{same_text, texts_ties, nat_list_eq_equiv}
-use Rattle.po_read.specs.Texts.{Text}
+use Rattle.po_text.specs.Texts.{Text}
 use Rattle.units.specs.Office.{Office}
 use Rattle.units.specs.Orders.{text_total}
 use Rattle.request_book.specs.declared.act.Request.{Request}

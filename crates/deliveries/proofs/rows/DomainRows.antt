@@ -12,12 +12,12 @@ use Rattle.plural_expr.specs.Plain.{rule_of, rule_at, operand_at, behind}
 use Rattle.plural_expr.specs.Faults.{values_fault, reading_of as rule_reading}
 use Rattle.po_lex.specs.Escapes.{raw_at, letter_at, unescaped, unescaped_behind}
 use Rattle.po_lex.specs.Lines.{lines_of, line_of, part_at}
-use Rattle.po_read.specs.declared.entry.Entry.{Entry}
+use Rattle.po_text.specs.declared.entry.Entry.{Entry}
 use Rattle.po_read.specs.Faults.{fault_of, fault_from, fault_at, fault_at_end}
-use Rattle.po_read.specs.Header.{field_value, has_charset}
+use Rattle.po_text.specs.Header.{field_value, has_charset}
 use Rattle.po_read.specs.Plain.{reading_of, entries_of, entry_of}
 use Rattle.po_read.specs.Spells.{limits}
-use Rattle.po_read.specs.Texts.{Text, text_cmp, text_eq}
+use Rattle.po_text.specs.Texts.{Text, text_cmp, text_eq}
 use Rattle.po_write.specs.Text.{text_of, entry_text, string_lines}
 use Rattle.units.specs.Project.{Project, Place, place_cmp, units_of}
 use Rattle.units.specs.Office.{Office, Domain, main, empty_domain, as_project, project_in, domain_of}

@@ -3,8 +3,8 @@ use Rattle.std.specs.Prelude.{◌≡◌, List, [], ◌∷◌, length, Option, So
 use Rattle.std.specs.Option.{option_map_or}
 use Rattle.std.proofs.Common.{◌∙◌, ap}
 use Rattle.std.specs.FinMap as maps
-use Rattle.po_read.specs.declared.entry.Entry.{Entry}
-use Rattle.po_read.specs.Texts.{Text, text_eq}
+use Rattle.po_text.specs.declared.entry.Entry.{Entry}
+use Rattle.po_text.specs.Texts.{Text, text_eq}
 use Rattle.po_write.specs.Text.{text_of, entry_text, string_lines}
 use Rattle.units.specs.Project.{Project, Place, place_cmp, units_of, with_unit}
 use Rattle.units.specs.Office.{Office, main, project_in, with_project}

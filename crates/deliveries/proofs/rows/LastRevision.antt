@@ -9,12 +9,12 @@ use Rattle.plural_expr.specs.Values.{Rule}
 use Rattle.po_lex.specs.declared.fault.FaultKind.TheVariants as kinds
 use Rattle.po_lex.specs.Escapes.{raw_at, letter_at, unescaped, unescaped_behind}
 use Rattle.po_lex.specs.Lines.{lines_of, line_of, part_at}
-use Rattle.po_read.specs.declared.entry.Entry.{Entry}
+use Rattle.po_text.specs.declared.entry.Entry.{Entry}
 use Rattle.po_read.specs.Faults.{fault_of, fault_from, fault_at, fault_at_end}
-use Rattle.po_read.specs.Header.{field_value, has_charset}
+use Rattle.po_text.specs.Header.{field_value, has_charset}
 use Rattle.po_read.specs.Plain.{reading_of, entries_of, entry_of}
 use Rattle.po_read.specs.Spells.{limits}
-use Rattle.po_read.specs.Texts.{Text, text_cmp}
+use Rattle.po_text.specs.Texts.{Text, text_cmp}
 use Rattle.units.specs.Limits.{revision_limit}
 use Rattle.units.specs.Project.{Project, Place, place_cmp, with_unit}
 use Rattle.units.specs.Office.{Office}

@@ -7,8 +7,8 @@ use Rattle.plural_expr.specs.Values.{Rule, value_of}
 use Rattle.plural_expr.specs.Plain.{rule_of, rule_at, operand_at, behind}
 use Rattle.plural_expr.specs.Faults.{values_fault, reading_of}
 use Rattle.po_lex.specs.Lines.{lines_of}
-use Rattle.po_read.specs.declared.entry.Entry.{Entry}
-use Rattle.po_read.specs.Header.{field_value}
+use Rattle.po_text.specs.declared.entry.Entry.{Entry}
+use Rattle.po_text.specs.Header.{field_value}
 use Rattle.units.specs.Rules.{rule_in, rule_of_field, by_result}
 use Rattle.units.specs.Openings.{plain_entry, demo_header}
 

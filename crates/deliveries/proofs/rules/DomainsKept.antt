@@ -9,8 +9,8 @@ use Rattle.std.specs.FinMap as maps
 use Rattle.std.specs.FinMap.Entries.{below_all}
 use Rattle.std.proofs.lemmas.List.{length-map}
 use Rattle.std.proofs.lemmas.List.Elements.{All-nil}
-use Rattle.po_read.specs.declared.entry.Entry.{Entry}
-use Rattle.po_read.specs.Texts.{Text, text_cmp, text_eq}
+use Rattle.po_text.specs.declared.entry.Entry.{Entry}
+use Rattle.po_text.specs.Texts.{Text, text_cmp, text_eq}
 use Rattle.units.specs.Limits.{domain_limit, team_limit, unit_limit, is_accept_at}
 use Rattle.units.specs.Units.{is_below}
 use Rattle.units.specs.Project.{Project, Place, place_cmp}

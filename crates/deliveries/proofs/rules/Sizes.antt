@@ -8,7 +8,7 @@ use Rattle.std.specs.Cmp.Lexicographic.{texts_ties}
 use Rattle.std.proofs.lemmas.List.{length-map}
 use Rattle.std.proofs.lemmas.List.Sums.{count_by-le-length, sum_by-le}
 use Rattle.std.proofs.lemmas.List.Elements.{All-nil, All-cons}
-use Rattle.po_read.specs.Texts.{Text, text_cmp, text_eq}
+use Rattle.po_text.specs.Texts.{Text, text_cmp, text_eq}
 use Rattle.units.specs.Limits.{domain_limit, language_limit, unit_limit}
 use Rattle.units.specs.Units.{is_approved}
 use Rattle.units.specs.Project.{Project, Place, place_cmp}

@@ -12,11 +12,11 @@ use Rattle.std.proofs.lemmas.List.Elements.{All-nil}
 use Rattle.std.proofs.lemmas.Str.{IsUtf8-from_ascii}
 use Rattle.std.proofs.lemmas.Str.Ascii.{IsAscii-nil}
 use Rattle.po_lex.specs.Lines.{lines_of}
-use Rattle.po_read.specs.declared.entry.Entry.{Entry}
-use Rattle.po_read.specs.Entries.{Key as EntryKey, is_header}
-use Rattle.po_read.specs.Header.{has_charset, field_value}
-use Rattle.po_read.specs.Texts.{Text, text_cmp, text_eq}
-use Rattle.po_read.specs.Valid.{IsValid, IsValidEntry, HasHeaderKey}
+use Rattle.po_text.specs.declared.entry.Entry.{Entry}
+use Rattle.po_text.specs.Entries.{Key as EntryKey, is_header}
+use Rattle.po_text.specs.Header.{has_charset, field_value}
+use Rattle.po_text.specs.Texts.{Text, text_cmp, text_eq}
+use Rattle.po_text.specs.Valid.{IsValid, IsValidEntry, HasHeaderKey}
 use Rattle.plural_expr.specs.Values.{Rule}
 use Rattle.plural_expr.specs.Faults.{reading_of}
 use Rattle.plural_expr.specs.declared.fault.PluralFault.{PluralFault}

@@ -2,7 +2,7 @@
 use crate::unit_rows::parts::{entry, forms, put_suggestion, unit};
 use crate::unit_rows::words::{revision, state};
 use crate::words::{has, word};
-use po_read::{Entry, Items};
+use po_text::{Entry, Items};
 use std::alloc::Global;
 use units::{Name, Suggestion, Unit, UnitView, VoteValue, Votes};
 

@@ -2,7 +2,8 @@
 use crate::unit_rows::parts::{put_suggestion, unit};
 use crate::unit_rows::words::{revision, state};
 use crate::words::{has, word};
-use po_read::{Catalogue, Duplicate, Entry, Items, read};
+use po_read::read;
+use po_text::{Catalogue, Duplicate, Entry, Items};
 use std::alloc::Global;
 use units::{Suggestion, Unit, Votes};
 

@@ -1,6 +1,6 @@
 //! What a plan and a template tell.
 use crate::unit_rows::words::tell_forms;
-use po_read::{Entry, Text};
+use po_text::{Entry, Text};
 use std::alloc::AllocError;
 use template_update::{Counts, Plan};
 use units::Unit;

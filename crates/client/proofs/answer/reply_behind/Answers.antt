@@ -1,7 +1,7 @@
 use Rattle.std.proofs.Common.{◌≡◌, length, map, take, true, sym, ap, subst, ◌∙◌}
 use Rattle.std.specs.Prelude.{IsUtf8}
 use Rattle.httparse.specs.Spans.{header_bytes}
-use Rattle.po_read.specs.Texts.{Text}
+use Rattle.po_text.specs.Texts.{Text}
 use Rattle.client.specs.Answers.{says_length, has_control}
 use Rattle.client.proofs.LineLemmas.{behind_of}
 use Rattle.client.proofs.AnswerLemmas.{is_behind, other_status, other_length, other_text, other_letters}

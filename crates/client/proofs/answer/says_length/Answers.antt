@@ -1,7 +1,7 @@
 use Rattle.std.proofs.Common.{map, arith, sym, ap, ◌∙◌}
 use Rattle.std.proofs.lemmas.Grind.{common_steps}
 use Rattle.httparse.specs.Spans.{header_bytes}
-use Rattle.po_read.specs.Texts.{Text}
+use Rattle.po_text.specs.Texts.{Text}
 use Rattle.client.specs.Answers.{lines_say}
 use Rattle.client.proofs.AnswerLemmas.{other_line}
 use Rattle.client.proofs.answer.says_length.Goals as goal

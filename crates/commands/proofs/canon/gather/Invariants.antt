@@ -1,5 +1,5 @@
 use Rattle.std.proofs.Common.{◌≡◌, ◌≤◌, ◌-◌, length, vec_len}
-use Rattle.units.specs.Streams.{prepend_known}
+use Rattle.byte_streams.specs.Streams.{prepend_known}
 use Rattle.commands.proofs.canon.gather.Given as goal
 
 -- what was read so far

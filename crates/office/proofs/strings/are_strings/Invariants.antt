@@ -1,6 +1,6 @@
 use Rattle.std.proofs.Common.{drop}
 use Rattle.std.specs.List.{AllByRecursion}
-use Rattle.po_read.specs.Valid.{IsString}
+use Rattle.po_text.specs.Valid.{IsString}
 use Rattle.office.proofs.strings.are_strings.Given as goal
 
 -- where those that are left are, all are

@@ -1,5 +1,5 @@
 use Rattle.std.proofs.Common.{◌≡◌}
-use Rattle.po_read.specs.Texts.{Text}
+use Rattle.po_text.specs.Texts.{Text}
 use Rattle.request_book.specs.Acts.{canon_text, content_text}
 use Rattle.request_book.specs.declared.act.Act.{Act}
 use Rattle.request_book.proofs.CanonLemmas.{one_content}

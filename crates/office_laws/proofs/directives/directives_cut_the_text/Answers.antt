@@ -2,7 +2,7 @@ use Rattle.std.proofs.Common.{◌≡◌, ℕ, zero, suc, ◌-◌, ◌<◌, ◌�
 use Rattle.std.specs.Option.{IfSome}
 use Rattle.std.proofs.lemmas.Bool.{and_parts, eqb-true}
 use Rattle.std.proofs.lemmas.List.{take-append-drop}
-use Rattle.po_read.specs.Texts.{Text}
+use Rattle.po_text.specs.Texts.{Text}
 use Rattle.checks.specs.Directives.{begins_with, after_directive, directives}
 use Rattle.checks.proofs.Parts.{Passes, here, past, directive-Passes, length-Passes_le, after_directive_lt}
 use Rattle.checks.proofs.Scanning.{at_both, at_directive, at_other, at_end}

@@ -1,6 +1,6 @@
 use Rattle.std.proofs.Common.{List, String, string_bytes, ap, ◌∙◌}
 use Rattle.std.specs.FinMap as maps
-use Rattle.po_read.specs.Texts.{text_cmp}
+use Rattle.po_text.specs.Texts.{text_cmp}
 use Rattle.units.specs.Orders.{text_total, text_IsAntisymmetric}
 use Rattle.units.specs.declared.unit.Role.{Role}
 use Rattle.office_maps.specs.MapViews.{viewed}

@@ -1,6 +1,6 @@
 use Rattle.std.proofs.Common.{List, String, string_bytes, ap}
 use Rattle.std.specs.FinMap as maps
-use Rattle.po_read.specs.Texts.{text_cmp}
+use Rattle.po_text.specs.Texts.{text_cmp}
 use Rattle.deliveries.specs.declared.values.Language.{Language}
 use Rattle.office_maps.specs.MapViews.{viewed}
 use Rattle.office_maps.proofs.changes.put_header.Goals as goal

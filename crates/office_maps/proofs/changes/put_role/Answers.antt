@@ -1,7 +1,7 @@
 use Rattle.std.proofs.Common.{string_bytes, sym, ap, ◌∙◌}
 use Rattle.std.specs.FinMap as maps
 use Rattle.std.proofs.lemmas.Result.{on_ok_weaker}
-use Rattle.po_read.specs.Texts.{text_cmp}
+use Rattle.po_text.specs.Texts.{text_cmp}
 use Rattle.units.specs.Changes.{set_role}
 use Rattle.units.specs.Orders.{text_total, text_IsAntisymmetric}
 use Rattle.office_maps.specs.Rows.{team_in}

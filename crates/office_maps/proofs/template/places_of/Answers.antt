@@ -1,6 +1,6 @@
 use Rattle.std.proofs.Common.{◌≡◌, sym, ap, subst, take, ◌+◌, ◌∷◌, [], ◌++◌, ◌∙◌, arith}
 use Rattle.std.proofs.lemmas.List.{take_more, length-take-le}
-use Rattle.po_read.specs.declared.entry.Entry.{Entry}
+use Rattle.po_text.specs.declared.entry.Entry.{Entry}
 use Rattle.office_maps.specs.TemplateIndex.{IsIndexOf}
 use Rattle.office_maps.proofs.Places.{same_places, one_more_place}
 use Rattle.office_maps.proofs.template.places_of.Goals as goal

@@ -1,7 +1,7 @@
 use Rattle.std.proofs.Common.{◌∙◌, ◌++◌, List, false, refl, sym, subst}
 use Rattle.std.specs.Bool.{Decides}
 use Rattle.std.specs.List.{IsDistinct}
-use Rattle.po_read.specs.Texts.{text_eq}
+use Rattle.po_text.specs.Texts.{text_eq}
 use Rattle.units.specs.declared.unit.Suggestion.{Suggestion}
 use Rattle.office_rules.proofs.BookTests.{numbers_in, not_true, not_false, one_added, number_twice}
 use Rattle.office_rules.proofs.book_rules.add_numbers.Goals as goal

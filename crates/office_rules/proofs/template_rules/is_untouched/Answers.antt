@@ -1,6 +1,6 @@
 use Rattle.std.proofs.Common.{List, length, ap, ◌∙◌}
 use Rattle.std.specs.Prelude.{◌==◌}
-use Rattle.po_read.specs.declared.text.Text.{Text}
+use Rattle.po_text.specs.declared.text.Text.{Text}
 use Rattle.office_rules.proofs.TemplateTests.{untouched_told}
 use Rattle.office_rules.proofs.template_rules.is_untouched.Goals as goal
 

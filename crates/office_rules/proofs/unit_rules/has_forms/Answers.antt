@@ -3,7 +3,7 @@ use Rattle.std.specs.List.{list_all}
 use Rattle.std.specs.Prelude.{◌==◌}
 use Rattle.units.specs.Units.{forms_needed}
 use Rattle.units.specs.declared.unit.Suggestion.{Suggestion}
-use Rattle.po_read.specs.declared.string.PoString.{PoString}
+use Rattle.po_text.specs.declared.string.PoString.{PoString}
 use Rattle.std.proofs.Common.{Option}
 use Rattle.office_rules.proofs.UnitTests.{forms_told}
 use Rattle.office_rules.proofs.unit_rules.has_forms.Goals as goal

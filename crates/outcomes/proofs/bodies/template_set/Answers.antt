@@ -8,7 +8,7 @@ use Rattle.serde_json.specs.declared.value.Value.{Object}
 use Rattle.serde_json.proofs.Views.{view-Object}
 use Rattle.request_book.specs.Replies.{Reply}
 use Rattle.request_book.specs.Words.{object_of}
-use Rattle.po_read.specs.Texts.{Text}
+use Rattle.po_text.specs.Texts.{Text}
 use Rattle.template_update.specs.declared.plans.Plan.{Plan}
 use Rattle.replies.specs.Bodies.{template_fields}
 use Rattle.outcomes.proofs.Objects.{template_told}

@@ -1,7 +1,7 @@
 use Rattle.std.proofs.Common.{String, string_bytes, not, ◌&&◌, sym, ◌∙◌, rules, tests}
 use Rattle.std.proofs.lemmas.Iterator.Search.{any_from_yields_List}
 use Rattle.std.proofs.lemmas.Iterator.Consumers.{YieldsList-from_rest}
-use Rattle.po_read.specs.Texts.{text_eq}
+use Rattle.po_text.specs.Texts.{text_eq}
 use Rattle.units.specs.declared.unit.Role.{Role}
 use Rattle.deliveries.specs.OfficeActs.{is_manager}
 use Rattle.office_maps.specs.Rows.{team_in}

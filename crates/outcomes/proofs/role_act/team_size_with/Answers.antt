@@ -1,6 +1,6 @@
 use Rattle.std.proofs.Common.{ℕ, Bool, ◌-◌, ◌+◌, cond, is_some, length, string_bytes, sym, ap, ◌∙◌}
 use Rattle.std.specs.BTreeMap.{get_by}
-use Rattle.po_read.specs.Texts.{Text, text_cmp}
+use Rattle.po_text.specs.Texts.{Text, text_cmp}
 use Rattle.outcomes.proofs.Teams.{size_as_guest, size_in_team}
 use Rattle.outcomes.proofs.role_act.team_size_with.Goals as goal
 

@@ -1,6 +1,6 @@
 use Rattle.std.proofs.Common.{◌≤◌, length, List, sym, ◌∙◌, subst, inl, arith}
 use Rattle.std.proofs.lemmas.Result.{err_from_is_err_and}
-use Rattle.po_read.specs.declared.entry.Entry.{Entry}
+use Rattle.po_text.specs.declared.entry.Entry.{Entry}
 use Rattle.po_read.specs.Spells.{Spells, IsWithin, limits}
 use Rattle.po_read.proofs.Answered.{is_no_text, told_of, read_of, memory_line, memory_then, same_catalogue}
 use Rattle.po_read.proofs.reading.read.Goals as goal

@@ -4,7 +4,7 @@ use Rattle.po_write.proofs.Pieces.{four_cut}
 use Rattle.std.proofs.Common.{None}
 use Rattle.std.specs.Prelude.{flat_map}
 use Rattle.po_lex.specs.declared.line.Keyword.TheVariants.{Msgctxt, Msgid, MsgidPlural}
-use Rattle.po_read.specs.Entries.{optional, keyed_forms, numbered}
+use Rattle.po_text.specs.Entries.{optional, keyed_forms, numbered}
 use Rattle.po_write.specs.Text.{string_lines}
 use Rattle.po_write.proofs.strings.write_messages.Goals as goal
 

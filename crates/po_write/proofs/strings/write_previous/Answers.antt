@@ -2,7 +2,7 @@ use Rattle.std.proofs.Common.{refl}
 use Rattle.po_write.proofs.Sent.{begin, more, stopped, outcome}
 use Rattle.po_write.proofs.Pieces.{three_cut}
 use Rattle.po_lex.specs.declared.line.Keyword.TheVariants.{Msgctxt, Msgid, MsgidPlural}
-use Rattle.po_read.specs.Entries.{optional}
+use Rattle.po_text.specs.Entries.{optional}
 use Rattle.po_write.specs.Text.{string_lines}
 use Rattle.po_write.proofs.strings.write_previous.Goals as goal
 

@@ -1,6 +1,6 @@
 use Rattle.std.proofs.lemmas.Result.{err_from_is_err_and}
 use Rattle.serde_json.specs.View.{view}
-use Rattle.po_read.specs.Strings.{is_string}
+use Rattle.po_text.specs.Strings.{is_string}
 use Rattle.request_book.specs.Fields.{text_of}
 use Rattle.request_book.proofs.EachRead.{next_read, all_read, none_read, next_passes}
 use Rattle.request_book.proofs.Readers.{text_sound}

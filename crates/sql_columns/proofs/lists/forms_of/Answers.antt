@@ -1,6 +1,6 @@
 use Rattle.std.proofs.Common.{◌++◌, ◌∷◌, [], sym, ◌∙◌}
 use Rattle.std.proofs.lemmas.List.{take_more}
-use Rattle.po_read.specs.Strings.{is_string}
+use Rattle.po_text.specs.Strings.{is_string}
 use Rattle.request_book.proofs.EachRead.{next_passes}
 use Rattle.sql_columns.proofs.lists.forms_of.Goals as goal
 

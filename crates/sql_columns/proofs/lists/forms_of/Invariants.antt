@@ -1,6 +1,6 @@
 use Rattle.std.proofs.Common.{◌≡◌, true, take}
 use Rattle.std.specs.List.{list_all}
-use Rattle.po_read.specs.Strings.{is_string}
+use Rattle.po_text.specs.Strings.{is_string}
 use Rattle.sql_columns.proofs.lists.forms_of.Given as goal
 
 -- the texts so far, each of which is a string

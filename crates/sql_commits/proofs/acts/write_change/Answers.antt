@@ -1,6 +1,6 @@
 use Rattle.std.proofs.Common.{subst}
 use Rattle.sqlite.specs.Held.{state}
-use Rattle.po_read.specs.Texts.{Text}
+use Rattle.po_text.specs.Texts.{Text}
 use Rattle.sql_columns.specs.Numbers.{role_number}
 use Rattle.sql_changes.specs.Commits.{WritesRole, WritesPolicy}
 use Rattle.sql_commits.proofs.WritesInTurn.{write_mapped}

@@ -9,4 +9,4 @@ pub returns-clause-put : goal.returns-clause-put
 returns-clause-put g c =
     let unit = c.args.unit.now in
     leaves_with_both (state g.S.Store c.args.tx.now.conn.now) (state g.S.Store c.write_unit.new.tx.conn.now) c.write_unit.result (WritesNumberedUnit c.args.lang.now unit) (HasStrings unit.key) (ArePrevious unit.previous)
-    c.key_fits.ensures c.previous_fits.ensures c.write_unit.ensures.put
+    c.key_fits.ensures.strings c.previous_fits.ensures.strings c.write_unit.ensures.put

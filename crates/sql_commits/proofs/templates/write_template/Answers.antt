@@ -1,6 +1,5 @@
-use Rattle.std.proofs.Common.{Ok, true}
+use Rattle.std.proofs.Common.{Ok, true, codes}
 use Rattle.sqlite.specs.Held.{state}
-use Rattle.sql_schema.specs.Schema.{template_tree}
 use Rattle.sql_decoding.specs.declared.faults.Failure.{Failure}
 use Rattle.sql_statements.specs.Emptied.{EmptiesUnits}
 use Rattle.sql_statements.specs.Taken.{TakesRows}
@@ -19,7 +18,7 @@ returns-clause-put g c =
     let new = state g.S.Store c.write_plans_back.new.tx.conn.now in
     let entries = c.args.entries.now in
     let plans = c.args.plans.now in
-    let NoEntry = TakesRows template_tree (λ row. true) in
+    let NoEntry = TakesRows (codes "template") (λ row. true) in
     let gone = leaves_tables old bare (Ok c.in_ok-empty_template.field-0) NoEntry c.in_ok-empty_template.ensures.taken in
     let template = write_then old bare put {F = Failure} c.in_ok-empty_template.field-0 (Ok c.in_ok-put_entries.field-0) (LeavesTables NoEntry) (PutsEntries 0 entries) (PutsTemplate entries)
     (λ gone entries. (bare.now, gone, entries)) gone c.in_ok-put_entries.ensures.put in

@@ -1,10 +1,9 @@
-use Rattle.std.proofs.Common.{Ok, ℕ, ◌+◌, ℤ, map, take, ◌∙◌, ap, rules, w64, to_z, of_z, [], ◌∷◌}
+use Rattle.std.proofs.Common.{Ok, ℕ, ◌+◌, ℤ, map, take, ◌∙◌, ap, rules, w64, to_z, of_z, [], ◌∷◌, codes}
 use Rattle.sqlite.specs.Held.{state}
 use Rattle.sqlite.specs.declared.error.Error.{Error}
 use Rattle.sqlite.specs.declared.types.Value.TheVariants.{Int, Text as Words}
 use Rattle.sql_schema.specs.Inside.{PutsRow, HoldsValues}
 use Rattle.sql_schema.specs.Keys.{first_texts}
-use Rattle.sql_schema.specs.Schema.{vote_tree}
 use Rattle.sql_meaning.specs.Cells.{vote_cells}
 use Rattle.sql_meaning.specs.Written.{PutsRows}
 use Rattle.sql_commits.proofs.WritesInTurn.{write_then, write_told, puts_vote_next, vote_through}
@@ -17,10 +16,10 @@ loop-vote-preserved g c =
     let new = state g.S.Store c.put_vote.new.tx.conn.now in
     let number = c.args.number.now in
     let votes = c.as_slice-vote-items.result.now in
-    let Front = PutsRows vote_tree first_texts (map (vote_cells number) (take c.loop-vote.vote-index votes)) in
+    let Front = PutsRows (codes "vote") first_texts (map (vote_cells number) (take c.loop-vote.vote-index votes)) in
     let value : ℤ = to_z w64 (of_z w64 c.vote_column.result) in
-    let One = PutsRow vote_tree first_texts (HoldsValues (Words number ∷ Words c.as_str.result.now ∷ Int value ∷ [])) in
-    let All = PutsRows vote_tree first_texts (map (vote_cells number) (take (c.loop-vote.vote-index + 1) votes)) in (
+    let One = PutsRow (codes "vote") first_texts (HoldsValues (Words number ∷ Words c.as_str.result.now ∷ Int value ∷ [])) in
+    let All = PutsRows (codes "vote") first_texts (map (vote_cells number) (take (c.loop-vote.vote-index + 1) votes)) in (
       c.in_ok-put_vote.ensures.same_reference ∙ c.loop-vote.invariant.0,
       write_then old mid new {A = ℕ} {B = ℕ} {E = Error} {F = Error} 0 (Ok 0) Front One All
           (puts_vote_next number c.as_str.result.now value votes c.loop-vote.vote-index c.vote-item.result old.now mid.now new.now c.loop-vote-test.true (search rules) (search rules)

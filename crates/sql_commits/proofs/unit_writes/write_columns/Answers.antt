@@ -1,9 +1,8 @@
-use Rattle.std.proofs.Common.{rules}
+use Rattle.std.proofs.Common.{rules, codes}
 use Rattle.sqlite.specs.Held.{state}
 use Rattle.sql_schema.specs.Cleared.{ClearsUnit}
 use Rattle.sql_schema.specs.Inside.{Then, PutsRow, HoldsValues}
 use Rattle.sql_schema.specs.Keys.{first_texts}
-use Rattle.sql_schema.specs.Schema.{unit_tree}
 use Rattle.sql_meaning.specs.Cells.{unit_cells}
 use Rattle.sql_changes.specs.UnitWrites.{AddsNumberedSuggestions, WritesNumberedUnit}
 use Rattle.sql_commits.proofs.WritesInTurn.{write_then, writes_numbered_unit}
@@ -17,7 +16,7 @@ returns-clause-put g c =
     let new = state g.S.Store c.add_suggestions.new.tx.conn.now in
     let lang = c.args.lang.now in
     let unit = c.args.unit.now in
-    let Row = PutsRow unit_tree first_texts (HoldsValues (unit_cells lang unit)) in
+    let Row = PutsRow (codes "unit") first_texts (HoldsValues (unit_cells lang unit)) in
     let Gone = ClearsUnit lang c.as_str.result.now in
     let All = AddsNumberedSuggestions lang c.as_str-2.result.now c.as_slice.result.now in
     let rest = write_then mid next new c.in_ok-clear_suggestions.field-0 c.add_suggestions.result Gone All (Then Gone All) (λ gone put. (next.now, gone, put))

@@ -2,7 +2,7 @@ use Rattle.std.proofs.Common.{◌≡◌, true, Some, rules, ap, ◌∙◌}
 use Rattle.std.specs.Option.{option_map_or}
 use Rattle.sqlite.specs.declared.types.Value.TheVariants.{Null, Text as Words}
 use Rattle.sqlite.specs.Order.{column}
-use Rattle.po_read.specs.Strings.{is_string}
+use Rattle.po_text.specs.Strings.{is_string}
 use Rattle.sql_decoding.specs.RowTests.{holds_text_or_null}
 use Rattle.sql_decoding.proofs.RowsTold.{handed_on}
 use Rattle.sql_decoding.proofs.ColumnsTested.{fault_tells, unless, not_given, some_stands, some_falls, null_stands}

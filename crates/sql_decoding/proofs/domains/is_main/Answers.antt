@@ -1,6 +1,6 @@
 use Rattle.std.proofs.Common.{◌≡◌, ◌∙◌}
 use Rattle.std.specs.Cmp.Lexicographic.{texts_ties}
-use Rattle.po_read.specs.Texts.{text_eq}
+use Rattle.po_text.specs.Texts.{text_eq}
 use Rattle.units.specs.Office.{main}
 use Rattle.sql_decoding.proofs.domains.is_main.Goals as goal
 

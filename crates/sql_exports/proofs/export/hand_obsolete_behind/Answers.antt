@@ -8,6 +8,7 @@ use Rattle.sql_exports.specs.Handing.{Gives}
 use Rattle.sql_exports.proofs.Pieces.{given_behind}
 use Rattle.sql_exports.proofs.Whole.{obsolete_read}
 use Rattle.sql_exports.proofs.export.hand_obsolete_behind.Goals as goal
+use Rattle.sql_schema.specs.Layouts.{rows_named}
 
 pub returns-in-Ok-clause-handed : goal.returns-in-Ok-clause-handed
 returns-in-Ok-clause-handed g c clean =
@@ -15,7 +16,7 @@ returns-in-Ok-clause-handed g c clean =
     let lang = c.args.lang.now in
     let early : HasCleanDisk old = omega (arith, clean, c.hand_obsolete.ensures.looked.survives.clean) in
     let office = c.requires.idle.ready early (c.requires.is_open early) in
-    let obsolete = obsolete_of (project_of_rows old.now.trees) lang in
+    let obsolete = obsolete_of (project_of_rows (rows_named old.now)) lang in
     let one = c.in-Ok.ensures.handed obsolete (obsolete_read old.now old.now refl office lang) clean in
     subst (λ es. Gives g.K.EntrySink.Took g.K.EntrySink.Refuses c.args.sink.now c.hand.new.sink es c.hand.result) (append-nil (c.args.held ∷ obsolete))
     (given_behind g.K.EntrySink.Took g.K.EntrySink.Refuses g.met.K.EntrySink.more c.args.sink.now c.hand_obsolete.new.sink c.hand.new.sink (c.args.held ∷ obsolete) [] c.hand_obsolete.new.held one c.hand.result c.hand.ensures)
@@ -25,4 +26,4 @@ returns-in-Err-clause-handed g c clean =
     let old = state g.S.Store c.args.connection.now in
     let early : HasCleanDisk old = omega (arith, clean, c.hand_obsolete.ensures.looked.survives.clean) in
     let office = c.requires.idle.ready early (c.requires.is_open early) in
-    c.in-Err.ensures.handed (obsolete_of (project_of_rows old.now.trees) c.args.lang.now) (obsolete_read old.now old.now refl office c.args.lang.now) clean
+    c.in-Err.ensures.handed (obsolete_of (project_of_rows (rows_named old.now)) c.args.lang.now) (obsolete_read old.now old.now refl office c.args.lang.now) clean

@@ -10,6 +10,7 @@ use Rattle.sql_exports.proofs.Pieces.{cut_before, given_behind, same_now}
 use Rattle.sql_exports.proofs.UnitsThere.{unit_at, units_there}
 use Rattle.sql_exports.proofs.Whole.{messages_read}
 use Rattle.sql_exports.proofs.export.hand_rows.Goals as goal
+use Rattle.sql_schema.specs.Layouts.{rows_named}
 
 pub returns-in-Ok-clause-handed : goal.returns-in-Ok-clause-handed
 returns-in-Ok-clause-handed g c clean =
@@ -25,11 +26,11 @@ returns-in-Ok-clause-handed g c clean =
     let rules = c.requires.rules early in
     let there = c.requires.there early in
     let same : mid.now ≡ old.now = same_now old mid _ (λ _ _. ⊤) c.requires.idle c.in-Ok.ensures.looked late in
-    let messages = messages_of (project_of_rows old.now.trees) lang in
-    let obsolete = obsolete_of (project_of_rows old.now.trees) lang in
+    let messages = messages_of (project_of_rows (rows_named old.now)) lang in
+    let obsolete = obsolete_of (project_of_rows (rows_named old.now)) lang in
     let one = c.in-Ok.ensures.handed (unit_at old.now office rules lang there) messages (units_there old.now office rules lang there) (messages_read old.now office rules lang there) late in
     let two : Gives took refuses c.hand_messages.new.sink c.hand_obsolete_behind.new.sink (last ∷ obsolete) c.hand_obsolete_behind.result =
-    subst (λ (d : Database). Gives took refuses c.hand_messages.new.sink c.hand_obsolete_behind.new.sink (last ∷ obsolete_of (project_of_rows d.trees) lang) c.hand_obsolete_behind.result) same
+    subst (λ (d : Database). Gives took refuses c.hand_messages.new.sink c.hand_obsolete_behind.new.sink (last ∷ obsolete_of (project_of_rows (rows_named d)) lang) c.hand_obsolete_behind.result) same
     (c.hand_obsolete_behind.ensures.handed clean) in
     given_behind took refuses g.met.K.EntrySink.more c.args.sink.now c.hand_messages.new.sink c.hand_obsolete_behind.new.sink (c.args.header ∷ messages) obsolete last one c.hand_obsolete_behind.result two
 
@@ -41,6 +42,6 @@ returns-in-Err-clause-handed g c clean =
     let office = c.requires.idle.ready early (c.requires.is_open early) in
     let rules = c.requires.rules early in
     let there = c.requires.there early in
-    let messages = messages_of (project_of_rows old.now.trees) lang in
+    let messages = messages_of (project_of_rows (rows_named old.now)) lang in
     let one = c.in-Err.ensures.handed (unit_at old.now office rules lang there) messages (units_there old.now office rules lang there) (messages_read old.now office rules lang there) clean in
-    cut_before g.K.EntrySink.Took g.K.EntrySink.Refuses c.args.sink.now c.hand_messages.new.sink (c.args.header ∷ messages) (obsolete_of (project_of_rows old.now.trees) lang) c.in-Err.fault one
+    cut_before g.K.EntrySink.Took g.K.EntrySink.Refuses c.args.sink.now c.hand_messages.new.sink (c.args.header ∷ messages) (obsolete_of (project_of_rows (rows_named old.now)) lang) c.in-Err.fault one

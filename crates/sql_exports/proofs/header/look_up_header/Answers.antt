@@ -7,13 +7,14 @@ use Rattle.sql_meaning.specs.Meaning.{headers_in}
 use Rattle.sql_exports.proofs.HeaderRead.{header_read}
 use Rattle.sql_exports.proofs.Results.{look_up_mapped}
 use Rattle.sql_exports.proofs.header.look_up_header.Goals as goal
+use Rattle.sql_schema.specs.Layouts.{rows_named}
 
 pub returns-in_ok-header-in-Some : goal.returns-in_ok-header-in-Some
 returns-in_ok-header-in-Some g c =
     let old = state g.S.Store c.args.connection.now in
     record {
       found = look_up_mapped old (state g.S.Store c.look_up_language.new.connection) {E = Error} (Some c.in-Some.row) (Some c.in_ok-header-in-Some.field-0)
-          (ShowsLanguage c.args.lang.now) (λ db header. header ≡ maps.get (headers_in db.trees) c.args.lang.now) (search rules)
+          (ShowsLanguage c.args.lang.now) (λ db header. header ≡ maps.get (headers_in (rows_named db)) c.args.lang.now) (search rules)
           (λ clean is_open shown. ap Some c.in_ok-header-in-Some.ensures.shown ∙ header_read old.now (c.requires.idle.ready clean is_open) c.args.lang.now (Some c.in-Some.row) shown);
     }
 
@@ -22,6 +23,6 @@ returns-in-None g c =
     let old = state g.S.Store c.args.connection.now in
     record {
       found = look_up_mapped old (state g.S.Store c.look_up_language.new.connection) {E = Error} None None
-          (ShowsLanguage c.args.lang.now) (λ db header. header ≡ maps.get (headers_in db.trees) c.args.lang.now) (search rules)
+          (ShowsLanguage c.args.lang.now) (λ db header. header ≡ maps.get (headers_in (rows_named db)) c.args.lang.now) (search rules)
           (λ clean is_open shown. header_read old.now (c.requires.idle.ready clean is_open) c.args.lang.now None shown);
     }

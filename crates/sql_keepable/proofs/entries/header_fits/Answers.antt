@@ -1,6 +1,6 @@
 use Rattle.std.proofs.Common.{List, subst}
 use Rattle.std.specs.Prelude.{All, IsUtf8}
-use Rattle.po_read.specs.Texts.{Text}
+use Rattle.po_text.specs.Texts.{Text}
 use Rattle.sql_keepable.proofs.Columns.{header_utf8}
 use Rattle.sql_keepable.proofs.entries.header_fits.Goals as goal
 

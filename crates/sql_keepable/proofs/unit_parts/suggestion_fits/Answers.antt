@@ -1,7 +1,7 @@
 use Rattle.std.proofs.Common.{List, subst}
 use Rattle.std.specs.FinMap as maps
 use Rattle.std.specs.Prelude.{All}
-use Rattle.po_read.specs.Texts.{Text}
+use Rattle.po_text.specs.Texts.{Text}
 use Rattle.units.specs.declared.votes.VoteValue.{VoteValue}
 use Rattle.sql_keepable.specs.Keepable.{IsVoter}
 use Rattle.sql_keepable.proofs.Lists.{each_of}

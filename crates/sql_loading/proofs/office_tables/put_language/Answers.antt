@@ -1,7 +1,7 @@
 use Rattle.std.proofs.Common.{List, fold, map, refl, ◌∙◌}
 use Rattle.std.specs.FinMap as maps
-use Rattle.po_read.specs.declared.entry.Entry.{Entry}
-use Rattle.po_read.specs.Texts.{Text}
+use Rattle.po_text.specs.declared.entry.Entry.{Entry}
+use Rattle.po_text.specs.Texts.{Text}
 use Rattle.units.specs.Project.{Project, Place, place_cmp}
 use Rattle.units.specs.declared.unit.Unit.{Unit}
 use Rattle.deliveries.specs.MainAlone.{main_alone}

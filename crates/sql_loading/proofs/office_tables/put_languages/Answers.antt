@@ -1,8 +1,8 @@
 use Rattle.std.specs.List.{list_all}
 use Rattle.std.proofs.Common.{refl, sym, ◌∙◌}
 use Rattle.std.specs.FinMap as maps
-use Rattle.po_read.specs.Texts.{text_cmp}
-use Rattle.po_read.specs.declared.entry.Entry.{Entry}
+use Rattle.po_text.specs.Texts.{text_cmp}
+use Rattle.po_text.specs.declared.entry.Entry.{Entry}
 use Rattle.deliveries.specs.MainAlone.{main_alone}
 use Rattle.sql_schema.specs.Keys.{text_at}
 use Rattle.sql_meaning.specs.Shown.{shown_header}

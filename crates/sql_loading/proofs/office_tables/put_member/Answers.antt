@@ -1,6 +1,6 @@
 use Rattle.std.proofs.Common.{◌≡◌, rules, string_bytes, sym, ◌∙◌}
 use Rattle.std.specs.FinMap as maps
-use Rattle.po_read.specs.Texts.{text_cmp}
+use Rattle.po_text.specs.Texts.{text_cmp}
 use Rattle.units.specs.Orders.{text_total, text_IsAntisymmetric}
 use Rattle.sql_schema.specs.Keys.{text_at}
 use Rattle.office_maps.specs.Rows.{team_in}

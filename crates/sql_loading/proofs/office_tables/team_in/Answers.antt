@@ -1,7 +1,7 @@
 use Rattle.std.specs.List.{list_all}
 use Rattle.std.proofs.Common.{refl, sym, ap, ◌∙◌}
 use Rattle.std.specs.FinMap as maps
-use Rattle.po_read.specs.Texts.{text_cmp}
+use Rattle.po_text.specs.Texts.{text_cmp}
 use Rattle.units.specs.declared.unit.Role.{Role}
 use Rattle.sql_schema.specs.Keys.{text_at}
 use Rattle.sql_meaning.specs.Values.{role_at}

@@ -1,6 +1,6 @@
 use Rattle.std.proofs.Common.{◌≡◌, true, take}
 use Rattle.std.specs.List.{list_all}
-use Rattle.po_read.specs.Texts.{Text}
+use Rattle.po_text.specs.Texts.{Text}
 use Rattle.sql_decoding.specs.TablesRead.{suggestions_of, suggestions_among}
 use Rattle.sql_decoding.specs.RowTests.{is_suggestion_row}
 use Rattle.sql_loading.proofs.unit_tables.suggestions_by_unit.Given as goal

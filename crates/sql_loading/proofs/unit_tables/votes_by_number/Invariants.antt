@@ -1,6 +1,6 @@
 use Rattle.std.proofs.Common.{◌≡◌, true, take}
 use Rattle.std.specs.List.{list_all}
-use Rattle.po_read.specs.Texts.{Text}
+use Rattle.po_text.specs.Texts.{Text}
 use Rattle.sql_meaning.specs.OfficeShown.{votes_shown}
 use Rattle.sql_decoding.specs.TablesRead.{votes_of}
 use Rattle.sql_decoding.specs.RowTests.{is_vote_row}

@@ -8,6 +8,7 @@ use Rattle.sql_decoding.specs.ShownFound.{IsShownFound}
 use Rattle.sql_exports.proofs.Results.{look_up_answered}
 use Rattle.store_sql.proofs.ViewsRead.{reads_view}
 use Rattle.store_sql.proofs.views.read_view.Goals as goal
+use Rattle.sql_schema.specs.Layouts.{rows_named}
 
 pub returns : goal.returns
 returns g c =
@@ -15,7 +16,7 @@ returns g c =
     record {
       found = look_up_answered old (state g.S.Store c.look_up_view.new.connection) {E = Error} c.in_ok-rows.rows _
           (ShowsViewRows c.as_str.result.now c.as_str-2.result.now c.as_str-3.result.now) (IsShownFound c.args.key.now c.in_ok-rows.rows)
-          (λ db r. r ≡ found_of (project_of_rows db.trees) c.args.lang.now c.args.key.now c.args.name.now) c.in_ok-rows.ensures.found c.found_in-found.ensures.shown
+          (λ db r. r ≡ found_of (project_of_rows (rows_named db)) c.args.lang.now c.args.key.now c.args.name.now) c.in_ok-rows.ensures.found c.found_in-found.ensures.shown
           (λ clean is_open shows found shown. reads_view old c.args.lang.now c.args.key.now c.args.name.now c.as_str.result.now c.as_str-2.result.now c.as_str-3.result.now
           c.in_ok-rows.rows found c.requires.keeps c.key_fits.ensures.strings c.as_str.ensures.value (search rules) c.as_str-3.ensures.value clean is_open shown shows);
     }

@@ -1,5 +1,5 @@
 use Rattle.std.proofs.Common.{◌≡◌, ◌≤◌, ◌++◌, List, length, map, take}
-use Rattle.po_read.specs.declared.entry.Entry.{Entry}
+use Rattle.po_text.specs.declared.entry.Entry.{Entry}
 use Rattle.units.specs.Units.{key_of}
 use Rattle.template_update.specs.Loads.{leftover, leftovers}
 use Rattle.template_update.specs.Views.{IsIndexOf}

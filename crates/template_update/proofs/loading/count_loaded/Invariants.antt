@@ -1,5 +1,5 @@
 use Rattle.std.proofs.Common.{◌≡◌, ◌≤◌, List, count_by, take}
-use Rattle.po_read.specs.declared.entry.Entry.{Entry}
+use Rattle.po_text.specs.declared.entry.Entry.{Entry}
 use Rattle.units.specs.Units.{key_of}
 use Rattle.template_update.specs.Loads.{is_in}
 use Rattle.template_update.specs.Views.{IsIndexOf}

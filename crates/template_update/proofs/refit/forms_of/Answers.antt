@@ -1,6 +1,6 @@
 use Rattle.std.proofs.Common.{sym, ap, ◌∙◌, arith}
 use Rattle.std.specs.List.{list_all}
-use Rattle.po_read.specs.Strings.{is_string, is_forms}
+use Rattle.po_text.specs.Strings.{is_string, is_forms}
 use Rattle.template_update.proofs.Empties.{all_strings, are_forms, not_none}
 use Rattle.template_update.proofs.refit.forms_of.Goals as goal
 

@@ -1,6 +1,6 @@
 use Rattle.std.proofs.Common.{not, [], ◌∷◌, ◌++◌, take, sym, ap, ◌∙◌}
-use Rattle.po_read.specs.Texts.{Text, text_eq}
-use Rattle.po_read.specs.Valid.{fuzzy}
+use Rattle.po_text.specs.Texts.{Text, text_eq}
+use Rattle.po_text.specs.Valid.{fuzzy}
 use Rattle.template_update.specs.Templates.{without_fuzzy}
 use Rattle.template_update.proofs.Taken.{next_taken, filter-more, filter-same}
 use Rattle.template_update.proofs.template.without_fuzzy.Goals.{then-not-is_fuzzy_flag+in_ok-duplicate+in_ok-push, else-not-is_fuzzy_flag}

@@ -1,6 +1,6 @@
 use Rattle.std.proofs.Common.{rules}
 use Rattle.std.proofs.lemmas.Fn.{always_returns_same}
-use Rattle.po_read.specs.Texts.{text_cmp}
+use Rattle.po_text.specs.Texts.{text_cmp}
 use Rattle.units.proofs.Placing.{searched}
 use Rattle.units.proofs.votes.place_of.Goals as goal
 

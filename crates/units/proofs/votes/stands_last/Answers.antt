@@ -1,6 +1,6 @@
 use Rattle.std.proofs.Common.{sym, ◌∙◌, true, ◌≡◌}
 use Rattle.std.specs.Ordering.{is_lt}
-use Rattle.po_read.specs.Texts.{text_cmp}
+use Rattle.po_text.specs.Texts.{text_cmp}
 use Rattle.units.proofs.Placing.{after-last}
 use Rattle.units.proofs.votes.stands_last.Goals as goal
 

@@ -2,11 +2,11 @@ use Rattle.std.proofs.Common.{◌≡◌, ◌++◌, ◌∷◌, [], ◌∙◌, ap,
 use Rattle.std.specs.Result.{OnOk}
 use Rattle.std.specs.BTreeSet.{contains}
 use Rattle.std.specs.Ordering.{is_eq}
-use Rattle.po_read.specs.Keys.{entry_key_cmp}
-use Rattle.po_read.specs.Entries.{Key}
+use Rattle.po_text.specs.Keys.{entry_key_cmp}
+use Rattle.po_text.specs.Entries.{Key}
 use Rattle.po_read.specs.SoFar.{so_far, key_at_hand, IsEntry, IsSoFar, IsClosed}
-use Rattle.po_read.specs.declared.entry.Entry.{Entry}
-use Rattle.po_read.specs.declared.key.EntryKey.{EntryKey}
+use Rattle.po_text.specs.declared.entry.Entry.{Entry}
+use Rattle.po_text.specs.declared.key.EntryKey.{EntryKey}
 use Rattle.po_read.specs.declared.reading.Reader.{Reader}
 use Rattle.po_read.proofs.Drafts.{whole_key}
 use Rattle.po_read.proofs.reading.Reader.close.Goals as goal

@@ -1,5 +1,5 @@
 use Rattle.std.proofs.Common.{sym, ◌∙◌, ap, subst, arith, length, refl, ◌≡◌, ◌+ℤ◌, ◌-ℤ◌, to_z, of_z, w64, slice_set}
-use Rattle.po_read.specs.Texts.{text_cmp}
+use Rattle.po_text.specs.Texts.{text_cmp}
 use Rattle.std.proofs.lemmas.Int.{ints}
 use Rattle.std.specs.FinMap as map
 use Rattle.units.specs.Ballots.{IsPlaceOf, IsNewPlaceOf, vote_sum}

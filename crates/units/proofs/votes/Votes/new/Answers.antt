@@ -1,6 +1,6 @@
 use Rattle.std.proofs.Common.{refl, ap, ◌∙◌, sym, []}
 use Rattle.std.specs.FinMap.{from_sorted, is_sorted}
-use Rattle.po_read.specs.Texts.{text_cmp}
+use Rattle.po_text.specs.Texts.{text_cmp}
 use Rattle.units.specs.Ballots.{vote_sum}
 use Rattle.units.proofs.Placing.{view-nil, vote_sum-view}
 use Rattle.units.proofs.votes.Votes.new.Goals as goal

@@ -1,7 +1,7 @@
 use Rattle.std.proofs.Common.{sym, ◌∙◌, ap, subst, arith, length, ◌≡◌, ◌-ℤ◌, to_z, of_z, w64}
 use Rattle.std.proofs.lemmas.Int.{ints}
 use Rattle.std.specs.FinMap as map
-use Rattle.po_read.specs.Texts.{text_cmp}
+use Rattle.po_text.specs.Texts.{text_cmp}
 use Rattle.units.specs.Ballots.{IsPlaceOf, IsNewPlaceOf, vote_sum}
 use Rattle.units.proofs.Placing.{remove-view, remove-absent, get-view, find-new_place, sorted_by_entries, view_by_entries}
 use Rattle.units.proofs.Sums.{sum-taken, sum-bounds, weight-bounds}

@@ -1,0 +1,11 @@
+//! Streams of bytes: where bytes go, and where they come from.
+//!
+//! - `streams`: sinks and sources, each with what it took or has left and how often it failed
+//! - `vec_sink`: a sink over memory
+#![tactic(auto)]
+
+mod streams;
+mod vec_sink;
+
+pub use streams::{ByteSink, ByteSource, SinkFault, SourceFault};
+pub use vec_sink::VecSink;

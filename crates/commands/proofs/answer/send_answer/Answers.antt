@@ -1,0 +1,25 @@
+use Rattle.std.proofs.Common.{◌≡◌, ◌++◌, refl}
+use Rattle.std.specs.Prelude.{codes, decimal}
+use Rattle.office.specs.Exchanges.{answer_line}
+use Rattle.po_write.proofs.Sent.{begin, more, stopped, outcome}
+use Rattle.commands.proofs.answer.send_answer.Goals as goal
+
+pub returns-in_err-send_number : goal.returns-in_err-send_number
+returns-in_err-send_number g c =
+    let start : answer_line c.args.status c.args.body.now ≡ decimal c.args.status ++ (codes " " ++ (c.args.body.now ++ codes "\n")) = refl in
+    stopped _ _ c.from_residual.ensures.0 (begin _ _ start) refl c.in_err-send_number.ensures
+
+pub returns-in_err-send : goal.returns-in_err-send
+returns-in_err-send g c =
+    let start : answer_line c.args.status c.args.body.now ≡ decimal c.args.status ++ (codes " " ++ (c.args.body.now ++ codes "\n")) = refl in
+    stopped _ _ c.from_residual-in_err-send.ensures.0 (more (begin _ _ start) refl c.in_ok-send_number.ensures) refl c.in_err-send.ensures
+
+pub returns-in_err-send-2 : goal.returns-in_err-send-2
+returns-in_err-send-2 g c =
+    let start : answer_line c.args.status c.args.body.now ≡ decimal c.args.status ++ (codes " " ++ (c.as_bytes.result.now ++ codes "\n")) = cc in
+    stopped _ _ c.from_residual-in_err-send-2.ensures.0 (more (more (begin _ _ start) refl c.in_ok-send_number.ensures) refl c.in_ok-send.ensures) refl c.in_err-send-2.ensures
+
+pub returns : goal.returns
+returns g c =
+    let start : answer_line c.args.status c.args.body.now ≡ decimal c.args.status ++ (codes " " ++ (c.as_bytes.result.now ++ codes "\n")) = cc in
+    outcome _ _ _ (more (more (more (begin _ _ start) refl c.in_ok-send_number.ensures) refl c.in_ok-send.ensures) refl c.in_ok-send-2.ensures) refl c.send-3.ensures

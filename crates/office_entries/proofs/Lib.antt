@@ -1,6 +1,0 @@
-pub mod EntriesCut
-pub mod Handings
-pub mod LanguageUnits
-pub mod Countings
-pub mod OfficeUnits
-pub mod UnknownDomains

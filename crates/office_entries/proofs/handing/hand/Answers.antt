@@ -1,6 +1,0 @@
-use Rattle.office_entries.proofs.Handings.{refused}
-use Rattle.office_entries.proofs.handing.hand.Goals as goal
-
-pub returns-in-Err : goal.returns-in-Err
-returns-in-Err g c =
-    refused g.S.EntrySink.Refuses g.met.S.EntrySink.none c.args.sink.now c.take.new.self c.args.entry.now c.in-Err.refusal c.in-Err.ensures.err

@@ -1,5 +1,0 @@
-use Rattle.std.proofs.Common.{◌∙◌}
-use Rattle.po_read.proofs.catalogue.Catalogue.entries.Goals as goal
-
-pub returns-clause-value : goal.returns-clause-value
-returns-clause-value c = c.as_slice.ensures ∙ c.self.view_is

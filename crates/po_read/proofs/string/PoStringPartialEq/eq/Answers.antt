@@ -1,5 +1,0 @@
-use Rattle.std.proofs.Common.{rules}
-use Rattle.po_read.proofs.string.PoStringPartialEq.eq.Goals as goal
-
-pub returns : goal.returns
-returns c = search rules

@@ -1,5 +1,0 @@
-use Rattle.std.proofs.Common.{refl}
-use Rattle.po_read.proofs.text.Text.from_string.Goals as goal
-
-pub returns : goal.returns
-returns c = refl

@@ -1,4 +1,0 @@
-use Rattle.po_read.proofs.text.Text.into_string.Goals as goal
-
-pub returns : goal.returns
-returns c = c.self.view_is

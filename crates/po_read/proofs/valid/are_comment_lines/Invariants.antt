@@ -1,7 +1,0 @@
-use Rattle.std.proofs.Common.{take}
-use Rattle.std.specs.List.{AllByRecursion}
-use Rattle.po_read.specs.Valid.{IsCommentLine}
-use Rattle.po_read.proofs.valid.are_comment_lines.Given as goal
-
-abbrev pub invariant-loop-line : goal.invariant-loop-line
-invariant-loop-line l = AllByRecursion IsCommentLine (take l.line-index l.lines)

@@ -1,7 +1,0 @@
-use Rattle.std.proofs.Common.{take}
-use Rattle.std.specs.List.{AllByRecursion}
-use Rattle.po_read.specs.Valid.{IsValidEntry}
-use Rattle.po_read.proofs.valid.each_is_valid.Given as goal
-
-abbrev pub invariant-loop-entry : goal.invariant-loop-entry
-invariant-loop-entry l = AllByRecursion IsValidEntry (take l.entry-index l.entries)

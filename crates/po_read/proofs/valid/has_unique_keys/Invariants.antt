@@ -1,7 +1,0 @@
-use Rattle.std.proofs.Common.{take}
-use Rattle.po_read.specs.Valid.{HasUniqueKeys}
-use Rattle.po_read.proofs.Checked.{HasKeysOf}
-use Rattle.po_read.proofs.valid.has_unique_keys.Given as goal
-
-abbrev pub invariant-loop-entry : goal.invariant-loop-entry
-invariant-loop-entry l = record { seen : HasKeysOf l.keys (take l.entry-index l.entries); unique : HasUniqueKeys (take l.entry-index l.entries) }

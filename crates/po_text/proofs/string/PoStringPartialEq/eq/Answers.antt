@@ -1,0 +1,5 @@
+use Rattle.std.proofs.Common.{rules}
+use Rattle.po_text.proofs.string.PoStringPartialEq.eq.Goals as goal
+
+pub returns : goal.returns
+returns c = search rules

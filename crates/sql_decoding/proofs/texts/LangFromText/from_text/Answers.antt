@@ -1,0 +1,15 @@
+use Rattle.std.proofs.Common.{ap, sym, ◌∙◌}
+use Rattle.std.proofs.lemmas.Result.{IfOk-weaker}
+use Rattle.units.specs.Limits.{is_lang}
+use Rattle.sql_decoding.proofs.ColumnsRead.{holds_text}
+use Rattle.sql_decoding.proofs.ColumnsTested.{both_tell, read_fails, unless}
+use Rattle.sql_decoding.proofs.texts.LangFromText.from_text.Goals as goal
+
+pub returns-clause-shown : goal.returns-clause-shown
+returns-clause-shown c = IfOk-weaker c.lang_from.result _ _ (λ v is at row holds. sym is ∙ sym (holds_text at row c.args.text.now holds)) c.lang_from.ensures.ok
+
+pub returns-clause-stands : goal.returns-clause-stands
+returns-clause-stands c = both_tell c.lang_from.result _ _ (λ v is fits. ap is_lang is ∙ fits) c.lang_from.ensures.ok c.lang_from.ensures.fits
+
+pub returns-clause-falls : goal.returns-clause-falls
+returns-clause-falls c = read_fails c.lang_from.result (is_lang c.args.text.now) (λ never. unless (is_lang c.args.text.now) (λ fits. never c.args.text.now (c.lang_from.ensures.back fits)))

@@ -1,0 +1,94 @@
+//! What tables in maps answer and write.
+
+ghost use Rattle.std.specs.Prelude.{◌≡◌, false, ⊤};
+
+use crate::access::Tables;
+use crate::counting::counts_in;
+use crate::counts::Counts;
+use crate::domain_reads::hand_in;
+use crate::faults::{EachFault, Lost};
+use crate::plain::PlainTables;
+use crate::sink::EntrySink;
+use deliveries::{ActContext, Change};
+use office_maps::OfficeMaps;
+use request_book::Record;
+use units::{Key, Lang, Name, Role, UnitView};
+use uuid::Uuid;
+
+impl Tables for PlainTables {
+    ghost use Rattle.tables.specs.PlainMeaning.{meaning_of};
+
+    ghost is_honest = { λ t. ⊤ };
+
+    ghost is_whole = { λ t. ⊤ };
+
+    ghost means = { meaning_of };
+
+    ghost may_leave = { λ t m. m ≡ meaning_of t };
+
+    ghost is_stopped = { λ t. false };
+
+    ghost is_loaded = { λ t. ⊤ };
+
+    ghost rules = { λ t honest whole. t.kept };
+
+    ghost settled = { λ t honest whole other left. left };
+
+    fn stopped(&self) -> bool {
+        false
+    }
+
+    fn record_of(&mut self, number: &Uuid) -> Result<Option<Record>, Lost> {
+        self.maps.record_of(number)
+    }
+
+    fn role_of(&mut self, name: &Name) -> Result<Role, Lost> {
+        Ok(self.maps.office.role_of(name))
+    }
+
+    fn view_of(
+        &mut self,
+        domain: &Name,
+        lang: &Lang,
+        key: &Key,
+        name: &Name,
+    ) -> Result<Option<ActContext>, Lost> {
+        self.maps.view_of(domain, lang, key, name)
+    }
+
+    fn office_rows(&mut self) -> Result<(), Lost> {
+        Ok(())
+    }
+
+    fn office(&self) -> &OfficeMaps {
+        &self.maps.office
+    }
+
+    fn commit_unit(
+        &mut self,
+        row: Record,
+        domain: &Name,
+        lang: &Lang,
+        key: &Key,
+        view: Option<UnitView>,
+    ) -> Result<(), Lost> {
+        self.maps.commit_unit(row, domain, lang, key, view)
+    }
+
+    fn commit_office(&mut self, row: Record, change: Option<Change>) -> Result<(), Lost> {
+        self.maps.commit_office(self.alloc, row, change)
+    }
+
+    fn each_entry<S: EntrySink>(
+        &mut self,
+        domain: &Name,
+        lang: &Lang,
+        sink: &mut S,
+    ) -> Result<(), EachFault<S::Refusal>> {
+        hand_in(self.alloc, &self.maps.office, domain, lang, sink)
+    }
+
+    fn counts(&mut self, domain: &Name, lang: &Lang) -> Result<Option<Counts>, Lost> {
+        Ok(counts_in(self.alloc, &self.maps.office, domain, lang)?)
+    }
+}
