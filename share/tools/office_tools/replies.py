@@ -20,6 +20,8 @@ REFUSALS = {
     "plural-forms": "the header has no plural rule that is right",
     "limit": "a limit of the office would be passed",
     "last-manager": "no manager would be left",
+    "domain-exists": "the domain is there already",
+    "no-domain": "the office hasn't this domain",
     "number-used": "its number stands with another content or caller",
     "malformed": "the office doesn't read it as a request",
     "memory": "the office had no memory",
