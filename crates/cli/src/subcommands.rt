@@ -225,7 +225,7 @@ const CANON: Subcommand = Subcommand {
 
 const SUBCOMMANDS: [Subcommand; 7] = [INIT, DELIVER, EXPORT, SERVE, SEND, PLURAL, CANON];
 
-const VERSION: &str = "0.1.0";
+const VERSION: &str = "0.2.0-dev";
 
 /// A word that isn't a flag, with its value.
 fn with_value<'a>(arg: Arg<'a>, value: Value) -> Arg<'a> {

@@ -2,6 +2,7 @@
 //! speak of.
 //!
 //! - `values`: what an act reads (`ActContext`) and comes to (`Outcome`, `Change`, `DomainChange`), and a `Language`
+//! - `tally`: how many units of a language are in each state (`Tally`)
 //! - `laws`: what an act leaves alone, which requests may change places, what an export depends on, how a run goes on
 //!
 //! Specs:
@@ -10,21 +11,24 @@
 //! - `Deliveries`: what a list of requests leaves and what each is answered; `AnyOrder`, `Laws`: in another order
 //! - `UnitAccess`, `UnitOutcomes`, `OfficeChanges`: what is read for a unit act, what it comes to, what a change makes
 //!   of an office
+//! - `Tally`: how many units of a language callers see in each state; `Counting`: one unit after another
 //! - `OfficeRules`: the rules that an office keeps with its book; `OneProof`, `RuleSets`: of each there is one proof
 //!   at most
 //! - `MainAlone`: an office whose one domain is `main`
 //! - `ExportedEntries`, `ExportText`, `ExportSpelled`, `EntryTexts`, `EntryStrings`: the text of a language
 //!
 //! Folders of proofs, by what they serve: `acts` (what a step does), `domains` (what is read of a domain and put into
-//! it, an office of `main` alone), `retries`, `commuting`, `rules` (what keeps the rules of an office), `exports`,
-//! `laws` (answers), `rows` (worked rows, by the definitions alone).
+//! it, an office of `main` alone), `retries`, `commuting`, `rules` (what keeps the rules of an office), `tallies`,
+//! `exports`, `laws` (answers), `rows` (worked rows, by the definitions alone).
 #![tactic(auto)]
 
 mod laws;
+mod tally;
 mod values;
 
 pub use laws::{
     alike_by_swaps, domain_act_leaves_other_domains, either_order, equal_exports, run_goes_on,
     unit_act_leaves_the_rest,
 };
+pub use tally::Tally;
 pub use values::{ActContext, Change, DomainChange, Language, Outcome};

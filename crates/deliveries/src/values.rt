@@ -5,6 +5,7 @@ ghost use Rattle.std.proofs.Props.{props};
 ghost use Rattle.units.specs.Rules.{rule_in};
 ghost use Rattle.deliveries.specs.RuleSets.{Rule-set, PluralFault-set};
 
+use crate::tally::Tally;
 use plural_expr::PluralForms;
 use po_text::{Catalogue, Entry};
 use request_book::Reply;
@@ -39,10 +40,10 @@ pub struct Outcome {
 /// What a language or a template changes in its domain.
 #[derive(Drop)]
 pub enum DomainChange {
-    /// A language comes with its units.
-    NewLanguage(Lang, Language, Plan),
-    /// The template is this one, and each language has the units of its plan.
-    NewTemplate(Catalogue, Vec<(Lang, Plan)>),
+    /// A language comes with its units, and this is their tally.
+    NewLanguage(Lang, Language, Plan, Tally),
+    /// The template is this one, and each language has the units of its plan, and then this tally.
+    NewTemplate(Catalogue, Vec<(Lang, Plan)>, Vec<(Lang, Tally)>),
 }
 
 /// What an office act changes.

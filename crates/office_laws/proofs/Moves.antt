@@ -10,14 +10,14 @@ use Rattle.units.specs.declared.unit.Unit.{Unit}
 use Rattle.units.specs.declared.unit.UnitView.{UnitView}
 use Rattle.deliveries.specs.UnitAccess.{with_view}
 use Rattle.deliveries.proofs.rules.Replaced.{Found}
-use Rattle.tables.specs.declared.counts.Counts.{Counts}
-use Rattle.tables.specs.Counts.{counts_in, counts_of}
-use Rattle.tables.specs.Counting.{plus, none_counted}
-use Rattle.tables.proofs.Countings.{counts_more, plus_assoc, none_and}
+use Rattle.deliveries.specs.declared.tally.Tally.{Tally}
+use Rattle.deliveries.specs.Tally.{counts_in, counts_of}
+use Rattle.deliveries.specs.Counting.{plus, none_counted}
+use Rattle.deliveries.proofs.tallies.Countings.{counts_more, plus_assoc, none_and}
 use Rattle.office_laws.specs.Tallies.{counted, moved}
 use Rattle.office_laws.proofs.Totals.{total-put}
 
-pub plus_comm : (a b : Counts) → plus a b ≡ plus b a
+pub plus_comm : (a b : Tally) → plus a b ≡ plus b a
 plus_comm a b = λ i. record {
   approved = add_comm a.approved b.approved i;
   needs_editing = add_comm a.needs_editing b.needs_editing i;
@@ -31,10 +31,10 @@ plus_comm a b = λ i. record {
 -- ---- the counts of a language as a total over all units
 
 -- what the entries of a language's units count
-abbrev pub total_in : List Entry → Text → List (Place × Unit) → Counts
+abbrev pub total_in : List Entry → Text → List (Place × Unit) → Tally
 total_in template lang es = counts_in template (map (λ e. e.1) (filter (λ e. text_eq lang e.0.0) es))
 
-abbrev pub one_in : List Entry → Text → Place × Unit → Counts
+abbrev pub one_in : List Entry → Text → Place × Unit → Tally
 one_in template lang e = cond (text_eq lang e.0.0) (counted template e.1) none_counted
 
 pub next_in : (template : List Entry) (lang : Text) (e : Place × Unit) (es : List (Place × Unit)) → total_in template lang (e ∷ es) ≡ plus (one_in template lang e) (total_in template lang es)
@@ -51,10 +51,10 @@ module _ (project : Project) (place : Place) (old : Unit) (there : maps.get proj
   found : Found place_cmp place_total place old (maps.entries project.units)
   found = (maps.entries_sorted project.units, sym (maps.get-entries project.units place) ∙ there)
 
-  abbrev counts_before : Text → Counts
+  abbrev counts_before : Text → Tally
   counts_before lang = counts_in project.template (units_of project lang)
 
-  abbrev counts_after : Text → Counts
+  abbrev counts_after : Text → Tally
   counts_after lang = counts_in project.template (units_of (with_unit project place new) lang)
 
   total_moves : (lang : Text) → plus (counts_after lang) (one_in project.template lang (place, old)) ≡ plus (counts_before lang) (one_in project.template lang (place, new))
@@ -70,7 +70,7 @@ module _ (project : Project) (place : Place) (old : Unit) (there : maps.get proj
   pub others_stay : (lang : Text) → text_eq lang place.0 ≡ false → counts_after lang ≡ counts_before lang
   others_stay lang other = without (counts_after lang) (counts_before lang) (rw other at (total_moves lang))
     where
-      without : (a b : Counts) → plus a none_counted ≡ plus b none_counted → a ≡ b
+      without : (a b : Tally) → plus a none_counted ≡ plus b none_counted → a ≡ b
       without a b e = sym (none_and a) ∙ (plus_comm none_counted a ∙ (e ∙ (plus_comm b none_counted ∙ none_and b)))
 
   taken_off : (a b c d : ℕ) → a + b ≡ c + d → a ≡ c + d - b
@@ -85,13 +85,13 @@ module _ (project : Project) (place : Place) (old : Unit) (there : maps.get proj
       let was = counted project.template old in
       let is = counted project.template new in
       λ i. record {
-        approved = taken_off after.approved was.approved before.approved is.approved (ap (λ (c : Counts). c.approved) e) i;
-        needs_editing = taken_off after.needs_editing was.needs_editing before.needs_editing is.needs_editing (ap (λ (c : Counts). c.needs_editing) e) i;
-        obsolete = taken_off after.obsolete was.obsolete before.obsolete is.obsolete (ap (λ (c : Counts). c.obsolete) e) i;
-        read_only = taken_off after.read_only was.read_only before.read_only is.read_only (ap (λ (c : Counts). c.read_only) e) i;
-        suggestions = taken_off after.suggestions was.suggestions before.suggestions is.suggestions (ap (λ (c : Counts). c.suggestions) e) i;
-        translated = taken_off after.translated was.translated before.translated is.translated (ap (λ (c : Counts). c.translated) e) i;
-        untranslated = taken_off after.untranslated was.untranslated before.untranslated is.untranslated (ap (λ (c : Counts). c.untranslated) e) i;
+        approved = taken_off after.approved was.approved before.approved is.approved (ap (λ (c : Tally). c.approved) e) i;
+        needs_editing = taken_off after.needs_editing was.needs_editing before.needs_editing is.needs_editing (ap (λ (c : Tally). c.needs_editing) e) i;
+        obsolete = taken_off after.obsolete was.obsolete before.obsolete is.obsolete (ap (λ (c : Tally). c.obsolete) e) i;
+        read_only = taken_off after.read_only was.read_only before.read_only is.read_only (ap (λ (c : Tally). c.read_only) e) i;
+        suggestions = taken_off after.suggestions was.suggestions before.suggestions is.suggestions (ap (λ (c : Tally). c.suggestions) e) i;
+        translated = taken_off after.translated was.translated before.translated is.translated (ap (λ (c : Tally). c.translated) e) i;
+        untranslated = taken_off after.untranslated was.untranslated before.untranslated is.untranslated (ap (λ (c : Tally). c.untranslated) e) i;
       }
 
 -- ---- the counts of a project with a unit's new view

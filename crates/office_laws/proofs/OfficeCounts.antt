@@ -20,13 +20,13 @@ use Rattle.deliveries.specs.ProjectActs.{LanguagePlan, placed, with_language, wi
 use Rattle.deliveries.specs.UnitAccess.{with_view, with_view_in}
 use Rattle.deliveries.proofs.domains.InDomains.{project_own, project_elsewhere, nothing_put, no_domain_yet, equal_domains}
 use Rattle.deliveries.proofs.rules.DomainsKept.{any_project, get-under}
-use Rattle.tables.specs.declared.counts.Counts.{Counts}
-use Rattle.tables.specs.Counts.{counts_in, counts_of}
+use Rattle.deliveries.specs.declared.tally.Tally.{Tally}
+use Rattle.deliveries.specs.Tally.{counts_in, counts_of}
 use Rattle.office_laws.specs.Tallies.{counted, moved, counts_under, planned}
 use Rattle.office_laws.proofs.Moves.{with_view_moves, with_view_stays}
 use Rattle.office_laws.proofs.ProjectCounts.{policy_counts, template_counts, language_counts, other_counts}
 
-abbrev counts_at : Text → Project → Option Counts
+abbrev counts_at : Text → Project → Option Tally
 counts_at lang project = counts_of project lang
 
 -- a domain with nothing in it counts nothing
@@ -133,7 +133,7 @@ module _ (office : Office) (domain : Text) (template : List Entry) (plans : List
   abbrev retemplated : Project
   retemplated = with_template (project_in office domain) template plans
 
-  abbrev by_plans : Option Entry → Option Counts
+  abbrev by_plans : Option Entry → Option Tally
   by_plans header = option_map (λ _. counts_in template (planned lang plans)) header
 
   pub new_template_counts : counts_of (project_in (with_project office domain retemplated) domain) lang ≡ by_plans (maps.get (project_in office domain).headers lang)

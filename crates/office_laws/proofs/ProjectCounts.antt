@@ -23,20 +23,20 @@ use Rattle.template_update.proofs.Found.{equal}
 use Rattle.template_update.proofs.Listed.{clash}
 use Rattle.deliveries.specs.ProjectActs.{LanguagePlan, placed, with_language, with_template}
 use Rattle.deliveries.proofs.rules.Replaced.{all_rows}
-use Rattle.tables.specs.declared.counts.Counts.{Counts}
-use Rattle.tables.specs.Counts.{counts_in, counts_of}
-use Rattle.tables.specs.Counting.{plus, none_counted}
-use Rattle.tables.proofs.Countings.{plus_assoc, none_and}
+use Rattle.deliveries.specs.declared.tally.Tally.{Tally}
+use Rattle.deliveries.specs.Tally.{counts_in, counts_of}
+use Rattle.deliveries.specs.Counting.{plus, none_counted}
+use Rattle.deliveries.proofs.tallies.Countings.{plus_assoc, none_and}
 use Rattle.office_laws.specs.Tallies.{counted, counts_under, planned}
 use Rattle.office_laws.proofs.Moves.{plus_comm, total_in, one_in, next_in}
 use Rattle.office_laws.proofs.Totals.{total-insert, AreApart, apart-sorted, total-made}
 
 -- ---- a policy
 
-abbrev without_approved : Counts → Counts
+abbrev without_approved : Tally → Tally
 without_approved counts = record counts { approved = 0; translated = counts.translated + counts.approved }
 
-without-plus : (a b : Counts) → without_approved (plus a b) ≡ plus (without_approved a) (without_approved b)
+without-plus : (a b : Tally) → without_approved (plus a b) ≡ plus (without_approved a) (without_approved b)
 without-plus a b = λ i. record (plus a b) { approved = 0; translated = moved i }
   where
     moved : (a.translated + b.translated) + (a.approved + b.approved) ≡ (a.translated + a.approved) + (b.translated + b.approved)

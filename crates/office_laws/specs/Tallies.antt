@@ -1,19 +1,19 @@
--- Counts that are kept, and how what is done to an office moves them. This project's own rule.
+-- Tallies that are kept, and how what is done to an office moves them. This project's own rule.
 use Rattle.std.specs.Prelude.{◌+◌, ◌-◌, List, [], ◌∷◌, flat_map, if◌then◌else◌}
 use Rattle.po_text.specs.declared.entry.Entry.{Entry}
 use Rattle.po_text.specs.Texts.{Text, text_eq}
 use Rattle.units.specs.declared.unit.Policy.{Policy}
 use Rattle.units.specs.declared.unit.Unit.{Unit}
 use Rattle.deliveries.specs.ProjectActs.{LanguagePlan}
-use Rattle.tables.specs.declared.counts.Counts.{Counts}
-use Rattle.tables.specs.Counts.{counts_in}
+use Rattle.deliveries.specs.declared.tally.Tally.{Tally}
+use Rattle.deliveries.specs.Tally.{counts_in}
 
 -- what one unit counts
-abbrev pub counted : List Entry → Unit → Counts
+abbrev pub counted : List Entry → Unit → Tally
 counted template unit = counts_in template (unit ∷ [])
 
 -- without what one unit counted and with what another counts
-abbrev pub moved : Counts → Counts → Counts → Counts
+abbrev pub moved : Tally → Tally → Tally → Tally
 moved before was is = record {
   approved = before.approved + is.approved - was.approved;
   needs_editing = before.needs_editing + is.needs_editing - was.needs_editing;
@@ -25,7 +25,7 @@ moved before was is = record {
 }
 
 -- Under a policy without reviews what was approved is translated.
-abbrev pub counts_under : Policy → Counts → Counts
+abbrev pub counts_under : Policy → Tally → Tally
 counts_under policy counts =
     if policy.reviews then counts else record counts { approved = 0; translated = counts.translated + counts.approved }
 

@@ -19,7 +19,7 @@ ghost use Rattle.deliveries.specs.ProjectActs.{LanguagePlan, placed, with_langua
 ghost use Rattle.deliveries.specs.OfficeChanges.{changed};
 ghost use Rattle.deliveries.specs.UnitAccess.{with_view_in};
 ghost use Rattle.deliveries.specs.declared.values.Change.TheVariants.{OneRole};
-ghost use Rattle.tables.specs.Counts.{counts_in, counts_of};
+ghost use Rattle.deliveries.specs.Tally.{counts_in, counts_of};
 ghost use Rattle.office_laws.specs.Tallies.{counted, moved, counts_under, planned};
 
 /// A unit's new view takes off its language's counts what the unit counted and adds what it counts now; those of every other language

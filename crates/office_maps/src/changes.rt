@@ -187,12 +187,13 @@ impl DomainMaps {
         ensures err { OnErr result (domain_in self.new ≡ domain_in self.old) }
     {
         match change {
-            DomainChange::NewLanguage(lang, language, plan) => {
+            DomainChange::NewLanguage(lang, language, plan, _) => {
                 let done = self.add_language(alloc, &lang, language, plan);
                 drop(lang);
                 done
             }
-            DomainChange::NewTemplate(template, plans) => {
+            DomainChange::NewTemplate(template, plans, tallies) => {
+                drop(tallies);
                 self.change_template(alloc, template, plans)
             }
         }

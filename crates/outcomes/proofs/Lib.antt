@@ -5,3 +5,4 @@ pub mod Objects
 pub mod Flat
 pub mod Teams
 pub mod Policies
+pub mod Counted

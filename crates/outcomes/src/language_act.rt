@@ -6,71 +6,79 @@ ghost use Rattle.units.specs.Project.{Project};
 ghost use Rattle.units.specs.Rules.{rule_in};
 ghost use Rattle.replies.specs.Bodies.{count_fields, reply as reply_of};
 ghost use Rattle.deliveries.specs.ProjectActs as spec;
+ghost use Rattle.deliveries.specs.Tally.{counts_in};
 ghost use Rattle.outcomes.specs.Settled.{IsSettledIn};
 ghost use Rattle.office_maps.specs.OfficeIn.{lent_project};
 
 use crate::bodies::language_added;
 use crate::catalogue_text::{header_of, read_text, rule_of};
 use crate::outcome::DomainOutcome;
-use deliveries::{DomainChange, Language};
-use office_maps::ProjectMaps;
+use crate::tallies::tally_of;
+use deliveries::{DomainChange, Language, Tally};
+use office_maps::{ProjectMaps, Template};
 use plural_expr::PluralForms;
 use po_text::{Catalogue, Duplicate, Entry, Text};
 use request_book::Reply;
 use std::alloc::{AllocError, Global};
-use template_update::{Counts, Plan, load};
+use template_update::{Plan, load};
 use units::{Lang, Memory, Refusal};
 
 /// How many languages a project has at most.
 const MAX_LANGUAGES: usize = 32;
 
-/// What tells of a language that comes: copies of its code and its header, and the reply.
+/// What tells of a language that comes: copies of its code and its header, the tally of its units, and the reply.
 #[derive(Drop)]
 struct Coming {
     lang: Lang,
     header: Entry,
+    tally: Tally,
     reply: Reply,
 }
 
 fn coming_of(
     alloc: Global,
+    template: &Template,
     lang: &Lang,
     header: &Entry,
-    counts: Counts,
+    plan: &Plan,
 ) -> Result<Coming, AllocError>
     ensures lang { IfOk result (λ coming. coming.lang ≡ lang.now) }
     ensures header { IfOk result (λ coming. coming.header ≡ header.now) }
-    ensures reply { IfOk result (λ coming. coming.reply ≡ reply_of 200 (count_fields counts)) }
+    ensures tally { IfOk result (λ coming. coming.tally ≡ counts_in template.now.catalogue plan.now.units) }
+    ensures reply { IfOk result (λ coming. coming.reply ≡ reply_of 200 (count_fields plan.now.counts)) }
 {
     Ok(Coming {
         lang: lang.duplicate()?,
-        reply: language_added(alloc, counts)?,
+        tally: tally_of(template, plan.units.as_slice())?,
+        reply: language_added(alloc, plan.counts)?,
         header: header.duplicate()?,
     })
 }
 
-/// A language comes with its header, its rule and its units.
+/// A language comes with its header, its rule and its units, under the template that is there.
 fn with_plan(
     alloc: Global,
+    template: &Template,
     lang: &Lang,
     header: &Entry,
     rule: PluralForms,
     plan: Plan,
 ) -> Result<DomainOutcome, Memory>
     requires { rule_in (Some header.now) ≡ Ok rule }
-    ensures { IfOk result (λ outcome. (project : Project) → maps.contains_key project.headers lang.now ≡ false →
+    ensures { IfOk result (λ outcome. (project : Project) → project.template ≡ template.now.catalogue → maps.contains_key project.headers lang.now ≡ false →
         IsSettledIn project outcome (spec.loaded project lang.now header.now plan)) }
 {
-    match coming_of(alloc, lang, header, plan.counts) {
+    match coming_of(alloc, template, lang, header, &plan) {
         Ok(coming) => {
             let Coming {
                 lang,
                 header,
+                tally,
                 reply,
             } = coming;
             let language = Language { header, rule };
             Ok(DomainOutcome {
-                change: Some(DomainChange::NewLanguage(lang, language, plan)),
+                change: Some(DomainChange::NewLanguage(lang, language, plan, tally)),
                 reply,
             })
         }
@@ -108,7 +116,7 @@ fn load_language(
         &project.policy,
     ) {
         Ok(loaded) => match loaded {
-            Some(plan) => with_plan(alloc, lang, header, rule, plan),
+            Some(plan) => with_plan(alloc, &project.domain.template, lang, header, rule, plan),
             None => {
                 drop(rule);
                 DomainOutcome::refused(alloc, Refusal::PastLimit)

@@ -1,7 +1,6 @@
 pub mod RecordRows
 pub mod WholeBook
 pub mod Looked
-pub mod LookedUp
 pub mod Langs
 pub mod Stand
 pub mod Read

@@ -2,17 +2,16 @@
 use Rattle.std.proofs.Common.{◌≡◌, List, [], ◌∷◌, ◌++◌, map, fold, refl, sym, ap, subst, ◌∙◌, codes}
 use Rattle.std.specs.List.{flat_map}
 use Rattle.std.specs.FinMap as maps
-use Rattle.sqlite.specs.Effect.{Database}
 use Rattle.po_text.specs.Texts.{Text}
 use Rattle.units.specs.Project.{Place, place_cmp}
 use Rattle.units.specs.declared.unit.Unit.{Unit}
 use Rattle.deliveries.specs.ProjectActs.{LanguagePlan, placed}
-use Rattle.sql_schema.specs.Inside.{AreOfficeTables}
 use Rattle.sql_meaning.specs.Meaning.{units_in}
 use Rattle.sql_meaning.proofs.UnitsWritten.{KeepsOthers, writes_unit}
 use Rattle.sql_changes.specs.UnitWrites.{WritesPlanned, WritesUnits, WritesUnitsBack, WritesPlansBack}
 use Rattle.sql_changes.proofs.AddedSuggestions.{unit_written, unit_writable}
-use Rattle.sql_schema.specs.Layouts.{NamedRows, rows_named}
+use Rattle.sql_schema.specs.Layouts.{NamedRows}
+use Rattle.sql_meaning.specs.RowKeys.{AreOfficeRows}
 
 abbrev pub Units : Type 0
 Units = maps.FinMap place_cmp Unit
@@ -59,52 +58,52 @@ keeps_both old mid new one two = record {
   languages = two.languages ∙ one.languages;
 }
 
--- the units are these, the other tables are as they were, and all obey the schema
-pub record HasUnits (units : Units) (old new : Database) : Type 0 where
-  pub units_are : units_in (rows_named new) ≡ units
-  pub others : KeepsOthers (rows_named old) (rows_named new)
-  pub tables : AreOfficeTables new
+-- the units are these, the rows of other tables are as they were, and all are as a schema asks
+pub record HasUnits (units : Units) (old new : NamedRows) : Type 0 where
+  pub units_are : units_in new ≡ units
+  pub others : KeepsOthers old new
+  pub ready : AreOfficeRows new
 
-none_written : (old new : Database) → AreOfficeTables old → new ≡ old → HasUnits (units_in (rows_named old)) old new
+none_written : (old new : NamedRows) → AreOfficeRows old → new ≡ old → HasUnits (units_in old) old new
 none_written old new ready is = record {
-  units_are = ap (λ (d : Database). units_in (rows_named d)) is;
-  others = keeps_same (rows_named old) (rows_named new) (ap (λ (d : Database). rows_named d) is);
-  tables = subst AreOfficeTables (sym is) ready;
+  units_are = ap (λ (d : NamedRows). units_in d) is;
+  others = keeps_same old new is;
+  ready = subst AreOfficeRows (sym is) ready;
 }
 
-one_written : (lang : Text) (unit : Unit) (old new : Database) → AreOfficeTables old → WritesPlanned lang unit old new → HasUnits (maps.insert (units_in (rows_named old)) (lang, unit.key) unit) old new
+one_written : (lang : Text) (unit : Unit) (old new : NamedRows) → AreOfficeRows old → WritesPlanned lang unit old new → HasUnits (maps.insert (units_in old) (lang, unit.key) unit) old new
 one_written lang unit old new ready (written, strings, previous) =
     let it = writes_unit old new lang unit ready (unit_writable lang unit old new written.0 strings previous) (unit_written lang unit old new written.0) in
-    record { units_are = it.0; others = it.1; tables = written.1 }
+    record { units_are = it.0; others = it.1; ready = written.1 }
 
-has_both : (mid_units units : Units) (old mid new : Database) → HasUnits mid_units old mid → HasUnits units mid new → HasUnits units old new
+has_both : (mid_units units : Units) (old mid new : NamedRows) → HasUnits mid_units old mid → HasUnits units mid new → HasUnits units old new
 has_both mid_units units old mid new one two = record {
   units_are = two.units_are;
-  others = keeps_both (rows_named old) (rows_named mid) (rows_named new) one.others two.others;
-  tables = two.tables;
+  others = keeps_both old mid new one.others two.others;
+  ready = two.ready;
 }
 
 abbrev pub rows : Text → List Unit → Entries
 rows lang units = map (λ unit. ((lang, unit.key), unit)) units
 
-pub units_in_turn : (lang : Text) (units : List Unit) (old new : Database) → AreOfficeTables old → WritesUnits lang units old new → HasUnits (in_turn (units_in (rows_named old)) (rows lang units)) old new
+pub units_in_turn : (lang : Text) (units : List Unit) (old new : NamedRows) → AreOfficeRows old → WritesUnits lang units old new → HasUnits (in_turn (units_in old) (rows lang units)) old new
 units_in_turn lang [] old new ready is = none_written old new ready is
 units_in_turn lang (unit ∷ more) old new ready (mid, one, rest) =
     let first = one_written lang unit old mid ready one in
-    let later = units_in_turn lang more mid new first.tables rest in
+    let later = units_in_turn lang more mid new first.ready rest in
     subst (λ m. HasUnits (in_turn m (rows lang more)) old new) first.units_are (has_both _ _ old mid new first later)
 
-units_from_last : (lang : Text) (units : List Unit) (old new : Database) → AreOfficeTables old → WritesUnitsBack lang units old new → HasUnits (from_last (units_in (rows_named old)) (rows lang units)) old new
+units_from_last : (lang : Text) (units : List Unit) (old new : NamedRows) → AreOfficeRows old → WritesUnitsBack lang units old new → HasUnits (from_last (units_in old) (rows lang units)) old new
 units_from_last lang [] old new ready is = none_written old new ready is
 units_from_last lang (unit ∷ more) old new ready (mid, rest, one) =
     let first = units_from_last lang more old mid ready rest in
-    let last = one_written lang unit mid new first.tables one in
+    let last = one_written lang unit mid new first.ready one in
     subst (λ m. HasUnits (maps.insert m (lang, unit.key) unit) old new) first.units_are (has_both _ _ old mid new first last)
 
-pub plans_from_last : (plans : List LanguagePlan) (old new : Database) → AreOfficeTables old → WritesPlansBack plans old new → HasUnits (from_last (units_in (rows_named old)) (flat_map placed plans)) old new
+pub plans_from_last : (plans : List LanguagePlan) (old new : NamedRows) → AreOfficeRows old → WritesPlansBack plans old new → HasUnits (from_last (units_in old) (flat_map placed plans)) old new
 plans_from_last [] old new ready is = none_written old new ready is
 plans_from_last (p ∷ more) old new ready (mid, rest, own) =
     let first = plans_from_last more old mid ready rest in
-    let last = units_from_last p.0 p.1.units mid new first.tables own in
-    let all : from_last (from_last (units_in (rows_named old)) (flat_map placed more)) (placed p) ≡ from_last (units_in (rows_named old)) (placed p ++ flat_map placed more) = sym (from_last_append (units_in (rows_named old)) (placed p) (flat_map placed more)) in
+    let last = units_from_last p.0 p.1.units mid new first.ready own in
+    let all : from_last (from_last (units_in old) (flat_map placed more)) (placed p) ≡ from_last (units_in old) (placed p ++ flat_map placed more) = sym (from_last_append (units_in old) (placed p) (flat_map placed more)) in
     subst (λ m. HasUnits m old new) (ap (λ m. from_last m (placed p)) first.units_are ∙ all) (has_both _ _ old mid new first last)

@@ -11,12 +11,10 @@ use Rattle.std.specs.FinMap.Entries.{by_order}
 use Rattle.sqlite.specs.declared.types.Value.{Value}
 use Rattle.sqlite.specs.declared.types.Value.TheVariants.{Int}
 use Rattle.sqlite.specs.Order.{Row}
-use Rattle.sqlite.specs.Effect.{Database}
 use Rattle.sqlite_trees.specs.View.{is_int}
 use Rattle.sqlite_rules.specs.Lists.{Has}
 use Rattle.sqlite_rules.proofs.ListLemmas.{has_either}
 use Rattle.sqlite_rules.proofs.TableLemmas.{int_is}
-use Rattle.sql_laws.specs.ApartRows.{AreApart}
 use Rattle.sql_laws.specs.RowMaps.{map_of}
 use Rattle.po_text.specs.declared.entry.Entry.{Entry}
 use Rattle.po_text.specs.Texts.{Text}
@@ -27,17 +25,16 @@ use Rattle.sql_columns.specs.Readings.{texts_read}
 use Rattle.sql_columns.specs.Written.{texts_text}
 use Rattle.sql_columns.proofs.Keys.{parts_of_text}
 use Rattle.sql_columns.proofs.Readers.{texts_found}
-use Rattle.sql_schema.specs.Inside.{AreOfficeTables}
 use Rattle.sql_schema.specs.Keys.{row_number}
 use Rattle.sql_schema.specs.Rows.{text_or_null}
-use Rattle.sql_schema.proofs.RowNumbers.{one_row_number}
 use Rattle.sql_meaning.specs.Values.{integer_of, integer_at, text_or_null_at}
 use Rattle.sql_meaning.specs.Meaning.{entry_of_row, template_in}
 use Rattle.sql_meaning.proofs.Lookups.{AreOneKey, puts}
 use Rattle.sql_meaning.proofs.RowsPut.{no_entries}
 use Rattle.sql_changes.specs.Commits.{entry_row, PutsEntry, PutsEntries}
 use Rattle.sql_changes.proofs.Changed.{Spares, spares_same, spares_both}
-use Rattle.sql_schema.specs.Layouts.{rows_named}
+use Rattle.sql_schema.specs.Layouts.{NamedRows}
+use Rattle.sql_meaning.specs.RowKeys.{AreOfficeRows}
 
 -- ---- an entry reads back
 
@@ -124,44 +121,41 @@ numbered_values place (e ∷ more) = ap (λ rest. e ∷ rest) (numbered_values (
 -- ---- the table
 
 -- one entry more
-module _ (place : ℕ) (entry : Entry) (old new : Database) (ready : AreOfficeTables old) (put : PutsEntry place entry old new) (plain : IsTemplateEntry entry) where
-  apart : AreApart (rows_named old (codes "template"))
-  apart = ready.tables (codes "template") refl
-
+module _ (place : ℕ) (entry : Entry) (old new : NamedRows) (ready : AreOfficeRows old) (put : PutsEntry place entry old new) (plain : IsTemplateEntry entry) where
   has_rowid : HasRowid put.0.0.row
   has_rowid = ap (λ row. is_int (row_number row)) put.0.0.is_row
 
-  inserted : by_place (rows_named new (codes "template")) ≡ maps.insert (by_place (rows_named old (codes "template"))) (pos place) entry
+  inserted : by_place (new (codes "template")) ≡ maps.insert (by_place (old (codes "template"))) (pos place) entry
   inserted =
-      puts row_number (integer_at 0) HasRowid int_cmp int_cmp_total int_cmp-IsAntisymmetric entry_of_row (rows_named old (codes "template")) (rows_named new (codes "template")) put.0.0.row (λ r there. apart.ints r there) has_rowid
-      (one_row_number (rows_named old (codes "template")) apart) by_rowid put.0.0.put
-      ∙ ap (λ row. maps.insert (by_place (rows_named old (codes "template"))) (integer_at 0 row) (entry_of_row row)) put.0.0.is_row
-      ∙ ap (maps.insert (by_place (rows_named old (codes "template"))) (pos place)) (entry_back place entry put.1 plain)
+      puts row_number (integer_at 0) HasRowid int_cmp int_cmp_total int_cmp-IsAntisymmetric entry_of_row (old (codes "template")) (new (codes "template")) put.0.0.row (λ r there. ap is_int (ready.typed.entry_places r there)) has_rowid
+      (λ r s in_r in_s e. ready.keyed.one_entry r s in_r in_s (ap integer_of e)) by_rowid put.0.0.put
+      ∙ ap (λ row. maps.insert (by_place (old (codes "template"))) (integer_at 0 row) (entry_of_row row)) put.0.0.is_row
+      ∙ ap (maps.insert (by_place (old (codes "template"))) (pos place)) (entry_back place entry put.1 plain)
 
-  one_more : AreBelow place (maps.entries (by_place (rows_named old (codes "template"))))
-      → maps.entries (by_place (rows_named new (codes "template"))) ≡ maps.entries (by_place (rows_named old (codes "template"))) ++ (pos place, entry) ∷ []
+  one_more : AreBelow place (maps.entries (by_place (old (codes "template"))))
+      → maps.entries (by_place (new (codes "template"))) ≡ maps.entries (by_place (old (codes "template"))) ++ (pos place, entry) ∷ []
   one_more below =
-      ap maps.entries inserted ∙ maps.entries-insert int_cmp_total (by_place (rows_named old (codes "template"))) (pos place) entry
-      ∙ put_last place entry (maps.entries (by_place (rows_named old (codes "template")))) below
+      ap maps.entries inserted ∙ maps.entries-insert int_cmp_total (by_place (old (codes "template"))) (pos place) entry
+      ∙ put_last place entry (maps.entries (by_place (old (codes "template")))) below
 
-entries_put : (place : ℕ) (es : List Entry) (old new : Database) → AreOfficeTables old → PutsEntries place es old new → ((e : Entry) → Has es e → IsTemplateEntry e)
-    → AreBelow place (maps.entries (by_place (rows_named old (codes "template"))))
-    → maps.entries (by_place (rows_named new (codes "template"))) ≡ maps.entries (by_place (rows_named old (codes "template"))) ++ numbered place es
-entries_put place [] old new ready is plain below = ap (λ (d : Database). maps.entries (by_place (rows_named d (codes "template")))) is ∙ sym (append-nil _)
+entries_put : (place : ℕ) (es : List Entry) (old new : NamedRows) → AreOfficeRows old → PutsEntries place es old new → ((e : Entry) → Has es e → IsTemplateEntry e)
+    → AreBelow place (maps.entries (by_place (old (codes "template"))))
+    → maps.entries (by_place (new (codes "template"))) ≡ maps.entries (by_place (old (codes "template"))) ++ numbered place es
+entries_put place [] old new ready is plain below = ap (λ (d : NamedRows). maps.entries (by_place (d (codes "template")))) is ∙ sym (append-nil _)
 entries_put place (e ∷ more) old new ready (mid, put, rest) plain below =
-    let was = maps.entries (by_place (rows_named old (codes "template"))) in
+    let was = maps.entries (by_place (old (codes "template"))) in
     let now = one_more place e old mid ready put (plain e (inl refl)) below in
-    let next : AreBelow (place + 1) (maps.entries (by_place (rows_named mid (codes "template")))) = subst (AreBelow (place + 1)) (sym now) (below_next place e was below) in
+    let next : AreBelow (place + 1) (maps.entries (by_place (mid (codes "template")))) = subst (AreBelow (place + 1)) (sym now) (below_next place e was below) in
     entries_put (place + 1) more mid new put.0.1 rest (λ f there. plain f (inr there)) next
     ∙ ap (λ l. l ++ numbered (place + 1) more) now ∙ append_assoc was ((pos place, e) ∷ []) (numbered (place + 1) more)
 
-pub template_put : (es : List Entry) (old new : Database) → AreOfficeTables old → ((x : Row) → Has (rows_named old (codes "template")) x → ⊥) → PutsEntries 0 es old new
-    → ((e : Entry) → Has es e → IsTemplateEntry e) → template_in (rows_named new) ≡ es
+pub template_put : (es : List Entry) (old new : NamedRows) → AreOfficeRows old → ((x : Row) → Has (old (codes "template")) x → ⊥) → PutsEntries 0 es old new
+    → ((e : Entry) → Has es e → IsTemplateEntry e) → template_in new ≡ es
 template_put es old new ready empty made plain =
-    let none : maps.entries (by_place (rows_named old (codes "template"))) ≡ [] = ap (λ rows. maps.entries (by_place rows)) (none_left (rows_named old (codes "template")) empty) ∙ no_entries int_cmp Entry in
-    let below : AreBelow 0 (maps.entries (by_place (rows_named old (codes "template")))) = subst (AreBelow 0) (sym none) (λ e there. absurd there) in
+    let none : maps.entries (by_place (old (codes "template"))) ≡ [] = ap (λ rows. maps.entries (by_place rows)) (none_left (old (codes "template")) empty) ∙ no_entries int_cmp Entry in
+    let below : AreBelow 0 (maps.entries (by_place (old (codes "template")))) = subst (AreBelow 0) (sym none) (λ e there. absurd there) in
     ap (map (λ (e : ℤ × Entry). e.1)) (entries_put 0 es old new ready made plain below ∙ ap (λ l. l ++ numbered 0 es) none) ∙ numbered_values 0 es
 
-pub entries_spare : (place : ℕ) (es : List Entry) (old new : Database) → PutsEntries place es old new → Spares (codes "template") old new
+pub entries_spare : (place : ℕ) (es : List Entry) (old new : NamedRows) → PutsEntries place es old new → Spares (codes "template") old new
 entries_spare place [] old new is = spares_same (codes "template") old new is
 entries_spare place (e ∷ more) old new (mid, put, rest) = spares_both (codes "template") old mid new put.0.0.others (entries_spare (place + 1) more mid new rest)

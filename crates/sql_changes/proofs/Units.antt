@@ -5,7 +5,6 @@ use Rattle.std.specs.Ordering.{eq_by_cmp}
 use Rattle.std.specs.FinMap as maps
 use Rattle.sqlite.specs.declared.types.Value.TheVariants.{Int}
 use Rattle.sqlite.specs.Order.{Row, column}
-use Rattle.sqlite.specs.Effect.{Database}
 use Rattle.sqlite_sql.specs.Ops.{fits_i64}
 use Rattle.sqlite_rules.specs.Edit.{id_in}
 use Rattle.sqlite_rules.specs.Lists.{Has}
@@ -23,16 +22,15 @@ use Rattle.units.specs.declared.unit.Unit.{Unit}
 use Rattle.units.specs.declared.unit.UnitState.{UnitState}
 use Rattle.units.specs.declared.unit.UnitState.TheVariants.{Untranslated, NeedsEditing, Translated, Approved}
 use Rattle.deliveries.specs.OfficeRules.{KeepsRules}
-use Rattle.sql_schema.specs.Inside.{AreOfficeTables}
 use Rattle.sql_schema.specs.Keys.{text_at}
-use Rattle.sql_schema.proofs.TableRows.{one_unit}
 use Rattle.sql_statements.specs.Renewed.{is_approved_row, unapproved_row, AreRenewed}
 use Rattle.sql_meaning.specs.Values.{natural_at, state_at}
 use Rattle.sql_meaning.specs.Meaning.{book_in, place_of_row, unit_of_row, units_in, suggestions_in, project_of_rows, meaning_in}
 use Rattle.office_rules.proofs.MainAlone.{project_keeps}
 use Rattle.sql_meaning.proofs.Units.{by_place}
 use Rattle.sql_changes.proofs.States.{approved_is, revision_is}
-use Rattle.sql_schema.specs.Layouts.{rows_named}
+use Rattle.sql_schema.specs.Layouts.{NamedRows}
+use Rattle.sql_meaning.specs.RowKeys.{AreOfficeRows}
 
 -- ---- a map of which each value becomes another
 
@@ -69,8 +67,8 @@ one_more : (n : ℤ) → 1 ≤ natural_at 0 (Int n ∷ []) → natural_at 0 (Int
 one_more (pos n) h = refl
 one_more (negsuc n) h = absurd (omega arith)
 
-one_of_place : (db : Database) → AreOfficeTables db → OneEach place_of_row (rows_named db (codes "unit"))
-one_of_place db ready r s in_r in_s e = one_unit db ready.schema ready.sound (ready.tables (codes "unit") refl) r s in_r in_s (by_place.back r s tt tt e)
+one_of_place : (rows : NamedRows) → AreOfficeRows rows → OneEach place_of_row (rows (codes "unit"))
+one_of_place rows ready r s in_r in_s e = ready.keyed.one_unit r s in_r in_s (by_place.back r s tt tt e)
 
 -- ---- what the rules say of a row's unit
 
@@ -78,56 +76,56 @@ next_fits : (n : ℤ) → 1 ≤ natural_at 0 (Int n ∷ []) → natural_at 0 (In
 next_fits (pos n) low high = lt-ltb (n + 1) (2 ^ 63) (omega arith)
 next_fits (negsuc n) low high = absurd (omega arith)
 
-module _ (old : Database) (ready : AreOfficeTables old) (rules : KeepsRules (meaning_in (rows_named old))) (row : Row) (there : Has (rows_named old (codes "unit")) row) where
-  stands : maps.get (units_in (rows_named old)) (place_of_row row) ≡ Some (unit_of_row (rows_named old) row)
-  stands = get-is place_cmp place_total place_IsAntisymmetric place_of_row (unit_of_row (rows_named old)) (rows_named old (codes "unit")) (place_of_row row) (Some (unit_of_row (rows_named old) row)) (one_of_place old ready) (row, there, refl, refl)
+module _ (old : NamedRows) (ready : AreOfficeRows old) (rules : KeepsRules (meaning_in old)) (row : Row) (there : Has (old (codes "unit")) row) where
+  stands : maps.get (units_in old) (place_of_row row) ≡ Some (unit_of_row old row)
+  stands = get-is place_cmp place_total place_IsAntisymmetric place_of_row (unit_of_row old) (old (codes "unit")) (place_of_row row) (Some (unit_of_row old row)) (one_of_place old ready) (row, there, refl, refl)
 
-  is_unit : IsUnit (rule_at (project_of_rows (rows_named old)) (text_at 1 row)) (unit_of_row (rows_named old) row)
-  is_unit = (project_keeps (project_of_rows (rows_named old)) (book_in (rows_named old)) rules).each (place_of_row row) (unit_of_row (rows_named old) row) stands
+  is_unit : IsUnit (rule_at (project_of_rows old) (text_at 1 row)) (unit_of_row old row)
+  is_unit = (project_keeps (project_of_rows old) (book_in old) rules).each (place_of_row row) (unit_of_row old row) stands
 
   -- 64 bits hold its next revision
   pub has_next : fits_i64 (id_in (column row 7) +ℤ pos 1) ≡ true
   has_next =
-      let revised = subst (λ v. (1 ≤ natural_at 0 (v ∷ [])) × (natural_at 0 (v ∷ []) ≤ revision_limit)) (revision_is old ready row there) is_unit.revised in
+      let revised = subst (λ v. (1 ≤ natural_at 0 (v ∷ [])) × (natural_at 0 (v ∷ []) ≤ revision_limit)) (revision_is old ready.typed row there) is_unit.revised in
       next_fits (id_in (column row 7)) revised.0 revised.1
 
 -- ---- the units
 
-module _ (old new : Database) (ready : AreOfficeTables old) (is_ready : AreOfficeTables new) (rules : KeepsRules (meaning_in (rows_named old)))
-    (renewed : AreRenewed is_approved_row unapproved_row (rows_named old (codes "unit")) (rows_named new (codes "unit"))) (suggestions : (lang key : Text) → suggestions_in (rows_named new) lang key ≡ suggestions_in (rows_named old) lang key) where
-  module _ (row : Row) (there : Has (rows_named old (codes "unit")) row) where
-    kept_is : is_approved_row row ≡ false → unit_of_row (rows_named new) row ≡ unapproved (unit_of_row (rows_named old) row)
+module _ (old new : NamedRows) (ready : AreOfficeRows old) (is_ready : AreOfficeRows new) (rules : KeepsRules (meaning_in old))
+    (renewed : AreRenewed is_approved_row unapproved_row (old (codes "unit")) (new (codes "unit"))) (suggestions : (lang key : Text) → suggestions_in new lang key ≡ suggestions_in old lang key) where
+  module _ (row : Row) (there : Has (old (codes "unit")) row) where
+    kept_is : is_approved_row row ≡ false → unit_of_row new row ≡ unapproved (unit_of_row old row)
     kept_is out =
-        (λ i. record (unit_of_row (rows_named new) row) { suggestions = suggestions (text_at 1 row) (text_at 2 row) i })
-        ∙ sym (left_alone (unit_of_row (rows_named old) row) (approved_is old ready row there ∙ out))
+        (λ i. record (unit_of_row new row) { suggestions = suggestions (text_at 1 row) (text_at 2 row) i })
+        ∙ sym (left_alone (unit_of_row old row) (approved_is old ready.typed row there ∙ out))
 
-    made_is : is_approved_row row ≡ true → unit_of_row (rows_named new) (unapproved_row row) ≡ unapproved (unit_of_row (rows_named old) row)
+    made_is : is_approved_row row ≡ true → unit_of_row new (unapproved_row row) ≡ unapproved (unit_of_row old row)
     made_is passed =
-        let approved = approved_is old ready row there ∙ passed in
+        let approved = approved_is old ready.typed row there ∙ passed in
         let is = approved_state (state_at 5 row) approved in
         let it = is_unit old ready rules row there in
         let previous = it.previous (ap is_needs_editing is) in
         let revision : natural_at 7 (unapproved_row row) ≡ natural_at 7 row + 1 =
-        subst (λ v. natural_at 0 (Int (id_in (column row 7) +ℤ pos 1) ∷ []) ≡ natural_at 0 (v ∷ []) + 1) (sym (revision_is old ready row there))
-        (one_more (id_in (column row 7)) (subst (λ v. 1 ≤ natural_at 0 (v ∷ [])) (revision_is old ready row there) it.revised.0)) in
-        (λ i. record (unit_of_row (rows_named new) (unapproved_row row)) { revision = revision i; suggestions = suggestions (text_at 1 row) (text_at 2 row) i })
-        ∙ sym (turned (unit_of_row (rows_named old) row) approved previous)
+        subst (λ v. natural_at 0 (Int (id_in (column row 7) +ℤ pos 1) ∷ []) ≡ natural_at 0 (v ∷ []) + 1) (sym (revision_is old ready.typed row there))
+        (one_more (id_in (column row 7)) (subst (λ v. 1 ≤ natural_at 0 (v ∷ [])) (revision_is old ready.typed row there) it.revised.0)) in
+        (λ i. record (unit_of_row new (unapproved_row row)) { revision = revision i; suggestions = suggestions (text_at 1 row) (text_at 2 row) i })
+        ∙ sym (turned (unit_of_row old row) approved previous)
 
   -- ---- all of them
 
-  at_place : (q : Place) (found : Option Unit) → IsFound place_of_row (unit_of_row (rows_named old)) (rows_named old (codes "unit")) q found
-      → IsFound place_of_row (unit_of_row (rows_named new)) (rows_named new (codes "unit")) q (option_map unapproved found)
+  at_place : (q : Place) (found : Option Unit) → IsFound place_of_row (unit_of_row old) (old (codes "unit")) q found
+      → IsFound place_of_row (unit_of_row new) (new (codes "unit")) q (option_map unapproved found)
   at_place q None none = λ x there is. elim (renewed.only x there) [
     | inl was ↦ none x was.0 is
     | inr made ↦ none made.0 made.1 (sym (ap place_of_row made.3) ∙ is)
   ]
   at_place q (Some unit) (row, there, at, is) = by (is_approved_row row) refl
     where
-      by : (b : Bool) → is_approved_row row ≡ b → IsFound place_of_row (unit_of_row (rows_named new)) (rows_named new (codes "unit")) q (Some (unapproved unit))
+      by : (b : Bool) → is_approved_row row ≡ b → IsFound place_of_row (unit_of_row new) (new (codes "unit")) q (Some (unapproved unit))
       by true passed = (unapproved_row row, renewed.made row there passed, at, made_is row there passed ∙ ap unapproved is)
       by false out = (row, renewed.kept row there out, at, kept_is row there out ∙ ap unapproved is)
 
-  pub units_unapproved : units_in (rows_named new) ≡ maps.from_entries (map (λ e. (e.0, unapproved e.1)) (maps.entries (units_in (rows_named old))))
-  units_unapproved = mapped_is unapproved (units_in (rows_named old)) (units_in (rows_named new)) (λ q.
-      get-is place_cmp place_total place_IsAntisymmetric place_of_row (unit_of_row (rows_named new)) (rows_named new (codes "unit")) q _ (one_of_place new is_ready)
-      (at_place q _ (get-found place_cmp place_total place_IsAntisymmetric place_of_row (unit_of_row (rows_named old)) (rows_named old (codes "unit")) q)))
+  pub units_unapproved : units_in new ≡ maps.from_entries (map (λ e. (e.0, unapproved e.1)) (maps.entries (units_in old)))
+  units_unapproved = mapped_is unapproved (units_in old) (units_in new) (λ q.
+      get-is place_cmp place_total place_IsAntisymmetric place_of_row (unit_of_row new) (new (codes "unit")) q _ (one_of_place new is_ready)
+      (at_place q _ (get-found place_cmp place_total place_IsAntisymmetric place_of_row (unit_of_row old) (old (codes "unit")) q)))

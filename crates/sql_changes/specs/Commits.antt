@@ -1,9 +1,8 @@
--- What a commit of a change of an office makes of the tables: its request's record, whose number is 16 bytes, and the rows that the change
+-- What a commit of a change of an office makes of rows by the names of their tables: its request's record, whose number is 16 bytes, and the rows that the change
 -- writes.
 use Rattle.std.specs.Prelude.{◌≡◌, ℕ, ◌+◌, ℤ, pos, Bool, true, false, List, [], ◌∷◌, Option, Some, None, unwrap_or, codes}
 use Rattle.sqlite.specs.declared.types.Value.TheVariants.{Null, Int, Text as Words}
 use Rattle.sqlite.specs.Order.{Row}
-use Rattle.sqlite.specs.Effect.{Database}
 use Rattle.po_text.specs.declared.entry.Entry.{Entry}
 use Rattle.po_text.specs.Strings.{is_forms}
 use Rattle.po_text.specs.Texts.{Text}
@@ -23,26 +22,25 @@ use Rattle.request_book.specs.Acts.{IsNumber}
 use Rattle.request_book.specs.declared.book.Record.{Record}
 use Rattle.sql_columns.specs.Numbers.{role_number, flag_number}
 use Rattle.sql_columns.specs.Written.{ArePrevious, texts_text, header_text}
-use Rattle.sql_schema.specs.Inside.{PutsRow, HoldsValues, Then}
+use Rattle.sql_schema.specs.Inside.{PutsIn, HoldsValues, Then}
 use Rattle.sql_schema.specs.Keys.{first_text, row_number, has_text}
 use Rattle.sql_schema.specs.Rows.{text_or_null}
-use Rattle.sql_statements.specs.Emptied.{EmptiesUnits}
-use Rattle.sql_statements.specs.Renewed.{UnapprovesUnits}
-use Rattle.sql_statements.specs.Taken.{TakesRows}
 use Rattle.sql_meaning.specs.Cells.{record_cells}
-use Rattle.sql_changes.specs.UnitWrites.{LeavesTables, WritesNumberedUnit, WritesUnits, WritesPlansBack}
+use Rattle.sql_changes.specs.UnitWrites.{LeavesRows, WritesNumberedUnit, WritesUnits, WritesPlansBack}
+use Rattle.sql_schema.specs.Layouts.{NamedRows}
+use Rattle.sql_meaning.specs.RowChanges.{TakesIn, EmptiesIn, UnapprovesIn}
 
-abbrev pub PutsNumberedRecord : Record → Database → Database → Type 0
-PutsNumberedRecord row old new = PutsRow (codes "record") first_text (HoldsValues (record_cells row)) old new × IsNumber row.number
+abbrev pub PutsNumberedRecord : Record → NamedRows → NamedRows → Type 0
+PutsNumberedRecord row old new = PutsIn (codes "record") first_text (HoldsValues (record_cells row)) old new × IsNumber row.number
 
 -- ---- a role
 
 -- a member has a row with the number of its role; a guest, whose role has none, has no row
-abbrev pub WritesRole : Text → Option ℤ → Database → Database → Type 0
-WritesRole name None = TakesRows (codes "team") (has_text 1 name)
-WritesRole name (Some role) = PutsRow (codes "team") first_text (HoldsValues (Words name ∷ Int role ∷ []))
+abbrev pub WritesRole : Text → Option ℤ → NamedRows → NamedRows → Type 0
+WritesRole name None = TakesIn (codes "team") (has_text 1 name)
+WritesRole name (Some role) = PutsIn (codes "team") first_text (HoldsValues (Words name ∷ Int role ∷ []))
 
-abbrev pub MakesRole : Record → Text → Role → Database → Database → Type 0
+abbrev pub MakesRole : Record → Text → Role → NamedRows → NamedRows → Type 0
 MakesRole row name role = Then (PutsNumberedRecord row) (WritesRole name (role_number role))
 
 -- ---- the policy
@@ -53,23 +51,23 @@ policy_row policy =
     Int (pos 1) ∷ Null ∷ Int (pos 1) ∷ Int (flag_number policy.reviews) ∷ Int (flag_number policy.guests_suggest) ∷ Int (flag_number policy.voting) ∷ Int (pos policy.accept_at)
     ∷ Int (flag_number policy.placeholders) ∷ Int (flag_number policy.line_ends) ∷ []
 
-abbrev pub PutsPolicy : Policy → Database → Database → Type 0
-PutsPolicy policy = PutsRow (codes "policy") row_number (λ row. row ≡ policy_row policy)
+abbrev pub PutsPolicy : Policy → NamedRows → NamedRows → Type 0
+PutsPolicy policy = PutsIn (codes "policy") row_number (λ row. row ≡ policy_row policy)
 
 -- without reviews no unit stays approved
-abbrev pub UnapprovesUnless : Bool → Database → Database → Type 0
+abbrev pub UnapprovesUnless : Bool → NamedRows → NamedRows → Type 0
 UnapprovesUnless true old new = new ≡ old
-UnapprovesUnless false old new = UnapprovesUnits old new
+UnapprovesUnless false old new = UnapprovesIn old new
 
-abbrev pub WritesPolicy : Policy → Database → Database → Type 0
+abbrev pub WritesPolicy : Policy → NamedRows → NamedRows → Type 0
 WritesPolicy policy = Then (PutsPolicy policy) (UnapprovesUnless policy.reviews)
 
-abbrev pub MakesPolicy : Record → Policy → Database → Database → Type 0
+abbrev pub MakesPolicy : Record → Policy → NamedRows → NamedRows → Type 0
 MakesPolicy row policy = Then (PutsNumberedRecord row) (WritesPolicy policy)
 
 -- ---- a unit
 
-unfoldable pub WritesRecordAndUnit : Record → Text → Unit → Database → Database → Type 0
+unfoldable pub WritesRecordAndUnit : Record → Text → Unit → NamedRows → NamedRows → Type 0
 WritesRecordAndUnit row lang unit = Then (PutsNumberedRecord row) (WritesNumberedUnit lang unit)
 
 -- ---- a language
@@ -79,15 +77,15 @@ abbrev pub language_cells : Text → Entry → Row
 language_cells lang header = Words lang ∷ Words (header_text header) ∷ Words (unwrap_or (plural_field (Some header)) []) ∷ []
 
 -- and the header's strings are those of a catalogue
-abbrev pub PutsLanguage : Text → Entry → Database → Database → Type 0
+abbrev pub PutsLanguage : Text → Entry → NamedRows → NamedRows → Type 0
 PutsLanguage lang header old new =
-    LeavesTables (PutsRow (codes "language") first_text (HoldsValues (language_cells lang header))) old new × (is_forms header.forms ≡ true) × ArePrevious header.previous
+    LeavesRows (PutsIn (codes "language") first_text (HoldsValues (language_cells lang header))) old new × (is_forms header.forms ≡ true) × ArePrevious header.previous
 
 -- with its units
-abbrev pub WritesLanguage : Text → Entry → List Unit → Database → Database → Type 0
+abbrev pub WritesLanguage : Text → Entry → List Unit → NamedRows → NamedRows → Type 0
 WritesLanguage lang header units = Then (PutsLanguage lang header) (WritesUnits lang units)
 
-unfoldable pub MakesLanguage : Record → Text → Language → Plan → Database → Database → Type 0
+unfoldable pub MakesLanguage : Record → Text → Language → Plan → NamedRows → NamedRows → Type 0
 MakesLanguage row lang language plan = Then (PutsNumberedRecord row) (WritesLanguage lang language.header plan.units)
 
 -- ---- a template
@@ -98,39 +96,39 @@ entry_row place entry =
     Int (pos place) ∷ Null ∷ Words (key_text (key_of entry)) ∷ text_or_null entry.plural ∷ Words (texts_text entry.extracted) ∷ Words (texts_text entry.references) ∷ Words (texts_text entry.flags) ∷ []
 
 -- and the key's strings are those of a catalogue
-abbrev pub PutsEntry : ℕ → Entry → Database → Database → Type 0
-PutsEntry place entry old new = LeavesTables (PutsRow (codes "template") row_number (λ row. row ≡ entry_row place entry)) old new × HasStrings (key_of entry)
+abbrev pub PutsEntry : ℕ → Entry → NamedRows → NamedRows → Type 0
+PutsEntry place entry old new = LeavesRows (PutsIn (codes "template") row_number (λ row. row ≡ entry_row place entry)) old new × HasStrings (key_of entry)
 
 -- from this place on
-abbrev pub PutsEntries : ℕ → List Entry → Database → Database → Type 0
+abbrev pub PutsEntries : ℕ → List Entry → NamedRows → NamedRows → Type 0
 PutsEntries place [] old new = new ≡ old
 PutsEntries place (entry ∷ more) old new = Then (PutsEntry place entry) (PutsEntries (place + 1) more) old new
 
 -- in the place of the one that is there
-abbrev pub PutsTemplate : List Entry → Database → Database → Type 0
-PutsTemplate entries = Then (LeavesTables (TakesRows (codes "template") (λ row. true))) (PutsEntries 0 entries)
+abbrev pub PutsTemplate : List Entry → NamedRows → NamedRows → Type 0
+PutsTemplate entries = Then (LeavesRows (TakesIn (codes "template") (λ row. true))) (PutsEntries 0 entries)
 
 -- the units of plans in the place of all that are there
-abbrev pub WritesPlans : List LanguagePlan → Database → Database → Type 0
-WritesPlans plans = Then (LeavesTables EmptiesUnits) (WritesPlansBack plans)
+abbrev pub WritesPlans : List LanguagePlan → NamedRows → NamedRows → Type 0
+WritesPlans plans = Then (LeavesRows EmptiesIn) (WritesPlansBack plans)
 
-abbrev pub WritesTemplate : List Entry → List LanguagePlan → Database → Database → Type 0
+abbrev pub WritesTemplate : List Entry → List LanguagePlan → NamedRows → NamedRows → Type 0
 WritesTemplate entries plans = Then (PutsTemplate entries) (WritesPlans plans)
 
-unfoldable pub MakesTemplate : Record → List Entry → List LanguagePlan → Database → Database → Type 0
+unfoldable pub MakesTemplate : Record → List Entry → List LanguagePlan → NamedRows → NamedRows → Type 0
 MakesTemplate row entries plans = Then (PutsNumberedRecord row) (WritesTemplate entries plans)
 
 -- ---- in a domain
 
 -- what is written where it is for `main`; elsewhere the record alone
-abbrev pub MakesIf : Bool → Record → (Database → Database → Type 0) → Database → Database → Type 0
+abbrev pub MakesIf : Bool → Record → (NamedRows → NamedRows → Type 0) → NamedRows → NamedRows → Type 0
 MakesIf true row Makes = Makes
 MakesIf false row Makes = PutsNumberedRecord row
 
 -- The rows are those of `main`: in another domain there is nothing to change.
-abbrev pub MakesIn : Text → Record → (Database → Database → Type 0) → Database → Database → Type 0
+abbrev pub MakesIn : Text → Record → (NamedRows → NamedRows → Type 0) → NamedRows → NamedRows → Type 0
 MakesIn domain = MakesIf (same_domain domain main)
 
-abbrev pub MakesDomainChange : Record → DomainChange → Database → Database → Type 0
-MakesDomainChange row (NewLanguage lang language plan) = MakesLanguage row lang language plan
-MakesDomainChange row (NewTemplate template plans) = MakesTemplate row template plans.items
+abbrev pub MakesDomainChange : Record → DomainChange → NamedRows → NamedRows → Type 0
+MakesDomainChange row (NewLanguage lang language plan tally) = MakesLanguage row lang language plan
+MakesDomainChange row (NewTemplate template plans tallies) = MakesTemplate row template plans.items

@@ -1,8 +1,7 @@
--- What the writers of units make of the tables: the rows of a unit in the place of those that are there, and units one after the other.
+-- What the writers of units make of rows by the names of their tables: the rows of a unit in the place of those that are there, and units one after the other.
 -- Numbers of requests are 16 bytes, and strings those of a catalogue.
 use Rattle.std.specs.Prelude.{◌≡◌, ℕ, ◌+◌, List, [], ◌∷◌, map, codes}
 use Rattle.std.specs.FinMap as maps
-use Rattle.sqlite.specs.Effect.{Database}
 use Rattle.sqlite_rules.specs.Lists.{Has}
 use Rattle.po_text.specs.Texts.{Text}
 use Rattle.units.specs.KeyTexts.{HasStrings}
@@ -13,12 +12,13 @@ use Rattle.request_book.specs.Acts.{IsNumber}
 use Rattle.request_book.specs.Words.{number_text}
 use Rattle.deliveries.specs.ProjectActs.{LanguagePlan}
 use Rattle.sql_columns.specs.Written.{ArePrevious}
-use Rattle.sql_schema.specs.Cleared.{ClearsUnit}
-use Rattle.sql_schema.specs.Inside.{AreOfficeTables, PutsRow, HoldsValues, Then}
+use Rattle.sql_schema.specs.Inside.{PutsIn, HoldsValues, Then}
 use Rattle.sql_schema.specs.Keys.{first_text, first_texts}
-use Rattle.sql_statements.specs.Added.{AddsRow}
 use Rattle.sql_meaning.specs.Cells.{unit_cells, suggestion_cells, vote_cells}
 use Rattle.sql_meaning.specs.Written.{PutsRows}
+use Rattle.sql_schema.specs.Layouts.{NamedRows}
+use Rattle.sql_meaning.specs.RowKeys.{AreOfficeRows}
+use Rattle.sql_meaning.specs.RowChanges.{AddsIn, ClearsIn}
 
 -- ---- a unit
 
@@ -27,50 +27,50 @@ abbrev pub HaveNumbers : List Suggestion → Type 0
 HaveNumbers ss = (s : Suggestion) → Has ss s → IsNumber s.number
 
 -- a suggestion, whose number no other has, and the votes on it
-abbrev pub AddsSuggestion : Text → Text → ℕ → Suggestion → Database → Database → Type 0
+abbrev pub AddsSuggestion : Text → Text → ℕ → Suggestion → NamedRows → NamedRows → Type 0
 AddsSuggestion lang key place s =
-    Then (AddsRow (codes "suggestion") first_text (HoldsValues (suggestion_cells lang key place s)))
+    Then (AddsIn (codes "suggestion") first_text (HoldsValues (suggestion_cells lang key place s)))
     (PutsRows (codes "vote") first_texts (map (vote_cells (number_text s.number)) (maps.entries s.votes)))
 
 -- from this place on
-abbrev pub AddsSuggestions : Text → Text → ℕ → List Suggestion → Database → Database → Type 0
+abbrev pub AddsSuggestions : Text → Text → ℕ → List Suggestion → NamedRows → NamedRows → Type 0
 AddsSuggestions lang key place [] old new = new ≡ old
 AddsSuggestions lang key place (s ∷ more) old new = Then (AddsSuggestion lang key place s) (AddsSuggestions lang key (place + 1) more) old new
 
-abbrev pub AddsNumberedSuggestion : Text → Text → ℕ → Suggestion → Database → Database → Type 0
+abbrev pub AddsNumberedSuggestion : Text → Text → ℕ → Suggestion → NamedRows → NamedRows → Type 0
 AddsNumberedSuggestion lang key place s old new = AddsSuggestion lang key place s old new × IsNumber s.number
 
 -- from the first place on
-abbrev pub AddsNumberedSuggestions : Text → Text → List Suggestion → Database → Database → Type 0
+abbrev pub AddsNumberedSuggestions : Text → Text → List Suggestion → NamedRows → NamedRows → Type 0
 AddsNumberedSuggestions lang key ss old new = AddsSuggestions lang key 0 ss old new × HaveNumbers ss
 
 -- its row in the place of the one that is there, and its suggestions in the place of those that are there
-abbrev pub WritesNumberedUnit : Text → Unit → Database → Database → Type 0
+abbrev pub WritesNumberedUnit : Text → Unit → NamedRows → NamedRows → Type 0
 WritesNumberedUnit lang unit =
-    Then (PutsRow (codes "unit") first_texts (HoldsValues (unit_cells lang unit)))
-    (Then (ClearsUnit lang (key_text unit.key)) (AddsNumberedSuggestions lang (key_text unit.key) unit.suggestions))
+    Then (PutsIn (codes "unit") first_texts (HoldsValues (unit_cells lang unit)))
+    (Then (ClearsIn lang (key_text unit.key)) (AddsNumberedSuggestions lang (key_text unit.key) unit.suggestions))
 
 -- ---- units, one after the other
 
--- and what is made obeys the schema
-abbrev pub LeavesTables : (Database → Database → Type 0) → Database → Database → Type 0
-LeavesTables Makes old new = Makes old new × AreOfficeTables new
+-- and what is made is as a schema asks
+abbrev pub LeavesRows : (NamedRows → NamedRows → Type 0) → NamedRows → NamedRows → Type 0
+LeavesRows Makes old new = Makes old new × AreOfficeRows new
 
 -- a unit whose strings are those of a catalogue
-abbrev pub WritesPlanned : Text → Unit → Database → Database → Type 0
-WritesPlanned lang unit old new = LeavesTables (WritesNumberedUnit lang unit) old new × HasStrings unit.key × ArePrevious unit.previous
+abbrev pub WritesPlanned : Text → Unit → NamedRows → NamedRows → Type 0
+WritesPlanned lang unit old new = LeavesRows (WritesNumberedUnit lang unit) old new × HasStrings unit.key × ArePrevious unit.previous
 
 -- the first first
-abbrev pub WritesUnits : Text → List Unit → Database → Database → Type 0
+abbrev pub WritesUnits : Text → List Unit → NamedRows → NamedRows → Type 0
 WritesUnits lang [] old new = new ≡ old
 WritesUnits lang (unit ∷ more) old new = Then (WritesPlanned lang unit) (WritesUnits lang more) old new
 
 -- the last first, so that of two units of one key the first stays
-abbrev pub WritesUnitsBack : Text → List Unit → Database → Database → Type 0
+abbrev pub WritesUnitsBack : Text → List Unit → NamedRows → NamedRows → Type 0
 WritesUnitsBack lang [] old new = new ≡ old
 WritesUnitsBack lang (unit ∷ more) old new = Then (WritesUnitsBack lang more) (WritesPlanned lang unit) old new
 
 -- the units of each language's plan, the last first
-abbrev pub WritesPlansBack : List LanguagePlan → Database → Database → Type 0
+abbrev pub WritesPlansBack : List LanguagePlan → NamedRows → NamedRows → Type 0
 WritesPlansBack [] old new = new ≡ old
 WritesPlansBack (p ∷ more) old new = Then (WritesPlansBack more) (WritesUnitsBack p.0 p.1.units) old new

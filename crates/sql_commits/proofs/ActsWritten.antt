@@ -1,6 +1,5 @@
 -- What is written for an act behind its request's record.
 use Rattle.std.proofs.Common.{Bool, true, false, sym, subst}
-use Rattle.sqlite.specs.Effect.{Database}
 use Rattle.po_text.specs.Texts.{Text}
 use Rattle.units.specs.Office.{main, same_domain}
 use Rattle.units.specs.declared.unit.Unit.{Unit}
@@ -13,14 +12,15 @@ use Rattle.sql_changes.specs.UnitWrites.{WritesNumberedUnit}
 use Rattle.sql_changes.specs.Commits.{PutsNumberedRecord, WritesRecordAndUnit, MakesLanguage, MakesTemplate, MakesIf, MakesDomainChange}
 use Rattle.sql_commits.specs.Acts.{MakesOneChange}
 use Rattle.sql_commits.specs.Changes.{WritesDomainChange, WritesIf, WritesChange}
+use Rattle.sql_schema.specs.Layouts.{NamedRows}
 
-module _ (row : Record) (old mid new : Database) (recorded : PutsNumberedRecord row old mid) where
+module _ (row : Record) (old mid new : NamedRows) (recorded : PutsNumberedRecord row old mid) where
   writes_record_and_unit : (lang : Text) (unit : Unit) → WritesNumberedUnit lang unit mid new → WritesRecordAndUnit row lang unit old new
   unfolding WritesRecordAndUnit
   writes_record_and_unit lang unit written = (mid, recorded, written)
 
   -- where it is for `main`, and where nothing is written behind the record
-  makes_if : (Writes Makes : Database → Database → Type 0) → (Writes mid new → Makes old new) → (same : Bool) → WritesIf same Writes mid new → MakesIf same row Makes old new
+  makes_if : (Writes Makes : NamedRows → NamedRows → Type 0) → (Writes mid new → Makes old new) → (same : Bool) → WritesIf same Writes mid new → MakesIf same row Makes old new
   makes_if Writes Makes makes true written = makes written
   makes_if Writes Makes makes false still = subst (PutsNumberedRecord row old) (sym still) recorded
 
@@ -29,8 +29,8 @@ module _ (row : Record) (old mid new : Database) (recorded : PutsNumberedRecord 
 
   makes_domain_change : (change : DomainChange) → WritesDomainChange change mid new → MakesDomainChange row change old new
   unfolding MakesLanguage MakesTemplate
-  makes_domain_change (NewLanguage lang language plan) written = (mid, recorded, written)
-  makes_domain_change (NewTemplate template plans) written = (mid, recorded, written)
+  makes_domain_change (NewLanguage lang language plan tally) written = (mid, recorded, written)
+  makes_domain_change (NewTemplate template plans tallies) written = (mid, recorded, written)
 
   pub makes_change : (change : Change) → WritesChange change mid new → MakesOneChange row change old new
   makes_change (OneRole name role) written = (mid, recorded, written)

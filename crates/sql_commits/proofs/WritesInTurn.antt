@@ -14,17 +14,17 @@ use Rattle.units.specs.declared.unit.Suggestion.{Suggestion}
 use Rattle.units.specs.declared.unit.Unit.{Unit}
 use Rattle.request_book.specs.Words.{number_text}
 use Rattle.sql_columns.specs.Written.{texts_text}
-use Rattle.sql_schema.specs.Cleared.{ClearsUnit}
 use Rattle.sql_schema.specs.Keys.{first_text, first_texts}
 use Rattle.sql_meaning.specs.Cells.{unit_cells, suggestion_cells, vote_cells}
 use Rattle.units.specs.declared.votes.VoteValue.{VoteValue}
 use Rattle.units.specs.declared.votes.VoteValue.TheVariants.{For, Against}
 use Rattle.request_book.specs.Acts.{IsNumber, vote_number}
-use Rattle.sql_schema.specs.Inside.{IsSteady, IsInside, PutsRow, HoldsValues, Then}
+use Rattle.sql_schema.specs.Inside.{IsSteady, IsInside, HoldsValues, Then, PutsIn}
 use Rattle.sql_schema.proofs.Sequences.{writes_both}
-use Rattle.sql_statements.specs.Added.{AddsRow}
 use Rattle.sql_meaning.specs.Written.{PutsRows}
 use Rattle.sql_changes.specs.UnitWrites.{HaveNumbers, AddsSuggestion, AddsSuggestions, AddsNumberedSuggestion, AddsNumberedSuggestions, WritesNumberedUnit}
+use Rattle.sql_schema.specs.Layouts.{NamedRows}
+use Rattle.sql_meaning.specs.RowChanges.{AddsIn, ClearsIn}
 
 module _ (a b : State) where
   -- a write that succeeded, with another result, and what it made told in other words
@@ -66,6 +66,10 @@ pub on_ok : {X E : Type 0} {A B : Type 0} (r : Result X E) → (A → B) → OnO
 on_ok (Ok x) f h = f h
 on_ok (Err e) f h = h
 
+-- what a write made, told in other words
+pub write_as : (a b : State) {A E : Type 0} (r : Result A E) (P Q : Database → Database → Type 0) → (P a.now b.now → Q a.now b.now) → IsInside a b r P → IsInside a b r Q
+write_as a b r P Q tells it = record { made = λ clean. on_ok r tells (it.made clean); ready = it.ready; stays = it.stays; kept = it.kept; survives = it.survives }
+
 module _ (a b c : State) where
   -- a write after a write, and what both made told in other words
   pub write_then : {A B E F : Type 0} (x : A) (r : Result B F) (P Q R : Database → Database → Type 0) → (P a.now b.now → Q b.now c.now → R a.now c.now)
@@ -82,12 +86,12 @@ module _ (a b c : State) where
 
 -- ---- one more at the end
 
-pub puts_row_more : {K : Type 0} (name : List ℕ) (key : Row → K) (all : List Row) (cells : Row) (old mid new : Database)
-    → PutsRows name key all old mid → PutsRow name key (HoldsValues cells) mid new → PutsRows name key (all ++ cells ∷ []) old new
-puts_row_more name key [] cells old mid new is put = (new, subst (λ d. PutsRow name key (HoldsValues cells) d new) is put, refl)
+pub puts_row_more : {K : Type 0} (name : List ℕ) (key : Row → K) (all : List Row) (cells : Row) (old mid new : NamedRows)
+    → PutsRows name key all old mid → PutsIn name key (HoldsValues cells) mid new → PutsRows name key (all ++ cells ∷ []) old new
+puts_row_more name key [] cells old mid new is put = (new, subst (λ d. PutsIn name key (HoldsValues cells) d new) is put, refl)
 puts_row_more name key (first ∷ more) cells old mid new (next, one, rest) put = (next, one, puts_row_more name key more cells next mid new rest put)
 
-pub adds_suggestion_more : (lang key : Text) (place : ℕ) (ss : List Suggestion) (s : Suggestion) (old mid new : Database)
+pub adds_suggestion_more : (lang key : Text) (place : ℕ) (ss : List Suggestion) (s : Suggestion) (old mid new : NamedRows)
     → AddsSuggestions lang key place ss old mid → AddsSuggestion lang key (place + length ss) s mid new → AddsSuggestions lang key place (ss ++ s ∷ []) old new
 adds_suggestion_more lang key place [] s old mid new is put =
     (new, subst (λ n. AddsSuggestion lang key n s old new) (omega arith) (subst (λ d. AddsSuggestion lang key (place + 0) s d new) is put), refl)
@@ -105,10 +109,10 @@ pub vote_through : (vote : VoteValue) → to_z w64 (of_z w64 (vote_number (Some 
 vote_through For = refl
 vote_through Against = refl
 
-pub puts_vote_next : (number voter : Text) (value : ℤ) (votes : List (Text × VoteValue)) (i : ℕ) (vote : Text × VoteValue) (old mid new : Database)
+pub puts_vote_next : (number voter : Text) (value : ℤ) (votes : List (Text × VoteValue)) (i : ℕ) (vote : Text × VoteValue) (old mid new : NamedRows)
     → i < length votes → vote ≡ get_or votes i vote → voter ≡ vote.0 → value ≡ vote_number (Some vote.1)
     → PutsRows (codes "vote") first_texts (map (vote_cells number) (take i votes)) old mid
-    → PutsRow (codes "vote") first_texts (HoldsValues (Words number ∷ Words voter ∷ Int value ∷ [])) mid new
+    → PutsIn (codes "vote") first_texts (HoldsValues (Words number ∷ Words voter ∷ Int value ∷ [])) mid new
     → PutsRows (codes "vote") first_texts (map (vote_cells number) (take (i + 1) votes)) old new
 puts_vote_next number voter value votes i vote old mid new within is is_voter is_value front put =
     let row : Row = Words number ∷ Words voter ∷ Int value ∷ [] in
@@ -117,9 +121,9 @@ puts_vote_next number voter value votes i vote old mid new within is is_voter is
     let all : map (vote_cells number) (take (i + 1) votes) ≡ map (vote_cells number) (take i votes) ++ vote_cells number vote ∷ [] =
     ap (map (vote_cells number)) taken ∙ map-append (vote_cells number) (take i votes) (vote ∷ []) in
     subst (λ rows. PutsRows (codes "vote") first_texts rows old new) (sym all)
-    (puts_row_more (codes "vote") first_texts (map (vote_cells number) (take i votes)) (vote_cells number vote) old mid new front (subst (λ c. PutsRow (codes "vote") first_texts (HoldsValues c) mid new) cells put))
+    (puts_row_more (codes "vote") first_texts (map (vote_cells number) (take i votes)) (vote_cells number vote) old mid new front (subst (λ c. PutsIn (codes "vote") first_texts (HoldsValues c) mid new) cells put))
 
-pub adds_suggestion_next : (lang key : Text) (ss : List Suggestion) (i : ℕ) (s : Suggestion) (old mid new : Database)
+pub adds_suggestion_next : (lang key : Text) (ss : List Suggestion) (i : ℕ) (s : Suggestion) (old mid new : NamedRows)
     → i < length ss → s ≡ get_or ss i s → AddsNumberedSuggestions lang key (take i ss) old mid → AddsNumberedSuggestion lang key i s mid new → AddsNumberedSuggestions lang key (take (i + 1) ss) old new
 adds_suggestion_next lang key ss i s old mid new within is front put =
     let taken : take (i + 1) ss ≡ take i ss ++ s ∷ [] = take_more ss i s within ∙ ap (λ v. take i ss ++ v ∷ []) (sym is) in
@@ -129,24 +133,24 @@ adds_suggestion_next lang key ss i s old mid new within is front put =
 
 -- ---- what is written, by the columns that are given
 
-pub adds_numbered_suggestion : (lang key number again suggester forms : Text) (at : ℤ) (place : ℕ) (s : Suggestion) (old mid new : Database)
+pub adds_numbered_suggestion : (lang key number again suggester forms : Text) (at : ℤ) (place : ℕ) (s : Suggestion) (old mid new : NamedRows)
     → number ≡ number_text s.number → again ≡ number_text s.number → suggester ≡ s.suggester → forms ≡ texts_text s.forms → at ≡ pos place → IsNumber s.number
-    → AddsRow (codes "suggestion") first_text (HoldsValues (Words number ∷ Words lang ∷ Words key ∷ Int at ∷ Words suggester ∷ Words forms ∷ [])) old mid
+    → AddsIn (codes "suggestion") first_text (HoldsValues (Words number ∷ Words lang ∷ Words key ∷ Int at ∷ Words suggester ∷ Words forms ∷ [])) old mid
     → PutsRows (codes "vote") first_texts (map (vote_cells again) (maps.entries s.votes)) mid new → AddsNumberedSuggestion lang key place s old new
 adds_numbered_suggestion lang key number again suggester forms at place s old mid new is_number is_again is_suggester is_forms is_at valid row votes =
     let same : Words number ∷ Words lang ∷ Words key ∷ Int at ∷ Words suggester ∷ Words forms ∷ [] ≡ suggestion_cells lang key place s = cc in (
       (
         mid,
-        subst (λ cells. AddsRow (codes "suggestion") first_text (HoldsValues cells) old mid) same row,
+        subst (λ cells. AddsIn (codes "suggestion") first_text (HoldsValues cells) old mid) same row,
         subst (λ n. PutsRows (codes "vote") first_texts (map (vote_cells n) (maps.entries s.votes)) mid new) is_again votes,
       ),
       valid,
     )
 
-pub writes_numbered_unit : (lang key key_all : Text) (unit : Unit) (ss : List Suggestion) (old mid new : Database)
+pub writes_numbered_unit : (lang key key_all : Text) (unit : Unit) (ss : List Suggestion) (old mid new : NamedRows)
     → key ≡ key_text unit.key → key_all ≡ key_text unit.key → ss ≡ unit.suggestions
-    → PutsRow (codes "unit") first_texts (HoldsValues (unit_cells lang unit)) old mid → Then (ClearsUnit lang key) (AddsNumberedSuggestions lang key_all ss) mid new → WritesNumberedUnit lang unit old new
+    → PutsIn (codes "unit") first_texts (HoldsValues (unit_cells lang unit)) old mid → Then (ClearsIn lang key) (AddsNumberedSuggestions lang key_all ss) mid new → WritesNumberedUnit lang unit old new
 writes_numbered_unit lang key key_all unit ss old mid new is_key is_key_all are row (next, cleared, all) =
-    let gone = subst (λ k. ClearsUnit lang k mid next) is_key cleared in
+    let gone = subst (λ k. ClearsIn lang k mid next) is_key cleared in
     let put = subst (λ k. AddsNumberedSuggestions lang k unit.suggestions next new) is_key_all (subst (λ xs. AddsNumberedSuggestions lang key_all xs next new) are all) in
     (mid, row, (next, gone, put))

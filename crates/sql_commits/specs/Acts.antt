@@ -1,5 +1,5 @@
--- What a commit makes of the tables, which hold the domain `main` alone: of an act on a unit its record, and its unit's new view, if it has
--- one and the unit is in `main`; of an act on the office its record, and its change, if it has one and this isn't about another domain.
+-- What a commit makes of the rows of the tables, which hold the domain `main` alone: of an act on a unit its record, and its unit's new view, if it
+-- has one and the unit is in `main`; of an act on the office its record, and its change, if it has one and this isn't about another domain.
 use Rattle.std.specs.Prelude.{Option, Some, None}
 use Rattle.sqlite.specs.Effect.{Database}
 use Rattle.po_text.specs.Texts.{Text}
@@ -8,18 +8,26 @@ use Rattle.request_book.specs.declared.book.Record.{Record}
 use Rattle.deliveries.specs.declared.values.Change.{Change}
 use Rattle.deliveries.specs.declared.values.Change.TheVariants.{OneRole, NewPolicy, NewDomain, InDomain}
 use Rattle.sql_changes.specs.Commits.{PutsNumberedRecord, WritesRecordAndUnit, MakesRole, MakesPolicy, MakesIn, MakesDomainChange}
+use Rattle.sql_schema.specs.Layouts.{NamedRows}
+use Rattle.sql_schema.specs.Inside.{OnRows}
+
+abbrev pub MakesActRows : Record → Text → Text → Option UnitView → NamedRows → NamedRows → Type 0
+MakesActRows row domain lang None = PutsNumberedRecord row
+MakesActRows row domain lang (Some view) = MakesIn domain row (WritesRecordAndUnit row lang view.unit)
 
 abbrev pub MakesAct : Record → Text → Text → Option UnitView → Database → Database → Type 0
-MakesAct row domain lang None = PutsNumberedRecord row
-MakesAct row domain lang (Some view) = MakesIn domain row (WritesRecordAndUnit row lang view.unit)
+MakesAct row domain lang view = OnRows (MakesActRows row domain lang view)
 
 -- the commit of a new domain never succeeds
-abbrev pub MakesOneChange : Record → Change → Database → Database → Type 0
+abbrev pub MakesOneChange : Record → Change → NamedRows → NamedRows → Type 0
 MakesOneChange row (OneRole name role) = MakesRole row name role
 MakesOneChange row (NewPolicy policy) = MakesPolicy row policy
 MakesOneChange row (NewDomain domain) = λ old new. ⊥
 MakesOneChange row (InDomain domain change) = MakesIn domain row (MakesDomainChange row change)
 
+abbrev pub MakesChangeRows : Record → Option Change → NamedRows → NamedRows → Type 0
+MakesChangeRows row None = PutsNumberedRecord row
+MakesChangeRows row (Some change) = MakesOneChange row change
+
 abbrev pub MakesChange : Record → Option Change → Database → Database → Type 0
-MakesChange row None = PutsNumberedRecord row
-MakesChange row (Some change) = MakesOneChange row change
+MakesChange row change = OnRows (MakesChangeRows row change)

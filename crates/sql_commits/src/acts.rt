@@ -2,7 +2,7 @@
 ghost use Rattle.std.specs.Prelude.{◌≡◌, IsTrue, false};
 ghost use Rattle.sqlite.specs.Held.{state};
 ghost use Rattle.sqlite.specs.State.{HasCleanDisk};
-ghost use Rattle.sql_schema.specs.Inside.{IsSteady, IsInside};
+ghost use Rattle.sql_schema.specs.Inside.{IsSteady, IsInside, OnRows};
 ghost use Rattle.sql_schema.specs.Whole.{IsIdle, IsCommit};
 ghost use Rattle.sql_changes.specs.UnitWrites.{WritesNumberedUnit};
 ghost use Rattle.sql_commits.specs.Acts.{MakesAct, MakesChange};
@@ -73,7 +73,7 @@ fn write_unit_in<S: Alter>(
     requires steady { IsSteady (state S.Store tx.old.conn.now) }
     requires open { HasCleanDisk (state S.Store tx.old.conn.now) → IsTrue (state S.Store tx.old.conn.now).is_open }
     ensures same_reference { tx.new.conn.ghost_name ≡ tx.old.conn.ghost_name }
-    ensures put { IsInside (state S.Store tx.old.conn.now) (state S.Store tx.new.conn.now) result (WritesIn domain.now (WritesNumberedUnit lang.now unit.now)) }
+    ensures put { IsInside (state S.Store tx.old.conn.now) (state S.Store tx.new.conn.now) result (OnRows (WritesIn domain.now (WritesNumberedUnit lang.now unit.now))) }
 {
     if is_main(domain) {
         write_unit(tx, alloc, lang, unit)
@@ -128,7 +128,7 @@ fn write_change<S: Alter>(
     requires steady { IsSteady (state S.Store tx.old.conn.now) }
     requires open { HasCleanDisk (state S.Store tx.old.conn.now) → IsTrue (state S.Store tx.old.conn.now).is_open }
     ensures same_reference { tx.new.conn.ghost_name ≡ tx.old.conn.ghost_name }
-    ensures put { IsInside (state S.Store tx.old.conn.now) (state S.Store tx.new.conn.now) result (WritesChange change.now) }
+    ensures put { IsInside (state S.Store tx.old.conn.now) (state S.Store tx.new.conn.now) result (OnRows (WritesChange change.now)) }
 {
     match change {
         Change::OneRole(name, role) => {
@@ -150,7 +150,7 @@ fn write_change_in<S: Alter>(
     requires steady { IsSteady (state S.Store tx.old.conn.now) }
     requires open { HasCleanDisk (state S.Store tx.old.conn.now) → IsTrue (state S.Store tx.old.conn.now).is_open }
     ensures same_reference { tx.new.conn.ghost_name ≡ tx.old.conn.ghost_name }
-    ensures put { IsInside (state S.Store tx.old.conn.now) (state S.Store tx.new.conn.now) result (WritesIn domain.now (WritesDomainChange change.now)) }
+    ensures put { IsInside (state S.Store tx.old.conn.now) (state S.Store tx.new.conn.now) result (OnRows (WritesIn domain.now (WritesDomainChange change.now))) }
 {
     if is_main(domain) {
         write_domain_change(tx, alloc, change)
@@ -167,13 +167,13 @@ fn write_domain_change<S: Alter>(
 ) -> Result<(), Failure>
     requires steady { IsSteady (state S.Store tx.old.conn.now) }
     ensures same_reference { tx.new.conn.ghost_name ≡ tx.old.conn.ghost_name }
-    ensures put { IsInside (state S.Store tx.old.conn.now) (state S.Store tx.new.conn.now) result (WritesDomainChange change.now) }
+    ensures put { IsInside (state S.Store tx.old.conn.now) (state S.Store tx.new.conn.now) result (OnRows (WritesDomainChange change.now)) }
 {
     match change {
-        DomainChange::NewLanguage(lang, language, plan) => {
+        DomainChange::NewLanguage(lang, language, plan, _) => {
             write_language(tx, alloc, lang, &language.header, plan.units.as_slice())
         }
-        DomainChange::NewTemplate(template, plans) => {
+        DomainChange::NewTemplate(template, plans, _) => {
             write_template(tx, alloc, template.entries(), plans.as_slice())
         }
     }

@@ -2,7 +2,7 @@
 ghost use Rattle.std.specs.Prelude.{◌≡◌, [], unwrap_or, Some};
 ghost use Rattle.sqlite.specs.Held.{state};
 ghost use Rattle.units.specs.Rules.{plural_field};
-ghost use Rattle.sql_schema.specs.Inside.{IsSteady, IsInside};
+ghost use Rattle.sql_schema.specs.Inside.{IsSteady, IsInside, OnRows};
 ghost use Rattle.sql_changes.specs.Commits.{PutsLanguage, WritesLanguage};
 
 use crate::planned_units::write_units;
@@ -25,7 +25,7 @@ pub fn write_language<S: Alter>(
 ) -> Result<(), Failure>
     requires steady { IsSteady (state S.Store tx.old.conn.now) }
     ensures same_reference { tx.new.conn.ghost_name ≡ tx.old.conn.ghost_name }
-    ensures put { IsInside (state S.Store tx.old.conn.now) (state S.Store tx.new.conn.now) result (WritesLanguage lang.now header.now units.now) }
+    ensures put { IsInside (state S.Store tx.old.conn.now) (state S.Store tx.new.conn.now) result (OnRows (WritesLanguage lang.now header.now units.now)) }
 {
     put_language_of(tx, alloc, lang, header)?;
     write_units(tx, alloc, lang, units)
@@ -40,7 +40,7 @@ fn put_language_of<S: Alter>(
 ) -> Result<(), Failure>
     requires steady { IsSteady (state S.Store tx.old.conn.now) }
     ensures same_reference { tx.new.conn.ghost_name ≡ tx.old.conn.ghost_name }
-    ensures put { IsInside (state S.Store tx.old.conn.now) (state S.Store tx.new.conn.now) result (PutsLanguage lang.now header.now) }
+    ensures put { IsInside (state S.Store tx.old.conn.now) (state S.Store tx.new.conn.now) result (OnRows (PutsLanguage lang.now header.now)) }
 {
     language_fits(lang, header);
     let column = header_column(alloc, header)?;

@@ -2,7 +2,7 @@
 ghost use Rattle.std.specs.Prelude.{◌≡◌, IsTrue};
 ghost use Rattle.sqlite.specs.Held.{state};
 ghost use Rattle.sqlite.specs.State.{HasCleanDisk};
-ghost use Rattle.sql_schema.specs.Inside.{IsSteady, IsInside};
+ghost use Rattle.sql_schema.specs.Inside.{IsSteady, IsInside, OnRows};
 ghost use Rattle.sql_changes.specs.UnitWrites.{WritesPlanned, WritesUnits, WritesUnitsBack, WritesPlansBack};
 
 use crate::unit_writes::write_unit;
@@ -22,7 +22,7 @@ fn write_planned<S: Alter>(
 ) -> Result<(), Failure>
     requires steady { IsSteady (state S.Store tx.old.conn.now) }
     ensures same_reference { tx.new.conn.ghost_name ≡ tx.old.conn.ghost_name }
-    ensures put { IsInside (state S.Store tx.old.conn.now) (state S.Store tx.new.conn.now) result (WritesPlanned lang.now unit.now) }
+    ensures put { IsInside (state S.Store tx.old.conn.now) (state S.Store tx.new.conn.now) result (OnRows (WritesPlanned lang.now unit.now)) }
 {
     key_fits(&unit.key);
     previous_fits(&unit.previous);
@@ -39,7 +39,7 @@ pub fn write_units<S: Alter>(
     requires steady { IsSteady (state S.Store tx.old.conn.now) }
     requires open { HasCleanDisk (state S.Store tx.old.conn.now) → IsTrue (state S.Store tx.old.conn.now).is_open }
     ensures same_reference { tx.new.conn.ghost_name ≡ tx.old.conn.ghost_name }
-    ensures put { IsInside (state S.Store tx.old.conn.now) (state S.Store tx.new.conn.now) result (WritesUnits lang.now units.now) }
+    ensures put { IsInside (state S.Store tx.old.conn.now) (state S.Store tx.new.conn.now) result (OnRows (WritesUnits lang.now units.now)) }
 {
     for unit in units {
         write_planned(tx, alloc, lang, unit)?;
@@ -57,7 +57,7 @@ fn write_units_back<S: Alter>(
     requires steady { IsSteady (state S.Store tx.old.conn.now) }
     requires open { HasCleanDisk (state S.Store tx.old.conn.now) → IsTrue (state S.Store tx.old.conn.now).is_open }
     ensures same_reference { tx.new.conn.ghost_name ≡ tx.old.conn.ghost_name }
-    ensures put { IsInside (state S.Store tx.old.conn.now) (state S.Store tx.new.conn.now) result (WritesUnitsBack lang.now units.now) }
+    ensures put { IsInside (state S.Store tx.old.conn.now) (state S.Store tx.new.conn.now) result (OnRows (WritesUnitsBack lang.now units.now)) }
 {
     let mut left = units;
     while let Some((last, others)) = left.split_last() {
@@ -76,7 +76,7 @@ pub fn write_plans_back<S: Alter>(
     requires steady { IsSteady (state S.Store tx.old.conn.now) }
     requires open { HasCleanDisk (state S.Store tx.old.conn.now) → IsTrue (state S.Store tx.old.conn.now).is_open }
     ensures same_reference { tx.new.conn.ghost_name ≡ tx.old.conn.ghost_name }
-    ensures put { IsInside (state S.Store tx.old.conn.now) (state S.Store tx.new.conn.now) result (WritesPlansBack plans.now) }
+    ensures put { IsInside (state S.Store tx.old.conn.now) (state S.Store tx.new.conn.now) result (OnRows (WritesPlansBack plans.now)) }
 {
     let mut left = plans;
     while let Some((last, others)) = left.split_last() {

@@ -1,7 +1,7 @@
 //! The policy.
 ghost use Rattle.std.specs.Prelude.{◌≡◌};
 ghost use Rattle.sqlite.specs.Held.{state};
-ghost use Rattle.sql_schema.specs.Inside.{IsSteady, IsInside};
+ghost use Rattle.sql_schema.specs.Inside.{IsSteady, IsInside, OnRows};
 ghost use Rattle.sql_changes.specs.Commits.{PutsPolicy, WritesPolicy};
 
 use sql_columns::policy_columns;
@@ -14,7 +14,7 @@ use units::Policy;
 pub fn write_policy<S: Alter>(tx: &mut Transaction<'_, S>, policy: &Policy) -> Result<(), Error>
     requires steady { IsSteady (state S.Store tx.old.conn.now) }
     ensures same_reference { tx.new.conn.ghost_name ≡ tx.old.conn.ghost_name }
-    ensures put { IsInside (state S.Store tx.old.conn.now) (state S.Store tx.new.conn.now) result (WritesPolicy policy.now) }
+    ensures put { IsInside (state S.Store tx.old.conn.now) (state S.Store tx.new.conn.now) result (OnRows (WritesPolicy policy.now)) }
 {
     put_policy_of(tx, policy)?;
     if policy.reviews {
@@ -28,7 +28,7 @@ pub fn write_policy<S: Alter>(tx: &mut Transaction<'_, S>, policy: &Policy) -> R
 fn put_policy_of<S: Alter>(tx: &mut Transaction<'_, S>, policy: &Policy) -> Result<(), Error>
     requires steady { IsSteady (state S.Store tx.old.conn.now) }
     ensures same_reference { tx.new.conn.ghost_name ≡ tx.old.conn.ghost_name }
-    ensures put { IsInside (state S.Store tx.old.conn.now) (state S.Store tx.new.conn.now) result (PutsPolicy policy.now) }
+    ensures put { IsInside (state S.Store tx.old.conn.now) (state S.Store tx.new.conn.now) result (OnRows (PutsPolicy policy.now)) }
 {
     let columns = policy_columns(policy);
     set_policy(

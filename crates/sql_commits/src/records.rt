@@ -1,7 +1,7 @@
 //! A request's record.
 ghost use Rattle.std.specs.Prelude.{◌≡◌};
 ghost use Rattle.sqlite.specs.Held.{state};
-ghost use Rattle.sql_schema.specs.Inside.{IsSteady, IsInside};
+ghost use Rattle.sql_schema.specs.Inside.{IsSteady, IsInside, OnRows};
 ghost use Rattle.sql_changes.specs.Commits.{PutsNumberedRecord};
 
 use request_book::Record;
@@ -19,7 +19,7 @@ pub fn put_record_of<S: Alter>(
 ) -> Result<(), Failure>
     requires steady { IsSteady (state S.Store tx.old.conn.now) }
     ensures same_reference { tx.new.conn.ghost_name ≡ tx.old.conn.ghost_name }
-    ensures put { IsInside (state S.Store tx.old.conn.now) (state S.Store tx.new.conn.now) result (PutsNumberedRecord row.now) }
+    ensures put { IsInside (state S.Store tx.old.conn.now) (state S.Store tx.new.conn.now) result (OnRows (PutsNumberedRecord row.now)) }
 {
     let number = number_column(alloc, row.number)?;
     put_record(

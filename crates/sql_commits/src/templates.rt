@@ -1,7 +1,7 @@
 //! A new template.
 ghost use Rattle.std.specs.Prelude.{◌≡◌};
 ghost use Rattle.sqlite.specs.Held.{state};
-ghost use Rattle.sql_schema.specs.Inside.{IsSteady, IsInside};
+ghost use Rattle.sql_schema.specs.Inside.{IsSteady, IsInside, OnRows};
 ghost use Rattle.sql_changes.specs.Commits.{WritesTemplate};
 
 use crate::entries::put_entries;
@@ -25,7 +25,7 @@ pub fn write_template<S: Alter>(
 ) -> Result<(), Failure>
     requires steady { IsSteady (state S.Store tx.old.conn.now) }
     ensures same_reference { tx.new.conn.ghost_name ≡ tx.old.conn.ghost_name }
-    ensures put { IsInside (state S.Store tx.old.conn.now) (state S.Store tx.new.conn.now) result (WritesTemplate entries.now plans.now) }
+    ensures put { IsInside (state S.Store tx.old.conn.now) (state S.Store tx.new.conn.now) result (OnRows (WritesTemplate entries.now plans.now)) }
 {
     empty_template(tx)?;
     put_entries(tx, alloc, entries)?;

@@ -3,7 +3,7 @@ ghost use Rattle.std.specs.Prelude.{◌≡◌, ◌<◌, ◌^◌, IfOk, IsTrue, m
 ghost use Rattle.std.specs.FinMap as maps;
 ghost use Rattle.sqlite.specs.Held.{state};
 ghost use Rattle.sqlite.specs.State.{HasCleanDisk};
-ghost use Rattle.sql_schema.specs.Inside.{IsSteady, IsInside, PutsRow, HoldsValues};
+ghost use Rattle.sql_schema.specs.Inside.{IsSteady, IsInside, OnRows, PutsRow, HoldsValues};
 ghost use Rattle.sql_schema.specs.Keys.{first_texts};
 ghost use Rattle.sql_meaning.specs.Cells.{unit_cells, vote_cells};
 ghost use Rattle.sql_meaning.specs.Written.{PutsRows};
@@ -32,7 +32,7 @@ pub fn write_unit<S: Alter>(
 ) -> Result<(), Failure>
     requires steady { IsSteady (state S.Store tx.old.conn.now) }
     ensures same_reference { tx.new.conn.ghost_name ≡ tx.old.conn.ghost_name }
-    ensures put { IsInside (state S.Store tx.old.conn.now) (state S.Store tx.new.conn.now) result (WritesNumberedUnit lang.now unit.now) }
+    ensures put { IsInside (state S.Store tx.old.conn.now) (state S.Store tx.new.conn.now) result (OnRows (WritesNumberedUnit lang.now unit.now)) }
 {
     let columns = columns_of(alloc, unit)?;
     write_columns(tx, alloc, lang.as_str(), unit, &columns)
@@ -69,7 +69,7 @@ fn write_columns<S: Alter>(
     requires columns { columns.now ≡ columns_of_unit unit.now }
     requires steady { IsSteady (state S.Store tx.old.conn.now) }
     ensures same_reference { tx.new.conn.ghost_name ≡ tx.old.conn.ghost_name }
-    ensures put { IsInside (state S.Store tx.old.conn.now) (state S.Store tx.new.conn.now) result (WritesNumberedUnit lang.now unit.now) }
+    ensures put { IsInside (state S.Store tx.old.conn.now) (state S.Store tx.new.conn.now) result (OnRows (WritesNumberedUnit lang.now unit.now)) }
 {
     put_row(tx, lang, unit, columns)?;
     clear_suggestions(tx, lang, columns.key.as_str())?;
@@ -121,7 +121,7 @@ fn add_suggestions<S: Alter>(
     requires steady { IsSteady (state S.Store tx.old.conn.now) }
     requires open { HasCleanDisk (state S.Store tx.old.conn.now) → IsTrue (state S.Store tx.old.conn.now).is_open }
     ensures same_reference { tx.new.conn.ghost_name ≡ tx.old.conn.ghost_name }
-    ensures put { IsInside (state S.Store tx.old.conn.now) (state S.Store tx.new.conn.now) result (AddsNumberedSuggestions lang.now key.now suggestions.now) }
+    ensures put { IsInside (state S.Store tx.old.conn.now) (state S.Store tx.new.conn.now) result (OnRows (AddsNumberedSuggestions lang.now key.now suggestions.now)) }
 {
     for (place, suggestion) in suggestions.iter().enumerate() {
         add_suggestion(tx, alloc, lang, key, place, suggestion)?;
@@ -141,7 +141,7 @@ fn add_suggestion<S: Alter>(
     requires fits { place < 2 ^ 63 }
     requires steady { IsSteady (state S.Store tx.old.conn.now) }
     ensures same_reference { tx.new.conn.ghost_name ≡ tx.old.conn.ghost_name }
-    ensures put { IsInside (state S.Store tx.old.conn.now) (state S.Store tx.new.conn.now) result (AddsNumberedSuggestion lang.now key.now place suggestion.now) }
+    ensures put { IsInside (state S.Store tx.old.conn.now) (state S.Store tx.new.conn.now) result (OnRows (AddsNumberedSuggestion lang.now key.now place suggestion.now)) }
 {
     let number = number_column(alloc, suggestion.number)?;
     let forms = forms_column(alloc, &suggestion.forms)?;
@@ -167,7 +167,7 @@ fn put_votes<S: Alter>(
     requires open { HasCleanDisk (state S.Store tx.old.conn.now) → IsTrue (state S.Store tx.old.conn.now).is_open }
     ensures same_reference { tx.new.conn.ghost_name ≡ tx.old.conn.ghost_name }
     ensures put { IsInside (state S.Store tx.old.conn.now) (state S.Store tx.new.conn.now) result
-        (PutsRows (codes "vote") first_texts (map (vote_cells number.now) (maps.entries votes.now))) }
+        (OnRows (PutsRows (codes "vote") first_texts (map (vote_cells number.now) (maps.entries votes.now)))) }
 {
     for vote in votes.as_slice() {
         put_vote(tx, number, vote.0.as_str(), vote_column(vote.1))?;

@@ -33,6 +33,7 @@ use Rattle.sql_meaning.proofs.Team.{finds_role, finds_header}
 use Rattle.sql_meaning.proofs.Units.{finds_unit}
 use Rattle.sql_decoding.specs.ShownFound.{suggestion_shown, rule_of_header, shown_rule, shown_role, shown_source, shown_view, IsShownWith, IsShownFound}
 use Rattle.sql_schema.specs.Layouts.{rows_named}
+use Rattle.sql_meaning.proofs.OfficeRows.{office_rows}
 
 -- ---- the plural rule
 
@@ -59,14 +60,14 @@ module _ (db : Database) (office : AreOfficeTables db) where
   each_suggestion : (rows : List SuggestionRows) → All (ShowsVotesOn db) rows → map (shown_suggestion (rows_named db)) (map suggestion_of rows) ≡ map suggestion_shown rows
   each_suggestion [] votes = refl
   each_suggestion (r ∷ rows) votes =
-      let first = votes_found db office (text_at 0 r.suggestion) r.votes.items (votes 0 r (omega arith)) in
+      let first = votes_found (rows_named db) (office_rows db office) (text_at 0 r.suggestion) r.votes.items (votes 0 r (omega arith)) in
       let more = each_suggestion rows (λ k d within. votes (suc k) d (omega (arith, within))) in
       λ i. record (suggestion_shown r) { votes = first i } ∷ more i
 
   suggestions_shown : (lang : Text) (key : Key) (rows : UnitRows) → ShowsUnitRows lang (key_text key) db rows
       → suggestions_in (rows_named db) lang (key_text key) ≡ map suggestion_shown rows.suggestions.items
   suggestions_shown lang key rows shows =
-      suggestions_found db office lang (key_text key) (map suggestion_of rows.suggestions.items) shows.suggestions ∙ each_suggestion rows.suggestions.items shows.votes
+      suggestions_found (rows_named db) (office_rows db office) lang (key_text key) (map suggestion_of rows.suggestions.items) shows.suggestions.0 shows.suggestions.1 ∙ each_suggestion rows.suggestions.items shows.votes
 
   pub view_found : (lang : Text) (key : Key) (rows : UnitRows) → HasStrings key → ShowsUnitRows lang (key_text key) db rows
       → view_of (project_of_rows (rows_named db)) (lang, key) ≡ shown_view key rows
@@ -80,7 +81,7 @@ module _ (db : Database) (office : AreOfficeTables db) where
       with_parts None = refl
       with_parts (Some unit) =
           let suggestions = suggestions_shown lang key rows shows in
-          let source = entry_found db office key rows.entry valid shows.entry in
+          let source = entry_found (rows_named db) (office_rows db office) key rows.entry valid shows.entry in
           λ i. Some (record { unit = shown_unit key (suggestions i) unit; source = source i })
 
   -- ---- all of it
@@ -104,7 +105,7 @@ module _ (db : Database) (office : AreOfficeTables db) where
       by (Some language) None shows_language shows_policy never = absurd never
       by (Some language) (Some policy) shows_language shows_policy same =
           let rule = rule_of_shown lang language shows_language in
-          let of_policy = policy_found db office policy shows_policy in
+          let of_policy = policy_found (rows_named db) (office_rows db office) policy shows_policy in
           let role = role_found name rows.office.role shows.office.role in
           let view = view_found lang key rows.unit valid shows.unit in
           same ∙ sym (ap (option_map with_header) (header_found lang (Some language) shows_language) ∙ (λ i. Some (record { rule = rule i; policy = of_policy i; role = role i; view = view i })))

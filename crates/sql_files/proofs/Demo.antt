@@ -15,7 +15,6 @@ use Rattle.std.proofs.lemmas.Str.Ascii.{IsAscii-from_all}
 use Rattle.std.proofs.lemmas.Str.{IsUtf8-from_ascii}
 use Rattle.sqlite.specs.declared.types.Value.TheVariants.{Null, Int, Text as Words}
 use Rattle.sqlite.specs.Order.{Row, column}
-use Rattle.sqlite.specs.Effect.{Database}
 use Rattle.sqlite_rules.specs.Lists.{Has}
 use Rattle.deliveries.specs.OfficeRules.{KeepsRules}
 use Rattle.po_text.specs.Strings.{is_string}
@@ -27,7 +26,7 @@ use Rattle.units.specs.declared.unit.Role.TheVariants.{Translator, Manager}
 use Rattle.sql_columns.specs.Written.{ArePrevious, IsHeaderEntry, texts_text, previous_text, header_text}
 use Rattle.sql_columns.proofs.Readers.{header_found}
 use Rattle.sql_schema.specs.Keys.{first_text, first_texts, row_number, columns}
-use Rattle.sql_meaning.specs.Beginnings.{PutsMember, closed_row, PutsClosedPolicy, hello_row, PutsDemoEntry, PutsDemoLanguage, PutsDemoUnit, MakesDemo}
+use Rattle.sql_meaning.specs.Beginnings.{closed_row, hello_row}
 use Rattle.sql_meaning.specs.Meaning.{project_of_rows, book_in, meaning_in}
 use Rattle.sql_meaning.proofs.Openings.{opens_demo, demo_keeps}
 use Rattle.sql_decoding.specs.RowTests.{is_key, is_policy_row, is_entry_row, is_language_row, is_rule_of}
@@ -39,9 +38,10 @@ use Rattle.sql_files.specs.Files.{HoldsOfficeRows}
 use Rattle.sql_files.proofs.Puts.{no_row, all_put}
 use Rattle.sql_files.proofs.RoleKept.{member_stands, MemberStands}
 use Rattle.sql_files.proofs.UnitKept.{unit_stands, UnitStands}
-use Rattle.sql_schema.specs.Layouts.{rows_named}
 use Rattle.sql_schema.specs.Creation.{HaveNoRows}
 use Rattle.sql_schema.proofs.Layouts.{names_differ}
+use Rattle.sql_schema.specs.Layouts.{NamedRows}
+use Rattle.sql_meaning.specs.BeginningRows.{PutsMemberIn, PutsClosedPolicyIn, PutsDemoEntryIn, PutsDemoLanguageIn, PutsDemoUnitIn, MakesDemoIn}
 
 all_small : (bs : List ℕ) → list_all (λ b. nat_lt b 128) bs ≡ true → All (λ b. b < 128) bs
 all_small bs small = let each = AllPass-from_list_all (λ b. nat_lt b 128) bs small in λ k d within. ltb-true _ 128 (each k d within)
@@ -106,62 +106,62 @@ unit_fits = record {
   suggestions = λ s there. absurd there;
 }
 
-module _ (made one two closed hello german last : Database) (empty : HaveNoRows (rows_named made)) (root : PutsMember (codes "root") (pos 3) made one)
-    (ann : PutsMember (codes "ann") (pos 1) one two) (policy : PutsClosedPolicy two closed) (entry : PutsDemoEntry closed hello) (language : PutsDemoLanguage hello german)
-    (unit : PutsDemoUnit german last) where
-  teamed : (t : List ℕ) → t ≢ codes "team" → rows_named two t ≡ []
+module _ (made one two closed hello german last : NamedRows) (empty : HaveNoRows made) (root : PutsMemberIn (codes "root") (pos 3) made one)
+    (ann : PutsMemberIn (codes "ann") (pos 1) one two) (policy : PutsClosedPolicyIn two closed) (entry : PutsDemoEntryIn closed hello) (language : PutsDemoLanguageIn hello german)
+    (unit : PutsDemoUnitIn german last) where
+  teamed : (t : List ℕ) → t ≢ codes "team" → two t ≡ []
   teamed t differ =
       ann.others t differ ∙ root.others t differ ∙ empty t
 
-  ruled : (t : List ℕ) → t ≢ codes "policy" → t ≢ codes "template" → rows_named hello t ≡ rows_named two t
+  ruled : (t : List ℕ) → t ≢ codes "policy" → t ≢ codes "template" → hello t ≡ two t
   ruled t no_policy no_template =
       entry.others t no_template ∙ policy.others t no_policy
 
-  filled : (t : List ℕ) → t ≢ codes "language" → t ≢ codes "unit" → rows_named last t ≡ rows_named hello t
+  filled : (t : List ℕ) → t ≢ codes "language" → t ≢ codes "unit" → last t ≡ hello t
   filled t no_language no_unit =
       unit.others t no_unit ∙ language.others t no_language
 
-  none : (t : List ℕ) → t ≢ codes "team" → t ≢ codes "policy" → t ≢ codes "template" → t ≢ codes "language" → t ≢ codes "unit" → rows_named last t ≡ []
+  none : (t : List ℕ) → t ≢ codes "team" → t ≢ codes "policy" → t ≢ codes "template" → t ≢ codes "language" → t ≢ codes "unit" → last t ≡ []
   none t a b c d e = filled t d e ∙ ruled t b c ∙ teamed t a
 
-  two_members : (row : Row) → Has (rows_named two (codes "team")) row → MemberStands row
+  two_members : (row : Row) → Has (two (codes "team")) row → MemberStands row
   two_members =
-      all_put first_text MemberStands (rows_named one (codes "team")) (rows_named two (codes "team")) ann.row ann.put
-      (all_put first_text MemberStands (rows_named made (codes "team")) (rows_named one (codes "team")) root.row root.put
-      (λ x there. no_row (rows_named made (codes "team")) x (empty (codes "team")) there)
+      all_put first_text MemberStands (one (codes "team")) (two (codes "team")) ann.row ann.put
+      (all_put first_text MemberStands (made (codes "team")) (one (codes "team")) root.row root.put
+      (λ x there. no_row (made (codes "team")) x (empty (codes "team")) there)
       (subst MemberStands (sym root.is_row.1) (member_stands (codes "root") refl (plain (codes "root") refl) Manager (pos 3) refl)))
       (subst MemberStands (sym ann.is_row.1) (member_stands (codes "ann") refl (plain (codes "ann") refl) Translator (pos 1) refl))
 
-  policy_last : rows_named last (codes "policy") ≡ rows_named closed (codes "policy")
+  policy_last : last (codes "policy") ≡ closed (codes "policy")
   policy_last = filled (codes "policy") (names_differ refl) (names_differ refl) ∙ entry.others (codes "policy") (names_differ refl)
 
-  one_policy : (row : Row) → Has (rows_named closed (codes "policy")) row → row ≡ closed_row
+  one_policy : (row : Row) → Has (closed (codes "policy")) row → row ≡ closed_row
   one_policy =
-      all_put row_number (λ r. r ≡ closed_row) (rows_named two (codes "policy")) (rows_named closed (codes "policy")) policy.row policy.put
-      (λ x there. no_row (rows_named two (codes "policy")) x (teamed (codes "policy") (names_differ refl)) there) policy.is_row
+      all_put row_number (λ r. r ≡ closed_row) (two (codes "policy")) (closed (codes "policy")) policy.row policy.put
+      (λ x there. no_row (two (codes "policy")) x (teamed (codes "policy") (names_differ refl)) there) policy.is_row
 
-  one_entry : (row : Row) → Has (rows_named hello (codes "template")) row → row ≡ hello_row
+  one_entry : (row : Row) → Has (hello (codes "template")) row → row ≡ hello_row
   one_entry =
-      all_put row_number (λ r. r ≡ hello_row) (rows_named closed (codes "template")) (rows_named hello (codes "template")) entry.row entry.put
-      (λ x there. no_row (rows_named closed (codes "template")) x (policy.others (codes "template") (names_differ refl) ∙ teamed (codes "template") (names_differ refl)) there)
+      all_put row_number (λ r. r ≡ hello_row) (closed (codes "template")) (hello (codes "template")) entry.row entry.put
+      (λ x there. no_row (closed (codes "template")) x (policy.others (codes "template") (names_differ refl) ∙ teamed (codes "template") (names_differ refl)) there)
       entry.is_row
 
-  one_language : (row : Row) → Has (rows_named german (codes "language")) row → IsTrue (is_language_row (columns (2 ∷ 3 ∷ 1 ∷ []) row))
+  one_language : (row : Row) → Has (german (codes "language")) row → IsTrue (is_language_row (columns (2 ∷ 3 ∷ 1 ∷ []) row))
   one_language =
-      all_put first_text (λ r. IsTrue (is_language_row (columns (2 ∷ 3 ∷ 1 ∷ []) r))) (rows_named hello (codes "language")) (rows_named german (codes "language")) language.row language.put
-      (λ x there. no_row (rows_named hello (codes "language")) x (ruled (codes "language") (names_differ refl) (names_differ refl) ∙ teamed (codes "language") (names_differ refl)) there)
+      all_put first_text (λ r. IsTrue (is_language_row (columns (2 ∷ 3 ∷ 1 ∷ []) r))) (hello (codes "language")) (german (codes "language")) language.row language.put
+      (λ x there. no_row (hello (codes "language")) x (ruled (codes "language") (names_differ refl) (names_differ refl) ∙ teamed (codes "language") (names_differ refl)) there)
       (subst (λ r. IsTrue (is_language_row (columns (2 ∷ 3 ∷ 1 ∷ []) r))) (sym language.is_row.1) german_stands)
 
-  before : rows_named german (codes "unit") ≡ []
+  before : german (codes "unit") ≡ []
   before =
       language.others (codes "unit") (names_differ refl) ∙ ruled (codes "unit") (names_differ refl) (names_differ refl) ∙ teamed (codes "unit") (names_differ refl)
 
-  one_unit : (row : Row) → Has (rows_named last (codes "unit")) row → UnitStands row
+  one_unit : (row : Row) → Has (last (codes "unit")) row → UnitStands row
   one_unit =
-      all_put first_texts UnitStands (rows_named german (codes "unit")) (rows_named last (codes "unit")) unit.row unit.put
-      (λ x there. no_row (rows_named german (codes "unit")) x before there) (subst UnitStands (sym unit.is_row.1) (unit_stands (codes "de") demo_unit unit_fits))
+      all_put first_texts UnitStands (german (codes "unit")) (last (codes "unit")) unit.row unit.put
+      (λ x there. no_row (german (codes "unit")) x before there) (subst UnitStands (sym unit.is_row.1) (unit_stands (codes "de") demo_unit unit_fits))
 
-  rows_of_demo : KeepsRules (meaning_in (rows_named last)) → HoldsOfficeRows (rows_named last)
+  rows_of_demo : KeepsRules (meaning_in last) → HoldsOfficeRows last
   rows_of_demo rules = record {
     form = (policy.row, subst (λ rows. Has rows policy.row) (sym policy_last) policy.put.here, ap row_number policy.is_row, ap (λ r. column r 2) policy.is_row);
     office = record {
@@ -169,7 +169,7 @@ module _ (made one two closed hello german last : Database) (empty : HaveNoRows 
       policy = λ row there at_one. ap (λ r. is_policy_row (columns (2 ∷ 3 ∷ 4 ∷ 5 ∷ 6 ∷ 7 ∷ 8 ∷ []) r)) (one_policy row (subst (λ rows. Has rows row) policy_last there));
       entries = λ row there.
           ap (λ r. is_entry_row (columns (3 ∷ 4 ∷ 5 ∷ 6 ∷ 2 ∷ 0 ∷ []) r)) (one_entry row (subst (λ rows. Has rows row) (filled (codes "template") (names_differ refl) (names_differ refl)) there)) ∙ hello_stands;
-      template = (project_keeps (project_of_rows (rows_named last)) (book_in (rows_named last)) rules).template_valid;
+      template = (project_keeps (project_of_rows last) (book_in last) rules).template_valid;
       languages = λ row there. one_language row (subst (λ rows. Has rows row) (unit.others (codes "language") (names_differ refl)) there);
       units = one_unit;
       suggestions = λ row there. no_row _ row (none (codes "suggestion") (names_differ refl) (names_differ refl) (names_differ refl) (names_differ refl) (names_differ refl)) there;
@@ -182,7 +182,7 @@ module _ (made one two closed hello german last : Database) (empty : HaveNoRows 
     rules = rules;
   }
 
-pub demo_rows : (old new : Database) → MakesDemo old new → HoldsOfficeRows (rows_named new)
+pub demo_rows : (old new : NamedRows) → MakesDemoIn old new → HoldsOfficeRows new
 demo_rows old new (made, empty, ((two, (one, root, ann), (closed, policy, (hello, entry, (german, language, unit)))))) =
     rows_of_demo made one two closed hello german new empty root ann policy entry language unit
     (subst KeepsRules (sym (opens_demo old new (made, empty, ((two, (one, root, ann), (closed, policy, (hello, entry, (german, language, unit))))))).0) demo_keeps)

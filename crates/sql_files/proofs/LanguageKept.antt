@@ -6,7 +6,6 @@ use Rattle.std.specs.FinMap as maps
 use Rattle.std.proofs.lemmas.Bool.{and_from}
 use Rattle.sqlite.specs.declared.types.Value.TheVariants.{Text as Words}
 use Rattle.sqlite.specs.Order.{Row}
-use Rattle.sqlite.specs.Effect.{Database}
 use Rattle.sqlite_rules.specs.Lists.{Has}
 use Rattle.sql_laws.proofs.RowMaps.{get-is}
 use Rattle.po_text.specs.declared.entry.Entry.{Entry}
@@ -22,9 +21,8 @@ use Rattle.deliveries.specs.declared.values.Language.{Language}
 use Rattle.request_book.specs.declared.book.Record.{Record}
 use Rattle.sql_columns.specs.Written.{IsHeaderEntry, header_text}
 use Rattle.sql_columns.proofs.Readers.{header_found, only_same}
-use Rattle.sql_schema.specs.Inside.{AreOfficeTables, Then}
+use Rattle.sql_schema.specs.Inside.{Then, AreOfficeTables}
 use Rattle.sql_schema.specs.Keys.{first_text, columns}
-use Rattle.sql_schema.proofs.TableRows.{one_language}
 use Rattle.sql_meaning.specs.Meaning.{header_of_row, headers_in, project_of_rows, book_in, meaning_in}
 use Rattle.sql_changes.specs.Commits.{PutsNumberedRecord, PutsLanguage, WritesLanguage, MakesLanguage}
 use Rattle.sql_changes.specs.UnitWrites.{WritesUnits}
@@ -40,6 +38,9 @@ use Rattle.sql_files.proofs.UnitKept.{units_keep}
 use Rattle.sql_files.proofs.ActKept.{stand_all, record_step}
 use Rattle.sql_schema.specs.Layouts.{NamedRows, rows_named}
 use Rattle.sql_schema.proofs.Layouts.{names_differ}
+use Rattle.sql_meaning.specs.RowKeys.{AreOfficeRows}
+use Rattle.sqlite.specs.Effect.{Database}
+use Rattle.sql_meaning.proofs.OfficeRows.{office_rows}
 
 -- ---- a language's row
 
@@ -86,39 +87,44 @@ language_step old new apart languages it =
       book = book_same old new (apart (codes "record") (names_differ refl)) it.book;
     }
 
-put_step : (lang : Text) (header : Entry) → IsKeepableLanguage lang header → IsHeaderEntry header → IsOk (rule_in (Some header)) → (old new : Database) → PutsLanguage lang header old new
-    → StandForAll (rows_named old) → StandForAll (rows_named new)
+put_step : (lang : Text) (header : Entry) → IsKeepableLanguage lang header → IsHeaderEntry header → IsOk (rule_in (Some header)) → (old new : NamedRows) → PutsLanguage lang header old new
+    → StandForAll old → StandForAll new
 put_step lang header fits entry fine old new put it =
     let made = put.0.0 in
-    language_step (rows_named old) (rows_named new) (λ t apart. made.others t apart)
-    (all_put first_text LanguageStands (rows_named old (codes "language")) (rows_named new (codes "language")) made.row made.put it.office.languages
+    language_step old new (λ t apart. made.others t apart)
+    (all_put first_text LanguageStands (old (codes "language")) (new (codes "language")) made.row made.put it.office.languages
     (subst LanguageStands (sym made.is_row.1) (language_row_stands lang header fits entry fine))) it
 
 -- ---- the commit
 
-module _ (mid next after : Database) (lang : Text) (header : Entry) (units : List Unit) (fits : IsKeepableLanguage lang header) (entry : IsHeaderEntry header) (put : PutsLanguage lang header mid next)
-    (written : WritesUnits lang units next after) (ready : AreOfficeTables after) (rules : KeepsRules (meaning_in (rows_named after))) where
-  stands_there : Has (rows_named after (codes "language")) put.0.0.row
+module _ (mid next after : NamedRows) (lang : Text) (header : Entry) (units : List Unit) (fits : IsKeepableLanguage lang header) (entry : IsHeaderEntry header) (put : PutsLanguage lang header mid next)
+    (written : WritesUnits lang units next after) (ready : AreOfficeRows after) (rules : KeepsRules (meaning_in after)) where
+  stands_there : Has (after (codes "language")) put.0.0.row
   stands_there = subst (λ rows. Has rows put.0.0.row) (sym (units_in_turn lang units next after put.0.1 written).others.languages) put.0.0.put.here
 
   -- the rules are those of the header that was written
-  header_is : maps.get (headers_in (rows_named after)) lang ≡ Some header
+  header_is : maps.get (headers_in after) lang ≡ Some header
   header_is =
       let row = put.0.0.row in
-      ap (λ r. maps.get (headers_in (rows_named after)) (first_text r)) (sym put.0.0.is_row.1)
-      ∙ get-is text_cmp text_total text_IsAntisymmetric first_text header_of_row (rows_named after (codes "language")) (first_text row) (Some (header_of_row row))
-      (one_language after ready.schema ready.sound (ready.tables (codes "language") refl)) (row, stands_there, refl, refl)
+      ap (λ r. maps.get (headers_in after) (first_text r)) (sym put.0.0.is_row.1)
+      ∙ get-is text_cmp text_total text_IsAntisymmetric first_text header_of_row (after (codes "language")) (first_text row) (Some (header_of_row row))
+      ready.keyed.one_language (row, stands_there, refl, refl)
       ∙ ap (λ r. Some (header_of_row r)) put.0.0.is_row.1 ∙ ap Some (header_back header entry)
 
-  changed_step : AreKeepableUnits lang units → StandForAll (rows_named mid) → StandForAll (rows_named after)
-  changed_step all it = units_keep lang units all next after written (put_step lang header fits entry ((project_keeps (project_of_rows (rows_named after)) (book_in (rows_named after)) rules).ruled lang header header_is).2 mid next put it)
+  changed_step : AreKeepableUnits lang units → StandForAll mid → StandForAll after
+  changed_step all it = units_keep lang units all next after written (put_step lang header fits entry ((project_keeps (project_of_rows after) (book_in after) rules).ruled lang header header_is).2 mid next put it)
 
-makes_language : (old new : Database) (row : Record) (lang : Text) (header : Entry) (units : List Unit) → Then (PutsNumberedRecord row) (WritesLanguage lang header units) old new
-    → AreOfficeTables new → IsKeepable row → IsKeepableLanguage lang header → IsHeaderEntry header → AreKeepableUnits lang units → KeepsRules (meaning_in (rows_named new)) → IsOfficeDatabase old → IsOfficeDatabase new
-makes_language old new row lang header units (mid, recorded, (next, put, written)) ready keepable fits entry all rules file =
-    stand_all old new ready rules file (λ it. changed_step mid next new lang header units fits entry put written ready rules all (record_step old mid row recorded keepable it))
+makes_language : (old new : NamedRows) (row : Record) (lang : Text) (header : Entry) (units : List Unit) → Then (PutsNumberedRecord row) (WritesLanguage lang header units) old new
+    → AreOfficeRows new → IsKeepable row → IsKeepableLanguage lang header → IsHeaderEntry header → AreKeepableUnits lang units → KeepsRules (meaning_in new) → StandForAll old → StandForAll new
+makes_language old new row lang header units (mid, recorded, (next, put, written)) ready keepable fits entry all rules it =
+    changed_step mid next new lang header units fits entry put written ready rules all (record_step old mid row recorded keepable it)
 
-pub language_keeps : (old new : Database) (row : Record) (lang : Text) (language : Language) (plan : Plan) → MakesLanguage row lang language plan old new → AreOfficeTables new
-    → IsKeepable row → IsKeepableLanguage lang language.header → IsHeaderEntry language.header → AreKeepableUnits lang plan.units → KeepsRules (meaning_in (rows_named new)) → IsOfficeDatabase old → IsOfficeDatabase new
+pub stand_after_language : (old new : NamedRows) (row : Record) (lang : Text) (language : Language) (plan : Plan) → MakesLanguage row lang language plan old new → AreOfficeRows new
+    → IsKeepable row → IsKeepableLanguage lang language.header → IsHeaderEntry language.header → AreKeepableUnits lang plan.units → KeepsRules (meaning_in new) → StandForAll old → StandForAll new
 unfolding MakesLanguage
-language_keeps old new row lang language plan it ready keepable fits entry all rules file = makes_language old new row lang language.header plan.units it ready keepable fits entry all rules file
+stand_after_language old new row lang language plan it ready keepable fits entry all rules = makes_language old new row lang language.header plan.units it ready keepable fits entry all rules
+
+pub language_keeps : (old new : Database) (row : Record) (lang : Text) (language : Language) (plan : Plan) → MakesLanguage row lang language plan (rows_named old) (rows_named new) → AreOfficeTables new
+    → IsKeepable row → IsKeepableLanguage lang language.header → IsHeaderEntry language.header → AreKeepableUnits lang plan.units → KeepsRules (meaning_in (rows_named new)) → IsOfficeDatabase old → IsOfficeDatabase new
+language_keeps old new row lang language plan it ready keepable fits entry all rules file =
+    stand_all old new ready rules file (stand_after_language (rows_named old) (rows_named new) row lang language plan it (office_rows new ready) keepable fits entry all rules)

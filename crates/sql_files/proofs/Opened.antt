@@ -4,7 +4,6 @@ use Rattle.std.specs.Prelude.{IsTrue, IsUtf8}
 use Rattle.std.proofs.lemmas.Bool.{and_from}
 use Rattle.sqlite.specs.declared.types.Value.TheVariants.{Int, Text as Words}
 use Rattle.sqlite.specs.Order.{Row, column}
-use Rattle.sqlite.specs.Effect.{Database}
 use Rattle.sqlite_rules.specs.Lists.{Has}
 use Rattle.deliveries.specs.OfficeRules.{KeepsRules}
 use Rattle.po_text.specs.Texts.{Text}
@@ -12,28 +11,29 @@ use Rattle.po_text.specs.Valid.{IsValid}
 use Rattle.units.specs.Limits.{is_name}
 use Rattle.sql_schema.specs.Keys.{first_text, row_number, columns}
 use Rattle.sql_meaning.specs.Meaning.{meaning_in}
-use Rattle.sql_meaning.specs.Beginnings.{PutsMember, closed_row, PutsClosedPolicy, MakesOpening}
+use Rattle.sql_meaning.specs.Beginnings.{closed_row}
 use Rattle.sql_meaning.proofs.Openings.{no_template, opens, opening_keeps}
 use Rattle.sql_decoding.specs.RowTests.{is_member_row, is_policy_row}
 use Rattle.sql_decoding.proofs.ColumnsTested.{text_stands}
 use Rattle.sql_files.specs.Files.{HoldsOfficeRows}
 use Rattle.sql_files.proofs.Puts.{no_row, all_put}
-use Rattle.sql_schema.specs.Layouts.{rows_named}
 use Rattle.sql_schema.specs.Creation.{HaveNoRows}
 use Rattle.sql_schema.proofs.Layouts.{names_differ}
+use Rattle.sql_schema.specs.Layouts.{NamedRows}
+use Rattle.sql_meaning.specs.BeginningRows.{PutsMemberIn, PutsClosedPolicyIn, MakesOpeningIn}
 
 nothing_valid : IsValid []
 nothing_valid = record { each = tt; unique = tt; header = tt }
 
-module _ (name : Text) (named : is_name name ≡ true) (utf8 : IsUtf8 name) (made first last : Database) (empty : HaveNoRows (rows_named made))
-    (member : PutsMember name (pos 3) made first) (policy : PutsClosedPolicy first last) where
-  early : (t : List ℕ) → t ≢ codes "team" → rows_named first t ≡ []
+module _ (name : Text) (named : is_name name ≡ true) (utf8 : IsUtf8 name) (made first last : NamedRows) (empty : HaveNoRows made)
+    (member : PutsMemberIn name (pos 3) made first) (policy : PutsClosedPolicyIn first last) where
+  early : (t : List ℕ) → t ≢ codes "team" → first t ≡ []
   early t differ = member.others t differ ∙ empty t
 
-  late : (t : List ℕ) → t ≢ codes "policy" → rows_named last t ≡ rows_named first t
+  late : (t : List ℕ) → t ≢ codes "policy" → last t ≡ first t
   late t differ = policy.others t differ
 
-  none : (t : List ℕ) → t ≢ codes "team" → t ≢ codes "policy" → rows_named last t ≡ []
+  none : (t : List ℕ) → t ≢ codes "team" → t ≢ codes "policy" → last t ≡ []
   none t no_team no_policy = late t no_policy ∙ early t no_team
 
   member_stands : IsTrue (is_member_row (columns (2 ∷ 1 ∷ []) member.row))
@@ -41,24 +41,24 @@ module _ (name : Text) (named : is_name name ≡ true) (utf8 : IsUtf8 name) (mad
       subst (λ r. IsTrue (is_member_row (columns (2 ∷ 1 ∷ []) r))) (sym member.is_row.1)
       (and_from _ _ refl (text_stands 1 (Int (pos 3) ∷ Words name ∷ []) name refl is_name utf8 named))
 
-  one_member : (row : Row) → Has (rows_named first (codes "team")) row → IsTrue (is_member_row (columns (2 ∷ 1 ∷ []) row))
+  one_member : (row : Row) → Has (first (codes "team")) row → IsTrue (is_member_row (columns (2 ∷ 1 ∷ []) row))
   one_member =
-      all_put first_text (λ r. IsTrue (is_member_row (columns (2 ∷ 1 ∷ []) r))) (rows_named made (codes "team")) (rows_named first (codes "team")) member.row member.put
-      (λ x there. no_row (rows_named made (codes "team")) x (empty (codes "team")) there) member_stands
+      all_put first_text (λ r. IsTrue (is_member_row (columns (2 ∷ 1 ∷ []) r))) (made (codes "team")) (first (codes "team")) member.row member.put
+      (λ x there. no_row (made (codes "team")) x (empty (codes "team")) there) member_stands
 
-  one_policy : (row : Row) → Has (rows_named last (codes "policy")) row → row ≡ closed_row
+  one_policy : (row : Row) → Has (last (codes "policy")) row → row ≡ closed_row
   one_policy =
-      all_put row_number (λ r. r ≡ closed_row) (rows_named first (codes "policy")) (rows_named last (codes "policy")) policy.row policy.put
-      (λ x there. no_row (rows_named first (codes "policy")) x (early (codes "policy") (names_differ refl)) there) policy.is_row
+      all_put row_number (λ r. r ≡ closed_row) (first (codes "policy")) (last (codes "policy")) policy.row policy.put
+      (λ x there. no_row (first (codes "policy")) x (early (codes "policy") (names_differ refl)) there) policy.is_row
 
-  rows_of_opening : KeepsRules (meaning_in (rows_named last)) → HoldsOfficeRows (rows_named last)
+  rows_of_opening : KeepsRules (meaning_in last) → HoldsOfficeRows last
   rows_of_opening rules = record {
     form = (policy.row, policy.put.here, ap row_number policy.is_row, ap (λ r. column r 2) policy.is_row);
     office = record {
       members = λ row there. one_member row (subst (λ rows. Has rows row) (late (codes "team") (names_differ refl)) there);
       policy = λ row there at_one. ap (λ r. is_policy_row (columns (2 ∷ 3 ∷ 4 ∷ 5 ∷ 6 ∷ 7 ∷ 8 ∷ []) r)) (one_policy row there);
       entries = λ row there. no_row _ row (none (codes "template") (names_differ refl) (names_differ refl)) there;
-      template = subst IsValid (sym (no_template (rows_named last) (none (codes "template") (names_differ refl) (names_differ refl)))) nothing_valid;
+      template = subst IsValid (sym (no_template last (none (codes "template") (names_differ refl) (names_differ refl)))) nothing_valid;
       languages = λ row there. no_row _ row (none (codes "language") (names_differ refl) (names_differ refl)) there;
       units = λ row there. no_row _ row (none (codes "unit") (names_differ refl) (names_differ refl)) there;
       suggestions = λ row there. no_row _ row (none (codes "suggestion") (names_differ refl) (names_differ refl)) there;
@@ -71,6 +71,6 @@ module _ (name : Text) (named : is_name name ≡ true) (utf8 : IsUtf8 name) (mad
     rules = rules;
   }
 
-pub opening_rows : (name : Text) → is_name name ≡ true → IsUtf8 name → (old new : Database) → MakesOpening name old new → HoldsOfficeRows (rows_named new)
+pub opening_rows : (name : Text) → is_name name ≡ true → IsUtf8 name → (old new : NamedRows) → MakesOpeningIn name old new → HoldsOfficeRows new
 opening_rows name named utf8 old new it =
     rows_of_opening name named utf8 it.0 it.2.0 new it.1 it.2.1 it.2.2 (subst KeepsRules (sym (opens name old new it).0) (opening_keeps name))

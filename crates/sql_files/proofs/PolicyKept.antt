@@ -6,11 +6,10 @@ use Rattle.std.proofs.lemmas.Bool.{and_from, and_parts, lt-ltb, le-leb, leb-true
 use Rattle.sqlite.specs.declared.types.Value.{Value}
 use Rattle.sqlite.specs.declared.types.Value.TheVariants.{Null, Int, Real, Text as Words, Blob}
 use Rattle.sqlite.specs.Order.{Row, column}
-use Rattle.sqlite.specs.Effect.{Database}
 use Rattle.sqlite_sql.specs.Ops.{fits_i64}
 use Rattle.sqlite_rules.specs.Edit.{id_in}
 use Rattle.sqlite_rules.specs.Lists.{Has}
-use Rattle.sql_laws.specs.ApartRows.{AreApart}
+use Rattle.sql_laws.specs.RowMaps.{OneEach}
 use Rattle.sql_laws.proofs.RowMaps.{get-is}
 use Rattle.deliveries.specs.OfficeRules.{KeepsRules}
 use Rattle.request_book.specs.declared.book.Record.{Record}
@@ -19,12 +18,10 @@ use Rattle.units.specs.Limits.{is_accept_at, is_revision, revision_limit}
 use Rattle.units.specs.Project.{place_cmp}
 use Rattle.units.specs.Orders.{place_total, place_IsAntisymmetric}
 use Rattle.units.specs.declared.unit.Policy.{Policy}
-use Rattle.sql_schema.specs.Inside.{AreOfficeTables}
 use Rattle.sql_schema.specs.Keys.{row_number, columns}
-use Rattle.sql_schema.proofs.TableRows.{one_unit}
-use Rattle.sql_statements.specs.Renewed.{unapproved_row, HaveNextRevisions}
+use Rattle.sql_statements.specs.Renewed.{unapproved_row}
 use Rattle.sql_meaning.specs.Meaning.{place_of_row, unit_of_row, units_in, policy_in, project_of_rows, book_in, meaning_in}
-use Rattle.sql_meaning.specs.Values.{natural, natural_at}
+use Rattle.sql_meaning.specs.Values.{integer_at, natural, natural_at}
 use Rattle.sql_meaning.proofs.Units.{by_place}
 use Rattle.sql_changes.specs.Commits.{policy_row, PutsPolicy, UnapprovesUnless, MakesPolicy}
 use Rattle.sql_changes.proofs.Changed.{Spares, spares_same}
@@ -38,6 +35,11 @@ use Rattle.sql_files.proofs.UnitKept.{UnitStands, units_step}
 use Rattle.sql_files.proofs.ActKept.{stand_all, record_step}
 use Rattle.sql_schema.specs.Layouts.{NamedRows, rows_named}
 use Rattle.sql_schema.proofs.Layouts.{names_differ}
+use Rattle.sql_meaning.specs.RowKeys.{AreOfficeRows, HoldsIntegers}
+use Rattle.sql_meaning.specs.RowChanges.{HaveNextIn}
+use Rattle.sql_schema.specs.Inside.{AreOfficeTables}
+use Rattle.sqlite.specs.Effect.{Database}
+use Rattle.sql_meaning.proofs.OfficeRows.{office_rows}
 
 -- ---- the policy's row
 
@@ -73,11 +75,11 @@ policy_step old new apart form policy it =
       book = book_same old new (apart (codes "record") (names_differ refl)) it.book;
     }
 
-put_step : (policy : Policy) → is_accept_at policy.accept_at ≡ true → (old new : Database) → PutsPolicy policy old new → StandForAll (rows_named old) → StandForAll (rows_named new)
+put_step : (policy : Policy) → is_accept_at policy.accept_at ≡ true → (old new : NamedRows) → PutsPolicy policy old new → StandForAll old → StandForAll new
 put_step policy accepts old new put it =
-    policy_step (rows_named old) (rows_named new) (λ t apart. put.others t apart)
+    policy_step old new (λ t apart. put.others t apart)
     (put.row, put.put.here, ap row_number put.is_row, ap (λ r. column r 2) put.is_row)
-    (all_put row_number PolicyStands (rows_named old (codes "policy")) (rows_named new (codes "policy")) put.row put.put it.office.policy
+    (all_put row_number PolicyStands (old (codes "policy")) (new (codes "policy")) put.row put.put it.office.policy
     (λ at_one. ap (λ r. is_policy_row (columns (2 ∷ 3 ∷ 4 ∷ 5 ∷ 6 ∷ 7 ∷ 8 ∷ []) r)) put.is_row ∙ policy_stands policy accepts)) it
 
 -- ---- a unit's row that is unapproved
@@ -129,29 +131,29 @@ unapproved_stands row stands revised =
 
 -- ---- what the rules say of the revision of a unit's row
 
-module _ (db : Database) (ready : AreOfficeTables db) (rules : KeepsRules (meaning_in (rows_named db))) (row : Row) (there : Has (rows_named db (codes "unit")) row) where
-  stands_at : maps.get (units_in (rows_named db)) (place_of_row row) ≡ Some (unit_of_row (rows_named db) row)
+module _ (db : NamedRows) (ready : AreOfficeRows db) (rules : KeepsRules (meaning_in db)) (row : Row) (there : Has (db (codes "unit")) row) where
+  stands_at : maps.get (units_in db) (place_of_row row) ≡ Some (unit_of_row db row)
   stands_at =
-      get-is place_cmp place_total place_IsAntisymmetric place_of_row (unit_of_row (rows_named db)) (rows_named db (codes "unit")) (place_of_row row) (Some (unit_of_row (rows_named db) row))
-      (λ r s in_r in_s e. one_unit db ready.schema ready.sound (ready.tables (codes "unit") refl) r s in_r in_s (by_place.back r s tt tt e)) (row, there, refl, refl)
+      get-is place_cmp place_total place_IsAntisymmetric place_of_row (unit_of_row db) (db (codes "unit")) (place_of_row row) (Some (unit_of_row db row))
+      (λ r s in_r in_s e. ready.keyed.one_unit r s in_r in_s (by_place.back r s tt tt e)) (row, there, refl, refl)
 
   revised : is_revision (natural_at 7 row) ≡ true
   revised =
-      let it = ((project_keeps (project_of_rows (rows_named db)) (book_in (rows_named db)) rules).each (place_of_row row) (unit_of_row (rows_named db) row) stands_at).revised in
+      let it = ((project_keeps (project_of_rows db) (book_in db) rules).each (place_of_row row) (unit_of_row db row) stands_at).revised in
       and_from _ _ (le-leb 1 (natural_at 7 row) it.0) (le-leb (natural_at 7 row) revision_limit it.1)
 
 -- ---- all units
 
-next_revisions : (db : Database) → ((row : Row) → Has (rows_named db (codes "unit")) row → UnitStands row) → HaveNextRevisions db
+next_revisions : (db : NamedRows) → ((row : Row) → Has (db (codes "unit")) row → UnitStands row) → HaveNextIn db
 next_revisions db units row there approved = next_fits row (units row there)
 
-module _ (old new : Database) (units : (row : Row) → Has (rows_named old (codes "unit")) row → UnitStands row) where
+module _ (old new : NamedRows) (units : (row : Row) → Has (old (codes "unit")) row → UnitStands row) where
   unapproves_spare : (reviews : Bool) → UnapprovesUnless reviews old new → Spares (codes "unit") old new
   unapproves_spare true is = spares_same (codes "unit") old new is
   unapproves_spare false unapproves = (unapproves (next_revisions old units)).others
 
-  unapproved_units : (reviews : Bool) → UnapprovesUnless reviews old new → AreOfficeTables new → KeepsRules (meaning_in (rows_named new)) → (row : Row) → Has (rows_named new (codes "unit")) row → UnitStands row
-  unapproved_units true is ready rules row there = units row (subst (λ rows. Has rows row) (ap (λ (d : Database). rows_named d (codes "unit")) is) there)
+  unapproved_units : (reviews : Bool) → UnapprovesUnless reviews old new → AreOfficeRows new → KeepsRules (meaning_in new) → (row : Row) → Has (new (codes "unit")) row → UnitStands row
+  unapproved_units true is ready rules row there = units row (subst (λ rows. Has rows row) (ap (λ (d : NamedRows). d (codes "unit")) is) there)
   unapproved_units false unapproves ready rules row there = elim ((unapproves (next_revisions old units)).rows.only row there) [
     | inl was ↦ units row was.0
     | inr made ↦
@@ -159,32 +161,40 @@ module _ (old new : Database) (units : (row : Row) → Has (rows_named old (code
         (unapproved_stands made.0 (units made.0 made.1) (subst (λ r. is_revision (natural_at 7 r) ≡ true) made.3 (revised new ready rules row there)))
   ]
 
-unapproved_step : (old new : Database) (reviews : Bool) → UnapprovesUnless reviews old new → AreOfficeTables new → KeepsRules (meaning_in (rows_named new)) → StandForAll (rows_named old) → StandForAll (rows_named new)
+unapproved_step : (old new : NamedRows) (reviews : Bool) → UnapprovesUnless reviews old new → AreOfficeRows new → KeepsRules (meaning_in new) → StandForAll old → StandForAll new
 unapproved_step old new reviews made ready rules it =
     let same = unapproves_spare old new it.office.units reviews made in
-    units_step (rows_named old) (rows_named new) (λ t no_unit no_suggestion no_vote. same t no_unit) (unapproved_units old new it.office.units reviews made ready rules)
+    units_step old new (λ t no_unit no_suggestion no_vote. same t no_unit) (unapproved_units old new it.office.units reviews made ready rules)
     (λ row there. it.office.suggestions row (subst (λ rows. Has rows row) (same (codes "suggestion") (names_differ refl)) there))
     (λ row there. it.office.votes row (subst (λ rows. Has rows row) (same (codes "vote") (names_differ refl)) there))
     it
 
 -- ---- the commit
 
-module _ (mid next after : Database) (policy : Policy) (put : PutsPolicy policy mid next) (made : UnapprovesUnless policy.reviews next after)
-    (ready : AreOfficeTables after) (rules : KeepsRules (meaning_in (rows_named after))) (apart : AreApart (rows_named mid (codes "policy"))) where
-  units_there_next : StandForAll (rows_named mid) → (row : Row) → Has (rows_named next (codes "unit")) row → UnitStands row
+module _ (mid next after : NamedRows) (policy : Policy) (put : PutsPolicy policy mid next) (made : UnapprovesUnless policy.reviews next after)
+    (ready : AreOfficeRows after) (rules : KeepsRules (meaning_in after))
+    (one : OneEach (integer_at 0) (mid (codes "policy"))) (whole : HoldsIntegers 0 (mid (codes "policy"))) where
+  units_there_next : StandForAll mid → (row : Row) → Has (next (codes "unit")) row → UnitStands row
   units_there_next it row there = it.office.units row (subst (λ rows. Has rows row) (put.others (codes "unit") (names_differ refl)) there)
 
-  accepts : StandForAll (rows_named mid) → is_accept_at policy.accept_at ≡ true
+  accepts : StandForAll mid → is_accept_at policy.accept_at ≡ true
   accepts it =
       let same = unapproves_spare next after (units_there_next it) policy.reviews made (codes "policy") (names_differ refl) in
-      let is : policy_in (rows_named after) ≡ policy = ap (λ (rows : List Row). policy_in (λ name. rows)) same ∙ policy_put mid next policy apart put in
-      subst (λ (p : Policy). is_accept_at p.accept_at ≡ true) is (project_keeps (project_of_rows (rows_named after)) (book_in (rows_named after)) rules).accepting
+      let is : policy_in after ≡ policy = ap (λ (rows : List Row). policy_in (λ name. rows)) same ∙ policy_put mid next policy one whole put in
+      subst (λ (p : Policy). is_accept_at p.accept_at ≡ true) is (project_keeps (project_of_rows after) (book_in after) rules).accepting
 
-  changed_step : StandForAll (rows_named mid) → StandForAll (rows_named after)
+  changed_step : StandForAll mid → StandForAll after
   changed_step it = unapproved_step next after policy.reviews made ready rules (put_step policy (accepts it) mid next put it)
 
-pub policy_keeps : (old new : Database) (row : Record) (policy : Policy) → MakesPolicy row policy old new → AreOfficeTables new
+pub stand_after_policy : (old new : NamedRows) (row : Record) (policy : Policy) → MakesPolicy row policy old new → AreOfficeRows old → AreOfficeRows new
+    → IsKeepable row → KeepsRules (meaning_in new) → StandForAll old → StandForAll new
+stand_after_policy old new row policy (mid, recorded, (next, put, made)) ready is_ready keepable rules all =
+    let policies = sym (recorded.0.others (codes "policy") (names_differ refl)) in
+    let one = subst (OneEach (integer_at 0)) policies ready.keyed.one_policy in
+    let whole = subst (HoldsIntegers 0) policies ready.typed.policy_numbers in
+    changed_step mid next new policy put made is_ready rules one whole (record_step old mid row recorded keepable all)
+
+pub policy_keeps : (old new : Database) (row : Record) (policy : Policy) → MakesPolicy row policy (rows_named old) (rows_named new) → AreOfficeTables new
     → IsKeepable row → KeepsRules (meaning_in (rows_named new)) → IsOfficeDatabase old → IsOfficeDatabase new
-policy_keeps old new row policy (mid, recorded, (next, put, made)) ready keepable rules file =
-    let apart : AreApart (rows_named mid (codes "policy")) = subst AreApart (sym (recorded.0.others (codes "policy") (names_differ refl))) (file.ready.tables (codes "policy") refl) in
-    stand_all old new ready rules file (λ all. changed_step mid next new policy put made ready rules apart (record_step old mid row recorded keepable all))
+policy_keeps old new row policy it ready keepable rules file =
+    stand_all old new ready rules file (stand_after_policy (rows_named old) (rows_named new) row policy it (office_rows old file.ready) (office_rows new ready) keepable rules)

@@ -5,7 +5,6 @@ use Rattle.std.proofs.lemmas.Bool.{and_from, lt-ltb}
 use Rattle.std.proofs.lemmas.Str.{IsUtf8-from_ascii}
 use Rattle.sqlite.specs.declared.types.Value.TheVariants.{Int, Text as Words}
 use Rattle.sqlite.specs.Order.{Row}
-use Rattle.sqlite.specs.Effect.{Database}
 use Rattle.uuid.specs.Text.{lower}
 use Rattle.uuid.proofs.TextLemmas.{hyphenated_ascii}
 use Rattle.deliveries.specs.OfficeRules.{KeepsRules}
@@ -13,7 +12,7 @@ use Rattle.request_book.specs.Acts.{IsNumber}
 use Rattle.request_book.specs.Words.{number_text}
 use Rattle.request_book.specs.declared.book.Record.{Record}
 use Rattle.po_text.specs.Texts.{Text}
-use Rattle.sql_schema.specs.Inside.{AreOfficeTables, PutsRow, HoldsValues}
+use Rattle.sql_schema.specs.Inside.{PutsIn, HoldsValues, AreOfficeTables}
 use Rattle.sql_schema.specs.Keys.{text_at, first_text, columns}
 use Rattle.sql_meaning.specs.Cells.{record_cells}
 use Rattle.sql_meaning.specs.Meaning.{meaning_in}
@@ -24,8 +23,9 @@ use Rattle.sql_decoding.specs.RowTests.{any_text, is_number, is_status, is_recor
 use Rattle.sql_decoding.proofs.ColumnsTested.{text_stands, integer_is, number_stands, natural_stands}
 use Rattle.sql_files.specs.Files.{IsKeepable, TellsFirstForm, IsOfficeDatabase}
 use Rattle.sql_files.proofs.Puts.{all_put, office_same, form_same}
-use Rattle.sql_schema.specs.Layouts.{rows_named}
+use Rattle.sql_schema.specs.Layouts.{rows_named, NamedRows}
 use Rattle.sql_schema.proofs.Layouts.{names_differ}
+use Rattle.sqlite.specs.Effect.{Database}
 
 pub number_utf8 : (number : Text) → IsUtf8 (number_text number)
 number_utf8 number = IsUtf8-from_ascii (number_text number) (hyphenated_ascii lower number (inl refl))
@@ -42,34 +42,34 @@ module _ (row : Record) (valid : IsNumber row.number) (keepable : IsKeepable row
       (and_from _ _ (integer_is 1 shown (pos row.reply.status) refl is_status true (natural_stands (λ n. nat_lt n 65536) (pos row.reply.status) row.reply.status (lt-ltb row.reply.status 65536 keepable.status) refl))
       (text_stands 2 shown row.reply.body refl any_text keepable.body refl)))
 
-module _ (old new : Database) (row : Record) (valid : IsNumber row.number) (put : PutsRow (codes "record") first_text (HoldsValues (record_cells row)) old new) where
-  stays : (name : List ℕ) → name ≢ codes "record" → rows_named new name ≡ rows_named old name
+module _ (old new : NamedRows) (row : Record) (valid : IsNumber row.number) (put : PutsIn (codes "record") first_text (HoldsValues (record_cells row)) old new) where
+  stays : (name : List ℕ) → name ≢ codes "record" → new name ≡ old name
   stays name apart = put.others name apart
 
-  pub office_kept : StandForOffice (rows_named old) → StandForOffice (rows_named new)
+  pub office_kept : StandForOffice old → StandForOffice new
   office_kept it =
-      office_same (rows_named old) (rows_named new) (stays (codes "team") (names_differ refl)) (stays (codes "policy") (names_differ refl)) (stays (codes "template") (names_differ refl))
+      office_same old new (stays (codes "team") (names_differ refl)) (stays (codes "policy") (names_differ refl)) (stays (codes "template") (names_differ refl))
       (stays (codes "language") (names_differ refl)) (stays (codes "unit") (names_differ refl)) (stays (codes "suggestion") (names_differ refl)) (stays (codes "vote") (names_differ refl)) it
 
-  pub form_kept : TellsFirstForm (rows_named old) → TellsFirstForm (rows_named new)
-  form_kept it = form_same (rows_named old) (rows_named new) (stays (codes "policy") (names_differ refl)) it
+  pub form_kept : TellsFirstForm old → TellsFirstForm new
+  form_kept it = form_same old new (stays (codes "policy") (names_differ refl)) it
 
-  pub book_kept : IsKeepable row → StandForBook (rows_named old) → StandForBook (rows_named new)
+  pub book_kept : IsKeepable row → StandForBook old → StandForBook new
   book_kept keepable it = record {
-    records = all_put first_text (λ r. IsTrue (is_record_row (columns (2 ∷ 3 ∷ 4 ∷ 1 ∷ []) r))) (rows_named old (codes "record")) (rows_named new (codes "record")) put.row put.put it.records
+    records = all_put first_text (λ r. IsTrue (is_record_row (columns (2 ∷ 3 ∷ 4 ∷ 1 ∷ []) r))) (old (codes "record")) (new (codes "record")) put.row put.put it.records
         (subst (λ r. IsTrue (is_record_row (columns (2 ∷ 3 ∷ 4 ∷ 1 ∷ []) r))) (sym put.is_row.1) (record_stands row valid keepable));
-    contents = all_put first_text (λ r. IsContent (text_at 2 r)) (rows_named old (codes "record")) (rows_named new (codes "record")) put.row put.put it.contents
+    contents = all_put first_text (λ r. IsContent (text_at 2 r)) (old (codes "record")) (new (codes "record")) put.row put.put it.contents
         (subst (λ r. IsContent (text_at 2 r)) (sym put.is_row.1) keepable.content);
   }
 
-pub record_keeps : (old new : Database) (row : Record) → PutsNumberedRecord row old new → AreOfficeTables new → IsKeepable row
+pub record_keeps : (old new : Database) (row : Record) → PutsNumberedRecord row (rows_named old) (rows_named new) → AreOfficeTables new → IsKeepable row
     → KeepsRules (meaning_in (rows_named new)) → IsOfficeDatabase old → IsOfficeDatabase new
 record_keeps old new row it ready keepable rules file = record {
   ready = ready;
   rows = record {
-    form = form_kept old new row it.1 it.0 file.rows.form;
-    office = office_kept old new row it.1 it.0 file.rows.office;
-    book = book_kept old new row it.1 it.0 keepable file.rows.book;
+    form = form_kept (rows_named old) (rows_named new) row it.1 it.0 file.rows.form;
+    office = office_kept (rows_named old) (rows_named new) row it.1 it.0 file.rows.office;
+    book = book_kept (rows_named old) (rows_named new) row it.1 it.0 keepable file.rows.book;
     rules = rules;
   };
 }

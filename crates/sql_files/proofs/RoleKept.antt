@@ -4,7 +4,6 @@ use Rattle.std.specs.Prelude.{IsTrue, IsUtf8}
 use Rattle.std.proofs.lemmas.Bool.{and_from}
 use Rattle.sqlite.specs.declared.types.Value.TheVariants.{Int, Text as Words}
 use Rattle.sqlite.specs.Order.{Row}
-use Rattle.sqlite.specs.Effect.{Database}
 use Rattle.sqlite_rules.specs.Lists.{Has}
 use Rattle.deliveries.specs.OfficeRules.{KeepsRules}
 use Rattle.po_text.specs.Texts.{Text}
@@ -12,7 +11,6 @@ use Rattle.request_book.specs.declared.book.Record.{Record}
 use Rattle.sql_columns.specs.Numbers.{role_number}
 use Rattle.units.specs.Limits.{is_name}
 use Rattle.units.specs.declared.unit.Role.{Role}
-use Rattle.sql_schema.specs.Inside.{AreOfficeTables}
 use Rattle.sql_schema.specs.Keys.{first_text, columns}
 use Rattle.sql_meaning.specs.Meaning.{meaning_in}
 use Rattle.sql_changes.specs.Commits.{WritesRole, MakesRole}
@@ -23,6 +21,8 @@ use Rattle.sql_files.proofs.Puts.{all_put, template_same, form_same, book_same}
 use Rattle.sql_files.proofs.ActKept.{stand_all, record_step}
 use Rattle.sql_schema.specs.Layouts.{NamedRows, rows_named}
 use Rattle.sql_schema.proofs.Layouts.{names_differ}
+use Rattle.sql_schema.specs.Inside.{AreOfficeTables}
+use Rattle.sqlite.specs.Effect.{Database}
 
 abbrev pub MemberStands : Row → Type 0
 MemberStands row = IsTrue (is_member_row (columns (2 ∷ 1 ∷ []) row))
@@ -50,16 +50,20 @@ pub member_stands : (name : Text) → is_name name ≡ true → IsUtf8 name → 
 member_stands name named utf8 role n is =
     and_from _ _ (integer_is 0 (Int n ∷ Words name ∷ []) n refl is_role true (role_stands n role is)) (text_stands 1 (Int n ∷ Words name ∷ []) name refl is_name utf8 named)
 
-pub role_step : (name : Text) → is_name name ≡ true → IsUtf8 name → (role : Role) (n : Option ℤ) → role_number role ≡ n → (old new : Database) → WritesRole name n old new
-    → StandForAll (rows_named old) → StandForAll (rows_named new)
+pub role_step : (name : Text) → is_name name ≡ true → IsUtf8 name → (role : Role) (n : Option ℤ) → role_number role ≡ n → (old new : NamedRows) → WritesRole name n old new
+    → StandForAll old → StandForAll new
 role_step name named utf8 role (Some n) is old new put it =
-    team_step (rows_named old) (rows_named new) (λ t apart. put.others t apart)
-    (all_put first_text MemberStands (rows_named old (codes "team")) (rows_named new (codes "team")) put.row put.put it.office.members
+    team_step old new (λ t apart. put.others t apart)
+    (all_put first_text MemberStands (old (codes "team")) (new (codes "team")) put.row put.put it.office.members
     (subst MemberStands (sym put.is_row.1) (member_stands name named utf8 role n is))) it
 role_step name named utf8 role None is old new takes it =
-    team_step (rows_named old) (rows_named new) takes.others (λ row there. it.office.members row (takes.rows.only row there).0) it
+    team_step old new takes.others (λ row there. it.office.members row (takes.rows.only row there).0) it
 
-pub role_keeps : (old new : Database) (row : Record) (name : Text) (role : Role) → MakesRole row name role old new → AreOfficeTables new
+pub stand_after_role : (old new : NamedRows) (row : Record) (name : Text) (role : Role) → MakesRole row name role old new → IsKeepable row → is_name name ≡ true → IsUtf8 name
+    → StandForAll old → StandForAll new
+stand_after_role old new row name role it keepable named utf8 all = role_step name named utf8 role (role_number role) refl it.0 new it.2 (record_step old it.0 row it.1 keepable all)
+
+pub role_keeps : (old new : Database) (row : Record) (name : Text) (role : Role) → MakesRole row name role (rows_named old) (rows_named new) → AreOfficeTables new
     → IsKeepable row → is_name name ≡ true → IsUtf8 name → KeepsRules (meaning_in (rows_named new)) → IsOfficeDatabase old → IsOfficeDatabase new
 role_keeps old new row name role it ready keepable named utf8 rules file =
-    stand_all old new ready rules file (λ all. role_step name named utf8 role (role_number role) refl it.0 new it.2 (record_step old it.0 row it.1 keepable all))
+    stand_all old new ready rules file (stand_after_role (rows_named old) (rows_named new) row name role it keepable named utf8)

@@ -3,7 +3,6 @@ use Rattle.std.proofs.Common.{◌≡◌, ◌≢◌, ℕ, ◌+◌, inl, inr, List
 use Rattle.std.specs.Prelude.{IsTrue}
 use Rattle.std.proofs.lemmas.Bool.{and_from}
 use Rattle.sqlite.specs.Order.{Row}
-use Rattle.sqlite.specs.Effect.{Database}
 use Rattle.sqlite_rules.specs.Lists.{Has}
 use Rattle.po_text.specs.declared.entry.Entry.{Entry}
 use Rattle.po_text.specs.Valid.{IsValid}
@@ -13,13 +12,11 @@ use Rattle.deliveries.specs.ProjectActs.{LanguagePlan}
 use Rattle.deliveries.specs.OfficeRules.{KeepsRules}
 use Rattle.request_book.specs.declared.book.Record.{Record}
 use Rattle.sql_columns.specs.Written.{texts_text}
-use Rattle.sql_schema.specs.Inside.{AreOfficeTables, Then}
+use Rattle.sql_schema.specs.Inside.{Then, AreOfficeTables}
 use Rattle.sql_schema.specs.Keys.{row_number, columns}
-use Rattle.sql_statements.specs.Emptied.{EmptiesUnits}
-use Rattle.sql_statements.specs.Taken.{TakesRows}
 use Rattle.sql_meaning.specs.Meaning.{template_in, project_of_rows, book_in, meaning_in}
 use Rattle.sql_changes.specs.Commits.{PutsNumberedRecord, entry_row, PutsEntries, WritesTemplate, MakesTemplate}
-use Rattle.sql_changes.specs.UnitWrites.{LeavesTables, WritesPlansBack}
+use Rattle.sql_changes.specs.UnitWrites.{LeavesRows, WritesPlansBack}
 use Rattle.sql_changes.proofs.PlannedUnits.{plans_from_last}
 use Rattle.sql_changes.proofs.Template.{entries_spare}
 use Rattle.sql_decoding.specs.RowTests.{is_key, are_texts, is_entry_row}
@@ -32,6 +29,8 @@ use Rattle.sql_files.proofs.UnitKept.{plural_stands, units_step, plans_keep}
 use Rattle.sql_files.proofs.ActKept.{stand_all, record_step}
 use Rattle.sql_schema.specs.Layouts.{NamedRows, rows_named}
 use Rattle.sql_schema.proofs.Layouts.{names_differ}
+use Rattle.sql_meaning.specs.RowChanges.{TakesIn, EmptiesIn}
+use Rattle.sqlite.specs.Effect.{Database}
 
 -- ---- an entry's row
 
@@ -47,13 +46,13 @@ entry_stands place entry strings fits =
     (and_from _ _ (text_stands 2 shown (texts_text entry.references) refl are_texts fits.references_column (texts_stand (texts_text entry.references) entry.references refl))
     (text_stands 3 shown (texts_text entry.flags) refl are_texts fits.flags_column (texts_stand (texts_text entry.flags) entry.flags refl)))))
 
-entries_stand : (place : ℕ) (entries : List Entry) → AreKeepableEntries entries → (old new : Database) → PutsEntries place entries old new
-    → ((row : Row) → Has (rows_named old (codes "template")) row → EntryStands row) → (row : Row) → Has (rows_named new (codes "template")) row → EntryStands row
-entries_stand place [] fits old new is each row there = each row (subst (λ (d : Database). Has (rows_named d (codes "template")) row) is there)
+entries_stand : (place : ℕ) (entries : List Entry) → AreKeepableEntries entries → (old new : NamedRows) → PutsEntries place entries old new
+    → ((row : Row) → Has (old (codes "template")) row → EntryStands row) → (row : Row) → Has (new (codes "template")) row → EntryStands row
+entries_stand place [] fits old new is each row there = each row (subst (λ (d : NamedRows). Has (d (codes "template")) row) is there)
 entries_stand place (entry ∷ more) fits old new (mid, put, rest) each row there =
     let made = put.0.0 in
     entries_stand (place + 1) more (λ e there. fits e (inr there)) mid new rest
-    (all_put row_number EntryStands (rows_named old (codes "template")) (rows_named mid (codes "template")) made.row made.put each
+    (all_put row_number EntryStands (old (codes "template")) (mid (codes "template")) made.row made.put each
     (subst EntryStands (sym made.is_row) (entry_stands place entry put.1 (fits entry (inl refl))))) row there
 
 template_step : (old new : NamedRows) → ((t : List ℕ) → t ≢ codes "template" → new t ≡ old t) → IsValid (template_in new) → ((row : Row) → Has (new (codes "template")) row → EntryStands row)
@@ -77,42 +76,46 @@ template_step old new apart valid entries it =
 
 -- ---- units that are taken away
 
-module _ (old new : Database) (emptied : EmptiesUnits old new) where
-  others_stay : (t : List ℕ) → t ≢ codes "unit" → t ≢ codes "suggestion" → t ≢ codes "vote" → rows_named new t ≡ rows_named old t
+module _ (old new : NamedRows) (emptied : EmptiesIn old new) where
+  others_stay : (t : List ℕ) → t ≢ codes "unit" → t ≢ codes "suggestion" → t ≢ codes "vote" → new t ≡ old t
   others_stay t no_unit no_suggestion no_vote = emptied.others t no_unit no_suggestion no_vote
 
-  emptied_step : StandForAll (rows_named old) → StandForAll (rows_named new)
+  emptied_step : StandForAll old → StandForAll new
   emptied_step it =
-      units_step (rows_named old) (rows_named new) others_stay (λ row there. no_row _ row emptied.units there) (λ row there. no_row _ row emptied.suggestions there)
+      units_step old new others_stay (λ row there. no_row _ row emptied.units there) (λ row there. no_row _ row emptied.suggestions there)
       (λ row there. no_row _ row emptied.votes there) it
 
 -- ---- the commit
 
-module _ (mid gone next empty after : Database) (entries : List Entry) (plans : List LanguagePlan) (taken : LeavesTables (TakesRows (codes "template") (λ row. true)) mid gone)
-    (put : PutsEntries 0 entries gone next) (emptied : LeavesTables EmptiesUnits next empty) (written : WritesPlansBack plans empty after) (rules : KeepsRules (meaning_in (rows_named after))) where
-  template_stays : rows_named after (codes "template") ≡ rows_named next (codes "template")
+module _ (mid gone next empty after : NamedRows) (entries : List Entry) (plans : List LanguagePlan) (taken : LeavesRows (TakesIn (codes "template") (λ row. true)) mid gone)
+    (put : PutsEntries 0 entries gone next) (emptied : LeavesRows EmptiesIn next empty) (written : WritesPlansBack plans empty after) (rules : KeepsRules (meaning_in after)) where
+  template_stays : after (codes "template") ≡ next (codes "template")
   template_stays =
       (plans_from_last plans empty after emptied.1 written).others.template ∙ others_stay next empty emptied.0 (codes "template") (names_differ refl) (names_differ refl) (names_differ refl)
 
-  others_spared : (t : List ℕ) → t ≢ codes "template" → rows_named next t ≡ rows_named mid t
+  others_spared : (t : List ℕ) → t ≢ codes "template" → next t ≡ mid t
   others_spared t apart =
       entries_spare 0 entries gone next put t apart ∙ taken.0.others t apart
 
-  changed_step : AreKeepableEntries entries → AreKeepablePlans plans → StandForAll (rows_named mid) → StandForAll (rows_named after)
+  changed_step : AreKeepableEntries entries → AreKeepablePlans plans → StandForAll mid → StandForAll after
   changed_step fits all it =
       plans_keep plans all empty after written
       (emptied_step next empty emptied.0
-      (template_step (rows_named mid) (rows_named next) others_spared (template_same (rows_named after) (rows_named next) (sym template_stays) (project_keeps (project_of_rows (rows_named after)) (book_in (rows_named after)) rules).template_valid)
+      (template_step mid next others_spared (template_same after next (sym template_stays) (project_keeps (project_of_rows after) (book_in after) rules).template_valid)
       (entries_stand 0 entries fits gone next put (λ row there. absurd (let no = (taken.0.rows.only row there).1 in cc))) it))
 
-makes_template : (old new : Database) (row : Record) (entries : List Entry) (plans : List LanguagePlan) → Then (PutsNumberedRecord row) (WritesTemplate entries plans) old new
-    → AreOfficeTables new → IsKeepable row → AreKeepableEntries entries → AreKeepablePlans plans → KeepsRules (meaning_in (rows_named new))
-    → IsOfficeDatabase old → IsOfficeDatabase new
-makes_template old new row entries plans (mid, recorded, (next, (gone, taken, put), (empty, emptied, written))) ready keepable fits all rules file =
-    stand_all old new ready rules file (λ it. changed_step mid gone next empty new entries plans taken put emptied written rules fits all (record_step old mid row recorded keepable it))
+makes_template : (old new : NamedRows) (row : Record) (entries : List Entry) (plans : List LanguagePlan) → Then (PutsNumberedRecord row) (WritesTemplate entries plans) old new
+    → IsKeepable row → AreKeepableEntries entries → AreKeepablePlans plans → KeepsRules (meaning_in new) → StandForAll old → StandForAll new
+makes_template old new row entries plans (mid, recorded, (next, (gone, taken, put), (empty, emptied, written))) keepable fits all rules it =
+    changed_step mid gone next empty new entries plans taken put emptied written rules fits all (record_step old mid row recorded keepable it)
 
-pub template_keeps : (old new : Database) (row : Record) (entries : List Entry) (plans : List LanguagePlan) → MakesTemplate row entries plans old new → AreOfficeTables new
+pub stand_after_template : (old new : NamedRows) (row : Record) (entries : List Entry) (plans : List LanguagePlan) → MakesTemplate row entries plans old new
+    → IsKeepable row → AreKeepableEntries entries → AreKeepablePlans plans → KeepsRules (meaning_in new) → StandForAll old → StandForAll new
+unfolding MakesTemplate
+stand_after_template old new row entries plans it keepable fits all rules = makes_template old new row entries plans it keepable fits all rules
+
+pub template_keeps : (old new : Database) (row : Record) (entries : List Entry) (plans : List LanguagePlan) → MakesTemplate row entries plans (rows_named old) (rows_named new) → AreOfficeTables new
     → IsKeepable row → AreKeepableEntries entries → AreKeepablePlans plans → KeepsRules (meaning_in (rows_named new))
     → IsOfficeDatabase old → IsOfficeDatabase new
-unfolding MakesTemplate
-template_keeps old new row entries plans it ready keepable fits all rules file = makes_template old new row entries plans it ready keepable fits all rules file
+template_keeps old new row entries plans it ready keepable fits all rules file =
+    stand_all old new ready rules file (stand_after_template (rows_named old) (rows_named new) row entries plans it keepable fits all rules)

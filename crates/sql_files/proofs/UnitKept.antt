@@ -5,7 +5,6 @@ use Rattle.std.specs.FinMap as maps
 use Rattle.std.proofs.lemmas.Bool.{and_from}
 use Rattle.sqlite.specs.declared.types.Value.TheVariants.{Null, Int, Text as Words}
 use Rattle.sqlite.specs.Order.{Row}
-use Rattle.sqlite.specs.Effect.{Database}
 use Rattle.sqlite_rules.specs.Lists.{Has}
 use Rattle.po_text.specs.Strings.{is_string}
 use Rattle.po_text.specs.Texts.{Text}
@@ -19,8 +18,7 @@ use Rattle.units.specs.Units.{key_text}
 use Rattle.units.specs.declared.unit.Suggestion.{Suggestion}
 use Rattle.units.specs.declared.unit.Unit.{Unit}
 use Rattle.units.specs.declared.votes.VoteValue.{VoteValue}
-use Rattle.sql_schema.specs.Cleared.{ClearsUnit}
-use Rattle.sql_schema.specs.Inside.{PutsRow, HoldsValues}
+use Rattle.sql_schema.specs.Inside.{PutsIn, HoldsValues}
 use Rattle.sql_schema.specs.Keys.{first_text, first_texts, columns}
 use Rattle.sql_schema.specs.Rows.{text_or_null}
 use Rattle.sql_meaning.specs.Cells.{unit_cells, suggestion_cells, vote_cells}
@@ -32,8 +30,9 @@ use Rattle.sql_keepable.specs.Keepable.{IsKeepableUnit, IsKeepableSuggestion, Ar
 use Rattle.sql_files.specs.Files.{StandForAll}
 use Rattle.sql_files.proofs.Puts.{all_put, template_same, form_same, book_same}
 use Rattle.sql_files.proofs.RecordKept.{number_utf8}
-use Rattle.sql_schema.specs.Layouts.{NamedRows, rows_named}
+use Rattle.sql_schema.specs.Layouts.{NamedRows}
 use Rattle.sql_schema.proofs.Layouts.{names_differ}
+use Rattle.sql_meaning.specs.RowChanges.{ClearsIn}
 
 abbrev pub UnitStands : Row → Type 0
 UnitStands row = IsTrue (is_unit_row (columns (3 ∷ 4 ∷ 5 ∷ 6 ∷ 7 ∷ 8 ∷ 9 ∷ 1 ∷ 2 ∷ []) row))
@@ -115,82 +114,82 @@ module _ (old new : NamedRows) (apart : (t : List ℕ) → t ≢ codes "unit" �
   still : (name : List ℕ) (P : Row → Type 0) → new name ≡ old name → ((row : Row) → Has (old name) row → P row) → (row : Row) → Has (new name) row → P row
   still name P same each row there = each row (subst (λ rows. Has rows row) same there)
 
-unit_step : (lang : Text) (unit : Unit) → IsKeepableUnit lang unit → (old new : Database) → PutsRow (codes "unit") first_texts (HoldsValues (unit_cells lang unit)) old new
-    → StandForAll (rows_named old) → StandForAll (rows_named new)
+unit_step : (lang : Text) (unit : Unit) → IsKeepableUnit lang unit → (old new : NamedRows) → PutsIn (codes "unit") first_texts (HoldsValues (unit_cells lang unit)) old new
+    → StandForAll old → StandForAll new
 unit_step lang unit fits old new put it =
-    units_step (rows_named old) (rows_named new) (λ t no_unit no_suggestion no_vote. put.others t no_unit)
-    (all_put first_texts UnitStands (rows_named old (codes "unit")) (rows_named new (codes "unit")) put.row put.put it.office.units (subst UnitStands (sym put.is_row.1) (unit_stands lang unit fits)))
+    units_step old new (λ t no_unit no_suggestion no_vote. put.others t no_unit)
+    (all_put first_texts UnitStands (old (codes "unit")) (new (codes "unit")) put.row put.put it.office.units (subst UnitStands (sym put.is_row.1) (unit_stands lang unit fits)))
     (λ row there. it.office.suggestions row (subst (λ rows. Has rows row) (put.others (codes "suggestion") (names_differ refl)) there))
     (λ row there. it.office.votes row (subst (λ rows. Has rows row) (put.others (codes "vote") (names_differ refl)) there))
     it
 
-suggestion_step : (lang key : Text) → IsUtf8 lang → IsUtf8 key → (place : ℕ) (s : Suggestion) → IsNumber s.number → IsKeepableSuggestion s → (old new : Database)
-    → PutsRow (codes "suggestion") first_text (HoldsValues (suggestion_cells lang key place s)) old new → StandForAll (rows_named old) → StandForAll (rows_named new)
+suggestion_step : (lang key : Text) → IsUtf8 lang → IsUtf8 key → (place : ℕ) (s : Suggestion) → IsNumber s.number → IsKeepableSuggestion s → (old new : NamedRows)
+    → PutsIn (codes "suggestion") first_text (HoldsValues (suggestion_cells lang key place s)) old new → StandForAll old → StandForAll new
 suggestion_step lang key lang_text key_column place s valid fits old new put it =
-    units_step (rows_named old) (rows_named new) (λ t no_unit no_suggestion no_vote. put.others t no_suggestion)
+    units_step old new (λ t no_unit no_suggestion no_vote. put.others t no_suggestion)
     (λ row there. it.office.units row (subst (λ rows. Has rows row) (put.others (codes "unit") (names_differ refl)) there))
-    (all_put first_text SuggestionStands (rows_named old (codes "suggestion")) (rows_named new (codes "suggestion")) put.row put.put it.office.suggestions
+    (all_put first_text SuggestionStands (old (codes "suggestion")) (new (codes "suggestion")) put.row put.put it.office.suggestions
     (subst SuggestionStands (sym put.is_row.1) (suggestion_stands lang key lang_text key_column place s valid fits)))
     (λ row there. it.office.votes row (subst (λ rows. Has rows row) (put.others (codes "vote") (names_differ refl)) there))
     it
 
-vote_step : (number : Text) (vote : Text × VoteValue) → (is_name vote.0 ≡ true) × IsUtf8 vote.0 → (old new : Database)
-    → PutsRow (codes "vote") first_texts (HoldsValues (vote_cells (number_text number) vote)) old new → StandForAll (rows_named old) → StandForAll (rows_named new)
+vote_step : (number : Text) (vote : Text × VoteValue) → (is_name vote.0 ≡ true) × IsUtf8 vote.0 → (old new : NamedRows)
+    → PutsIn (codes "vote") first_texts (HoldsValues (vote_cells (number_text number) vote)) old new → StandForAll old → StandForAll new
 vote_step number vote fits old new put it =
-    units_step (rows_named old) (rows_named new) (λ t no_unit no_suggestion no_vote. put.others t no_vote)
+    units_step old new (λ t no_unit no_suggestion no_vote. put.others t no_vote)
     (λ row there. it.office.units row (subst (λ rows. Has rows row) (put.others (codes "unit") (names_differ refl)) there))
     (λ row there. it.office.suggestions row (subst (λ rows. Has rows row) (put.others (codes "suggestion") (names_differ refl)) there))
-    (all_put first_texts VoteStands (rows_named old (codes "vote")) (rows_named new (codes "vote")) put.row put.put it.office.votes (subst VoteStands (sym put.is_row.1) (vote_stands_on number vote fits)))
+    (all_put first_texts VoteStands (old (codes "vote")) (new (codes "vote")) put.row put.put it.office.votes (subst VoteStands (sym put.is_row.1) (vote_stands_on number vote fits)))
     it
 
-votes_step : (number : Text) (votes : List (Text × VoteValue)) → ((vote : Text × VoteValue) → Has votes vote → (is_name vote.0 ≡ true) × IsUtf8 vote.0) → (old new : Database)
-    → PutsRows (codes "vote") first_texts (map (vote_cells (number_text number)) votes) old new → StandForAll (rows_named old) → StandForAll (rows_named new)
-votes_step number [] fits old new is it = subst (λ (d : Database). StandForAll (rows_named d)) (sym is) it
+votes_step : (number : Text) (votes : List (Text × VoteValue)) → ((vote : Text × VoteValue) → Has votes vote → (is_name vote.0 ≡ true) × IsUtf8 vote.0) → (old new : NamedRows)
+    → PutsRows (codes "vote") first_texts (map (vote_cells (number_text number)) votes) old new → StandForAll old → StandForAll new
+votes_step number [] fits old new is it = subst StandForAll (sym is) it
 votes_step number (vote ∷ more) fits old new (mid, put, rest) it =
     votes_step number more (λ v there. fits v (inr there)) mid new rest (vote_step number vote (fits vote (inl refl)) old mid put it)
 
 suggestions_step : (lang key : Text) → IsUtf8 lang → IsUtf8 key → (place : ℕ) (ss : List Suggestion) → HaveNumbers ss → ((s : Suggestion) → Has ss s → IsKeepableSuggestion s)
-    → (old new : Database) → AddsSuggestions lang key place ss old new → StandForAll (rows_named old) → StandForAll (rows_named new)
-suggestions_step lang key lang_text key_column place [] valid fits old new is it = subst (λ (d : Database). StandForAll (rows_named d)) (sym is) it
+    → (old new : NamedRows) → AddsSuggestions lang key place ss old new → StandForAll old → StandForAll new
+suggestions_step lang key lang_text key_column place [] valid fits old new is it = subst StandForAll (sym is) it
 suggestions_step lang key lang_text key_column place (s ∷ more) valid fits old new (mid, (after, adds, votes), rest) it =
     let own = fits s (inl refl) in
     suggestions_step lang key lang_text key_column (place + 1) more (λ x there. valid x (inr there)) (λ x there. fits x (inr there)) mid new rest
     (votes_step s.number (maps.entries s.votes) own.voters after mid votes
     (suggestion_step lang key lang_text key_column place s (valid s (inl refl)) own old after adds.puts it))
 
-cleared_step : (lang key : Text) (old new : Database) → ClearsUnit lang key old new → StandForAll (rows_named old) → StandForAll (rows_named new)
+cleared_step : (lang key : Text) (old new : NamedRows) → ClearsIn lang key old new → StandForAll old → StandForAll new
 cleared_step lang key old new clears it =
-    units_step (rows_named old) (rows_named new) apart
+    units_step old new apart
     (λ row there. it.office.units row (subst (λ rows. Has rows row) (same (codes "unit") (names_differ refl) (names_differ refl)) there))
     (λ row there. it.office.suggestions row (clears.suggestions.only row there).0)
     (λ row there. it.office.votes row (clears.votes_only row there).0)
     it
   where
-    same : (t : List ℕ) → t ≢ codes "suggestion" → t ≢ codes "vote" → rows_named new t ≡ rows_named old t
+    same : (t : List ℕ) → t ≢ codes "suggestion" → t ≢ codes "vote" → new t ≡ old t
     same t no_suggestion no_vote = clears.others t no_suggestion no_vote
 
-    apart : (t : List ℕ) → t ≢ codes "unit" → t ≢ codes "suggestion" → t ≢ codes "vote" → rows_named new t ≡ rows_named old t
+    apart : (t : List ℕ) → t ≢ codes "unit" → t ≢ codes "suggestion" → t ≢ codes "vote" → new t ≡ old t
     apart t no_unit no_suggestion no_vote = same t no_suggestion no_vote
 
-pub unit_keeps : (lang : Text) (unit : Unit) → IsKeepableUnit lang unit → (old new : Database) → WritesNumberedUnit lang unit old new → StandForAll (rows_named old) → StandForAll (rows_named new)
+pub unit_keeps : (lang : Text) (unit : Unit) → IsKeepableUnit lang unit → (old new : NamedRows) → WritesNumberedUnit lang unit old new → StandForAll old → StandForAll new
 unit_keeps lang unit fits old new (first, put, (second, clears, (adds, valid))) it =
     suggestions_step lang (key_text unit.key) fits.language.1 fits.key_column 0 unit.suggestions valid fits.suggestions second new adds
     (cleared_step lang (key_text unit.key) first second clears (unit_step lang unit fits old first put it))
 
 -- ---- units of a plan, one after the other
 
-pub units_keep : (lang : Text) (units : List Unit) → AreKeepableUnits lang units → (old new : Database) → WritesUnits lang units old new → StandForAll (rows_named old) → StandForAll (rows_named new)
-units_keep lang [] fits old new is it = subst (λ (d : Database). StandForAll (rows_named d)) (sym is) it
+pub units_keep : (lang : Text) (units : List Unit) → AreKeepableUnits lang units → (old new : NamedRows) → WritesUnits lang units old new → StandForAll old → StandForAll new
+units_keep lang [] fits old new is it = subst StandForAll (sym is) it
 units_keep lang (unit ∷ more) fits old new (mid, one, rest) it =
     units_keep lang more (λ u there. fits u (inr there)) mid new rest (unit_keeps lang unit (fits unit (inl refl)) old mid one.0.0 it)
 
-units_keep_back : (lang : Text) (units : List Unit) → AreKeepableUnits lang units → (old new : Database) → WritesUnitsBack lang units old new → StandForAll (rows_named old) → StandForAll (rows_named new)
-units_keep_back lang [] fits old new is it = subst (λ (d : Database). StandForAll (rows_named d)) (sym is) it
+units_keep_back : (lang : Text) (units : List Unit) → AreKeepableUnits lang units → (old new : NamedRows) → WritesUnitsBack lang units old new → StandForAll old → StandForAll new
+units_keep_back lang [] fits old new is it = subst StandForAll (sym is) it
 units_keep_back lang (unit ∷ more) fits old new (mid, rest, one) it =
     unit_keeps lang unit (fits unit (inl refl)) mid new one.0.0 (units_keep_back lang more (λ u there. fits u (inr there)) old mid rest it)
 
-pub plans_keep : (plans : List LanguagePlan) → AreKeepablePlans plans → (old new : Database) → WritesPlansBack plans old new
-    → StandForAll (rows_named old) → StandForAll (rows_named new)
-plans_keep [] fits old new is it = subst (λ (d : Database). StandForAll (rows_named d)) (sym is) it
+pub plans_keep : (plans : List LanguagePlan) → AreKeepablePlans plans → (old new : NamedRows) → WritesPlansBack plans old new
+    → StandForAll old → StandForAll new
+plans_keep [] fits old new is it = subst StandForAll (sym is) it
 plans_keep (p ∷ more) fits old new (mid, rest, own) it =
     units_keep_back p.0 p.1.units (fits p (inl refl)) mid new own (plans_keep more (λ q there. fits q (inr there)) old mid rest it)

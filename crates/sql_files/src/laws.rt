@@ -18,7 +18,7 @@ ghost use Rattle.sql_commits.specs.Acts.{MakesAct};
 ghost use Rattle.po_text.specs.Texts.{Text};
 ghost use Rattle.units.specs.Limits.{is_name};
 ghost use Rattle.sql_schema.specs.Whole.{IsCommit};
-ghost use Rattle.sql_meaning.specs.Beginnings.{MakesDemo, MakesOpening};
+ghost use Rattle.sql_meaning.specs.BeginningRows.{MakesDemoIn, MakesOpeningIn};
 ghost use Rattle.sql_files.specs.Files.{HoldsOfficeRows, IsOfficeDatabase, IsOfficeFile, IsKeepable, IsLost, KeepsFile, LeavesFiles, MakesFiles, StandForAll};
 ghost use Rattle.sql_keepable.specs.Keepable.{IsKeepableUnit, AreKeepableUnits, AreKeepablePlans, IsKeepableLanguage, AreKeepableEntries};
 ghost use Rattle.sql_columns.specs.Written.{IsHeaderEntry};
@@ -32,7 +32,7 @@ ghost use Rattle.deliveries.specs.declared.values.Language.{Language};
 ghost use Rattle.template_update.specs.declared.plans.Plan.{Plan};
 ghost use Rattle.po_text.specs.declared.entry.Entry.{Entry};
 ghost use Rattle.deliveries.specs.ProjectActs.{LanguagePlan};
-ghost use Rattle.sql_schema.specs.Layouts.{Layout, schema_of, rows_named};
+ghost use Rattle.sql_schema.specs.Layouts.{for_main, Layout, schema_of, NamedRows, rows_named};
 
 use sqlite::Alter;
 
@@ -48,7 +48,7 @@ pub fn whatever_is_adopted()
 
 /// A record alone, put where the rules go on to hold, keeps an office's database one.
 pub fn records_keep_files()
-    ensures { (old new : Database) (row : Record) → PutsNumberedRecord row old new → AreOfficeTables new
+    ensures { (old new : Database) (row : Record) → PutsNumberedRecord row (rows_named old) (rows_named new) → AreOfficeTables new
         → IsKeepable row → KeepsRules (meaning_in (rows_named new)) → IsOfficeDatabase old → IsOfficeDatabase new }
 {}
 
@@ -61,13 +61,13 @@ pub fn commits_keep_files<S: Alter>()
 
 /// The rows of an opening are an office's.
 pub fn openings_are_rows()
-    ensures { (name : Text) → is_name name ≡ true → IsUtf8 name → (old new : Database) → MakesOpening name old new → HoldsOfficeRows (rows_named new) }
+    ensures { (name : Text) → is_name name ≡ true → IsUtf8 name → (old new : NamedRows) → MakesOpeningIn name old new → HoldsOfficeRows new }
 {}
 
 /// A unit that is written, with its suggestions and the votes on them, leaves rows that stand for values.
 pub fn units_keep_rows()
-    ensures { (lang : Text) (unit : Unit) → IsKeepableUnit lang unit → (old new : Database) → WritesNumberedUnit lang unit old new
-        → StandForAll (rows_named old) → StandForAll (rows_named new) }
+    ensures { (lang : Text) (unit : Unit) → IsKeepableUnit lang unit → (old new : NamedRows) → WritesNumberedUnit lang unit old new
+        → StandForAll old → StandForAll new }
 {}
 
 /// The commit of an act on a unit, where the rules go on to hold, keeps an office's database one.
@@ -79,37 +79,37 @@ pub fn acts_keep_files()
 
 /// The commit of a role, where the rules go on to hold, keeps an office's database one.
 pub fn roles_keep_files()
-    ensures { (old new : Database) (row : Record) (name : Text) (role : Role) → MakesRole row name role old new → AreOfficeTables new
+    ensures { (old new : Database) (row : Record) (name : Text) (role : Role) → MakesRole row name role (rows_named old) (rows_named new) → AreOfficeTables new
         → IsKeepable row → is_name name ≡ true → IsUtf8 name → KeepsRules (meaning_in (rows_named new))
         → IsOfficeDatabase old → IsOfficeDatabase new }
 {}
 
 /// The commit of a policy, where the rules go on to hold, keeps an office's database one.
 pub fn policies_keep_files()
-    ensures { (old new : Database) (row : Record) (policy : Policy) → MakesPolicy row policy old new → AreOfficeTables new
+    ensures { (old new : Database) (row : Record) (policy : Policy) → MakesPolicy row policy (rows_named old) (rows_named new) → AreOfficeTables new
         → IsKeepable row → KeepsRules (meaning_in (rows_named new)) → IsOfficeDatabase old → IsOfficeDatabase new }
 {}
 
 /// The commit of a language, where the rules go on to hold, keeps an office's database one.
 pub fn languages_keep_files()
-    ensures { (old new : Database) (row : Record) (lang : Text) (language : Language) (plan : Plan) → MakesLanguage row lang language plan old new
+    ensures { (old new : Database) (row : Record) (lang : Text) (language : Language) (plan : Plan) → MakesLanguage row lang language plan (rows_named old) (rows_named new)
         → AreOfficeTables new → IsKeepable row → IsKeepableLanguage lang language.header → IsHeaderEntry language.header
         → AreKeepableUnits lang plan.units → KeepsRules (meaning_in (rows_named new)) → IsOfficeDatabase old → IsOfficeDatabase new }
 {}
 
 /// The commit of a template with the units that are fitted to it, where the rules go on to hold, keeps an office's database one.
 pub fn templates_keep_files()
-    ensures { (old new : Database) (row : Record) (entries : List Entry) (plans : List LanguagePlan) → MakesTemplate row entries plans old new
+    ensures { (old new : Database) (row : Record) (entries : List Entry) (plans : List LanguagePlan) → MakesTemplate row entries plans (rows_named old) (rows_named new)
         → AreOfficeTables new → IsKeepable row → AreKeepableEntries entries → AreKeepablePlans plans
         → KeepsRules (meaning_in (rows_named new)) → IsOfficeDatabase old → IsOfficeDatabase new }
 {}
 
 /// An opening of trees that list the tables of a layout reads that schema, however the texts are spelled.
 pub fn listed_schemas_are_read()
-    ensures { (layout : Layout) (db : Database) → IsDatabase db → IsSound (schema_of layout) db.trees → db.schema ≡ schema_of layout }
+    ensures { (layout : Layout for_main) (db : Database) → IsDatabase db → IsSound (schema_of layout) db.trees → db.schema ≡ schema_of layout }
 {}
 
 /// The rows of the demo are an office's.
 pub fn demos_are_rows()
-    ensures { (old new : Database) → MakesDemo old new → HoldsOfficeRows (rows_named new) }
+    ensures { (old new : NamedRows) → MakesDemoIn old new → HoldsOfficeRows new }
 {}

@@ -12,7 +12,7 @@ ghost use Rattle.std.specs.FinMap as finite;
 ghost use Rattle.office_maps.specs.Rows as maps_read;
 ghost use Rattle.sql_meaning.specs.Values as values;
 
-use deliveries::{Change, DomainChange, Language};
+use deliveries::{Change, DomainChange, Language, Tally};
 use office_maps::OfficeMaps;
 use po_text::{Catalogue, Entry, Items};
 use sql_columns::rule_from;
@@ -115,7 +115,8 @@ pub(crate) fn put_template(
     ensures unread { IfErr result (λ failure. failure.lost ≡ Disk → ¬ IsTemplate rows.now) }
 {
     let template = template_in(alloc, rows)?;
-    let bare = DomainChange::NewTemplate(template, Vec::new(alloc));
+    let tallies = Vec::new(alloc);
+    let bare = DomainChange::NewTemplate(template, Vec::new(alloc), tallies);
     maps.change(alloc, Change::InDomain(Name::main_domain(), bare))?;
     Ok(())
 }
@@ -156,7 +157,7 @@ fn put_language(alloc: Global, maps: &mut OfficeMaps, row: &Row) -> Result<(), F
             obsolete: 0,
         },
     };
-    let loaded = DomainChange::NewLanguage(lang, language, plan);
+    let loaded = DomainChange::NewLanguage(lang, language, plan, Tally::none());
     maps.change(alloc, Change::InDomain(Name::main_domain(), loaded))?;
     Ok(())
 }

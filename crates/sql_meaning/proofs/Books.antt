@@ -4,7 +4,6 @@ use Rattle.std.specs.Cmp.Lexicographic.{nat_list_cmp_total}
 use Rattle.std.specs.FinMap as maps
 use Rattle.std.specs.FinMap.{slice_cmp-IsAntisymmetric, nat_cmp-IsAntisymmetric, IsAntisymmetric}
 use Rattle.sqlite.specs.Order.{Row}
-use Rattle.sqlite.specs.Effect.{Database}
 use Rattle.sql_laws.specs.RowMaps.{OneEach, IsFound}
 use Rattle.po_text.specs.Texts.{Text, text_cmp}
 use Rattle.request_book.specs.Acts.{IsNumber}
@@ -14,12 +13,12 @@ use Rattle.request_book.specs.declared.book.Record.{Record}
 use Rattle.sql_columns.specs.Readings.{number_read}
 use Rattle.sql_columns.proofs.Readers.{number_written, number_found}
 use Rattle.sql_schema.specs.Keys.{first_text, columns}
-use Rattle.sql_schema.specs.Inside.{PutsRow, HoldsValues}
+use Rattle.sql_schema.specs.Inside.{PutsIn, HoldsValues}
 use Rattle.sql_meaning.specs.Meaning.{AreNumbered, number_at, recorded_in, book_in}
 use Rattle.sql_meaning.specs.Shown.{shown_record}
 use Rattle.sql_meaning.specs.Cells.{record_cells}
 use Rattle.sql_meaning.proofs.Lookups.{AreOneKey, IsKeyOf, finds, puts, all_read}
-use Rattle.sql_schema.specs.Layouts.{NamedRows, rows_named}
+use Rattle.sql_schema.specs.Layouts.{NamedRows}
 
 -- the order of texts
 pub same_texts : IsAntisymmetric text_cmp
@@ -58,19 +57,19 @@ finds_record tables number found numbered one valid it =
     finds first_text (number_at 1) HasNumber text_cmp nat_list_cmp_total same_texts recorded_in (tables (codes "record")) (number_text number) number (columns (2 ∷ 3 ∷ 4 ∷ [])) shown_record found
     numbered one by_number (number_asked number valid) (λ r is. refl) it
 
-module _ (old new : Database) (r : Record) (valid : IsNumber r.number) (numbered : AreNumbered (rows_named old))
-    (made : PutsRow (codes "record") first_text (HoldsValues (record_cells r)) old new) where
+module _ (old new : NamedRows) (r : Record) (valid : IsNumber r.number) (numbered : AreNumbered old)
+    (made : PutsIn (codes "record") first_text (HoldsValues (record_cells r)) old new) where
   row_is : first_text made.row ≡ number_text r.number
   row_is = ap first_text made.is_row.1
 
   row_numbered : HasNumber made.row
   row_numbered = subst IsSome (sym (number_found (first_text made.row) r.number valid row_is)) refl
 
-  pub numbered_still : AreNumbered (rows_named new)
-  numbered_still = all_read first_text (number_at 1) HasNumber (rows_named old (codes "record")) (rows_named new (codes "record")) made.row numbered row_numbered made.put
+  pub numbered_still : AreNumbered new
+  numbered_still = all_read first_text (number_at 1) HasNumber (old (codes "record")) (new (codes "record")) made.row numbered row_numbered made.put
 
-  pub book_put : OneEach first_text (rows_named old (codes "record")) → book_in (rows_named new) ≡ with_record (book_in (rows_named old)) r
+  pub book_put : OneEach first_text (old (codes "record")) → book_in new ≡ with_record (book_in old) r
   book_put one =
-      puts first_text (number_at 1) HasNumber text_cmp nat_list_cmp_total same_texts recorded_in (rows_named old (codes "record")) (rows_named new (codes "record")) made.row numbered row_numbered one by_number made.put
-      ∙ ap (λ n. maps.insert (book_in (rows_named old)) n (recorded_in made.row)) (number_is made.row r.number valid row_is)
-      ∙ ap (λ (v : Recorded). maps.insert (book_in (rows_named old)) r.number v) (ap recorded_in made.is_row.1)
+      puts first_text (number_at 1) HasNumber text_cmp nat_list_cmp_total same_texts recorded_in (old (codes "record")) (new (codes "record")) made.row numbered row_numbered one by_number made.put
+      ∙ ap (λ n. maps.insert (book_in old) n (recorded_in made.row)) (number_is made.row r.number valid row_is)
+      ∙ ap (λ (v : Recorded). maps.insert (book_in old) r.number v) (ap recorded_in made.is_row.1)

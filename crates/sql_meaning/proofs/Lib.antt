@@ -9,6 +9,8 @@ pub mod Team
 pub mod MapEntries
 pub mod RowsInTurn
 pub mod StoredKeys
+pub mod OfficeRows
+pub mod RowsByName
 pub mod UnitValues
 pub mod WrittenRows
 pub mod Suggestions
@@ -27,3 +29,12 @@ pub mod RowsPut
 pub mod Openings
 pub mod WritableUnits
 pub mod CommitLaws
+pub mod SameRows
+pub mod DomainChanges
+pub mod DomainUnits
+pub mod WrittenAnew
+pub mod DomainClears
+pub mod DomainColumns
+pub mod DomainKeys
+pub mod MainRows
+pub mod DomainAdds

@@ -3,7 +3,6 @@
 use Rattle.std.proofs.Common.{◌≡◌, ◌≢◌, ℕ, pos, false, [], ◌∷◌, map, filter, codes, None, unwrap_or, refl, ap, subst, ◌∙◌, List}
 use Rattle.std.specs.FinMap as maps
 use Rattle.std.specs.Ordering.{int_cmp}
-use Rattle.sqlite.specs.Effect.{Database}
 use Rattle.sqlite_rules.specs.Lists.{Has}
 use Rattle.sql_laws.specs.RowMaps.{map_of}
 use Rattle.po_text.specs.declared.entry.Entry.{Entry}
@@ -26,10 +25,11 @@ use Rattle.sql_schema.specs.Creation.{HaveNoRows}
 use Rattle.sql_schema.specs.Keys.{first_text, first_texts, is_on_unit}
 use Rattle.sql_meaning.specs.Values.{integer_at, role_at}
 use Rattle.sql_meaning.specs.Meaning.{number_at, recorded_in, book_in, team_in, policy_of, policy_in, entry_of_row, template_in, header_of_row, headers_in, place_of_row, unit_of_row, units_in, suggestion_of_row, suggestions_in, meaning_in, AreNumbered}
-use Rattle.sql_meaning.specs.Beginnings.{PutsMember, closed_row, PutsClosedPolicy, MakesOpening, hello_row, PutsDemoEntry, PutsDemoLanguage, PutsDemoUnit, MakesDemo, MeansOnly}
+use Rattle.sql_meaning.specs.Beginnings.{closed_row, hello_row}
 use Rattle.sql_meaning.proofs.RowsPut.{no_entries, one_of_none, team_put, one_member_each, policy_first, template_first, header_put, unit_put}
-use Rattle.sql_schema.specs.Layouts.{NamedRows, rows_named}
+use Rattle.sql_schema.specs.Layouts.{NamedRows}
 use Rattle.sql_schema.proofs.Layouts.{names_differ}
+use Rattle.sql_meaning.specs.BeginningRows.{PutsMemberIn, PutsClosedPolicyIn, MakesOpeningIn, PutsDemoEntryIn, PutsDemoLanguageIn, PutsDemoUnitIn, MakesDemoIn, MeansOnly}
 
 -- ---- no row
 
@@ -77,38 +77,38 @@ means_nothing tables empty =
 
 -- ---- an opening
 
-module _ (name : Text) (made first last : Database) (empty : HaveNoRows (rows_named made)) (member : PutsMember name (pos 3) made first) (policy : PutsClosedPolicy first last) where
-  early : (t : List ℕ) → t ≢ codes "team" → rows_named first t ≡ []
+module _ (name : Text) (made first last : NamedRows) (empty : HaveNoRows made) (member : PutsMemberIn name (pos 3) made first) (policy : PutsClosedPolicyIn first last) where
+  early : (t : List ℕ) → t ≢ codes "team" → first t ≡ []
   early t differ = member.others t differ ∙ empty t
 
-  late : (t : List ℕ) → t ≢ codes "policy" → rows_named last t ≡ rows_named first t
+  late : (t : List ℕ) → t ≢ codes "policy" → last t ≡ first t
   late t differ = policy.others t differ
 
-  none_there : (t : List ℕ) → t ≢ codes "team" → t ≢ codes "policy" → rows_named last t ≡ []
+  none_there : (t : List ℕ) → t ≢ codes "team" → t ≢ codes "policy" → last t ≡ []
   none_there t no_team no_policy = late t no_policy ∙ early t no_team
 
-  manager : team_in (rows_named last) ≡ maps.insert maps.empty name Manager
+  manager : team_in last ≡ maps.insert maps.empty name Manager
   manager =
       let none = empty (codes "team") in
       ap (map_of text_cmp first_text (role_at 2)) (late (codes "team") (names_differ refl))
-      ∙ team_put made first name Manager (pos 3) refl (one_of_none first_text (rows_named made (codes "team")) none) member
-      ∙ ap (λ m. maps.insert m name Manager) (no_members (rows_named made) none)
+      ∙ team_put made first name Manager (pos 3) refl (one_of_none first_text (made (codes "team")) none) member
+      ∙ ap (λ m. maps.insert m name Manager) (no_members made none)
 
-  closed : policy_in (rows_named last) ≡ closed_policy
+  closed : policy_in last ≡ closed_policy
   closed = policy_first first last closed_row (early (codes "policy") (names_differ refl)) refl policy
 
   opened : MeansOnly (opening name) made last
   opened =
-      let template = no_template (rows_named last) (none_there (codes "template") (names_differ refl) (names_differ refl)) in
-      let headers = no_headers (rows_named last) (none_there (codes "language") (names_differ refl) (names_differ refl)) in
-      let units = no_units (rows_named last) (none_there (codes "unit") (names_differ refl) (names_differ refl)) in
+      let template = no_template last (none_there (codes "template") (names_differ refl) (names_differ refl)) in
+      let headers = no_headers last (none_there (codes "language") (names_differ refl) (names_differ refl)) in
+      let units = no_units last (none_there (codes "unit") (names_differ refl) (names_differ refl)) in
       let records = none_there (codes "record") (names_differ refl) (names_differ refl) in
-      let book = no_records (rows_named last) records in (
+      let book = no_records last records in (
         λ i. record { office = main_alone (record { template = template i; headers = headers i; units = units i; team = manager i; policy = closed i }); book = book i },
-        no_numbers (rows_named last) records,
+        no_numbers last records,
       )
 
-pub opens : (name : Text) (old new : Database) → MakesOpening name old new → MeansOnly (opening name) old new
+pub opens : (name : Text) (old new : NamedRows) → MakesOpeningIn name old new → MeansOnly (opening name) old new
 opens name old new (made, empty, (first, member, policy)) = opened name made first new empty member policy
 
 -- ---- the demo
@@ -139,75 +139,75 @@ hello_back =
       obsolete = false;
     }
 
-module _ (made one two closed hello german last : Database) (empty : HaveNoRows (rows_named made)) (root : PutsMember (codes "root") (pos 3) made one)
-    (ann : PutsMember (codes "ann") (pos 1) one two) (policy : PutsClosedPolicy two closed) (entry : PutsDemoEntry closed hello) (language : PutsDemoLanguage hello german)
-    (unit : PutsDemoUnit german last) where
+module _ (made one two closed hello german last : NamedRows) (empty : HaveNoRows made) (root : PutsMemberIn (codes "root") (pos 3) made one)
+    (ann : PutsMemberIn (codes "ann") (pos 1) one two) (policy : PutsClosedPolicyIn two closed) (entry : PutsDemoEntryIn closed hello) (language : PutsDemoLanguageIn hello german)
+    (unit : PutsDemoUnitIn german last) where
   -- which trees are as they were behind the team, the template, and all
-  teamed : (t : List ℕ) → t ≢ codes "team" → rows_named two t ≡ []
+  teamed : (t : List ℕ) → t ≢ codes "team" → two t ≡ []
   teamed t differ =
       ann.others t differ ∙ root.others t differ ∙ empty t
 
-  ruled : (t : List ℕ) → t ≢ codes "policy" → t ≢ codes "template" → rows_named hello t ≡ rows_named two t
+  ruled : (t : List ℕ) → t ≢ codes "policy" → t ≢ codes "template" → hello t ≡ two t
   ruled t no_policy no_template =
       entry.others t no_template ∙ policy.others t no_policy
 
-  filled : (t : List ℕ) → t ≢ codes "language" → t ≢ codes "unit" → rows_named last t ≡ rows_named hello t
+  filled : (t : List ℕ) → t ≢ codes "language" → t ≢ codes "unit" → last t ≡ hello t
   filled t no_language no_unit =
       unit.others t no_unit ∙ language.others t no_language
 
-  team : team_in (rows_named last) ≡ demo.team
+  team : team_in last ≡ demo.team
   team =
       let none = empty (codes "team") in
-      let each = one_of_none first_text (rows_named made (codes "team")) none in
+      let each = one_of_none first_text (made (codes "team")) none in
       ap (map_of text_cmp first_text (role_at 2)) (filled (codes "team") (names_differ refl) (names_differ refl) ∙ ruled (codes "team") (names_differ refl) (names_differ refl))
       ∙ team_put one two (codes "ann") Translator (pos 1) refl (one_member_each made one (codes "root") Manager (pos 3) refl each root) ann
       ∙ ap (λ m. maps.insert m (codes "ann") Translator)
-      (team_put made one (codes "root") Manager (pos 3) refl each root ∙ ap (λ m. maps.insert m (codes "root") Manager) (no_members (rows_named made) none))
+      (team_put made one (codes "root") Manager (pos 3) refl each root ∙ ap (λ m. maps.insert m (codes "root") Manager) (no_members made none))
 
-  policy_is : policy_in (rows_named last) ≡ closed_policy
+  policy_is : policy_in last ≡ closed_policy
   policy_is =
       ap (λ rows. unwrap_or (maps.get (map_of int_cmp (integer_at 0) policy_of rows) (pos 1)) closed_policy)
       (filled (codes "policy") (names_differ refl) (names_differ refl) ∙ entry.others (codes "policy") (names_differ refl))
       ∙ policy_first two closed closed_row (teamed (codes "policy") (names_differ refl)) refl policy
 
-  template : template_in (rows_named last) ≡ demo_domain.template
+  template : template_in last ≡ demo_domain.template
   template =
       ap (λ rows. maps.values (map_of int_cmp (integer_at 0) entry_of_row rows)) (filled (codes "template") (names_differ refl) (names_differ refl))
       ∙ template_first closed hello hello_row
       (policy.others (codes "template") (names_differ refl) ∙ teamed (codes "template") (names_differ refl)) entry
       ∙ ap (λ e. e ∷ []) hello_back
 
-  headers : headers_in (rows_named last) ≡ demo_domain.headers
+  headers : headers_in last ≡ demo_domain.headers
   headers =
       let none = ruled (codes "language") (names_differ refl) (names_differ refl) ∙ teamed (codes "language") (names_differ refl) in
       ap (map_of text_cmp first_text header_of_row) (unit.others (codes "language") (names_differ refl))
-      ∙ header_put hello german (codes "de") (plain_entry [] demo_header) _ (codes "nplurals=2; plural=n != 1;") header_fits refl (one_of_none first_text (rows_named hello (codes "language")) none) language
-      ∙ ap (λ m. maps.insert m (codes "de") (plain_entry [] demo_header)) (no_headers (rows_named hello) none)
+      ∙ header_put hello german (codes "de") (plain_entry [] demo_header) _ (codes "nplurals=2; plural=n != 1;") header_fits refl (one_of_none first_text (hello (codes "language")) none) language
+      ∙ ap (λ m. maps.insert m (codes "de") (plain_entry [] demo_header)) (no_headers hello none)
 
   -- before the unit's row
-  before : (t : List ℕ) → t ≢ codes "team" → t ≢ codes "policy" → t ≢ codes "template" → t ≢ codes "language" → rows_named german t ≡ []
+  before : (t : List ℕ) → t ≢ codes "team" → t ≢ codes "policy" → t ≢ codes "template" → t ≢ codes "language" → german t ≡ []
   before t no_team no_policy no_template no_language =
       language.others t no_language ∙ ruled t no_policy no_template ∙ teamed t no_team
 
-  units : units_in (rows_named last) ≡ demo_domain.units
+  units : units_in last ≡ demo_domain.units
   units =
       let none = before (codes "unit") (names_differ refl) (names_differ refl) (names_differ refl) (names_differ refl) in
-      let suggestions = no_suggestions (rows_named german) (codes "de") (codes "Hello") (before (codes "suggestion") (names_differ refl) (names_differ refl) (names_differ refl) (names_differ refl)) in
-      unit_put german last (codes "de") demo_unit hello_strings none_previous suggestions (one_of_none first_texts (rows_named german (codes "unit")) none) unit
-      ∙ ap (λ m. maps.insert m (codes "de", demo_unit.key) demo_unit) (no_units (rows_named german) none)
+      let suggestions = no_suggestions german (codes "de") (codes "Hello") (before (codes "suggestion") (names_differ refl) (names_differ refl) (names_differ refl) (names_differ refl)) in
+      unit_put german last (codes "de") demo_unit hello_strings none_previous suggestions (one_of_none first_texts (german (codes "unit")) none) unit
+      ∙ ap (λ m. maps.insert m (codes "de", demo_unit.key) demo_unit) (no_units german none)
 
-  records : rows_named last (codes "record") ≡ []
+  records : last (codes "record") ≡ []
   records =
       filled (codes "record") (names_differ refl) (names_differ refl) ∙ ruled (codes "record") (names_differ refl) (names_differ refl) ∙ teamed (codes "record") (names_differ refl)
 
   demo_made : MeansOnly demo made last
   demo_made =
-      let book = no_records (rows_named last) records in (
+      let book = no_records last records in (
         λ i. record { office = main_alone (record { template = template i; headers = headers i; units = units i; team = team i; policy = policy_is i }); book = book i },
-        no_numbers (rows_named last) records,
+        no_numbers last records,
       )
 
-pub opens_demo : (old new : Database) → MakesDemo old new → MeansOnly demo old new
+pub opens_demo : (old new : NamedRows) → MakesDemoIn old new → MeansOnly demo old new
 opens_demo old new (made, empty, ((two, (one, root, ann), (closed, policy, (hello, entry, (german, language, unit)))))) =
     demo_made made one two closed hello german new empty root ann policy entry language unit
 

@@ -10,7 +10,7 @@ use Rattle.sql_schema.specs.Keys.{row_number}
 use Rattle.sql_schema.proofs.RowNumbers.{one_row_number}
 use Rattle.sql_meaning.specs.Values.{integer_of, integer_at}
 
-integer_is : (v : Value) → is_int v ≡ true → v ≡ Int (integer_of v)
+pub integer_is : (v : Value) → is_int v ≡ true → v ≡ Int (integer_of v)
 integer_is (Int n) e = refl
 integer_is Null e = absurd cc
 integer_is (Real x) e = absurd cc

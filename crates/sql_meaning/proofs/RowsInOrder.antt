@@ -10,20 +10,15 @@ use Rattle.std.proofs.lemmas.Map.Keys.{IsDistinct-head, IsDistinct-tail}
 use Rattle.std.specs.FinMap as maps
 use Rattle.std.specs.FinMap.{int_cmp-IsAntisymmetric, is_sorted, entries-from_sorted, get-from_sorted, get-from_entries}
 use Rattle.std.specs.FinMap.Entries.{below_all}
-use Rattle.sqlite.specs.declared.types.Value.TheVariants.{Int}
 use Rattle.sqlite.specs.Order.{Row, column, value_cmp}
 use Rattle.sqlite_value.proofs.OrderLemmas.{value_cmp-Int}
 use Rattle.sqlite_trees.proofs.ListLemmas.{map-map}
-use Rattle.sqlite_rules.specs.Lists.{Has}
 use Rattle.sql_laws.specs.RowMaps.{IsFound}
 use Rattle.sql_laws.proofs.RowMaps.{get-found}
 use Rattle.sql_schema.specs.Inside.{IsInOrder}
 use Rattle.sql_meaning.specs.Values.{integer_at}
 use Rattle.sql_meaning.proofs.ShownMaps.{Answers}
-
--- a column holds integers
-abbrev pub HoldsIntegers : ℕ → List Row → Type 0
-HoldsIntegers place rows = (row : Row) → Has rows row → column row place ≡ Int (integer_at place row)
+use Rattle.sql_meaning.specs.RowKeys.{HoldsIntegers}
 
 less_is : (o : Ordering) → is_lt o ≡ true → o ≡ Less
 less_is Less e = refl

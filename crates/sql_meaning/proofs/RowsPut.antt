@@ -7,7 +7,6 @@ use Rattle.std.specs.FinMap as maps
 use Rattle.std.specs.FinMap.{IsAntisymmetric, int_cmp-IsAntisymmetric}
 use Rattle.sqlite.specs.declared.types.Value.TheVariants.{Int, Text as Words}
 use Rattle.sqlite.specs.Order.{Row}
-use Rattle.sqlite.specs.Effect.{Database}
 use Rattle.sqlite_rules.specs.Lists.{Has}
 use Rattle.sql_laws.specs.RowMaps.{OneEach, IsPut, map_of}
 use Rattle.sql_laws.proofs.RowMaps.{map_of-put, one_each_put}
@@ -26,15 +25,15 @@ use Rattle.sql_columns.specs.Written.{ArePrevious, IsHeaderEntry, header_text}
 use Rattle.sql_columns.proofs.Keys.{parts_of_text}
 use Rattle.sql_columns.proofs.Readers.{header_found}
 use Rattle.sql_schema.specs.Keys.{text_at, first_text, first_texts, row_number, has_text, is_on_unit}
-use Rattle.sql_schema.specs.Inside.{PutsRow, HoldsValues}
+use Rattle.sql_schema.specs.Inside.{PutsIn, HoldsValues}
 use Rattle.sql_meaning.specs.Cells.{unit_cells}
 use Rattle.sql_meaning.specs.Values.{integer_at, role_at, texts_at, vote_at}
 use Rattle.sql_meaning.specs.Meaning.{number_at, team_in, policy_of, policy_in, entry_of_row, template_in, header_of_row, headers_in, place_of_row, unit_of_row, units_in, suggestions_in}
 use Rattle.sql_meaning.proofs.MapEntries.{map_of-put_agreeing}
 use Rattle.sql_meaning.proofs.Units.{by_place}
 use Rattle.sql_meaning.proofs.UnitValues.{unit_read_back}
-use Rattle.sql_schema.specs.Layouts.{rows_named}
 use Rattle.sql_schema.proofs.Layouts.{names_differ}
+use Rattle.sql_schema.specs.Layouts.{NamedRows}
 
 -- ---- the first row of a table
 
@@ -67,35 +66,35 @@ role_back Translator n e = let is : pos 1 ≡ n = cc in ap (λ m. role_at 0 (Int
 role_back Reviewer n e = let is : pos 2 ≡ n = cc in ap (λ m. role_at 0 (Int m ∷ [])) (sym is)
 role_back Manager n e = let is : pos 3 ≡ n = cc in ap (λ m. role_at 0 (Int m ∷ [])) (sym is)
 
-module _ (old new : Database) (name : Text) (role : Role) (n : ℤ) (written : role_number role ≡ Some n) (one : OneEach first_text (rows_named old (codes "team")))
-    (made : PutsRow (codes "team") first_text (HoldsValues (Words name ∷ Int n ∷ [])) old new) where
-  pub team_put : team_in (rows_named new) ≡ maps.insert (team_in (rows_named old)) name role
+module _ (old new : NamedRows) (name : Text) (role : Role) (n : ℤ) (written : role_number role ≡ Some n) (one : OneEach first_text (old (codes "team")))
+    (made : PutsIn (codes "team") first_text (HoldsValues (Words name ∷ Int n ∷ [])) old new) where
+  pub team_put : team_in new ≡ maps.insert (team_in old) name role
   team_put =
-      map_of-put text_cmp text_total text_IsAntisymmetric first_text (role_at 2) (rows_named old (codes "team")) (rows_named new (codes "team")) made.row one made.put
-      ∙ ap (λ row. maps.insert (team_in (rows_named old)) (first_text row) (role_at 2 row)) made.is_row.1
-      ∙ ap (maps.insert (team_in (rows_named old)) name) (role_back role n written)
+      map_of-put text_cmp text_total text_IsAntisymmetric first_text (role_at 2) (old (codes "team")) (new (codes "team")) made.row one made.put
+      ∙ ap (λ row. maps.insert (team_in old) (first_text row) (role_at 2 row)) made.is_row.1
+      ∙ ap (maps.insert (team_in old) name) (role_back role n written)
 
-  pub one_member_each : OneEach first_text (rows_named new (codes "team"))
-  one_member_each = one_each_put text_cmp text_total text_IsAntisymmetric first_text (role_at 2) (rows_named old (codes "team")) (rows_named new (codes "team")) made.row one made.put
+  pub one_member_each : OneEach first_text (new (codes "team"))
+  one_member_each = one_each_put text_cmp text_total text_IsAntisymmetric first_text (role_at 2) (old (codes "team")) (new (codes "team")) made.row one made.put
 
 -- ---- policy
 
-pub policy_first : (old new : Database) (cells : Row) → rows_named old (codes "policy") ≡ [] → integer_at 0 cells ≡ pos 1 → PutsRow (codes "policy") row_number (λ row. row ≡ cells) old new
-    → policy_in (rows_named new) ≡ policy_of cells
+pub policy_first : (old new : NamedRows) (cells : Row) → old (codes "policy") ≡ [] → integer_at 0 cells ≡ pos 1 → PutsIn (codes "policy") row_number (λ row. row ≡ cells) old new
+    → policy_in new ≡ policy_of cells
 policy_first old new cells none at_one made =
     ap (λ m. unwrap_or (maps.get m (pos 1)) closed_policy)
-    (first_row int_cmp int_cmp_total int_cmp-IsAntisymmetric row_number (integer_at 0) policy_of (rows_named old (codes "policy")) (rows_named new (codes "policy")) made.row none made.put
+    (first_row int_cmp int_cmp_total int_cmp-IsAntisymmetric row_number (integer_at 0) policy_of (old (codes "policy")) (new (codes "policy")) made.row none made.put
     ∙ ap (λ row. maps.insert maps.empty (integer_at 0 row) (policy_of row)) made.is_row
     ∙ ap (λ k. maps.insert maps.empty k (policy_of cells)) at_one)
     ∙ ap (λ o. unwrap_or o closed_policy) (maps.get-insert int_cmp_total maps.empty (pos 1) (policy_of cells) (pos 1))
 
 -- ---- template
 
-pub template_first : (old new : Database) (cells : Row) → rows_named old (codes "template") ≡ [] → PutsRow (codes "template") row_number (λ row. row ≡ cells) old new
-    → template_in (rows_named new) ≡ entry_of_row cells ∷ []
+pub template_first : (old new : NamedRows) (cells : Row) → old (codes "template") ≡ [] → PutsIn (codes "template") row_number (λ row. row ≡ cells) old new
+    → template_in new ≡ entry_of_row cells ∷ []
 template_first old new cells none made =
     ap maps.values
-    (first_row int_cmp int_cmp_total int_cmp-IsAntisymmetric row_number (integer_at 0) entry_of_row (rows_named old (codes "template")) (rows_named new (codes "template")) made.row none made.put
+    (first_row int_cmp int_cmp_total int_cmp-IsAntisymmetric row_number (integer_at 0) entry_of_row (old (codes "template")) (new (codes "template")) made.row none made.put
     ∙ ap (λ row. maps.insert maps.empty (integer_at 0 row) (entry_of_row row)) made.is_row)
     ∙ only_value (integer_at 0 cells) (entry_of_row cells)
   where
@@ -104,26 +103,26 @@ template_first old new cells none made =
 
 -- ---- language
 
-pub header_put : (old new : Database) (lang : Text) (header : Entry) (column rule : Text) → IsHeaderEntry header → column ≡ header_text header → OneEach first_text (rows_named old (codes "language"))
-    → PutsRow (codes "language") first_text (HoldsValues (Words lang ∷ Words column ∷ Words rule ∷ [])) old new → headers_in (rows_named new) ≡ maps.insert (headers_in (rows_named old)) lang header
+pub header_put : (old new : NamedRows) (lang : Text) (header : Entry) (column rule : Text) → IsHeaderEntry header → column ≡ header_text header → OneEach first_text (old (codes "language"))
+    → PutsIn (codes "language") first_text (HoldsValues (Words lang ∷ Words column ∷ Words rule ∷ [])) old new → headers_in new ≡ maps.insert (headers_in old) lang header
 header_put old new lang header column rule fits written one made =
-    map_of-put text_cmp text_total text_IsAntisymmetric first_text header_of_row (rows_named old (codes "language")) (rows_named new (codes "language")) made.row one made.put
-    ∙ ap (λ row. maps.insert (headers_in (rows_named old)) (first_text row) (header_of_row row)) made.is_row.1
-    ∙ ap (λ o. maps.insert (headers_in (rows_named old)) lang (unwrap_or o (plain_entry [] []))) (header_found column header fits written)
+    map_of-put text_cmp text_total text_IsAntisymmetric first_text header_of_row (old (codes "language")) (new (codes "language")) made.row one made.put
+    ∙ ap (λ row. maps.insert (headers_in old) (first_text row) (header_of_row row)) made.is_row.1
+    ∙ ap (λ o. maps.insert (headers_in old) lang (unwrap_or o (plain_entry [] []))) (header_found column header fits written)
 
 -- ---- unit
 
 -- the row of a unit whose suggestions are those that stand there already
-module _ (old new : Database) (lang : Text) (unit : Unit) (strings : HasStrings unit.key) (previous : ArePrevious unit.previous)
-    (suggested : suggestions_in (rows_named old) lang (key_text unit.key) ≡ unit.suggestions) (one : OneEach first_texts (rows_named old (codes "unit")))
-    (made : PutsRow (codes "unit") first_texts (HoldsValues (unit_cells lang unit)) old new) where
-  same_suggestions : rows_named new (codes "suggestion") ≡ rows_named old (codes "suggestion")
+module _ (old new : NamedRows) (lang : Text) (unit : Unit) (strings : HasStrings unit.key) (previous : ArePrevious unit.previous)
+    (suggested : suggestions_in old lang (key_text unit.key) ≡ unit.suggestions) (one : OneEach first_texts (old (codes "unit")))
+    (made : PutsIn (codes "unit") first_texts (HoldsValues (unit_cells lang unit)) old new) where
+  same_suggestions : new (codes "suggestion") ≡ old (codes "suggestion")
   same_suggestions = made.others (codes "suggestion") (names_differ refl)
 
-  same_votes : rows_named new (codes "vote") ≡ rows_named old (codes "vote")
+  same_votes : new (codes "vote") ≡ old (codes "vote")
   same_votes = made.others (codes "vote") (names_differ refl)
 
-  suggestions_still : (l k : Text) → suggestions_in (rows_named new) l k ≡ suggestions_in (rows_named old) l k
+  suggestions_still : (l k : Text) → suggestions_in new l k ≡ suggestions_in old l k
   suggestions_still l k = λ i.
       maps.values (map_of int_cmp (integer_at 4) (λ row. record {
         number = number_at 1 row;
@@ -132,22 +131,22 @@ module _ (old new : Database) (lang : Text) (unit : Unit) (strings : HasStrings 
         votes = map_of text_cmp (text_at 2) (vote_at 3) (filter (has_text 1 (text_at 1 row)) (same_votes i));
       }) (filter (is_on_unit l k) (same_suggestions i)))
 
-  row_is : unit_of_row (rows_named new) made.row ≡ unit
-  row_is = unit_read_back (rows_named new) lang unit made.row made.is_row strings previous (suggestions_still lang (key_text unit.key) ∙ suggested)
+  row_is : unit_of_row new made.row ≡ unit
+  row_is = unit_read_back new lang unit made.row made.is_row strings previous (suggestions_still lang (key_text unit.key) ∙ suggested)
 
   place_is : place_of_row made.row ≡ (lang, unit.key)
   place_is = ap place_of_row made.is_row.1 ∙ (λ i. (lang, parts_of_text unit.key strings i))
 
-  at_place : IsPut place_of_row (rows_named old (codes "unit")) (rows_named new (codes "unit")) made.row
+  at_place : IsPut place_of_row (old (codes "unit")) (new (codes "unit")) made.row
   at_place = record {
     only = λ x there. elim (made.put.only x there) [ inl is ↦ inl is | inr was ↦ inr (was.0, λ e. was.1 (by_place.back x made.row tt tt e)) ];
     here = made.put.here;
     kept = λ x there differ. made.put.kept x there (λ e. differ (by_place.forth x made.row tt tt e));
   }
 
-  pub unit_put : units_in (rows_named new) ≡ maps.insert (units_in (rows_named old)) (lang, unit.key) unit
+  pub unit_put : units_in new ≡ maps.insert (units_in old) (lang, unit.key) unit
   unit_put =
-      map_of-put_agreeing place_cmp place_total place_IsAntisymmetric place_of_row (unit_of_row (rows_named old)) (unit_of_row (rows_named new)) (rows_named old (codes "unit")) (rows_named new (codes "unit")) made.row
+      map_of-put_agreeing place_cmp place_total place_IsAntisymmetric place_of_row (unit_of_row old) (unit_of_row new) (old (codes "unit")) (new (codes "unit")) made.row
       (λ r s in_r in_s e. one r s in_r in_s (by_place.back r s tt tt e)) at_place
-      (λ x there differ. λ i. record (unit_of_row (rows_named new) x) { suggestions = suggestions_still (text_at 1 x) (text_at 2 x) i })
-      ∙ (λ i. maps.insert (units_in (rows_named old)) (place_is i) (row_is i))
+      (λ x there differ. λ i. record (unit_of_row new x) { suggestions = suggestions_still (text_at 1 x) (text_at 2 x) i })
+      ∙ (λ i. maps.insert (units_in old) (place_is i) (row_is i))

@@ -6,7 +6,6 @@ use Rattle.std.specs.FinMap.{int_cmp-IsAntisymmetric}
 use Rattle.sqlite.specs.Order.{Row}
 use Rattle.sqlite_rules.specs.Lists.{Has}
 use Rattle.sql_laws.specs.RowMaps.{OneEach, IsFound}
-use Rattle.sql_laws.specs.ApartRows.{AreApart}
 use Rattle.po_text.specs.declared.entry.Entry.{Entry}
 use Rattle.units.specs.KeyTexts.{HasStrings}
 use Rattle.units.specs.Units.{key_text, key_cmp, key_of}
@@ -19,7 +18,6 @@ use Rattle.sql_schema.specs.Keys.{second_text, columns}
 use Rattle.sql_meaning.specs.Values.{integer_at}
 use Rattle.sql_meaning.specs.Meaning.{key_at, entry_of_row, template_in}
 use Rattle.sql_meaning.specs.Shown.{shown_entry}
-use Rattle.sql_meaning.proofs.Rowids.{one_rowid}
 use Rattle.sql_meaning.proofs.MapValues.{one_found, none_found, value_of_row, row_has_value}
 use Rattle.sql_schema.specs.Layouts.{NamedRows}
 
@@ -27,7 +25,7 @@ use Rattle.sql_schema.specs.Layouts.{NamedRows}
 same_keys : (a b : Key) → eq_by_cmp key_cmp a b ≡ true → a ≡ b
 same_keys a b tied = ap (λ (p : Place). p.1) (place_IsAntisymmetric ([], a) ([], b) ((Equal-is (key_cmp a b)).0 tied))
 
-module _ (tables : NamedRows) (key : Key) (valid : HasStrings key) (apart : AreApart (tables (codes "template"))) (one : OneEach second_text (tables (codes "template"))) where
+module _ (tables : NamedRows) (key : Key) (valid : HasStrings key) (placed : OneEach (integer_at 0) (tables (codes "template"))) (one : OneEach second_text (tables (codes "template"))) where
   abbrev rows : List Row
   rows = tables (codes "template")
 
@@ -53,7 +51,7 @@ module _ (tables : NamedRows) (key : Key) (valid : HasStrings key) (apart : AreA
   pub finds_entry : (found : Option Row) → IsFound second_text (columns (3 ∷ 4 ∷ 5 ∷ 6 ∷ [])) (tables (codes "template")) (key_text key) found
       → entry_of (template_in tables) key ≡ option_map (shown_entry key) found
   finds_entry (Some shown) it =
-      one_found test (template_in tables) (entry_of_row it.0) (row_has_value int_cmp int_cmp_total (integer_at 0) entry_of_row int_cmp-IsAntisymmetric rows it.0 (one_rowid rows apart) it.1)
+      one_found test (template_in tables) (entry_of_row it.0) (row_has_value int_cmp int_cmp_total (integer_at 0) entry_of_row int_cmp-IsAntisymmetric rows it.0 placed it.1)
       (passes it.0 it.2) (λ entry there h.
       let from = of_row entry there in
       from.2 ∙ ap entry_of_row (one from.0 it.0 from.1 it.1 (text_is from.0 (subst (λ e. test e ≡ true) from.2 h) ∙ sym it.2)))

@@ -12,7 +12,6 @@ use Rattle.sqlite_rules.specs.Lists.{Has}
 use Rattle.sql_laws.specs.RowMaps.{OneEach, IsFound, map_of}
 use Rattle.sql_laws.proofs.RowMaps.{get-is}
 use Rattle.sql_laws.proofs.RemovedRows.{from_mapped, to_mapped, has_permuted}
-use Rattle.sql_schema.proofs.Layouts.{listed}
 
 -- the map that the rows make, inserted one after the other
 abbrev pub inserted : {K X : Type 0} {R : K → K → Ordering} → (Row → K) → (Row → X) → List Row → maps.FinMap R X

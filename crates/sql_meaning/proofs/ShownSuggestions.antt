@@ -26,9 +26,9 @@ use Rattle.sql_meaning.specs.Values.{integer_at}
 use Rattle.sql_meaning.specs.Meaning.{suggestion_of_row, suggestions_in}
 use Rattle.sql_meaning.specs.Shown.{shown_suggestion}
 use Rattle.sql_meaning.proofs.ShownMaps.{map_is}
-use Rattle.sql_meaning.proofs.RowsInOrder.{HoldsIntegers, in_order, in_order_answers, values_in_order}
+use Rattle.sql_meaning.proofs.RowsInOrder.{in_order, in_order_answers, values_in_order}
 use Rattle.sql_schema.specs.Layouts.{NamedRows}
-use Rattle.sql_schema.proofs.Layouts.{listed}
+use Rattle.sql_meaning.specs.RowKeys.{HoldsIntegers}
 
 -- no row stands twice in a table, so integers that tell its rows apart come once
 each_once : (place : ℕ) (rows : List Row) → AreOnce rows → OneEach (integer_at place) rows → IsDistinct int_eq (map (integer_at place) rows)

@@ -30,14 +30,7 @@ use Rattle.sql_meaning.proofs.RowsInTurn.{ArePut}
 use Rattle.sql_meaning.proofs.UnitValues.{numbers_apart, suggestion_read_back, is_on_its_unit, vote_read_back}
 use Rattle.sql_meaning.proofs.WrittenRows.{placed, placed_has, numbered, numbered_rise, numbered_values, suggestion_rows, vote_rows, from_votes, to_votes, AreNumbers, HaveOwnNumbers, one_number}
 use Rattle.sql_schema.specs.Layouts.{NamedRows}
-
--- what the schema asks of suggestions and votes
-pub record AreKeyed (tables : NamedRows) : Type 0 where
-  pub one_number : OneEach first_text (tables (codes "suggestion"))
-  pub one_place : (r s : Row) → Has (tables (codes "suggestion")) r → Has (tables (codes "suggestion")) s → text_at 2 r ≡ text_at 2 s → text_at 3 r ≡ text_at 3 s
-      → integer_at 4 r ≡ integer_at 4 s → r ≡ s
-  pub one_vote : OneEach first_texts (tables (codes "vote"))
-  pub has_suggestion : (v : Row) → Has (tables (codes "vote")) v → (s : Row) × Has (tables (codes "suggestion")) s × (first_text v ≡ first_text s)
+use Rattle.sql_meaning.specs.RowKeys.{AreKeyed}
 
 -- the unit's suggestions went, and the votes on them
 pub record AreCleared (lang key : Text) (old new : NamedRows) : Type 0 where

@@ -2,20 +2,16 @@
 use Rattle.std.proofs.Common.{◌≡◌, codes, filter, sym, ap, ◌∙◌}
 use Rattle.std.proofs.lemmas.Bool.{and_parts}
 use Rattle.sqlite.specs.declared.types.Value.TheVariants.{Int}
-use Rattle.sqlite.specs.Order.{Row, column}
 use Rattle.sqlite.specs.Effect.{Database, IsDatabase}
-use Rattle.sqlite_rules.specs.Edit.{id_in}
 use Rattle.sqlite_rules.proofs.ListLemmas.{has_filtered}
 use Rattle.sql_laws.specs.RowMaps.{OneEach}
-use Rattle.sql_laws.specs.ApartRows.{AreApart}
 use Rattle.sql_laws.proofs.RowMaps.{texts_are_one}
 use Rattle.po_text.specs.Texts.{Text}
 use Rattle.sql_schema.specs.Keys.{text_at, is_on_unit}
 use Rattle.sql_meaning.specs.Values.{integer_of, integer_at}
-use Rattle.sql_meaning.proofs.RowsInOrder.{HoldsIntegers}
-use Rattle.sqlite_rules.specs.Lists.{Has}
-use Rattle.sql_schema.specs.Layouts.{HasLayout, rows_named}
-use Rattle.sql_schema.proofs.TableRows.{suggestion_places, one_place}
+use Rattle.sql_schema.specs.Layouts.{HasLayout, rows_named, NamedRows}
+use Rattle.sql_schema.proofs.TableRows.{suggestion_places}
+use Rattle.sql_meaning.specs.RowKeys.{HoldsIntegers, AreKeyed}
 
 module _ (db : Database) (has : HasLayout db) (sound : IsDatabase db) where
   -- each suggestion has its place
@@ -24,15 +20,13 @@ module _ (db : Database) (has : HasLayout db) (sound : IsDatabase db) where
       let it = suggestion_places db has sound row there in
       it ∙ ap Int (sym (ap integer_of it))
 
-  place_is : (row : Row) → Has (rows_named db (codes "suggestion")) row → id_in (column row 4) ≡ integer_at 4 row
-  place_is row there = sym (ap integer_of (suggestion_places db has sound row there))
-
-  pub one_place_each : AreApart (rows_named db (codes "suggestion")) → (lang key : Text) → OneEach (integer_at 4) (filter (is_on_unit lang key) (rows_named db (codes "suggestion")))
-  one_place_each apart lang key r s in_r in_s e =
-      let of_r = has_filtered (is_on_unit lang key) (rows_named db (codes "suggestion")) r in_r in
-      let of_s = has_filtered (is_on_unit lang key) (rows_named db (codes "suggestion")) s in_s in
+module _ (tables : NamedRows) (keyed : AreKeyed tables) where
+  pub one_place_each : (lang key : Text) → OneEach (integer_at 4) (filter (is_on_unit lang key) (tables (codes "suggestion")))
+  one_place_each lang key r s in_r in_s e =
+      let of_r = has_filtered (is_on_unit lang key) (tables (codes "suggestion")) r in_r in
+      let of_s = has_filtered (is_on_unit lang key) (tables (codes "suggestion")) s in_s in
       let unit_r = and_parts _ _ of_r.1 in
       let unit_s = and_parts _ _ of_s.1 in
       let langs : text_at 2 r ≡ text_at 2 s = texts_are_one (text_at 2 r) lang unit_r.0 ∙ sym (texts_are_one (text_at 2 s) lang unit_s.0) in
       let keys : text_at 3 r ≡ text_at 3 s = texts_are_one (text_at 3 r) key unit_r.1 ∙ sym (texts_are_one (text_at 3 s) key unit_s.1) in
-      one_place db has sound apart r s of_r.0 of_s.0 langs keys (place_is r of_r.0 ∙ e ∙ sym (place_is s of_s.0))
+      keyed.one_place r s of_r.0 of_s.0 langs keys e

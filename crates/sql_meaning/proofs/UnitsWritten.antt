@@ -2,7 +2,6 @@
 use Rattle.std.proofs.Common.{◌≡◌, ◌≢◌, inl, inr, ℕ, [], ◌∷◌, refl, sym, ap, subst, ◌∙◌, codes, List}
 use Rattle.std.specs.FinMap as maps
 use Rattle.sqlite.specs.Order.{Row}
-use Rattle.sqlite.specs.Effect.{Database}
 use Rattle.sqlite_rules.specs.Lists.{Has}
 use Rattle.sql_laws.specs.ApartRows.{IsRemoved}
 use Rattle.sql_laws.specs.RowMaps.{OneEach, IsPut}
@@ -15,21 +14,21 @@ use Rattle.units.specs.Orders.{place_total, place_IsAntisymmetric}
 use Rattle.units.specs.Units.{key_text}
 use Rattle.units.specs.declared.unit.Unit.{Unit}
 use Rattle.sql_schema.specs.Keys.{text_at, first_text, first_texts, is_on_unit}
-use Rattle.sql_schema.specs.Cleared.{IsOn, ClearsUnit}
-use Rattle.sql_schema.specs.Inside.{AreOfficeTables, PutsRow, HoldsValues}
-use Rattle.sql_schema.proofs.TableRows.{one_suggestion, one_unit, one_vote, one_place}
+use Rattle.sql_schema.specs.Cleared.{IsOn}
+use Rattle.sql_schema.specs.Inside.{PutsIn, HoldsValues}
 use Rattle.sql_meaning.specs.Cells.{unit_cells}
 use Rattle.sql_meaning.specs.Meaning.{place_of_row, unit_of_row, units_in, suggestions_in}
 use Rattle.sql_meaning.specs.Written.{PutsSuggestions, WritesUnit}
 use Rattle.sql_meaning.proofs.MapEntries.{map_of-put_agreeing}
 use Rattle.sql_meaning.proofs.RowsInTurn.{ArePut, are_put}
-use Rattle.sql_meaning.proofs.StoredKeys.{one_at_place, has_suggestion}
-use Rattle.sql_meaning.proofs.Suggestions.{AreKeyed, AreCleared, AreFree, suggestions_put, suggestions_kept}
+use Rattle.sql_meaning.proofs.Suggestions.{AreCleared, AreFree, suggestions_put, suggestions_kept}
 use Rattle.sql_meaning.proofs.Units.{by_place}
 use Rattle.sql_meaning.proofs.UnitValues.{unit_read_back}
 use Rattle.sql_meaning.proofs.WrittenRows.{AreNumbers, HaveOwnNumbers, suggestions_spare, suggestions_in_turn, votes_in_turn, suggestions_distinct, votes_distinct, suggestion_rows, vote_rows}
-use Rattle.sql_schema.specs.Layouts.{NamedRows, rows_named}
+use Rattle.sql_schema.specs.Layouts.{NamedRows}
 use Rattle.sql_schema.proofs.Layouts.{names_differ}
+use Rattle.sql_meaning.specs.RowKeys.{AreOfficeRows, AreKeyed}
+use Rattle.sql_meaning.specs.RowChanges.{ClearsIn}
 
 -- A unit that reads back from its rows, and whose suggestions have numbers that no suggestion of another unit has.
 pub record IsWritable (old : NamedRows) (lang : Text) (unit : Unit) : Type 0 where
@@ -47,25 +46,17 @@ pub record KeepsOthers (old new : NamedRows) : Type 0 where
   pub template : new (codes "template") ≡ old (codes "template")
   pub languages : new (codes "language") ≡ old (codes "language")
 
-pub are_keyed : (db : Database) → AreOfficeTables db → AreKeyed (rows_named db)
-are_keyed db ready = record {
-  one_number = one_suggestion db ready.schema ready.sound (ready.tables (codes "suggestion") refl);
-  one_place = one_at_place db ready;
-  one_vote = one_vote db ready.schema ready.sound (ready.tables (codes "vote") refl);
-  has_suggestion = has_suggestion db ready;
-}
-
-module _ (old new : Database) (lang : Text) (unit : Unit) (mid cleared : Database) (put : PutsRow (codes "unit") first_texts (HoldsValues (unit_cells lang unit)) old mid)
-    (clear : ClearsUnit lang (key_text unit.key) mid cleared) (puts : PutsSuggestions lang (key_text unit.key) 0 unit.suggestions cleared new) where
+module _ (old new : NamedRows) (lang : Text) (unit : Unit) (mid cleared : NamedRows) (put : PutsIn (codes "unit") first_texts (HoldsValues (unit_cells lang unit)) old mid)
+    (clear : ClearsIn lang (key_text unit.key) mid cleared) (puts : PutsSuggestions lang (key_text unit.key) 0 unit.suggestions cleared new) where
   -- a table that is none of the three stays, and that of units from its row on
-  clears_spares : (t : List ℕ) → t ≢ codes "suggestion" → t ≢ codes "vote" → rows_named new t ≡ rows_named mid t
+  clears_spares : (t : List ℕ) → t ≢ codes "suggestion" → t ≢ codes "vote" → new t ≡ mid t
   clears_spares t no_suggestion no_vote =
       suggestions_spare t lang (key_text unit.key) 0 unit.suggestions cleared new puts no_suggestion no_vote ∙ clear.others t no_suggestion no_vote
 
-  spares : (t : List ℕ) → t ≢ codes "unit" → t ≢ codes "suggestion" → t ≢ codes "vote" → rows_named new t ≡ rows_named old t
+  spares : (t : List ℕ) → t ≢ codes "unit" → t ≢ codes "suggestion" → t ≢ codes "vote" → new t ≡ old t
   spares t no_unit no_suggestion no_vote = clears_spares t no_suggestion no_vote ∙ put.others t no_unit
 
-  pub keeps_others : KeepsOthers (rows_named old) (rows_named new)
+  pub keeps_others : KeepsOthers old new
   keeps_others = record {
     records = spares (codes "record") (names_differ refl) (names_differ refl) (names_differ refl);
     team = spares (codes "team") (names_differ refl) (names_differ refl) (names_differ refl);
@@ -74,85 +65,85 @@ module _ (old new : Database) (lang : Text) (unit : Unit) (mid cleared : Databas
     languages = spares (codes "language") (names_differ refl) (names_differ refl) (names_differ refl);
   }
 
-  same_units : rows_named new (codes "unit") ≡ rows_named mid (codes "unit")
+  same_units : new (codes "unit") ≡ mid (codes "unit")
   same_units = clears_spares (codes "unit") (names_differ refl) (names_differ refl)
 
-  same_suggestions : rows_named mid (codes "suggestion") ≡ rows_named old (codes "suggestion")
+  same_suggestions : mid (codes "suggestion") ≡ old (codes "suggestion")
   same_suggestions = put.others (codes "suggestion") (names_differ refl)
 
-  same_votes : rows_named mid (codes "vote") ≡ rows_named old (codes "vote")
+  same_votes : mid (codes "vote") ≡ old (codes "vote")
   same_votes = put.others (codes "vote") (names_differ refl)
 
-  are_cleared : AreCleared lang (key_text unit.key) (rows_named old) (rows_named cleared)
+  are_cleared : AreCleared lang (key_text unit.key) old cleared
   are_cleared = record {
-    suggestions = subst (λ rows. IsRemoved (is_on_unit lang (key_text unit.key)) rows (rows_named cleared (codes "suggestion"))) same_suggestions clear.suggestions;
+    suggestions = subst (λ rows. IsRemoved (is_on_unit lang (key_text unit.key)) rows (cleared (codes "suggestion"))) same_suggestions clear.suggestions;
     votes_only = λ v there. let was = clear.votes_only v there in (subst (λ rows. Has rows v) same_votes was.0, λ on. was.1 (moved v on));
-    votes_kept = λ v there out. clear.votes_kept v (subst (λ rows. Has rows v) (sym same_votes) there) (λ (on : IsOn (rows_named mid) lang (key_text unit.key) v).
+    votes_kept = λ v there out. clear.votes_kept v (subst (λ rows. Has rows v) (sym same_votes) there) (λ (on : IsOn mid lang (key_text unit.key) v).
         out (on.0, subst (λ rows. Has rows on.0) same_suggestions on.1, on.2, on.3));
   }
     where
-      moved : (v : Row) → IsOn (rows_named old) lang (key_text unit.key) v → IsOn (rows_named mid) lang (key_text unit.key) v
+      moved : (v : Row) → IsOn old lang (key_text unit.key) v → IsOn mid lang (key_text unit.key) v
       moved v on = (on.0, subst (λ rows. Has rows on.0) (sym same_suggestions) on.1, on.2, on.3)
 
-  module _ (keyed : AreKeyed (rows_named old)) (one : OneEach first_texts (rows_named old (codes "unit"))) (fits : IsWritable (rows_named old) lang unit) where
-    suggestions_are_put : ArePut first_text (suggestion_rows lang (key_text unit.key) 0 unit.suggestions) (rows_named cleared (codes "suggestion")) (rows_named new (codes "suggestion"))
+  module _ (keyed : AreKeyed old) (one : OneEach first_texts (old (codes "unit"))) (fits : IsWritable old lang unit) where
+    suggestions_are_put : ArePut first_text (suggestion_rows lang (key_text unit.key) 0 unit.suggestions) (cleared (codes "suggestion")) (new (codes "suggestion"))
     suggestions_are_put =
-        are_put first_text (λ id cells. refl) (suggestion_rows lang (key_text unit.key) 0 unit.suggestions) (rows_named cleared (codes "suggestion")) (rows_named new (codes "suggestion"))
+        are_put first_text (λ id cells. refl) (suggestion_rows lang (key_text unit.key) 0 unit.suggestions) (cleared (codes "suggestion")) (new (codes "suggestion"))
         (suggestions_distinct lang (key_text unit.key) 0 unit.suggestions fits.numbers fits.own) (suggestions_in_turn lang (key_text unit.key) 0 unit.suggestions cleared new puts)
 
-    votes_are_put : ArePut first_texts (vote_rows unit.suggestions) (rows_named cleared (codes "vote")) (rows_named new (codes "vote"))
+    votes_are_put : ArePut first_texts (vote_rows unit.suggestions) (cleared (codes "vote")) (new (codes "vote"))
     votes_are_put =
-        are_put first_texts (λ id cells. refl) (vote_rows unit.suggestions) (rows_named cleared (codes "vote")) (rows_named new (codes "vote"))
+        are_put first_texts (λ id cells. refl) (vote_rows unit.suggestions) (cleared (codes "vote")) (new (codes "vote"))
         (votes_distinct unit.suggestions fits.numbers fits.own) (votes_in_turn lang (key_text unit.key) 0 unit.suggestions cleared new puts)
 
-    own_suggestions : suggestions_in (rows_named new) lang (key_text unit.key) ≡ unit.suggestions
+    own_suggestions : suggestions_in new lang (key_text unit.key) ≡ unit.suggestions
     own_suggestions =
-        suggestions_put lang (key_text unit.key) unit.suggestions fits.numbers fits.own (rows_named old) (rows_named cleared) (rows_named new) keyed fits.free are_cleared
+        suggestions_put lang (key_text unit.key) unit.suggestions fits.numbers fits.own old cleared new keyed fits.free are_cleared
         suggestions_are_put votes_are_put
 
-    row_is : unit_of_row (rows_named new) put.row ≡ unit
-    row_is = unit_read_back (rows_named new) lang unit put.row put.is_row fits.key fits.previous own_suggestions
+    row_is : unit_of_row new put.row ≡ unit
+    row_is = unit_read_back new lang unit put.row put.is_row fits.key fits.previous own_suggestions
 
     place_is : place_of_row put.row ≡ (lang, unit.key)
     place_is = ap place_of_row put.is_row.1 ∙ (λ i. (lang, parts_of_text unit.key fits.key i))
 
-    at_place : IsPut place_of_row (rows_named old (codes "unit")) (rows_named new (codes "unit")) put.row
+    at_place : IsPut place_of_row (old (codes "unit")) (new (codes "unit")) put.row
     at_place =
-        let it = subst (λ rows. IsPut first_texts (rows_named old (codes "unit")) rows put.row) (sym same_units) put.put in
+        let it = subst (λ rows. IsPut first_texts (old (codes "unit")) rows put.row) (sym same_units) put.put in
         record {
           only = λ x there. elim (it.only x there) [ inl is ↦ inl is | inr was ↦ inr (was.0, λ e. was.1 (by_place.back x put.row tt tt e)) ];
           here = it.here;
           kept = λ x there differ. it.kept x there (λ e. differ (by_place.forth x put.row tt tt e));
         }
 
-    one_each : OneEach place_of_row (rows_named old (codes "unit"))
+    one_each : OneEach place_of_row (old (codes "unit"))
     one_each r s in_r in_s e =
         one r s in_r in_s (by_place.back r s tt tt e)
 
-    others_agree : (x : Row) → Has (rows_named old (codes "unit")) x → (place_of_row x ≡ place_of_row put.row → ⊥) → unit_of_row (rows_named new) x ≡ unit_of_row (rows_named old) x
+    others_agree : (x : Row) → Has (old (codes "unit")) x → (place_of_row x ≡ place_of_row put.row → ⊥) → unit_of_row new x ≡ unit_of_row old x
     others_agree x there differ =
-        let same = suggestions_kept lang (key_text unit.key) unit.suggestions fits.numbers fits.own (rows_named old) (rows_named cleared) (rows_named new) keyed fits.free are_cleared
+        let same = suggestions_kept lang (key_text unit.key) unit.suggestions fits.numbers fits.own old cleared new keyed fits.free are_cleared
         suggestions_are_put votes_are_put (text_at 1 x) (text_at 2 x) (λ is.
         let row_texts : first_texts put.row ≡ lang ∷ key_text unit.key ∷ [] = ap first_texts put.is_row.1 in
         let texts : first_texts x ≡ lang ∷ key_text unit.key ∷ [] = λ i. is.0 i ∷ is.1 i ∷ [] in
         differ (by_place.forth x put.row tt tt (texts ∙ sym row_texts))) in
-        λ i. record (unit_of_row (rows_named new) x) { suggestions = same i }
+        λ i. record (unit_of_row new x) { suggestions = same i }
 
-    pub unit_put : units_in (rows_named new) ≡ maps.insert (units_in (rows_named old)) (lang, unit.key) unit
+    pub unit_put : units_in new ≡ maps.insert (units_in old) (lang, unit.key) unit
     unit_put =
-        map_of-put_agreeing place_cmp place_total place_IsAntisymmetric place_of_row (unit_of_row (rows_named old)) (unit_of_row (rows_named new)) (rows_named old (codes "unit")) (rows_named new (codes "unit")) put.row
+        map_of-put_agreeing place_cmp place_total place_IsAntisymmetric place_of_row (unit_of_row old) (unit_of_row new) (old (codes "unit")) (new (codes "unit")) put.row
         one_each at_place others_agree
-        ∙ (λ i. maps.insert (units_in (rows_named old)) (place_is i) (row_is i))
+        ∙ (λ i. maps.insert (units_in old) (place_is i) (row_is i))
 
-pub writes_unit_over : (old new : Database) (lang : Text) (unit : Unit) → AreKeyed (rows_named old) → OneEach first_texts (rows_named old (codes "unit")) → IsWritable (rows_named old) lang unit
-    → WritesUnit lang unit old new → (units_in (rows_named new) ≡ maps.insert (units_in (rows_named old)) (lang, unit.key) unit) × KeepsOthers (rows_named old) (rows_named new)
+pub writes_unit_over : (old new : NamedRows) (lang : Text) (unit : Unit) → AreKeyed old → OneEach first_texts (old (codes "unit")) → IsWritable old lang unit
+    → WritesUnit lang unit old new → (units_in new ≡ maps.insert (units_in old) (lang, unit.key) unit) × KeepsOthers old new
 writes_unit_over old new lang unit keyed one fits (mid, put, (cleared, clear, puts)) =
     (unit_put old new lang unit mid cleared put clear puts keyed one fits, keeps_others old new lang unit mid cleared put clear puts)
 
-pub writes_unit : (old new : Database) (lang : Text) (unit : Unit) → AreOfficeTables old → IsWritable (rows_named old) lang unit → WritesUnit lang unit old new
-    → (units_in (rows_named new) ≡ maps.insert (units_in (rows_named old)) (lang, unit.key) unit) × KeepsOthers (rows_named old) (rows_named new)
+pub writes_unit : (old new : NamedRows) (lang : Text) (unit : Unit) → AreOfficeRows old → IsWritable old lang unit → WritesUnit lang unit old new
+    → (units_in new ≡ maps.insert (units_in old) (lang, unit.key) unit) × KeepsOthers old new
 writes_unit old new lang unit ready fits written =
-    writes_unit_over old new lang unit (are_keyed old ready) (one_unit old ready.schema ready.sound (ready.tables (codes "unit") refl)) fits written
+    writes_unit_over old new lang unit ready.keyed.suggested ready.keyed.one_unit fits written
 
 -- ---- other tables may differ
 

@@ -8,15 +8,10 @@ use Rattle.std.specs.Ordering.{int_cmp, eq_by_cmp}
 use Rattle.std.specs.Cmp.{Equal-is, eq_by_cmp_equiv, int_cmp_total}
 use Rattle.std.specs.FinMap as maps
 use Rattle.std.specs.FinMap.{get-insert, int_cmp-IsAntisymmetric}
-use Rattle.sqlite.specs.declared.types.Value.TheVariants.{Text as Words}
-use Rattle.sqlite.specs.Order.{Row, column}
-use Rattle.sqlite.specs.Effect.{Database}
-use Rattle.sqlite_value.specs.Keys.{plain, first_key}
-use Rattle.sqlite_schema.specs.Rules.{agree}
+use Rattle.sqlite.specs.Order.{Row}
 use Rattle.sqlite_rules.specs.Lists.{Has}
-use Rattle.sqlite_rules.proofs.ListLemmas.{all_has, some_has, has_left, has_right, has_filtered, has_kept}
+use Rattle.sqlite_rules.proofs.ListLemmas.{all_has, has_left, has_right, has_filtered, has_kept}
 use Rattle.sql_laws.specs.RowMaps.{OneEach, map_of}
-use Rattle.sql_laws.proofs.Comparisons.{texts_compared}
 use Rattle.sql_laws.proofs.RemovedRows.{to_mapped}
 use Rattle.sql_laws.proofs.RowMaps.{get-is, texts_are_one, text_ties_itself}
 use Rattle.po_text.specs.Texts.{Text, text_eq}
@@ -38,19 +33,16 @@ use Rattle.sql_columns.specs.Written.{ArePrevious}
 use Rattle.sql_columns.proofs.Keys.{text_of_parts}
 use Rattle.sql_columns.proofs.Readers.{number_found}
 use Rattle.sql_schema.specs.Keys.{text_at, first_text, has_text, is_on_unit}
-use Rattle.sql_schema.specs.Inside.{AreOfficeTables}
-use Rattle.sql_schema.proofs.TableRows.{suggestion_langs, suggestion_keys, unit_langs, unit_keys, one_unit}
 use Rattle.sql_meaning.specs.Values.{integer_at}
 use Rattle.sql_meaning.specs.Meaning.{number_at, book_in, place_of_row, unit_of_row, units_in, suggestion_of_row, suggestions_in, project_of_rows}
 use Rattle.office_rules.proofs.MainAlone.{project_keeps, numbers_keep}
 use Rattle.sql_meaning.proofs.MapEntries.{entry_of_get}
-use Rattle.sql_meaning.proofs.StoredKeys.{one_at_place}
 use Rattle.sql_meaning.proofs.Suggestions.{AreFree}
 use Rattle.sql_meaning.proofs.Units.{by_place}
 use Rattle.sql_meaning.proofs.UnitsWritten.{IsWritable}
 use Rattle.sql_meaning.proofs.WrittenRows.{AreNumbers, HaveOwnNumbers}
-use Rattle.sql_schema.specs.Layouts.{rows_named}
-use Rattle.sql_schema.proofs.Parents.{suggestion_on_unit}
+use Rattle.sql_schema.specs.Layouts.{NamedRows}
+use Rattle.sql_meaning.specs.RowKeys.{AreOfficeRows}
 
 -- ---- texts that are apart
 
@@ -110,45 +102,25 @@ one_place_of (f ∷ es) d e x apart (inr in_d) (inl is_e) at_d at_e =
 one_place_of (f ∷ es) d e x apart (inr in_d) (inr in_e) at_d at_e =
     one_place_of es d e x (distinct_right (numbers_at f) (flat_map numbers_at es) apart) in_d in_e at_d at_e
 
--- ---- each suggestion is on a unit
-
--- two columns of each row, as a key compares them
-agreed_texts : (u s : Row) (a b p q : Text) → column u 1 ≡ Words a → column s 2 ≡ Words b → column u 2 ≡ Words p → column s 3 ≡ Words q
-    → agree plain (1 ∷ 2 ∷ []) u (2 ∷ 3 ∷ []) s ≡ true → (a ≡ b) × (p ≡ q)
-unfolding first_key
-agreed_texts u s a b p q u1 s2 u2 s3 agreed =
-    let here = rw (u1, s2, u2, s3, texts_compared a b, texts_compared p q) at agreed in
-    let parts = and_parts _ _ here in
-    (texts_are_one a b parts.0, texts_are_one p q (and_parts _ _ parts.1).0)
-
-module _ (db : Database) (ready : AreOfficeTables db) where
-  pub has_unit : (s : Row) → Has (rows_named db (codes "suggestion")) s → (u : Row) × Has (rows_named db (codes "unit")) u × (text_at 1 u ≡ text_at 2 s) × (text_at 2 u ≡ text_at 3 s)
-  has_unit s there =
-      let lang = suggestion_langs db ready.schema ready.sound s there in
-      let key = suggestion_keys db ready.schema ready.sound s there in
-      let it = some_has (λ parent. agree plain (1 ∷ 2 ∷ []) parent (2 ∷ 3 ∷ []) s) (rows_named db (codes "unit")) (suggestion_on_unit db ready.schema ready.sound s there) in
-      let same = agreed_texts it.0 s (text_at 1 it.0) (text_at 2 s) (text_at 2 it.0) (text_at 3 s) (unit_langs db ready.schema ready.sound it.0 it.1) lang
-      (unit_keys db ready.schema ready.sound it.0 it.1) key it.2 in
-      (it.0, it.1, same.0, same.1)
-
+module _ (db : NamedRows) (ready : AreOfficeRows db) where
   -- ---- what the rows of a unit stand for
 
-  unit_at : (u : Row) → Has (rows_named db (codes "unit")) u → maps.get (units_in (rows_named db)) (place_of_row u) ≡ Some (unit_of_row (rows_named db) u)
+  unit_at : (u : Row) → Has (db (codes "unit")) u → maps.get (units_in db) (place_of_row u) ≡ Some (unit_of_row db u)
   unit_at u there =
-      get-is place_cmp place_total place_IsAntisymmetric place_of_row (unit_of_row (rows_named db)) (rows_named db (codes "unit")) (place_of_row u) (Some (unit_of_row (rows_named db) u)) one_each
+      get-is place_cmp place_total place_IsAntisymmetric place_of_row (unit_of_row db) (db (codes "unit")) (place_of_row u) (Some (unit_of_row db u)) one_each
       (u, there, refl, refl)
     where
-      one_each : OneEach place_of_row (rows_named db (codes "unit"))
-      one_each r s in_r in_s e = one_unit db ready.schema ready.sound (ready.tables (codes "unit") refl) r s in_r in_s (by_place.back r s tt tt e)
+      one_each : OneEach place_of_row (db (codes "unit"))
+      one_each r s in_r in_s e = ready.keyed.one_unit r s in_r in_s (by_place.back r s tt tt e)
 
   -- a unit's suggestions have the numbers of its rows
-  number_stands : (lang key : Text) (s : Row) → Has (rows_named db (codes "suggestion")) s → text_at 2 s ≡ lang → text_at 3 s ≡ key
-      → Has (map (λ (t : Suggestion). t.number) (suggestions_in (rows_named db) lang key)) (number_at 1 s)
+  number_stands : (lang key : Text) (s : Row) → Has (db (codes "suggestion")) s → text_at 2 s ≡ lang → text_at 3 s ≡ key
+      → Has (map (λ (t : Suggestion). t.number) (suggestions_in db lang key)) (number_at 1 s)
   number_stands lang key s there of_lang of_key =
-      let it = entry_of_get int_cmp int_cmp_total int_cmp-IsAntisymmetric _ (integer_at 4 s) (suggestion_of_row (rows_named db) s) found in
+      let it = entry_of_get int_cmp int_cmp_total int_cmp-IsAntisymmetric _ (integer_at 4 s) (suggestion_of_row db s) found in
       let value = to_mapped (λ (e : ℤ × Suggestion). e.1) _ it.0 it.1 in
-      subst (λ (t : Suggestion). Has (map (λ (t : Suggestion). t.number) (suggestions_in (rows_named db) lang key)) t.number) it.3
-      (to_mapped (λ (t : Suggestion). t.number) (suggestions_in (rows_named db) lang key) it.0.1 value)
+      subst (λ (t : Suggestion). Has (map (λ (t : Suggestion). t.number) (suggestions_in db lang key)) t.number) it.3
+      (to_mapped (λ (t : Suggestion). t.number) (suggestions_in db lang key) it.0.1 value)
     where
       is_on : is_on_unit lang key s ≡ true
       is_on = and_from _ _ (subst (λ t. has_text 2 t s ≡ true) of_lang (text_ties_itself (text_at 2 s))) (subst (λ t. has_text 3 t s ≡ true) of_key (text_ties_itself (text_at 3 s)))
@@ -156,34 +128,34 @@ module _ (db : Database) (ready : AreOfficeTables db) where
       own : (r : Row) → is_on_unit lang key r ≡ true → (text_at 2 r ≡ lang) × (text_at 3 r ≡ key)
       own r on = let parts = and_parts _ _ on in (texts_are_one (text_at 2 r) lang parts.0, texts_are_one (text_at 3 r) key parts.1)
 
-      one_each : OneEach (integer_at 4) (filter (is_on_unit lang key) (rows_named db (codes "suggestion")))
+      one_each : OneEach (integer_at 4) (filter (is_on_unit lang key) (db (codes "suggestion")))
       one_each r t there_r there_t e =
-          let in_r = has_filtered (is_on_unit lang key) (rows_named db (codes "suggestion")) r there_r in
-          let in_t = has_filtered (is_on_unit lang key) (rows_named db (codes "suggestion")) t there_t in
+          let in_r = has_filtered (is_on_unit lang key) (db (codes "suggestion")) r there_r in
+          let in_t = has_filtered (is_on_unit lang key) (db (codes "suggestion")) t there_t in
           let on_r = own r in_r.1 in
           let on_t = own t in_t.1 in
-          one_at_place db ready r t in_r.0 in_t.0 (on_r.0 ∙ sym on_t.0) (on_r.1 ∙ sym on_t.1) e
+          ready.keyed.suggested.one_place r t in_r.0 in_t.0 (on_r.0 ∙ sym on_t.0) (on_r.1 ∙ sym on_t.1) e
 
-      found : maps.get (map_of int_cmp (integer_at 4) (suggestion_of_row (rows_named db)) (filter (is_on_unit lang key) (rows_named db (codes "suggestion")))) (integer_at 4 s) ≡ Some (suggestion_of_row (rows_named db) s)
+      found : maps.get (map_of int_cmp (integer_at 4) (suggestion_of_row db) (filter (is_on_unit lang key) (db (codes "suggestion")))) (integer_at 4 s) ≡ Some (suggestion_of_row db s)
       found =
-          get-is int_cmp int_cmp_total int_cmp-IsAntisymmetric (integer_at 4) (suggestion_of_row (rows_named db)) (filter (is_on_unit lang key) (rows_named db (codes "suggestion"))) (integer_at 4 s)
-          (Some (suggestion_of_row (rows_named db) s)) one_each (s, has_kept (is_on_unit lang key) (rows_named db (codes "suggestion")) s there is_on, refl, refl)
+          get-is int_cmp int_cmp_total int_cmp-IsAntisymmetric (integer_at 4) (suggestion_of_row db) (filter (is_on_unit lang key) (db (codes "suggestion"))) (integer_at 4 s)
+          (Some (suggestion_of_row db s)) one_each (s, has_kept (is_on_unit lang key) (db (codes "suggestion")) s there is_on, refl, refl)
 
   -- ---- a unit at its place among those
 
   module _ (lang : Text) (key : Key) (unit : Unit) where
     abbrev with_it : maps.FinMap place_cmp Unit
-    with_it = maps.insert (units_in (rows_named db)) (lang, key) unit
+    with_it = maps.insert (units_in db) (lang, key) unit
 
     here : maps.get with_it (lang, key) ≡ Some unit
     here =
-        get-insert place_total (units_in (rows_named db)) (lang, key) unit (lang, key)
-        ∙ ap (λ b. cond b (Some unit) (maps.get (units_in (rows_named db)) (lang, key))) ((eq_by_cmp_equiv place_total).refl (lang, key))
+        get-insert place_total (units_in db) (lang, key) unit (lang, key)
+        ∙ ap (λ b. cond b (Some unit) (maps.get (units_in db) (lang, key))) ((eq_by_cmp_equiv place_total).refl (lang, key))
 
-    still : (place : Place) → place ≢ (lang, key) → maps.get with_it place ≡ maps.get (units_in (rows_named db)) place
-    still place other = get-insert place_total (units_in (rows_named db)) (lang, key) unit place ∙ by (eq_by_cmp place_cmp place (lang, key)) refl
+    still : (place : Place) → place ≢ (lang, key) → maps.get with_it place ≡ maps.get (units_in db) place
+    still place other = get-insert place_total (units_in db) (lang, key) unit place ∙ by (eq_by_cmp place_cmp place (lang, key)) refl
       where
-        by : (b : Bool) → eq_by_cmp place_cmp place (lang, key) ≡ b → cond b (Some unit) (maps.get (units_in (rows_named db)) place) ≡ maps.get (units_in (rows_named db)) place
+        by : (b : Bool) → eq_by_cmp place_cmp place (lang, key) ≡ b → cond b (Some unit) (maps.get (units_in db) place) ≡ maps.get (units_in db) place
         by true tied = absurd (other (place_IsAntisymmetric place (lang, key) ((Equal-is _).0 tied)))
         by false apart = refl
 
@@ -200,40 +172,40 @@ module _ (db : Database) (ready : AreOfficeTables db) where
           and_from _ _ (subst (λ t. has_text 2 t s ≡ true) in_lang (text_ties_itself (text_at 2 s))) (subst (λ t. has_text 3 t s ≡ true) at_key (text_ties_itself (text_at 3 s)))
 
       -- a row on another unit has another number
-      are_free : AreNumbers unit.suggestions → AreFree lang (key_text key) unit.suggestions (rows_named db)
+      are_free : AreNumbers unit.suggestions → AreFree lang (key_text key) unit.suggestions db
       are_free numbers t in_t s in_s off is =
-          let parent = has_unit s in_s in
+          let parent = ready.has_unit s in_s in
           let u = parent.0 in
           let other : place_of_row u ≢ (lang, key) = λ e. let on = on_it s u parent.2 parent.3 e in cc in
           let stands = still (place_of_row u) other ∙ unit_at u parent.1 in
-          let theirs = entry_of_get place_cmp place_total place_IsAntisymmetric with_it (place_of_row u) (unit_of_row (rows_named db) u) stands in
+          let theirs = entry_of_get place_cmp place_total place_IsAntisymmetric with_it (place_of_row u) (unit_of_row db u) stands in
           let ours = entry_of_get place_cmp place_total place_IsAntisymmetric with_it (lang, key) unit here in
           let number : number_at 1 s ≡ t.number = ap (λ o. unwrap_or o []) (number_found (first_text s) t.number (numbers t in_t) is) in
           let on_theirs : Has (numbers_at theirs.0) t.number =
           subst (λ (x : Unit). Has (map (λ (r : Suggestion). r.number) x.suggestions) t.number) (sym theirs.3)
-          (subst (Has (map (λ (r : Suggestion). r.number) (suggestions_in (rows_named db) (text_at 1 u) (text_at 2 u)))) number (number_stands (text_at 1 u) (text_at 2 u) s in_s (sym parent.2) (sym parent.3))) in
+          (subst (Has (map (λ (r : Suggestion). r.number) (suggestions_in db (text_at 1 u) (text_at 2 u)))) number (number_stands (text_at 1 u) (text_at 2 u) s in_s (sym parent.2) (sym parent.3))) in
           let on_ours : Has (numbers_at ours.0) t.number =
           subst (λ (x : Unit). Has (map (λ (r : Suggestion). r.number) x.suggestions) t.number) (sym ours.3) (to_mapped (λ (r : Suggestion). r.number) unit.suggestions t in_t) in
           let one = one_place_of (maps.entries with_it) theirs.0 ours.0 t.number apart theirs.1 ours.1 on_theirs on_ours in
           other (sym theirs.2 ∙ ap (λ (e : Place × Unit). e.0) one ∙ ours.2)
 
-module _ (old : Database) (lang : Text) (key : Key) (view : UnitView) (row : Record) (ready : AreOfficeTables old)
-    (rules : KeepsRules (record { office = main_alone (with_view (project_of_rows (rows_named old)) lang key (Some view)); book = with_record (book_in (rows_named old)) row })) where
+module _ (old : NamedRows) (lang : Text) (key : Key) (view : UnitView) (row : Record) (ready : AreOfficeRows old)
+    (rules : KeepsRules (record { office = main_alone (with_view (project_of_rows old) lang key (Some view)); book = with_record (book_in old) row })) where
   abbrev left : Project
-  left = with_view (project_of_rows (rows_named old)) lang key (Some view)
+  left = with_view (project_of_rows old) lang key (Some view)
 
   apart : IsDistinct text_eq (numbers_in (domain_of left))
-  apart = numbers_keep left (with_record (book_in (rows_named old)) row) rules
+  apart = numbers_keep left (with_record (book_in old) row) rules
 
   -- the unit stands at its key
   pub stands_at_key : view.unit.key ≡ key
-  stands_at_key = ((project_keeps left (with_record (book_in (rows_named old)) row) rules).placed (lang, key) view.unit (here old ready lang key view.unit)).0
+  stands_at_key = ((project_keeps left (with_record (book_in old) row) rules).placed (lang, key) view.unit (here old ready lang key view.unit)).0
 
-  pub writable : HasStrings key → ArePrevious view.unit.previous → AreNumbers view.unit.suggestions → IsWritable (rows_named old) lang view.unit
+  pub writable : HasStrings key → ArePrevious view.unit.previous → AreNumbers view.unit.suggestions → IsWritable old lang view.unit
   writable strings previous numbers = record {
     key = subst HasStrings (sym stands_at_key) strings;
     previous = previous;
     numbers = numbers;
     own = have_own old ready lang key view.unit apart;
-    free = subst (λ k. AreFree lang (key_text k) view.unit.suggestions (rows_named old)) (sym stands_at_key) (are_free old ready lang key view.unit apart numbers);
+    free = subst (λ k. AreFree lang (key_text k) view.unit.suggestions old) (sym stands_at_key) (are_free old ready lang key view.unit apart numbers);
   }

@@ -10,7 +10,6 @@ use Rattle.std.specs.FinMap.{is_sorted, entries, entries_sorted}
 use Rattle.std.specs.FinMap.Entries.{below_all}
 use Rattle.std.specs.declared.cmp.Ordering.TheVariants.{Less}
 use Rattle.sqlite.specs.Order.{Row}
-use Rattle.sqlite.specs.Effect.{Database}
 use Rattle.sqlite_rules.specs.Lists.{Has}
 use Rattle.sqlite_rules.proofs.ListLemmas.{has_left, has_right, has_either}
 use Rattle.sql_laws.proofs.RemovedRows.{from_mapped, to_mapped}
@@ -26,8 +25,8 @@ use Rattle.sql_meaning.specs.Written.{PutsRows, PutsSuggestions}
 use Rattle.sql_meaning.proofs.MapEntries.{apart_keys, true_of}
 use Rattle.sql_meaning.proofs.RowsInTurn.{ArePutInTurn, AreDistinct, IsOther, key_of_cells, in_turn_append, distinct_append}
 use Rattle.sql_meaning.proofs.UnitValues.{numbers_apart}
-use Rattle.sql_schema.specs.Layouts.{rows_named}
 use Rattle.sql_schema.proofs.Layouts.{names_differ}
+use Rattle.sql_schema.specs.Layouts.{NamedRows}
 
 -- ---- suggestions, each with its place from this one on
 
@@ -138,37 +137,37 @@ votes_distinct (s ∷ more) fit own =
 -- ---- what is put into which table
 
 module _ (t : List ℕ) where
-  rows_spare : {K : Type 0} (name : List ℕ) (key : Row → K) (all : List Row) (old new : Database) → PutsRows name key all old new → t ≢ name → rows_named new t ≡ rows_named old t
-  rows_spare name key [] old new is apart = ap (λ (d : Database). rows_named d t) is
+  rows_spare : {K : Type 0} (name : List ℕ) (key : Row → K) (all : List Row) (old new : NamedRows) → PutsRows name key all old new → t ≢ name → new t ≡ old t
+  rows_spare name key [] old new is apart = ap (λ (d : NamedRows). d t) is
   rows_spare name key (cells ∷ more) old new (mid, put, rest) apart = rows_spare name key more mid new rest apart ∙ put.others t apart
 
-  pub suggestions_spare : (lang key : Text) (place : ℕ) (ss : List Suggestion) (old new : Database) → PutsSuggestions lang key place ss old new → t ≢ codes "suggestion" → t ≢ codes "vote"
-      → rows_named new t ≡ rows_named old t
-  suggestions_spare lang key place [] old new is no_suggestion no_vote = ap (λ (d : Database). rows_named d t) is
+  pub suggestions_spare : (lang key : Text) (place : ℕ) (ss : List Suggestion) (old new : NamedRows) → PutsSuggestions lang key place ss old new → t ≢ codes "suggestion" → t ≢ codes "vote"
+      → new t ≡ old t
+  suggestions_spare lang key place [] old new is no_suggestion no_vote = ap (λ (d : NamedRows). d t) is
   suggestions_spare lang key place (s ∷ more) old new (mid, (after, put, votes), rest) no_suggestion no_vote =
       suggestions_spare lang key (place + 1) more mid new rest no_suggestion no_vote ∙ rows_spare (codes "vote") first_texts (votes_of s) after mid votes no_vote ∙ put.others t no_suggestion
 
-puts_in_turn : {K : Type 0} (name : List ℕ) (key : Row → K) (all : List Row) (old new : Database) → PutsRows name key all old new → ArePutInTurn key all (rows_named old name) (rows_named new name)
-puts_in_turn name key [] old new is = ap (λ (d : Database). rows_named d name) is
-puts_in_turn name key (cells ∷ more) old new (mid, put, rest) = (rows_named mid name, put.row, put.is_row, put.put, puts_in_turn name key more mid new rest)
+puts_in_turn : {K : Type 0} (name : List ℕ) (key : Row → K) (all : List Row) (old new : NamedRows) → PutsRows name key all old new → ArePutInTurn key all (old name) (new name)
+puts_in_turn name key [] old new is = ap (λ (d : NamedRows). d name) is
+puts_in_turn name key (cells ∷ more) old new (mid, put, rest) = (mid name, put.row, put.is_row, put.put, puts_in_turn name key more mid new rest)
 
-pub suggestions_in_turn : (lang key : Text) (place : ℕ) (ss : List Suggestion) (old new : Database) → PutsSuggestions lang key place ss old new
-    → ArePutInTurn first_text (suggestion_rows lang key place ss) (rows_named old (codes "suggestion")) (rows_named new (codes "suggestion"))
-suggestions_in_turn lang key place [] old new is = ap (λ (d : Database). rows_named d (codes "suggestion")) is
+pub suggestions_in_turn : (lang key : Text) (place : ℕ) (ss : List Suggestion) (old new : NamedRows) → PutsSuggestions lang key place ss old new
+    → ArePutInTurn first_text (suggestion_rows lang key place ss) (old (codes "suggestion")) (new (codes "suggestion"))
+suggestions_in_turn lang key place [] old new is = ap (λ (d : NamedRows). d (codes "suggestion")) is
 suggestions_in_turn lang key place (s ∷ more) old new (mid, (after, put, votes), rest) =
     let same = rows_spare (codes "suggestion") (codes "vote") first_texts (votes_of s) after mid votes (names_differ refl) in (
-      rows_named after (codes "suggestion"),
+      after (codes "suggestion"),
       put.row,
       put.is_row,
       put.put,
-      subst (λ rows. ArePutInTurn first_text (suggestion_rows lang key (place + 1) more) rows (rows_named new (codes "suggestion"))) same (suggestions_in_turn lang key (place + 1) more mid new rest),
+      subst (λ rows. ArePutInTurn first_text (suggestion_rows lang key (place + 1) more) rows (new (codes "suggestion"))) same (suggestions_in_turn lang key (place + 1) more mid new rest),
     )
 
-pub votes_in_turn : (lang key : Text) (place : ℕ) (ss : List Suggestion) (old new : Database) → PutsSuggestions lang key place ss old new
-    → ArePutInTurn first_texts (vote_rows ss) (rows_named old (codes "vote")) (rows_named new (codes "vote"))
-votes_in_turn lang key place [] old new is = ap (λ (d : Database). rows_named d (codes "vote")) is
+pub votes_in_turn : (lang key : Text) (place : ℕ) (ss : List Suggestion) (old new : NamedRows) → PutsSuggestions lang key place ss old new
+    → ArePutInTurn first_texts (vote_rows ss) (old (codes "vote")) (new (codes "vote"))
+votes_in_turn lang key place [] old new is = ap (λ (d : NamedRows). d (codes "vote")) is
 votes_in_turn lang key place (s ∷ more) old new (mid, (after, put, votes), rest) =
     let same = put.others (codes "vote") (names_differ refl) in
     let own = puts_in_turn (codes "vote") first_texts (votes_of s) after mid votes in
-    in_turn_append first_texts (votes_of s) (vote_rows more) (rows_named old (codes "vote")) (rows_named mid (codes "vote")) (rows_named new (codes "vote"))
-    (subst (λ rows. ArePutInTurn first_texts (votes_of s) rows (rows_named mid (codes "vote"))) same own) (votes_in_turn lang key (place + 1) more mid new rest)
+    in_turn_append first_texts (votes_of s) (vote_rows more) (old (codes "vote")) (mid (codes "vote")) (new (codes "vote"))
+    (subst (λ rows. ArePutInTurn first_texts (votes_of s) rows (mid (codes "vote"))) same own) (votes_in_turn lang key (place + 1) more mid new rest)

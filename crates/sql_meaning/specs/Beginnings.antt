@@ -1,12 +1,10 @@
 -- What new tables are filled with: the rows of an opening, and those of the demo. This project's own.
 use Rattle.std.specs.Prelude.{◌≡◌, ℤ, pos, [], ◌∷◌, None, codes, IsTrue}
-use Rattle.std.specs.FinMap as maps
 use Rattle.sqlite.specs.declared.types.Value.TheVariants.{Null, Int, Text as Words}
 use Rattle.sqlite.specs.Order.{Row}
 use Rattle.sqlite.specs.Effect.{Database}
 use Rattle.sqlite.specs.State.{State, HasCleanDisk}
 use Rattle.po_text.specs.Texts.{Text}
-use Rattle.units.specs.Office.{Office}
 use Rattle.units.specs.Openings.{plain_entry, demo_header, demo_unit}
 use Rattle.sql_columns.specs.Written.{texts_text, header_text}
 use Rattle.sql_schema.specs.Creation.{IsBlank, MakesTables}
@@ -14,8 +12,6 @@ use Rattle.sql_schema.specs.Inside.{PutsRow, HoldsValues, Then}
 use Rattle.sql_schema.specs.Keys.{first_text, first_texts, row_number}
 use Rattle.sql_schema.specs.Rows.{text_or_null}
 use Rattle.sql_meaning.specs.Cells.{unit_cells}
-use Rattle.sql_meaning.specs.Meaning.{meaning_in, AreNumbered}
-use Rattle.sql_schema.specs.Layouts.{rows_named}
 
 abbrev pub PutsMember : Text → ℤ → Database → Database → Type 0
 PutsMember name role = PutsRow (codes "team") first_text (HoldsValues (Words name ∷ Int role ∷ []))
@@ -54,10 +50,6 @@ PutsDemoMessage = Then PutsDemoEntry (Then PutsDemoLanguage PutsDemoUnit)
 
 abbrev pub MakesDemo : Database → Database → Type 0
 MakesDemo = Then MakesTables (Then PutsDemoTeam (Then PutsClosedPolicy PutsDemoMessage))
-
--- the rows are those of this office, of which nothing is recorded
-abbrev pub MeansOnly : Office → Database → Database → Type 0
-MeansOnly office old new = (meaning_in (rows_named new) ≡ record { office = office; book = maps.empty }) × AreNumbered (rows_named new)
 
 -- Between transactions a connection that isn't shut shows a database with no table, as it was committed.
 pub record HasNoTables (s : State) : Type 0 where

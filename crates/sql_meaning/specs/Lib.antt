@@ -1,7 +1,12 @@
 pub mod OfficeShown
 pub mod Values
 pub mod Meaning
+pub mod RowKeys
+pub mod RowChanges
+pub mod RowsShown
 pub mod Cells
 pub mod Written
 pub mod Shown
 pub mod Beginnings
+pub mod BeginningRows
+pub mod Domains

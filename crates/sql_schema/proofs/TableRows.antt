@@ -17,35 +17,44 @@ use Rattle.sql_laws.specs.ApartRows.{AreApart}
 use Rattle.sql_laws.proofs.Comparisons.{texts_compared, ints_compared, agree-texts}
 use Rattle.sql_laws.proofs.RowMaps.{text_ties_itself}
 use Rattle.sql_schema.specs.Schema.{record_table, team_table, template_table, language_table, unit_table, suggestion_table, vote_table}
-use Rattle.sql_schema.specs.Layouts.{Layout, made_new, HasLayout, rows_named}
+use Rattle.sql_schema.specs.Layouts.{Form, for_main, Layout, made_new, made_last, from_first, from_second, HasLayoutOf, HasLayout, rows_named}
 use Rattle.sql_schema.specs.Keys.{text_at, first_text, first_texts, second_text}
 use Rattle.sql_schema.proofs.Layouts.{record_placed, team_placed, template_placed, language_placed, unit_placed, suggestion_placed, vote_placed}
-use Rattle.sql_schema.proofs.TextKeys.{HoldsTexts, IsKeyed, holds_text, holds_int, one_of_key, one_first_text, one_first_texts}
+use Rattle.sql_schema.proofs.TextKeys.{HoldsTextsOf, HoldsTexts, IsKeyed, holds_text, holds_int, one_of_key, one_first_text, one_first_texts}
 
--- rows of one key are one row, in a database of the office
+-- rows of one key are one row, in a database of an office
+abbrev pub OneEachOver : {K : Type 0} → Form → List ℕ → (Row → K) → Type 0
+OneEachOver form name key = (db : Database) → HasLayoutOf form db → IsDatabase db → AreApart (rows_named db name) → OneEach key (rows_named db name)
+
 abbrev pub OneEachIn : {K : Type 0} → List ℕ → (Row → K) → Type 0
-OneEachIn name key = (db : Database) → HasLayout db → IsDatabase db → AreApart (rows_named db name) → OneEach key (rows_named db name)
+OneEachIn = OneEachOver for_main
 
 -- ---- record
 
-pub record_numbers : HoldsTexts (codes "record") 1
+pub record_numbers : {form : Form} → HoldsTextsOf form (codes "record") 1
 record_numbers db has sound row there = holds_text record_table record_placed 0 (codes "number") refl db has sound row there refl
 
-pub record_keyed : (layout : Layout) → IsKeyed layout record_table (1 ∷ [])
+pub record_keyed : {form : Form} (layout : Layout form) → IsKeyed layout record_table (1 ∷ [])
 record_keyed made_new = record { index = _; found = refl; order = refl }
+record_keyed made_last = record { index = _; found = refl; order = refl }
+record_keyed from_first = record { index = _; found = refl; order = refl }
+record_keyed from_second = record { index = _; found = refl; order = refl }
 
-pub one_record : OneEachIn (codes "record") first_text
+pub one_record : {form : Form} → OneEachOver form (codes "record") first_text
 one_record db has sound apart = one_first_text record_table record_placed record_keyed db has sound apart (record_numbers db has sound)
 
 -- ---- team
 
-pub member_names : HoldsTexts (codes "team") 1
+pub member_names : {form : Form} → HoldsTextsOf form (codes "team") 1
 member_names db has sound row there = holds_text team_table team_placed 0 (codes "name") refl db has sound row there refl
 
-pub team_keyed : (layout : Layout) → IsKeyed layout team_table (1 ∷ [])
+pub team_keyed : {form : Form} (layout : Layout form) → IsKeyed layout team_table (1 ∷ [])
 team_keyed made_new = record { index = _; found = refl; order = refl }
+team_keyed made_last = record { index = _; found = refl; order = refl }
+team_keyed from_first = record { index = _; found = refl; order = refl }
+team_keyed from_second = record { index = _; found = refl; order = refl }
 
-pub one_member : OneEachIn (codes "team") first_text
+pub one_member : {form : Form} → OneEachOver form (codes "team") first_text
 one_member db has sound apart = one_first_text team_table team_placed team_keyed db has sound apart (member_names db has sound)
 
 -- ---- template
@@ -53,7 +62,7 @@ one_member db has sound apart = one_first_text team_table team_placed team_keyed
 pub entry_keys : HoldsTexts (codes "template") 2
 entry_keys db has sound row there = holds_text template_table template_placed 1 (codes "key") refl db has sound row there refl
 
-pub entry_keyed : (layout : Layout) → IsKeyed layout template_table (2 ∷ [])
+pub entry_keyed : (layout : Layout for_main) → IsKeyed layout template_table (2 ∷ [])
 entry_keyed made_new = record { index = _; found = refl; order = refl }
 
 -- a place is a row's number, and a key is one entry's too
@@ -67,7 +76,7 @@ one_entry db has sound apart r s in_r in_s e =
 pub language_codes : HoldsTexts (codes "language") 1
 language_codes db has sound row there = holds_text language_table language_placed 0 (codes "lang") refl db has sound row there refl
 
-pub language_keyed : (layout : Layout) → IsKeyed layout language_table (1 ∷ [])
+pub language_keyed : (layout : Layout for_main) → IsKeyed layout language_table (1 ∷ [])
 language_keyed made_new = record { index = _; found = refl; order = refl }
 
 pub one_language : OneEachIn (codes "language") first_text
@@ -81,7 +90,7 @@ unit_langs db has sound row there = holds_text unit_table unit_placed 0 (codes "
 pub unit_keys : HoldsTexts (codes "unit") 2
 unit_keys db has sound row there = holds_text unit_table unit_placed 1 (codes "key") refl db has sound row there refl
 
-pub unit_keyed : (layout : Layout) → IsKeyed layout unit_table (1 ∷ 2 ∷ [])
+pub unit_keyed : (layout : Layout for_main) → IsKeyed layout unit_table (1 ∷ 2 ∷ [])
 unit_keyed made_new = record { index = _; found = refl; order = refl }
 
 pub one_unit : OneEachIn (codes "unit") first_texts
@@ -98,7 +107,7 @@ suggestion_langs db has sound row there = holds_text suggestion_table suggestion
 pub suggestion_keys : HoldsTexts (codes "suggestion") 3
 suggestion_keys db has sound row there = holds_text suggestion_table suggestion_placed 2 (codes "key") refl db has sound row there refl
 
-pub suggestion_keyed : (layout : Layout) → IsKeyed layout suggestion_table (1 ∷ [])
+pub suggestion_keyed : (layout : Layout for_main) → IsKeyed layout suggestion_table (1 ∷ [])
 suggestion_keyed made_new = record { index = _; found = refl; order = refl }
 
 pub one_suggestion : OneEachIn (codes "suggestion") first_text
@@ -107,7 +116,7 @@ one_suggestion db has sound apart = one_first_text suggestion_table suggestion_p
 pub suggestion_places : (db : Database) → HasLayout db → IsDatabase db → (row : Row) → Has (rows_named db (codes "suggestion")) row → column row 4 ≡ Int (id_in (column row 4))
 suggestion_places db has sound row there = holds_int suggestion_table suggestion_placed 3 (codes "place") refl db has sound row there refl
 
-pub suggestion_place_keyed : (layout : Layout) → IsKeyed layout suggestion_table (2 ∷ 3 ∷ 4 ∷ [])
+pub suggestion_place_keyed : (layout : Layout for_main) → IsKeyed layout suggestion_table (2 ∷ 3 ∷ 4 ∷ [])
 suggestion_place_keyed made_new = record { index = _; found = refl; order = refl }
 
 -- two texts and an integer agree where they are equal
@@ -139,7 +148,7 @@ vote_numbers db has sound row there = holds_text vote_table vote_placed 0 (codes
 pub vote_voters : HoldsTexts (codes "vote") 2
 vote_voters db has sound row there = holds_text vote_table vote_placed 1 (codes "voter") refl db has sound row there refl
 
-pub vote_keyed : (layout : Layout) → IsKeyed layout vote_table (1 ∷ 2 ∷ [])
+pub vote_keyed : (layout : Layout for_main) → IsKeyed layout vote_table (1 ∷ 2 ∷ [])
 vote_keyed made_new = record { index = _; found = refl; order = refl }
 
 pub one_vote : OneEachIn (codes "vote") first_texts

@@ -1,11 +1,12 @@
 -- What each of the eight texts makes, after those before it.
-use Rattle.std.proofs.Common.{◌≡◌, ℕ, zero, suc, ◌+◌, ◌<◌, List, [], ◌∷◌, ◌++◌, get_or, refl, take, arith}
+use Rattle.std.proofs.Common.{ℕ, zero, suc, List, [], ◌∷◌, refl, take, arith}
 use Rattle.sqlite.specs.Listing.{understood}
-use Rattle.sqlite.specs.Table.{Table}
 use Rattle.sqlite_tied.specs.Compute.{everything}
 use Rattle.sql_schema.specs.Schema.{office_tables, record_table, team_table, policy_table, template_table, language_table, unit_table, suggestion_table, vote_table}
 use Rattle.sql_schema.specs.declared.new_tables.TheConstants.{RECORD, TEAM, POLICY, TEMPLATE, LANGUAGE, UNIT, SUGGESTION, VOTE}
+use Rattle.sql_schema.specs.Layouts.{made_new}
 use Rattle.sql_schema.proofs.Creations.{IsCreation}
+use Rattle.sql_schema.proofs.TablesSoFar.{MakeInTurn}
 use Rattle.sql_schema.proofs.TablesMade.{record_is, team_is, policy_is, template_is, language_is, unit_is, suggestion_is, vote_is}
 
 pub makes_record : IsCreation (take 0 office_tables) record_table RECORD.now
@@ -45,14 +46,13 @@ abbrev pub table_texts : List (List ℕ)
 table_texts = RECORD.now ∷ TEAM.now ∷ POLICY.now ∷ TEMPLATE.now ∷ LANGUAGE.now ∷ UNIT.now ∷ SUGGESTION.now ∷ VOTE.now ∷ []
 
 -- each makes its table after those before it
-pub text_makes : (k : ℕ) (text : List ℕ) → k < 8
-    → (table : Table) × IsCreation (take k office_tables) table (get_or table_texts k text) × (take k office_tables ++ table ∷ [] ≡ take (k + 1) office_tables)
-text_makes zero text within = (record_table, makes_record, refl)
-text_makes (suc zero) text within = (team_table, makes_team, refl)
-text_makes (suc (suc zero)) text within = (policy_table, makes_policy, refl)
-text_makes (suc (suc (suc zero))) text within = (template_table, makes_template, refl)
-text_makes (suc (suc (suc (suc zero)))) text within = (language_table, makes_language, refl)
-text_makes (suc (suc (suc (suc (suc zero))))) text within = (unit_table, makes_unit, refl)
-text_makes (suc (suc (suc (suc (suc (suc zero)))))) text within = (suggestion_table, makes_suggestion, refl)
-text_makes (suc (suc (suc (suc (suc (suc (suc zero))))))) text within = (vote_table, makes_vote, refl)
-text_makes (suc (suc (suc (suc (suc (suc (suc (suc k)))))))) text within = absurd (omega (arith, within))
+pub text_makes : MakeInTurn made_new table_texts
+text_makes zero within = (record_table, makes_record, refl)
+text_makes (suc zero) within = (team_table, makes_team, refl)
+text_makes (suc (suc zero)) within = (policy_table, makes_policy, refl)
+text_makes (suc (suc (suc zero))) within = (template_table, makes_template, refl)
+text_makes (suc (suc (suc (suc zero)))) within = (language_table, makes_language, refl)
+text_makes (suc (suc (suc (suc (suc zero))))) within = (unit_table, makes_unit, refl)
+text_makes (suc (suc (suc (suc (suc (suc zero)))))) within = (suggestion_table, makes_suggestion, refl)
+text_makes (suc (suc (suc (suc (suc (suc (suc zero))))))) within = (vote_table, makes_vote, refl)
+text_makes (suc (suc (suc (suc (suc (suc (suc (suc k)))))))) within = absurd (omega (arith, within))

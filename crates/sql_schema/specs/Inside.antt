@@ -8,26 +8,38 @@ use Rattle.sqlite.specs.Effect.{Database, IsDatabase}
 use Rattle.sqlite.specs.State.{State, HasCleanDisk, KeepsCommit, Survives}
 use Rattle.sql_laws.specs.ApartRows.{AreApart}
 use Rattle.sql_laws.specs.RowMaps.{IsPut, IsFound}
-use Rattle.sql_schema.specs.Layouts.{NamedRows, HasLayout, rows_named, SparesOthers, is_office_table}
+use Rattle.sql_schema.specs.Layouts.{Form, for_main, NamedRows, HasLayoutOf, rows_named, SparesOthers, is_own_table}
 
 -- each table of an office has its rowids apart
-abbrev pub AreTables : NamedRows → Type 0
-AreTables rows = (name : List ℕ) → is_office_table name ≡ true → AreApart (rows name)
+abbrev pub AreTablesOf : Form → NamedRows → Type 0
+AreTablesOf form rows = (name : List ℕ) → is_own_table form name ≡ true → AreApart (rows name)
 
--- The tables of an office in some layout, which obey their schema.
-pub record AreOfficeTables (db : Database) : Type 0 where
-  pub schema : HasLayout db
+abbrev pub AreTables : NamedRows → Type 0
+AreTables = AreTablesOf for_main
+
+-- The tables of an office in some layout of a form, which obey their schema.
+pub record AreOfficeTablesOf (form : Form) (db : Database) : Type 0 where
+  pub schema : HasLayoutOf form db
   pub sound : IsDatabase db
-  pub tables : AreTables (rows_named db)
+  pub tables : AreTablesOf form (rows_named db)
+
+abbrev pub AreOfficeTables : Database → Type 0
+AreOfficeTables = AreOfficeTablesOf for_main
 
 -- the connection shows them
+abbrev pub IsReadyFor : Form → State → Type 0
+IsReadyFor form s = AreOfficeTablesOf form s.now
+
 abbrev pub IsReady : State → Type 0
-IsReady s = AreOfficeTables s.now
+IsReady = IsReadyFor for_main
 
 -- A transaction is open, over an office's tables unless the connection is shut.
-pub record IsSteady (s : State) : Type 0 where
+pub record IsSteadyOver (form : Form) (s : State) : Type 0 where
   pub inside : HasCleanDisk s → IsTrue s.in_transaction
-  pub ready : HasCleanDisk s → IsTrue s.is_open → IsReady s
+  pub ready : HasCleanDisk s → IsTrue s.is_open → IsReadyFor form s
+
+abbrev pub IsSteady : State → Type 0
+IsSteady = IsSteadyOver for_main
 
 -- The transaction and the connection stay open.
 pub record StaysInside (old new : State) : Type 0 where
@@ -36,16 +48,23 @@ pub record StaysInside (old new : State) : Type 0 where
   pub committed : new.committed ≡ old.committed
 
 -- What is written is made where the statement succeeds; however it ends, nothing is committed.
-pub record IsInside {A E : Type 0} (old new : State) (result : Result A E) (Makes : Database → Database → Type 0) : Type 0 where
+pub record IsInsideOf {A E : Type 0} (form : Form) (old new : State) (result : Result A E) (Makes : Database → Database → Type 0) : Type 0 where
   pub made : HasCleanDisk new → OnOk result (Makes old.now new.now)
-  pub ready : HasCleanDisk new → OnOk result (IsReady new)
+  pub ready : HasCleanDisk new → OnOk result (IsReadyFor form new)
   pub stays : HasCleanDisk new → OnOk result (StaysInside old new)
   pub kept : HasCleanDisk new → KeepsCommit old new
   pub survives : Survives old new (λ _. ⊥)
 
--- one after the other
-abbrev pub Then : (Database → Database → Type 0) → (Database → Database → Type 0) → Database → Database → Type 0
-Then First Second old new = (mid : Database) × First old mid × Second mid new
+abbrev pub IsInside : {A E : Type 0} → State → State → Result A E → (Database → Database → Type 0) → Type 0
+IsInside = IsInsideOf for_main
+
+-- one after the other, of databases or of rows by the names of their tables
+abbrev pub Then : {S : Type 0} → (S → S → Type 0) → (S → S → Type 0) → S → S → Type 0
+Then {S} First Second old new = (mid : S) × First old mid × Second mid new
+
+-- what is made of the rows of the tables, by the names of these
+abbrev pub OnRows : (NamedRows → NamedRows → Type 0) → Database → Database → Type 0
+OnRows Makes old new = Makes (rows_named old) (rows_named new)
 
 -- a row of these values, whatever its rowid
 abbrev pub HoldsValues : Row → Row → Type 0
@@ -59,14 +78,24 @@ pub record PutsRow {K : Type 0} (name : List ℕ) (key : Row → K) (IsRow : Row
   pub others : SparesOthers name (rows_named old) (rows_named new)
   pub schema : new.schema ≡ old.schema
 
+-- The same of rows by the names of their tables, wherever these are.
+pub record PutsIn {K : Type 0} (name : List ℕ) (key : Row → K) (IsRow : Row → Type 0) (old new : NamedRows) : Type 0 where
+  pub row : Row
+  pub is_row : IsRow row
+  pub put : IsPut key (old name) (new name) row
+  pub others : SparesOthers name old new
+
 -- A query answers by what the connection shows, and changes nothing; however it ends, nothing is committed.
-pub record IsRead {A E : Type 0} (old new : State) (result : Result A E) (IsAnswer : Database → A → Type 0) : Type 0 where
+pub record IsReadOf {A E : Type 0} (form : Form) (old new : State) (result : Result A E) (IsAnswer : Database → A → Type 0) : Type 0 where
   pub answer : HasCleanDisk new → IfOk result (IsAnswer old.now)
   pub same : HasCleanDisk new → OnOk result (new.now ≡ old.now)
-  pub ready : HasCleanDisk new → OnOk result (IsReady new)
+  pub ready : HasCleanDisk new → OnOk result (IsReadyFor form new)
   pub stays : HasCleanDisk new → OnOk result (StaysInside old new)
   pub kept : HasCleanDisk new → KeepsCommit old new
   pub survives : Survives old new (λ _. ⊥)
+
+abbrev pub IsRead : {A E : Type 0} → State → State → Result A E → (Database → A → Type 0) → Type 0
+IsRead = IsReadOf for_main
 
 -- the row with a key as a query shows it, or none where no row of the table has the key
 abbrev pub ShowsKey : {K : Type 0} → List ℕ → (Row → K) → (Row → Row) → K → Database → Option Row → Type 0

@@ -18,6 +18,15 @@ first_text = text_at 1
 abbrev pub first_texts : Row → List (List ℕ)
 first_texts row = text_at 1 row ∷ text_at 2 row ∷ []
 
+-- some columns of a row that hold texts, in order
+abbrev pub key_texts : List ℕ → Row → List (List ℕ)
+key_texts [] row = []
+key_texts (place ∷ places) row = text_at place row ∷ key_texts places row
+
+-- the first three: a unit's domain, language and key
+abbrev pub first_three : Row → List (List ℕ)
+first_three = key_texts (1 ∷ 2 ∷ 3 ∷ [])
+
 -- the second: the key of a template's entry
 abbrev pub second_text : Row → List ℕ
 second_text = text_at 2
@@ -25,6 +34,10 @@ second_text = text_at 2
 -- the rowid: a template entry's place, and the policy's 1
 abbrev pub row_number : Row → Value
 row_number row = column row 0
+
+-- the domain of a template's entry, and its place there
+abbrev pub domain_place : Row → List ℕ × Value
+domain_place row = (text_at 1 row, column row 2)
 
 -- whether a column holds this text
 abbrev pub has_text : ℕ → List ℕ → Row → Bool

@@ -1,8 +1,9 @@
-//! The texts that make the eight tables, with what each column has.
+//! The texts that make the tables, with what each column has.
 ghost use Rattle.std.specs.Prelude.{◌≡◌};
 ghost use Rattle.sqlite.specs.Held.{state};
-ghost use Rattle.sql_schema.specs.Creation.{IsFresh, MakesTables};
-ghost use Rattle.sql_schema.specs.Inside.{IsInside};
+ghost use Rattle.sql_schema.specs.Layouts.{by_domain};
+ghost use Rattle.sql_schema.specs.Creation.{IsFresh, MakesTables, KeepsNamedRows};
+ghost use Rattle.sql_schema.specs.Inside.{IsSteady, IsInside, IsInsideOf};
 
 use sqlite::{Alter, Error, Transaction};
 
@@ -84,6 +85,73 @@ const TABLES: [&str; 8] = [
     RECORD, TEAM, POLICY, TEMPLATE, LANGUAGE, UNIT, SUGGESTION, VOTE,
 ];
 
+/// The domains. `main` is always there.
+///
+/// - `name`: the domain's name
+const DOMAIN: &str = "CREATE TABLE domain (name TEXT NOT NULL PRIMARY KEY) STRICT";
+
+/// The entries of each domain's template, as in `template`, but that a place is no rowid.
+///
+/// - `domain`: the domain's name
+/// - `place`: their order in the domain, from 0 on
+const D_TEMPLATE: &str =
+    "CREATE TABLE d_template (domain TEXT NOT NULL, place INTEGER NOT NULL, key TEXT NOT NULL, plural TEXT, extracted TEXT NOT NULL, refs TEXT NOT NULL, flags TEXT NOT NULL, PRIMARY KEY (domain, place), UNIQUE (domain, key)) STRICT";
+
+/// The languages of each domain, as in `language`.
+const D_LANGUAGE: &str =
+    "CREATE TABLE d_language (domain TEXT NOT NULL, lang TEXT NOT NULL, header TEXT NOT NULL, plural TEXT NOT NULL, PRIMARY KEY (domain, lang)) STRICT";
+
+/// The units of all languages of each domain, as in `unit`.
+const D_UNIT: &str =
+    "CREATE TABLE d_unit (domain TEXT NOT NULL, lang TEXT NOT NULL, key TEXT NOT NULL, plural TEXT, forms TEXT NOT NULL, state INTEGER NOT NULL CHECK (state BETWEEN 0 AND 3), obsolete INTEGER NOT NULL CHECK (obsolete BETWEEN 0 AND 1), revision INTEGER NOT NULL, comment TEXT NOT NULL, previous TEXT NOT NULL, PRIMARY KEY (domain, lang, key)) STRICT";
+
+/// The suggestions of units of each domain, as in `suggestion`, which go with their unit.
+const D_SUGGESTION: &str =
+    "CREATE TABLE d_suggestion (number TEXT NOT NULL PRIMARY KEY REFERENCES record (number), domain TEXT NOT NULL, lang TEXT NOT NULL, key TEXT NOT NULL, place INTEGER NOT NULL, suggester TEXT NOT NULL, forms TEXT NOT NULL, UNIQUE (domain, lang, key, place), FOREIGN KEY (domain, lang, key) REFERENCES d_unit (domain, lang, key) ON DELETE CASCADE) STRICT";
+
+/// The votes on suggestions, as in `vote`, which go with their suggestion.
+const D_VOTE: &str =
+    "CREATE TABLE d_vote (number TEXT NOT NULL REFERENCES d_suggestion (number) ON DELETE CASCADE, voter TEXT NOT NULL, value INTEGER NOT NULL CHECK (value BETWEEN -1 AND 1) CHECK (value <> 0), PRIMARY KEY (number, voter)) STRICT";
+
+/// The sum of each suggestion, which goes with it.
+///
+/// - `number`: the suggestion's
+/// - `sum`: 1 and the values of its votes
+const D_VOTE_SUM: &str =
+    "CREATE TABLE d_vote_sum (number TEXT NOT NULL PRIMARY KEY REFERENCES d_suggestion (number) ON DELETE CASCADE, sum INTEGER NOT NULL) STRICT";
+
+/// The counts of each language of each domain: of its units that aren't obsolete how many callers see in each state and
+/// how many suggestions there are on them, and how many units are obsolete.
+const D_TALLY: &str =
+    "CREATE TABLE d_tally (domain TEXT NOT NULL, lang TEXT NOT NULL, untranslated INTEGER NOT NULL, needs_editing INTEGER NOT NULL, translated INTEGER NOT NULL, approved INTEGER NOT NULL, read_only INTEGER NOT NULL, suggestions INTEGER NOT NULL, obsolete INTEGER NOT NULL, PRIMARY KEY (domain, lang)) STRICT";
+
+/// The text that makes each table by domains, in the order in which they are made.
+const DOMAIN_TABLES: [&str; 8] = [
+    DOMAIN,
+    D_TEMPLATE,
+    D_LANGUAGE,
+    D_UNIT,
+    D_SUGGESTION,
+    D_VOTE,
+    D_VOTE_SUM,
+    D_TALLY,
+];
+
+/// The text that makes each table of an office by domains where there was none, in the order in which they are made.
+const TABLES_BY_DOMAIN: [&str; 11] = [
+    RECORD,
+    TEAM,
+    POLICY,
+    DOMAIN,
+    D_TEMPLATE,
+    D_LANGUAGE,
+    D_UNIT,
+    D_SUGGESTION,
+    D_VOTE,
+    D_VOTE_SUM,
+    D_TALLY,
+];
+
 /// Makes the eight tables in a database that has no table. None of them has a row yet.
 pub fn make_tables<S: Alter>(tx: &mut Transaction<'_, S>) -> Result<(), Error>
     requires fresh { IsFresh (state S.Store tx.old.conn.now) }
@@ -91,6 +159,30 @@ pub fn make_tables<S: Alter>(tx: &mut Transaction<'_, S>) -> Result<(), Error>
     ensures made { IsInside (state S.Store tx.old.conn.now) (state S.Store tx.new.conn.now) result MakesTables }
 {
     for text in &TABLES {
+        tx.execute(text, &[])?;
+    }
+    Ok(())
+}
+
+/// Makes the tables by domains beside an office's eight, whose rows stay. None of them has a row yet.
+pub fn make_domain_tables<S: Alter>(tx: &mut Transaction<'_, S>) -> Result<(), Error>
+    requires steady { IsSteady (state S.Store tx.old.conn.now) }
+    ensures same_reference { tx.new.conn.ghost_name ≡ tx.old.conn.ghost_name }
+    ensures made { IsInsideOf by_domain (state S.Store tx.old.conn.now) (state S.Store tx.new.conn.now) result KeepsNamedRows }
+{
+    for text in &DOMAIN_TABLES {
+        tx.execute(text, &[])?;
+    }
+    Ok(())
+}
+
+/// Makes an office's tables by domains in a database that has no table. None of them has a row yet.
+pub fn make_tables_by_domain<S: Alter>(tx: &mut Transaction<'_, S>) -> Result<(), Error>
+    requires fresh { IsFresh (state S.Store tx.old.conn.now) }
+    ensures same_reference { tx.new.conn.ghost_name ≡ tx.old.conn.ghost_name }
+    ensures made { IsInsideOf by_domain (state S.Store tx.old.conn.now) (state S.Store tx.new.conn.now) result MakesTables }
+{
+    for text in &TABLES_BY_DOMAIN {
         tx.execute(text, &[])?;
     }
     Ok(())

@@ -21,8 +21,8 @@ use Rattle.sql_laws.proofs.Comparisons.{ints_compared}
 use Rattle.sql_schema.specs.Inside.{ShowsKey}
 use Rattle.sql_schema.specs.Keys.{first_text, row_number, columns}
 use Rattle.sql_schema.proofs.TableRows.{member_names, language_codes}
-use Rattle.sql_schema.proofs.Queries.{IsQuery, ReadsLast, AreTests, is_given, reads_all, reads_key, reads_by_text}
-use Rattle.sql_schema.specs.Layouts.{made_new}
+use Rattle.sql_schema.proofs.Queries.{IsQueryOf, IsQuery, ReadsLastOf, ReadsLast, AreTestsOf, is_given, reads_all, reads_key, reads_by_text}
+use Rattle.sql_schema.specs.Layouts.{Form, made_new, made_last, from_first, from_second}
 use Rattle.sql_schema.proofs.Layouts.{team_placed, policy_placed, language_placed}
 use Rattle.sql_schema.specs.Schema.{team_table, policy_table, language_table}
 
@@ -31,11 +31,14 @@ use Rattle.sql_schema.specs.Schema.{team_table, policy_table, language_table}
 abbrev member_text : List ℕ
 member_text = codes "SELECT role FROM team WHERE name = ?1"
 
-member_is : IsQuery member_text team_table (is_given 1 0 ∷ []) (2 ∷ []) (codes "role" ∷ [])
+member_is : {form : Form} → IsQueryOf form member_text team_table (is_given 1 0 ∷ []) (2 ∷ []) (codes "role" ∷ [])
 unfolding understood everything
 member_is made_new = record { command = refl; own_tables = refl; plain = (refl, refl) }
+member_is made_last = record { command = refl; own_tables = refl; plain = (refl, refl) }
+member_is from_first = record { command = refl; own_tables = refl; plain = (refl, refl) }
+member_is from_second = record { command = refl; own_tables = refl; plain = (refl, refl) }
 
-pub finds_member : (name : List ℕ) → ReadsLast member_text (Text name ∷ []) (ShowsKey (codes "team") first_text (columns (2 ∷ [])) name)
+pub finds_member : {form : Form} (name : List ℕ) → ReadsLastOf form member_text (Text name ∷ []) (ShowsKey (codes "team") first_text (columns (2 ∷ [])) name)
 finds_member = reads_by_text member_text team_table team_placed 1 (2 ∷ []) _ member_is member_names
 
 -- ---- a language's header and plural rule
@@ -58,10 +61,13 @@ policy_text = codes "SELECT schema, reviews, guests_suggest, voting, accept_at, 
 abbrev policy_terms : List Term
 policy_terms = op2 (by.Compare compare.Eq Binary) (col 1 0) (lit (Int (pos 1))) ∷ []
 
-policy_is : IsQuery policy_text policy_table policy_terms (2 ∷ 3 ∷ 4 ∷ 5 ∷ 6 ∷ 7 ∷ 8 ∷ [])
+policy_is : {form : Form} → IsQueryOf form policy_text policy_table policy_terms (2 ∷ 3 ∷ 4 ∷ 5 ∷ 6 ∷ 7 ∷ 8 ∷ [])
     (codes "schema" ∷ codes "reviews" ∷ codes "guests_suggest" ∷ codes "voting" ∷ codes "accept_at" ∷ codes "placeholders" ∷ codes "line_ends" ∷ [])
 unfolding understood everything
 policy_is made_new = record { command = refl; own_tables = refl; plain = (refl, refl) }
+policy_is made_last = record { command = refl; own_tables = refl; plain = (refl, refl) }
+policy_is from_first = record { command = refl; own_tables = refl; plain = (refl, refl) }
+policy_is from_second = record { command = refl; own_tables = refl; plain = (refl, refl) }
 
 -- the policy's row has the rowid 1
 abbrev is_one : Value → Bool
@@ -77,12 +83,12 @@ one_from_test v e =
 test_from_one : (v : Value) → v ≡ Int (pos 1) → is_one v ≡ true
 test_from_one v e = rw e ((eq_by_cmp_equiv value_cmp_total).refl (Int (pos 1)))
 
-policy_tests : AreTests (codes "policy") [] policy_terms (λ row. is_one (row_number row))
+policy_tests : {form : Form} → AreTestsOf form (codes "policy") [] policy_terms (λ row. is_one (row_number row))
 policy_tests db has sound tables row there =
-    let whole : is_int (row_number row) ≡ true = (tables (codes "policy") refl).ints row there in
+    let whole : is_int (row_number row) ≡ true = (tables (codes "policy") (policy_placed has.0).own).ints row there in
     and-true _ ∙ ints_compared (row_number row) (Int (pos 1)) whole refl ∙ sym (ap (λ b. b && is_eq (value_cmp (row_number row) (Int (pos 1)))) whole)
 
-pub finds_policy : ReadsLast policy_text [] (ShowsKey (codes "policy") row_number (columns (2 ∷ 3 ∷ 4 ∷ 5 ∷ 6 ∷ 7 ∷ 8 ∷ [])) (Int (pos 1)))
+pub finds_policy : {form : Form} → ReadsLastOf form policy_text [] (ShowsKey (codes "policy") row_number (columns (2 ∷ 3 ∷ 4 ∷ 5 ∷ 6 ∷ 7 ∷ 8 ∷ [])) (Int (pos 1)))
 finds_policy = reads_key (codes "policy") (λ row. is_one (row_number row)) (columns (2 ∷ 3 ∷ 4 ∷ 5 ∷ 6 ∷ 7 ∷ 8 ∷ [])) row_number (Int (pos 1))
     (λ row. one_from_test (row_number row)) (λ row. test_from_one (row_number row)) policy_text []
     (reads_all policy_text policy_table policy_placed policy_terms (2 ∷ 3 ∷ 4 ∷ 5 ∷ 6 ∷ 7 ∷ 8 ∷ []) _ policy_is [] (λ row. is_one (row_number row)) policy_tests)

@@ -1,15 +1,17 @@
--- Where one row of a table passes, the rows that pass are this one.
-use Rattle.std.proofs.Common.{◌≡◌, List, [], ◌∷◌, Bool, true, false, filter, inl, inr, refl, sym, ap, subst, ◌∙◌}
+-- Where one row of a table passes, the rows that pass are this one, and where at most one does, they are the first of them or none.
+use Rattle.std.proofs.Common.{◌≡◌, List, [], ◌∷◌, Bool, true, false, cond, filter, get_or, inl, inr, refl, sym, ap, subst, ◌∙◌}
+use Rattle.std.specs.List.{list_any}
+use Rattle.std.proofs.lemmas.Bool.{false_from_ne_true}
 use Rattle.std.specs.Ordering.{is_eq}
 use Rattle.std.specs.Cmp.{eq_by_cmp_equiv}
 use Rattle.sqlite.specs.Order.{Row, value_cmp}
 use Rattle.sqlite.specs.Tree.{rowid}
 use Rattle.sqlite_value.proofs.OrderLemmas.{value_cmp_total}
 use Rattle.sqlite_rules.specs.Lists.{Has}
-use Rattle.sqlite_rules.proofs.ListLemmas.{all_has}
+use Rattle.sqlite_rules.proofs.ListLemmas.{all_has, some_has, some_from}
 use Rattle.sql_laws.specs.ApartRows.{AreOnce}
 
-none_passing : (test : Row → Bool) (rows : List Row) → ((row : Row) → Has rows row → test row ≡ false) → filter test rows ≡ []
+pub none_passing : (test : Row → Bool) (rows : List Row) → ((row : Row) → Has rows row → test row ≡ false) → filter test rows ≡ []
 none_passing test [] none = refl
 none_passing test (row ∷ rows) none = rw (none row (inl refl)) (none_passing test rows (λ r there. none r (inr there)))
 
@@ -46,3 +48,15 @@ pub one_passing : (test : Row → Bool) (rows : List Row) (x : Row) → AreOnce 
 one_passing test [] x once there passes only = absurd there
 one_passing test (row ∷ rows) x once there passes only =
     by_first test row rows x once there passes only (λ behind. one_passing test rows x once.1 behind passes (λ r at. only r (inr at))) (test row) refl
+
+-- at most one passes
+module _ (test : Row → Bool) (rows : List Row) (once : AreOnce rows) (one : (r s : Row) → Has rows r → Has rows s → test r ≡ true → test s ≡ true → r ≡ s) where
+  pub first_or_none : filter test rows ≡ cond (list_any test rows) (get_or (filter test rows) 0 [] ∷ []) []
+  first_or_none = by (list_any test rows) refl
+    where
+      by : (b : Bool) → list_any test rows ≡ b → filter test rows ≡ cond b (get_or (filter test rows) 0 [] ∷ []) []
+      by true e =
+          let x = some_has test rows e in
+          let is = one_passing test rows x.0 once x.1 x.2 (λ r there passes. one r x.0 there x.1 passes x.2) in
+          is ∙ ap (λ l. get_or l 0 [] ∷ []) (sym is)
+      by false e = none_passing test rows (λ r there. false_from_ne_true (test r) (λ passes. let some = some_from test rows r there passes in let none = e in cc))

@@ -26,10 +26,10 @@ use Rattle.sql_laws.proofs.Comparisons.{ints_compared}
 use Rattle.sql_schema.specs.Schema.{policy_table}
 use Rattle.sql_schema.specs.Keys.{row_number}
 use Rattle.sql_schema.proofs.RowNumbers.{one_row_number}
-use Rattle.sql_schema.proofs.Insertions.{Puts, cast_null, cast_int}
+use Rattle.sql_schema.proofs.Insertions.{PutsOf, cast_null, cast_int}
 use Rattle.sql_statements.proofs.Untouched.{none_refers, drop_false}
 use Rattle.sql_statements.proofs.Upserts.{IsUpsert, IsPuttable, puts_or_renews}
-use Rattle.sql_schema.specs.Layouts.{Layout, made_new, schema_of, placed, rows_named}
+use Rattle.sql_schema.specs.Layouts.{Form, Layout, made_new, made_last, from_first, from_second, schema_of, placed, rows_named}
 use Rattle.sql_schema.proofs.Layouts.{policy_placed}
 
 -- ---- the text
@@ -43,9 +43,12 @@ upsert_terms = lit (Int (pos 1)) ∷ lit Null ∷ col 0 0 ∷ col 0 1 ∷ col 0 
 abbrev becomes : List Term
 becomes = col 1 0 ∷ col 1 0 ∷ lit Null ∷ col 0 10 ∷ col 0 11 ∷ col 0 12 ∷ col 0 13 ∷ col 0 14 ∷ col 0 15 ∷ col 0 16 ∷ []
 
-upsert_is : (layout : Layout) → IsUpsert layout upsert_text 9 7 policy_table upsert_terms (0 ∷ []) becomes
+upsert_is : {form : Form} (layout : Layout form) → IsUpsert layout upsert_text 9 7 policy_table upsert_terms (0 ∷ []) becomes
 unfolding understood same_name joined everything
 upsert_is made_new = record { is_placed = policy_placed made_new; uncounted = refl; is = refl; plain = (refl, refl); none = none_refers (schema_of made_new) (placed made_new policy_table).tree (λ olds news. refl) }
+upsert_is made_last = record { is_placed = policy_placed made_last; uncounted = refl; is = refl; plain = (refl, refl); none = none_refers (schema_of made_last) (placed made_last policy_table).tree (λ olds news. refl) }
+upsert_is from_first = record { is_placed = policy_placed from_first; uncounted = refl; is = refl; plain = (refl, refl); none = none_refers (schema_of from_first) (placed from_first policy_table).tree (λ olds news. refl) }
+upsert_is from_second = record { is_placed = policy_placed from_second; uncounted = refl; is = refl; plain = (refl, refl); none = none_refers (schema_of from_second) (placed from_second policy_table).tree (λ olds news. refl) }
 
 -- ---- the values
 
@@ -67,11 +70,14 @@ module _ (schema reviews guests_suggest voting accept_at placeholders line_ends 
   is_one : (n : ℤ) → is_eq (value_cmp (Int n) (Int (pos 1))) ≡ true → n ≡ pos 1
   is_one n e = int_cmp-IsAntisymmetric n (pos 1) ((Equal-is (int_cmp n (pos 1))).0 (ap is_eq (sym (value_cmp-Int n (pos 1))) ∙ e))
 
-  conflict_is : (layout : Layout) (r : Row) → conflicts (Some (0 ∷ [])) (schema_of layout).indexes (placed layout policy_table) policy_row r ≡ true
+  conflict_is : {form : Form} (layout : Layout form) (r : Row) → conflicts (Some (0 ∷ [])) (schema_of layout).indexes (placed layout policy_table) policy_row r ≡ true
       → agree plain (0 ∷ []) r (0 ∷ []) policy_row ≡ true
-  conflict_is made_new r h = drop_false _ h
+  conflict_is made_new r h = drop_false (agree plain (0 ∷ []) r (0 ∷ []) policy_row) h
+  conflict_is made_last r h = drop_false (agree plain (0 ∷ []) r (0 ∷ []) policy_row) h
+  conflict_is from_first r h = drop_false (agree plain (0 ∷ []) r (0 ∷ []) policy_row) h
+  conflict_is from_second r h = drop_false (agree plain (0 ∷ []) r (0 ∷ []) policy_row) h
 
-  same_rowid : (layout : Layout) (r : Row) → is_int (rowid r) ≡ true → conflicts (Some (0 ∷ [])) (schema_of layout).indexes (placed layout policy_table) policy_row r ≡ true → rowid r ≡ Int (pos 1)
+  same_rowid : {form : Form} (layout : Layout form) (r : Row) → is_int (rowid r) ≡ true → conflicts (Some (0 ∷ [])) (schema_of layout).indexes (placed layout policy_table) policy_row r ≡ true → rowid r ≡ Int (pos 1)
   same_rowid layout r whole h =
       let agreed = conflict_is layout r h in
       let tied = (and_parts _ _ (sym (agrees r whole) ∙ agreed)).0 in
@@ -81,7 +87,7 @@ module _ (schema reviews guests_suggest voting accept_at placeholders line_ends 
   shows_it : (r : Row) → rowid r ≡ Int (pos 1) → shows (values ++ rowid r ∷ shown policy_table policy_row) becomes r ≡ rowid r ∷ policy_row
   shows_it r first = rw first refl
 
-  is_puttable : IsPuttable 7 9 policy_table upsert_terms (0 ∷ []) becomes values policy_row row_number (λ row. row ≡ policy_row) (λ rows. policy_row) (λ r. policy_row)
+  is_puttable : {form : Form} → IsPuttable form 7 9 policy_table upsert_terms (0 ∷ []) becomes values policy_row row_number (λ row. row ≡ policy_row) (λ rows. policy_row) (λ r. policy_row)
   is_puttable = record {
     given = refl;
     follows = λ v rest. refl;
@@ -93,5 +99,5 @@ module _ (schema reviews guests_suggest voting accept_at placeholders line_ends 
     meets = λ db has sound r there whole rows h. let first = same_rowid has.0 r whole h in (first, shows_it r first);
   }
 
-  pub sets_policy : Puts upsert_text values (codes "policy") row_number (λ row. row ≡ policy_row)
+  pub sets_policy : {form : Form} → PutsOf form upsert_text values (codes "policy") row_number (λ row. row ≡ policy_row)
   sets_policy = puts_or_renews upsert_is is_puttable (λ db has sound. one_row_number (rows_named db (codes "policy")))

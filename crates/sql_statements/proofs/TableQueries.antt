@@ -1,5 +1,5 @@
--- What a query over one table answers inside a transaction, where it has no tests and its rows come by some of the columns that it shows.
-use Rattle.std.proofs.Common.{◌≡◌, ℕ, ◌+◌, ◌<◌, List, [], ◌∷◌, map, filter, length, get_or, false, refl, sym, ap, subst, ◌∙◌, arith}
+-- What a query over one table answers inside a transaction, where its rows come by some of the columns that it shows.
+use Rattle.std.proofs.Common.{◌≡◌, ℕ, ◌+◌, ◌<◌, List, [], ◌∷◌, map, filter, length, get_or, Bool, false, refl, sym, ap, subst, ◌∙◌, arith}
 use Rattle.std.proofs.Math.Path.{fun_ext}
 use Rattle.std.specs.declared.cmp.Ordering.{Ordering}
 use Rattle.std.specs.Ordering.{is_lt}
@@ -8,7 +8,7 @@ use Rattle.std.proofs.lemmas.List.{length-map, get_or-map, get_or_default}
 use Rattle.sqlite.specs.Collation.TheVariants.{Binary}
 use Rattle.sqlite.specs.declared.types.Value.TheVariants.{Null}
 use Rattle.sqlite.specs.Order.{Row}
-use Rattle.sqlite.specs.Term.{col}
+use Rattle.sqlite.specs.Term.{Term, col}
 use Rattle.sqlite.specs.Program.{overlay}
 use Rattle.sqlite.specs.Query.{Query, IsAnswer, Output, output, output_cmp}
 use Rattle.sqlite.specs.Tree.{Trees}
@@ -21,18 +21,28 @@ use Rattle.sql_laws.proofs.PlainQueries.{outputs_are, ordered_permuted}
 use Rattle.sql_laws.proofs.RemovedRows.{from_mapped, has_permuted}
 use Rattle.sqlite.specs.Table.{Table}
 use Rattle.sql_schema.specs.Keys.{columns}
-use Rattle.sql_schema.specs.Inside.{IsReady}
-use Rattle.sql_schema.proofs.Queries.{Asks, ReadsAll, queries_inside, rows_read, shows_columns}
-use Rattle.sql_statements.specs.Tables.{by_columns, ShowsTable}
-use Rattle.sql_schema.specs.Layouts.{Layout, schema_of, placed, IsPlaced}
+use Rattle.sql_schema.specs.Inside.{IsReadyFor}
+use Rattle.sql_schema.proofs.Queries.{Asks, ReadsAllOf, AreTestsOf, queries_inside, filtered_same, rows_read, shows_columns}
+use Rattle.sql_statements.specs.Tables.{by_columns, ShowsTable, ShowsPart}
+use Rattle.sql_schema.specs.Layouts.{Form, for_main, Layout, schema_of, placed, rows_named, IsPlaced}
 
--- these columns of a table's rows, upwards by some of them, one after the other
+-- these columns of a table's rows that pass the tests, upwards by some of them, one after the other
+abbrev pub part_query : ℕ → List Term → List ℕ → List ℕ → Query
+part_query tree terms places by =
+    record (plain_query tree terms (map (col 1) places)) { order = map (λ place. (col 1 place, record { collation = Binary; descending = false })) by }
+
+abbrev pub IsPartQueryOf : Form → List ℕ → Table → List Term → List ℕ → List ℕ → List (List ℕ) → Type 0
+IsPartQueryOf form text table terms places by names = (layout : Layout form) → Asks layout text (part_query (placed layout table).tree terms places by) names
+
+-- of all its rows
 abbrev pub table_query : ℕ → List ℕ → List ℕ → Query
-table_query tree places by =
-    record (plain_query tree [] (map (col 1) places)) { order = map (λ place. (col 1 place, record { collation = Binary; descending = false })) by }
+table_query tree = part_query tree []
+
+abbrev pub IsTableQueryOf : Form → List ℕ → Table → List ℕ → List ℕ → List (List ℕ) → Type 0
+IsTableQueryOf form text table places by names = (layout : Layout form) → Asks layout text (table_query (placed layout table).tree places by) names
 
 abbrev pub IsTableQuery : List ℕ → Table → List ℕ → List ℕ → List (List ℕ) → Type 0
-IsTableQuery text table places by names = (layout : Layout) → Asks layout text (table_query (placed layout table).tree places by) names
+IsTableQuery = IsTableQueryOf for_main
 
 -- what is in the order of outputs is in an order of what they show, where the two compare alike
 shown_sorted : (outputs : List Output) (compare : Output → Output → Ordering) (by : Row → Row → Ordering)
@@ -54,41 +64,65 @@ all_pass [] = refl
 all_pass (row ∷ rows) = ap (λ more. row ∷ more) (all_pass rows)
 
 -- the answer of such a query on a tree
-module _ (tree : ℕ) (places by order : List ℕ)
-    (alike : (r s : Row) → output_cmp (table_query tree places by) (output (table_query tree places by) ([] ∷ r ∷ [])) (output (table_query tree places by) ([] ∷ s ∷ []))
+module _ (tree : ℕ) (terms : List Term) (places by order : List ℕ) (params : Row)
+    (alike : (r s : Row) → output_cmp (part_query tree terms places by) (output (part_query tree terms places by) (params ∷ r ∷ [])) (output (part_query tree terms places by) (params ∷ s ∷ []))
     ≡ by_columns order (columns places r) (columns places s)) where
   abbrev query : Query
-  query = table_query tree places by
+  query = part_query tree terms places by
 
   abbrev of_row : Row → Output
-  of_row row = output query ([] ∷ row ∷ [])
+  of_row row = output query (params ∷ row ∷ [])
 
-  module _ (db : Trees) (rows : List Row) (answer : IsAnswer query db [] rows) where
+  module _ (db : Trees) (rows : List Row) (answer : IsAnswer query db params rows) where
     from_row : (o : Output) → Has answer.ordered o → (row : Row) × (o ≡ of_row row)
     from_row o there =
-        let kept = subst (λ l. Has l o) (outputs_are tree [] (map (col 1) places) _ db [] rows answer) (has_permuted answer.kept answer.ordered o answer.same there) in
+        let kept = subst (λ l. Has l o) (outputs_are tree terms (map (col 1) places) _ db params rows answer) (has_permuted answer.kept answer.ordered o answer.same there) in
         let env = from_mapped (output query) _ o kept in
-        let row = from_mapped (λ r. [] ∷ r ∷ []) (filter (passes [] []) (db tree)) env.0 env.1 in
+        let row = from_mapped (λ r. params ∷ r ∷ []) (filter (passes params terms) (db tree)) env.0 env.1 in
         (row.0, env.2 ∙ ap (output query) row.2)
 
     compare_alike : (o p : Output) → Has answer.ordered o → Has answer.ordered p → output_cmp query o p ≡ by_columns order o.1 p.1
     compare_alike o p at_o at_p =
         let r = from_row o at_o in
         let s = from_row p at_p in
-        rw (r.1, s.1) (alike r.0 s.0 ∙ (λ i. by_columns order (sym (shows_columns [] places r.0) i) (sym (shows_columns [] places s.0) i)))
+        rw (r.1, s.1) (alike r.0 s.0 ∙ (λ i. by_columns order (sym (shows_columns params places r.0) i) (sym (shows_columns params places s.0) i)))
 
     in_order : IsSorted (by_columns order) rows
     in_order = subst (IsSorted (by_columns order)) (sym answer.shown) (shown_sorted answer.ordered (output_cmp query) (by_columns order) compare_alike answer.sorted)
 
-    all_shown : IsPermutation (map (columns places) (db tree)) rows
+    all_shown : IsPermutation (map (columns places) (filter (passes params terms) (db tree))) rows
     all_shown =
-        subst (λ l. IsPermutation l rows) (ap (λ (f : Row → Row). map f (filter (passes [] []) (db tree))) (fun_ext (shows_columns [] places)) ∙ ap (map (columns places)) (all_pass (db tree)))
-        (ordered_permuted tree [] (map (col 1) places) _ db [] rows answer)
+        subst (λ l. IsPermutation l rows) (ap (λ (f : Row → Row). map f (filter (passes params terms) (db tree))) (fun_ext (shows_columns params places)))
+        (ordered_permuted tree terms (map (col 1) places) _ db params rows answer)
 
-module _ (text : List ℕ) (table : Table) (is_placed : (layout : Layout) → IsPlaced layout table) (places by order : List ℕ) (names : List (List ℕ)) (means : IsTableQuery text table places by names)
+-- the rows that pass a test
+module _ {form : Form} (text : List ℕ) (table : Table) (is_placed : (layout : Layout form) → IsPlaced layout table) (terms : List Term) (places by order : List ℕ) (names : List (List ℕ))
+    (means : IsPartQueryOf form text table terms places by names) (params : Row) (test : Row → Bool) (tests : AreTestsOf form table.name params terms test)
+    (alike : (tree : ℕ) (r s : Row) → output_cmp (part_query tree terms places by) (output (part_query tree terms places by) (params ∷ r ∷ [])) (output (part_query tree terms places by) (params ∷ s ∷ []))
+    ≡ by_columns order (columns places r) (columns places s)) where
+  shows_part : (old new : State) (rows : List Row) → IsReadyFor form old → Shown text params old new rows → ShowsPart table.name test places order old.now rows
+  shows_part old new rows ready h =
+      let layout = ready.schema.0 in
+      let tree = (placed layout table).tree in
+      let asks = means layout in
+      let read = reads_as text params old new (schema_of layout) ready.schema.1 _ asks.command asks.plain asks.own_tables rows h in
+      let answer = read.answer Null in
+      let passing = ap (λ l. map (columns places) (filter (passes params terms) l)) (rows_read layout table (is_placed layout) old.now ready.schema.1)
+      ∙ ap (map (columns places)) (filtered_same (passes params terms) test (rows_named old.now table.name) (tests old.now ready.schema ready.sound ready.tables)) in
+      record {
+        all = subst (λ l. IsPermutation l rows) passing (all_shown tree terms places by order params (alike tree) (overlay old.now.trees []) rows answer);
+        in_order = in_order tree terms places by order params (alike tree) (overlay old.now.trees []) rows answer;
+      }
+
+  pub reads_part : ReadsAllOf form text params (ShowsPart table.name test places order)
+  reads_part A rows_of old new r =
+      queries_inside text params old new (λ layout. (means layout).plain) rows_of (λ db a. ShowsPart table.name test places order db (rows_of a)) (λ a ready h. shows_part old new (rows_of a) ready h) r
+
+-- all of them
+module _ {form : Form} (text : List ℕ) (table : Table) (is_placed : (layout : Layout form) → IsPlaced layout table) (places by order : List ℕ) (names : List (List ℕ)) (means : IsTableQueryOf form text table places by names)
     (alike : (tree : ℕ) (r s : Row) → output_cmp (table_query tree places by) (output (table_query tree places by) ([] ∷ r ∷ [])) (output (table_query tree places by) ([] ∷ s ∷ []))
     ≡ by_columns order (columns places r) (columns places s)) where
-  shows_table : (old new : State) (rows : List Row) → IsReady old → Shown text [] old new rows → ShowsTable table.name places order old.now rows
+  shows_table : (old new : State) (rows : List Row) → IsReadyFor form old → Shown text [] old new rows → ShowsTable table.name places order old.now rows
   shows_table old new rows ready h =
       let layout = ready.schema.0 in
       let tree = (placed layout table).tree in
@@ -96,10 +130,11 @@ module _ (text : List ℕ) (table : Table) (is_placed : (layout : Layout) → Is
       let read = reads_as text [] old new (schema_of layout) ready.schema.1 _ asks.command asks.plain asks.own_tables rows h in
       let answer = read.answer Null in
       record {
-        all = subst (λ l. IsPermutation (map (columns places) l) rows) (rows_read layout table (is_placed layout) old.now ready.schema.1) (all_shown tree places by order (alike tree) (overlay old.now.trees []) rows answer);
-        in_order = in_order tree places by order (alike tree) (overlay old.now.trees []) rows answer;
+        all = subst (λ l. IsPermutation (map (columns places) l) rows) (all_pass (overlay old.now.trees [] tree) ∙ rows_read layout table (is_placed layout) old.now ready.schema.1)
+            (all_shown tree [] places by order [] (alike tree) (overlay old.now.trees []) rows answer);
+        in_order = in_order tree [] places by order [] (alike tree) (overlay old.now.trees []) rows answer;
       }
 
-  pub reads_table : ReadsAll text [] (ShowsTable table.name places order)
+  pub reads_table : ReadsAllOf form text [] (ShowsTable table.name places order)
   reads_table A rows_of old new r =
       queries_inside text [] old new (λ layout. (means layout).plain) rows_of (λ db a. ShowsTable table.name places order db (rows_of a)) (λ a ready h. shows_table old new (rows_of a) ready h) r

@@ -2,22 +2,25 @@
 use Rattle.std.proofs.Common.{ℕ, List, [], ◌∷◌, codes, refl}
 use Rattle.sqlite.specs.Listing.{understood}
 use Rattle.sqlite_tied.specs.Compute.{everything}
-use Rattle.sql_schema.proofs.Queries.{ReadsAll}
+use Rattle.sql_schema.proofs.Queries.{ReadsAllOf, ReadsAll}
 use Rattle.sql_statements.specs.Tables.{ShowsTeam, ShowsTemplate, ShowsLanguages, ShowsUnits, ShowsSuggestions, ShowsVotes}
-use Rattle.sql_statements.proofs.TableQueries.{IsTableQuery, reads_table}
-use Rattle.sql_schema.specs.Layouts.{made_new}
+use Rattle.sql_statements.proofs.TableQueries.{IsTableQueryOf, IsTableQuery, reads_table}
+use Rattle.sql_schema.specs.Layouts.{Form, made_new, made_last, from_first, from_second}
 use Rattle.sql_schema.proofs.Layouts.{team_placed, template_placed, language_placed, unit_placed, suggestion_placed, vote_placed}
 use Rattle.sql_schema.specs.Schema.{team_table, template_table, language_table, unit_table, suggestion_table, vote_table}
 
 abbrev team_text : List ℕ
 team_text = codes "SELECT role, name FROM team ORDER BY name"
 
-team_is : IsTableQuery team_text team_table (2 ∷ 1 ∷ []) (1 ∷ [])
+team_is : {form : Form} → IsTableQueryOf form team_text team_table (2 ∷ 1 ∷ []) (1 ∷ [])
     (codes "role" ∷ codes "name" ∷ [])
 unfolding understood everything
 team_is made_new = record { command = refl; own_tables = refl; plain = (refl, refl) }
+team_is made_last = record { command = refl; own_tables = refl; plain = (refl, refl) }
+team_is from_first = record { command = refl; own_tables = refl; plain = (refl, refl) }
+team_is from_second = record { command = refl; own_tables = refl; plain = (refl, refl) }
 
-pub reads_team : ReadsAll team_text [] ShowsTeam
+pub reads_team : {form : Form} → ReadsAllOf form team_text [] ShowsTeam
 reads_team = reads_table team_text team_table team_placed (2 ∷ 1 ∷ []) (1 ∷ []) (1 ∷ []) _ team_is (λ tree r s. refl)
 
 abbrev template_text : List ℕ

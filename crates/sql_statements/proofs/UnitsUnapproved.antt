@@ -31,7 +31,7 @@ use Rattle.sql_schema.proofs.TextKeys.{holds_text, holds_text_or_null, holds_int
 use Rattle.sql_statements.proofs.Untouched.{none_refers}
 use Rattle.sql_statements.specs.Renewed.{is_approved_row, unapproved_row, HaveNextRevisions}
 use Rattle.sql_statements.proofs.Renewals.{IsRenewal, Renews, renews_rows}
-use Rattle.sql_schema.specs.Layouts.{Layout, made_new, schema_of, HasLayout, placed, rows_named}
+use Rattle.sql_schema.specs.Layouts.{for_main, Layout, made_new, schema_of, HasLayout, placed, rows_named}
 use Rattle.sql_schema.proofs.Layouts.{unit_placed}
 use Rattle.sql_schema.specs.Schema.{unit_table}
 
@@ -47,7 +47,7 @@ abbrev becomes : List Term
 becomes =
     col 1 0 ∷ col 1 0 ∷ col 1 1 ∷ col 1 2 ∷ col 1 3 ∷ col 1 4 ∷ lit (Int (pos 2)) ∷ col 1 6 ∷ op2 (by.Arith arithmetic.Add) (col 1 7) (lit (Int (pos 1))) ∷ col 1 8 ∷ col 1 9 ∷ []
 
-update_is : (layout : Layout) → IsRenewal layout update_text unit_table update_terms becomes
+update_is : (layout : Layout for_main) → IsRenewal layout update_text unit_table update_terms becomes
 unfolding understood same_name joined everything
 update_is made_new = record {
   is_placed = unit_placed made_new;
@@ -59,7 +59,7 @@ update_is made_new = record {
 
 -- ---- the values
 
-plus_one : (n : ℤ) → fits_i64 (n +ℤ pos 1) ≡ true → binary (by.Arith arithmetic.Add) (Int n) (Int (pos 1)) ≡ Int (n +ℤ pos 1)
+pub plus_one : (n : ℤ) → fits_i64 (n +ℤ pos 1) ≡ true → binary (by.Arith arithmetic.Add) (Int n) (Int (pos 1)) ≡ Int (n +ℤ pos 1)
 unfolding binary
 plus_one n fits = rw fits refl
 

@@ -4,6 +4,8 @@ use Rattle.sqlite.specs.declared.types.Value.TheVariants.{Int}
 use Rattle.sqlite.specs.Order.{Row}
 use Rattle.sqlite.specs.Effect.{Database}
 use Rattle.sql_schema.specs.Keys.{first_text, first_texts, second_text, row_number, has_text, is_on_unit, columns}
+use Rattle.sql_laws.specs.RowMaps.{IsFound}
+use Rattle.sql_schema.specs.Layouts.{NamedRows, rows_named}
 use Rattle.sql_schema.specs.Inside.{ShowsKey, ShowsAll, IsInOrder}
 
 -- content, status, body
@@ -19,8 +21,11 @@ abbrev pub ShowsLanguage : List ℕ → Database → Option Row → Type 0
 ShowsLanguage = ShowsKey (codes "language") first_text (columns (2 ∷ 3 ∷ []))
 
 -- schema, and the six values
+abbrev pub ShowsPolicyIn : NamedRows → Option Row → Type 0
+ShowsPolicyIn tables = IsFound row_number (columns (2 ∷ 3 ∷ 4 ∷ 5 ∷ 6 ∷ 7 ∷ 8 ∷ [])) (tables (codes "policy")) (Int (pos 1))
+
 abbrev pub ShowsPolicy : Database → Option Row → Type 0
-ShowsPolicy = ShowsKey (codes "policy") row_number (columns (2 ∷ 3 ∷ 4 ∷ 5 ∷ 6 ∷ 7 ∷ 8 ∷ [])) (Int (pos 1))
+ShowsPolicy db found = ShowsPolicyIn (rows_named db) found
 
 -- plural, forms, state, obsolete, revision, comment, previous
 abbrev pub ShowsUnit : List ℕ → List ℕ → Database → Option Row → Type 0

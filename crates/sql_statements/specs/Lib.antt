@@ -8,3 +8,6 @@ pub mod WholeOffice
 pub mod Queries
 pub mod Answers
 pub mod UnitRows
+pub mod DomainCleared
+pub mod DomainAnswers
+pub mod DomainRenewed

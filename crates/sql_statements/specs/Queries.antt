@@ -1,6 +1,6 @@
 -- What an export reads: the template's entries in the order of their places, each beside its unit, and the obsolete units in the order of
 -- their keys.
-use Rattle.std.specs.Prelude.{◌≡◌, ◌&&◌, ℕ, Bool, pos, List, [], ◌∷◌, ◌++◌, map, codes}
+use Rattle.std.specs.Prelude.{◌≡◌, ◌&&◌, ℕ, Bool, pos, List, [], ◌∷◌, ◌++◌, map, filter, codes}
 use Rattle.sqlite.specs.declared.types.Value.TheVariants.{Int}
 use Rattle.std.specs.List.Sorted.{IsPermutation, IsSorted}
 use Rattle.std.specs.declared.cmp.Ordering.{Ordering}
@@ -10,7 +10,7 @@ use Rattle.sqlite.specs.Order.{Row, column, value_cmp}
 use Rattle.sqlite.specs.Effect.{Database}
 use Rattle.sqlite_rules.specs.Lists.{Has}
 use Rattle.sql_schema.specs.Keys.{first_texts, second_text, has_text, columns}
-use Rattle.sql_schema.specs.Inside.{ShowsAll, IsInOrder}
+use Rattle.sql_schema.specs.Inside.{IsInOrder}
 use Rattle.sql_schema.specs.Layouts.{NamedRows, rows_named}
 
 -- rows by one of their columns
@@ -31,15 +31,21 @@ abbrev pub unit_places : List ℕ
 unit_places = 4 ∷ 5 ∷ 8 ∷ 9 ∷ []
 
 -- Each entry of the template beside its unit, by place.
-pub record ShowsMessages (unit_of : Row → Row) (db : Database) (rows : List Row) : Type 0 where
-  pub all : IsPermutation (map (λ row. columns entry_places row ++ columns unit_places (unit_of row)) (rows_named db (codes "template"))) rows
+pub record ShowsMessagesIn (unit_of : Row → Row) (tables : NamedRows) (rows : List Row) : Type 0 where
+  pub all : IsPermutation (map (λ row. columns entry_places row ++ columns unit_places (unit_of row)) (tables (codes "template"))) rows
   pub in_order : IsSorted (by_column 5) rows
+
+abbrev pub ShowsMessages : (Row → Row) → Database → List Row → Type 0
+ShowsMessages unit_of db rows = ShowsMessagesIn unit_of (rows_named db) rows
 
 -- an obsolete unit of a language
 abbrev pub is_obsolete_of : List ℕ → Row → Bool
 is_obsolete_of lang row = has_text 1 lang row && is_eq (value_cmp (column row 6) (Int (pos 1)))
 
 -- Each obsolete unit of a language, by key: its plural, forms, state, comment, previous and key.
-pub record ShowsObsolete (lang : List ℕ) (db : Database) (rows : List Row) : Type 0 where
-  pub all : ShowsAll (codes "unit") (is_obsolete_of lang) (columns (3 ∷ 4 ∷ 5 ∷ 8 ∷ 9 ∷ 2 ∷ [])) db rows
+pub record ShowsObsoleteIn (lang : List ℕ) (tables : NamedRows) (rows : List Row) : Type 0 where
+  pub all : IsPermutation (map (columns (3 ∷ 4 ∷ 5 ∷ 8 ∷ 9 ∷ 2 ∷ [])) (filter (is_obsolete_of lang) (tables (codes "unit")))) rows
   pub in_order : IsInOrder 5 rows
+
+abbrev pub ShowsObsolete : List ℕ → Database → List Row → Type 0
+ShowsObsolete lang db rows = ShowsObsoleteIn lang (rows_named db) rows

@@ -1,25 +1,36 @@
 -- What a read of the whole office shows.
 use Rattle.sqlite.specs.Effect.{Database}
-use Rattle.sql_statements.specs.Answers.{ShowsPolicy}
+use Rattle.sql_schema.specs.Layouts.{NamedRows, rows_named}
+use Rattle.sql_statements.specs.Answers.{ShowsPolicyIn}
 use Rattle.sql_statements.specs.declared.whole_office.OfficeTables.{OfficeTables}
 use Rattle.sql_statements.specs.declared.whole_office.UnitTables.{UnitTables}
 use Rattle.sql_statements.specs.declared.whole_office.WholeOffice.{WholeOffice}
-use Rattle.sql_statements.specs.Tables.{ShowsTeam, ShowsTemplate, ShowsLanguages, ShowsUnits, ShowsSuggestions, ShowsVotes}
+use Rattle.sql_statements.specs.Tables.{ShowsTeamIn, ShowsTemplateIn, ShowsLanguagesIn, ShowsUnitsIn, ShowsSuggestionsIn, ShowsVotesIn}
 
 -- the team, the policy, the template and the languages
-pub record ShowsOfficeTables (db : Database) (rows : OfficeTables) : Type 0 where
-  pub team : ShowsTeam db rows.team.items
-  pub policy : ShowsPolicy db rows.policy
-  pub template : ShowsTemplate db rows.template.items
-  pub languages : ShowsLanguages db rows.languages.items
+pub record ShowsOfficeTablesIn (tables : NamedRows) (rows : OfficeTables) : Type 0 where
+  pub team : ShowsTeamIn tables rows.team.items
+  pub policy : ShowsPolicyIn tables rows.policy
+  pub template : ShowsTemplateIn tables rows.template.items
+  pub languages : ShowsLanguagesIn tables rows.languages.items
 
 -- the units, the suggestions on them, and the votes on these
-pub record ShowsUnitTables (db : Database) (rows : UnitTables) : Type 0 where
-  pub units : ShowsUnits db rows.units.items
-  pub suggestions : ShowsSuggestions db rows.suggestions.items
-  pub votes : ShowsVotes db rows.votes.items
+pub record ShowsUnitTablesIn (tables : NamedRows) (rows : UnitTables) : Type 0 where
+  pub units : ShowsUnitsIn tables rows.units.items
+  pub suggestions : ShowsSuggestionsIn tables rows.suggestions.items
+  pub votes : ShowsVotesIn tables rows.votes.items
 
 -- all of them
-pub record ShowsWholeOffice (db : Database) (rows : WholeOffice) : Type 0 where
-  pub office : ShowsOfficeTables db rows.office
-  pub units : ShowsUnitTables db rows.units
+pub record ShowsWholeOfficeIn (tables : NamedRows) (rows : WholeOffice) : Type 0 where
+  pub office : ShowsOfficeTablesIn tables rows.office
+  pub units : ShowsUnitTablesIn tables rows.units
+
+-- those of a database
+abbrev pub ShowsOfficeTables : Database → OfficeTables → Type 0
+ShowsOfficeTables db rows = ShowsOfficeTablesIn (rows_named db) rows
+
+abbrev pub ShowsUnitTables : Database → UnitTables → Type 0
+ShowsUnitTables db rows = ShowsUnitTablesIn (rows_named db) rows
+
+abbrev pub ShowsWholeOffice : Database → WholeOffice → Type 0
+ShowsWholeOffice db rows = ShowsWholeOfficeIn (rows_named db) rows

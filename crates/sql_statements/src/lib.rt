@@ -2,27 +2,40 @@
 //! module for each table, and its law beside it.
 //!
 //! - `records`, `team`, `policy`, `template`, `languages`, `units`, `suggestions`, `votes`: one table each
-//! - `queries`: the join that an export walks, and the obsolete units behind it
+//! - `domains`, `domain_template`, `domain_languages`, `domain_units`, `domain_suggestions`, `domain_votes`, `vote_sums`,
+//!   `tallies`: tables by domains, one each
+//! - `queries`, `domain_queries`: the join that an export walks, and the obsolete units behind it
 //! - `unit_rows`: the rows that a look at a unit shows
 //! - `whole_office`: the rows of all tables, read in one transaction
+//! - `domain_office`: what a domain sees of them
 //!
-//! Specs: `Answers`, `UnitRows`, `Queries`, `Tables`, `RecordTable`, `WholeOffice` are what reads show; `Added`,
-//! `Taken`, `Emptied`, `Renewed` what becomes of rows. A lemma about one table's texts stands in `proofs/` under the
+//! Specs: `Answers`, `DomainAnswers`, `UnitRows`, `Queries`, `Tables`, `RecordTable`, `WholeOffice` are what reads show; `Added`,
+//! `Taken`, `Emptied`, `Renewed`, `DomainCleared` what becomes of rows. A lemma about one table's texts stands in `proofs/` under the
 //! table's name (`UnitPuts`, `PolicySet`, `UnitReads`); what INSERT, INSERT with ON CONFLICT, DELETE and UPDATE do to
 //! any table of the office in `Additions`, `Upserts`, `Removals`, `Renewals`.
 //!
-//! A function takes a transaction that is open and leaves it open, but those of `queries` and `whole_office`. What is
-//! said of values is said while the disk returns what was written.
+//! A function takes a transaction that is open and leaves it open, but those of `queries`, `domain_queries`,
+//! `whole_office` and `look_up_domain`. What is said of values is said while the disk returns what was written.
 #![tactic(auto)]
 
+pub mod domain_languages;
+pub mod domain_office;
+pub mod domain_queries;
+pub mod domain_suggestions;
+pub mod domain_template;
+pub mod domain_units;
+pub mod domain_votes;
+pub mod domains;
 pub mod languages;
 pub mod policy;
 pub mod queries;
 pub mod records;
 pub mod suggestions;
+pub mod tallies;
 pub mod team;
 pub mod template;
 pub mod unit_rows;
 pub mod units;
+pub mod vote_sums;
 pub mod votes;
 pub mod whole_office;

@@ -1,8 +1,9 @@
-//! The table of the policy, which has one row.
+//! The table of the policy, which has one row, and which each form of an office's tables has.
 ghost use Rattle.std.specs.Prelude.{◌≡◌, ◌∷◌, [], pos, codes};
 ghost use Rattle.sqlite.specs.Held.{state};
 ghost use Rattle.sqlite.specs.declared.types.Value.TheVariants.{Null, Int};
-ghost use Rattle.sql_schema.specs.Inside.{IsSteady, IsInside, PutsRow, IsRead};
+ghost use Rattle.sql_schema.specs.Layouts.{Form};
+ghost use Rattle.sql_schema.specs.Inside.{IsSteadyOver, IsInsideOf, PutsRow, IsReadOf};
 ghost use Rattle.sql_schema.specs.Keys.{row_number};
 ghost use Rattle.sql_statements.specs.Answers.{ShowsPolicy};
 
@@ -20,9 +21,8 @@ pub fn set_policy<S: Alter>(
     placeholders: i64,
     line_ends: i64,
 ) -> Result<(), Error>
-    requires steady { IsSteady (state S.Store tx.old.conn.now) }
     ensures same_reference { tx.new.conn.ghost_name ≡ tx.old.conn.ghost_name }
-    ensures put { IsInside (state S.Store tx.old.conn.now) (state S.Store tx.new.conn.now) result
+    ensures put { (form : Form) → IsSteadyOver form (state S.Store tx.old.conn.now) → IsInsideOf form (state S.Store tx.old.conn.now) (state S.Store tx.new.conn.now) result
         (PutsRow (codes "policy") row_number (λ row. row ≡ Int (pos 1) ∷ Null ∷ Int schema ∷ Int reviews ∷ Int guests_suggest ∷ Int voting ∷ Int accept_at ∷ Int placeholders ∷ Int line_ends ∷ [])) }
 {
     tx.execute(
@@ -43,9 +43,8 @@ pub fn set_policy<S: Alter>(
 /// The policy: the file's schema, whether suggestions are reviewed, whether guests suggest, whether there are votes, how many accept, and
 /// what is checked of placeholders and line ends. None, where it wasn't written.
 pub fn find_policy<S: Alter>(tx: &mut Transaction<'_, S>) -> Result<Option<Row>, Error>
-    requires steady { IsSteady (state S.Store tx.old.conn.now) }
     ensures same_reference { tx.new.conn.ghost_name ≡ tx.old.conn.ghost_name }
-    ensures found { IsRead (state S.Store tx.old.conn.now) (state S.Store tx.new.conn.now) result
+    ensures found { (form : Form) → IsSteadyOver form (state S.Store tx.old.conn.now) → IsReadOf form (state S.Store tx.old.conn.now) (state S.Store tx.new.conn.now) result
         ShowsPolicy }
 {
     let mut rows = tx.query_all(

@@ -1,8 +1,9 @@
-//! The table of records.
+//! The table of records, which each form of an office's tables has.
 ghost use Rattle.std.specs.Prelude.{◌≡◌, ◌∷◌, [], codes};
 ghost use Rattle.sqlite.specs.Held.{state};
 ghost use Rattle.sqlite.specs.declared.types.Value.TheVariants.{Int, Text};
-ghost use Rattle.sql_schema.specs.Inside.{IsSteady, IsInside, PutsRow, HoldsValues, IsRead};
+ghost use Rattle.sql_schema.specs.Layouts.{Form};
+ghost use Rattle.sql_schema.specs.Inside.{IsSteadyOver, IsInsideOf, PutsRow, HoldsValues, IsReadOf};
 ghost use Rattle.sql_schema.specs.Keys.{first_text};
 ghost use Rattle.sql_statements.specs.RecordTable.{ShowsRecords};
 ghost use Rattle.sql_statements.specs.Answers.{ShowsRecord};
@@ -18,9 +19,8 @@ pub fn put_record<S: Alter>(
     status: i64,
     body: &str,
 ) -> Result<(), Error>
-    requires steady { IsSteady (state S.Store tx.old.conn.now) }
     ensures same_reference { tx.new.conn.ghost_name ≡ tx.old.conn.ghost_name }
-    ensures put { IsInside (state S.Store tx.old.conn.now) (state S.Store tx.new.conn.now) result
+    ensures put { (form : Form) → IsSteadyOver form (state S.Store tx.old.conn.now) → IsInsideOf form (state S.Store tx.old.conn.now) (state S.Store tx.new.conn.now) result
         (PutsRow (codes "record") first_text (HoldsValues (Text number.now ∷ Text content.now ∷ Int status ∷ Text body.now ∷ []))) }
 {
     tx.execute(
@@ -33,9 +33,8 @@ pub fn put_record<S: Alter>(
 /// The records by number: each one's content, its reply's status and body, and its number. It wants the transaction open and leaves it
 /// open.
 pub fn all_records<S: Alter>(tx: &mut Transaction<'_, S>) -> Result<Vec<Row>, Error>
-    requires steady { IsSteady (state S.Store tx.old.conn.now) }
     ensures same_reference { tx.new.conn.ghost_name ≡ tx.old.conn.ghost_name }
-    ensures found { IsRead (state S.Store tx.old.conn.now) (state S.Store tx.new.conn.now) result
+    ensures found { (form : Form) → IsSteadyOver form (state S.Store tx.old.conn.now) → IsReadOf form (state S.Store tx.old.conn.now) (state S.Store tx.new.conn.now) result
         (λ db rows. ShowsRecords db rows.items) }
 {
     tx.query_all(
@@ -49,9 +48,8 @@ pub fn find_record<S: Alter>(
     tx: &mut Transaction<'_, S>,
     number: &str,
 ) -> Result<Option<Row>, Error>
-    requires steady { IsSteady (state S.Store tx.old.conn.now) }
     ensures same_reference { tx.new.conn.ghost_name ≡ tx.old.conn.ghost_name }
-    ensures found { IsRead (state S.Store tx.old.conn.now) (state S.Store tx.new.conn.now) result
+    ensures found { (form : Form) → IsSteadyOver form (state S.Store tx.old.conn.now) → IsReadOf form (state S.Store tx.old.conn.now) (state S.Store tx.new.conn.now) result
         (ShowsRecord number.now) }
 {
     let mut rows = tx.query_all(

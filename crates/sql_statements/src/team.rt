@@ -1,8 +1,9 @@
-//! The table of the team.
+//! The table of the team, which each form of an office's tables has.
 ghost use Rattle.std.specs.Prelude.{◌≡◌, ◌∷◌, [], codes};
 ghost use Rattle.sqlite.specs.Held.{state};
 ghost use Rattle.sqlite.specs.declared.types.Value.TheVariants.{Int, Text};
-ghost use Rattle.sql_schema.specs.Inside.{IsSteady, IsInside, PutsRow, HoldsValues, IsRead};
+ghost use Rattle.sql_schema.specs.Layouts.{Form};
+ghost use Rattle.sql_schema.specs.Inside.{IsSteadyOver, IsInsideOf, PutsRow, HoldsValues, IsReadOf};
 ghost use Rattle.sql_schema.specs.Keys.{first_text, has_text};
 ghost use Rattle.sql_statements.specs.Taken.{TakesRows};
 ghost use Rattle.sql_statements.specs.Tables.{ShowsTeam};
@@ -12,9 +13,8 @@ use sqlite::{Alter, Error, Row, Transaction, params};
 
 /// Writes a member of the team, a name and a role from 1 to 3: anew if the name has none, and else in the place of the one that is there.
 pub fn set_member<S: Alter>(tx: &mut Transaction<'_, S>, name: &str, role: i64) -> Result<(), Error>
-    requires steady { IsSteady (state S.Store tx.old.conn.now) }
     ensures same_reference { tx.new.conn.ghost_name ≡ tx.old.conn.ghost_name }
-    ensures put { IsInside (state S.Store tx.old.conn.now) (state S.Store tx.new.conn.now) result
+    ensures put { (form : Form) → IsSteadyOver form (state S.Store tx.old.conn.now) → IsInsideOf form (state S.Store tx.old.conn.now) (state S.Store tx.new.conn.now) result
         (PutsRow (codes "team") first_text (HoldsValues (Text name.now ∷ Int role ∷ []))) }
 {
     tx.execute(
@@ -26,9 +26,8 @@ pub fn set_member<S: Alter>(tx: &mut Transaction<'_, S>, name: &str, role: i64) 
 
 /// Takes a member out of the team; where no member has the name, nothing changes.
 pub fn remove_member<S: Alter>(tx: &mut Transaction<'_, S>, name: &str) -> Result<(), Error>
-    requires steady { IsSteady (state S.Store tx.old.conn.now) }
     ensures same_reference { tx.new.conn.ghost_name ≡ tx.old.conn.ghost_name }
-    ensures taken { IsInside (state S.Store tx.old.conn.now) (state S.Store tx.new.conn.now) result (TakesRows (codes "team") (has_text 1 name.now)) }
+    ensures taken { (form : Form) → IsSteadyOver form (state S.Store tx.old.conn.now) → IsInsideOf form (state S.Store tx.old.conn.now) (state S.Store tx.new.conn.now) result (TakesRows (codes "team") (has_text 1 name.now)) }
 {
     tx.execute("DELETE FROM team WHERE name = ?1", params![name])
         .and(Ok(()))
@@ -36,9 +35,8 @@ pub fn remove_member<S: Alter>(tx: &mut Transaction<'_, S>, name: &str) -> Resul
 
 /// The team by name: each member's role and name.
 pub(crate) fn all_members<S: Alter>(tx: &mut Transaction<'_, S>) -> Result<Vec<Row>, Error>
-    requires steady { IsSteady (state S.Store tx.old.conn.now) }
     ensures same_reference { tx.new.conn.ghost_name ≡ tx.old.conn.ghost_name }
-    ensures found { IsRead (state S.Store tx.old.conn.now) (state S.Store tx.new.conn.now) result
+    ensures found { (form : Form) → IsSteadyOver form (state S.Store tx.old.conn.now) → IsReadOf form (state S.Store tx.old.conn.now) (state S.Store tx.new.conn.now) result
         (λ db rows. ShowsTeam db rows.items) }
 {
     tx.query_all("SELECT role, name FROM team ORDER BY name", &[])
@@ -46,9 +44,8 @@ pub(crate) fn all_members<S: Alter>(tx: &mut Transaction<'_, S>) -> Result<Vec<R
 
 /// The role of a member of the team. None, where the team has nobody of that name.
 pub fn find_member<S: Alter>(tx: &mut Transaction<'_, S>, name: &str) -> Result<Option<Row>, Error>
-    requires steady { IsSteady (state S.Store tx.old.conn.now) }
     ensures same_reference { tx.new.conn.ghost_name ≡ tx.old.conn.ghost_name }
-    ensures found { IsRead (state S.Store tx.old.conn.now) (state S.Store tx.new.conn.now) result
+    ensures found { (form : Form) → IsSteadyOver form (state S.Store tx.old.conn.now) → IsReadOf form (state S.Store tx.old.conn.now) (state S.Store tx.new.conn.now) result
         (ShowsMember name.now) }
 {
     let mut rows = tx.query_all("SELECT role FROM team WHERE name = ?1", params![name])?;

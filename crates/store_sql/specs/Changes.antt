@@ -7,8 +7,8 @@ use Rattle.deliveries.specs.declared.values.DomainChange.TheVariants.{NewLanguag
 use Rattle.sql_keepable.specs.Keepable.{IsNamed, AreKeepableUnits, AreKeepablePlans, IsKeepableLanguage, AreKeepableEntries}
 
 abbrev pub IsKeepableDomainChange : DomainChange → Type 0
-IsKeepableDomainChange (NewLanguage lang language plan) = IsKeepableLanguage lang language.header × AreKeepableUnits lang plan.units
-IsKeepableDomainChange (NewTemplate template plans) = AreKeepableEntries template × AreKeepablePlans plans.items
+IsKeepableDomainChange (NewLanguage lang language plan tally) = IsKeepableLanguage lang language.header × AreKeepableUnits lang plan.units
+IsKeepableDomainChange (NewTemplate template plans tallies) = AreKeepableEntries template × AreKeepablePlans plans.items
 
 abbrev pub IsKeepableChange : Change → Type 0
 IsKeepableChange (OneRole name role) = IsNamed name

@@ -32,11 +32,11 @@ fn domain_change_fits(change: &DomainChange)
     ensures { IsKeepableDomainChange change.now }
 {
     match change {
-        DomainChange::NewLanguage(lang, language, plan) => {
+        DomainChange::NewLanguage(lang, language, plan, _) => {
             language_fits(lang, &language.header);
             units_fit(lang, plan.units.as_slice());
         }
-        DomainChange::NewTemplate(template, plans) => {
+        DomainChange::NewTemplate(template, plans, _) => {
             entries_fit(template.entries());
             plans_fit(plans.as_slice());
         }

@@ -15,7 +15,7 @@ ghost use Rattle.tables.specs.Kept.{IsKept};
 ghost use Rattle.tables.specs.Stops.{Nothing};
 ghost use Rattle.tables.specs.Sinks.{WasCutShort};
 ghost use Rattle.tables.specs.Entries.{entries_of};
-ghost use Rattle.tables.specs.Counts.{counts_of};
+ghost use Rattle.deliveries.specs.Tally.{counts_of};
 ghost use Rattle.tables.specs.declared.faults.EachFault.TheVariants.{NoTables};
 ghost use Rattle.units.specs.Project.{role_in};
 ghost use Rattle.units.specs.Office.{project_in};
@@ -38,7 +38,7 @@ use crate::making::make;
 use crate::records::read_record;
 use crate::views::read_role;
 use crate::whole_office::{forget, keep, let_go, read_office};
-use deliveries::{ActContext, Change};
+use deliveries::{ActContext, Change, Tally};
 use office_maps::OfficeMaps;
 use request_book::Record;
 use sql_adoption::{OpenFault, adopted_office};
@@ -48,7 +48,7 @@ use sql_keepable::key_fits;
 use sqlite::{Alter, Connection};
 use std::alloc::Global;
 use std::marker::Model;
-use tables::{Counts, EachFault, EntrySink, Lost, Start, counts_in};
+use tables::{EachFault, EntrySink, Lost, Start, counts_in};
 use units::{Key, Lang, Name, Role, UnitView};
 use uuid::Uuid;
 
@@ -321,7 +321,7 @@ impl<S: Alter> Rows<S> {
     }
 
     /// How many units of a domain's language callers see in each state; nothing where the domain or its language isn't there.
-    pub(crate) fn counts(&mut self, domain: &Name, lang: &Lang) -> Result<Option<Counts>, Lost>
+    pub(crate) fn counts(&mut self, domain: &Name, lang: &Lang) -> Result<Option<Tally>, Lost>
         ensures answer { is_honest S.Store self.new → IfOk result (λ r. r ≡ counts_of (project_in (means S.Store self.old).office domain.now) lang.now) }
         ensures same { is_honest S.Store self.new → is_whole S.Store self.new → means S.Store self.new ≡ means S.Store self.old }
         ensures kept { IsKept (is_honest S.Store) (is_whole S.Store) (means S.Store) (may_leave S.Store) (is_stopped S.Store) self.old self.new result Disk Nothing }

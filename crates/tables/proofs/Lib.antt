@@ -1,9 +1,12 @@
 pub mod EntriesCut
 pub mod Handings
 pub mod LanguageUnits
-pub mod Countings
+pub mod CountsFound
 pub mod OfficeUnits
 pub mod NothingCounted
 pub mod Records
 pub mod Started
 mod NothingFound
+pub mod TotalsPut
+pub mod TallyMoves
+pub mod TallyPolicy

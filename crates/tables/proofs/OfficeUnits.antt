@@ -15,9 +15,9 @@ use Rattle.office_maps.specs.declared.place.Place.{Place}
 use Rattle.office_maps.specs.OfficeIn.{lent_project, place_of}
 use Rattle.office_maps.specs.MapViews.{viewed}
 use Rattle.office_maps.proofs.AfterChanges.{unit_entries}
-use Rattle.tables.specs.Counts.{counts_in}
-use Rattle.tables.specs.Counting.{AreWithin}
-use Rattle.tables.proofs.Countings.{counts_within}
+use Rattle.deliveries.specs.Tally.{counts_in}
+use Rattle.deliveries.specs.Counting.{AreWithin}
+use Rattle.deliveries.proofs.tallies.Countings.{counts_within}
 
 all_filtered : {X : Type 0} (P : X → Type 0) (test : X → Bool) (xs : List X) → AllByRecursion P xs → AllByRecursion P (filter test xs)
 all_filtered P test [] h = tt

@@ -2,10 +2,9 @@ pub mod Faults
 pub mod Stops
 pub mod Sinks
 pub mod Entries
-pub mod Counts
 pub mod Kept
 pub mod Starts
 pub mod Handing
-pub mod Counting
 pub mod MapsMeaning
 pub mod PlainMeaning
+pub mod Tallies

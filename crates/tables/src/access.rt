@@ -12,15 +12,14 @@ ghost use Rattle.tables.specs.Stops.{Nothing, LeavesOnly};
 ghost use Rattle.tables.specs.Kept.{IsKept};
 ghost use Rattle.tables.specs.Sinks.{WasCutShort};
 ghost use Rattle.tables.specs.Entries.{entries_of};
-ghost use Rattle.tables.specs.Counts.{counts_of};
+ghost use Rattle.deliveries.specs.Tally.{counts_of};
 ghost use Rattle.office_maps.specs.OfficeIn.{office_in};
 ghost use Rattle.tables.specs.declared.faults.Lost.TheVariants.{Disk};
 ghost use Rattle.tables.specs.declared.faults.EachFault.TheVariants.{NoTables};
 
-use crate::counts::Counts;
 use crate::faults::{EachFault, Lost};
 use crate::sink::EntrySink;
-use deliveries::{ActContext, Change};
+use deliveries::{ActContext, Change, Tally};
 use office_maps::OfficeMaps;
 use request_book::Record;
 use units::{Key, Lang, Name, Role, UnitView};
@@ -136,7 +135,7 @@ pub trait Tables: Drop {
         ensures kept { IsKept is_honest is_whole means may_leave is_stopped self.old self.new result (NoTables Disk) Nothing };
 
     /// How many units of a domain's language callers see in each state; nothing where the domain or its language isn't there.
-    fn counts(&mut self, domain: &Name, lang: &Lang) -> Result<Option<Counts>, Lost>
+    fn counts(&mut self, domain: &Name, lang: &Lang) -> Result<Option<Tally>, Lost>
         ensures answer { is_honest self.new → IfOk result (λ r. r ≡ counts_of (project_in (means self.old).office domain.now) lang.now) }
         ensures same { is_honest self.new → is_whole self.new → means self.new ≡ means self.old }
         ensures kept { IsKept is_honest is_whole means may_leave is_stopped self.old self.new result Disk Nothing };

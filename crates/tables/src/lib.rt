@@ -4,7 +4,6 @@
 //!
 //! - `access`: the trait `Tables`: what each call answers, writes and keeps
 //! - `sink`: the trait `EntrySink`, which takes the entries of a language
-//! - `counts`: how many units of a language are in each state (`Counts`)
 //! - `start`: what new tables begin with (`Start`)
 //! - `faults`: why a call failed (`Lost`, `EachFault`)
 //!
@@ -22,14 +21,13 @@
 //! - `domain_reads`: what is found in a domain: nothing, where it isn't there
 //! - `plain_start`: what these tables begin with
 //!
-//! Specs: `Kept` (what a call keeps), `Stops` (what a stop may leave), `Sinks`, `Entries`, `Counts`, `Starts`,
-//! `Faults`; of tables in maps `MapsMeaning` (the office with its book that the maps stand for), `PlainMeaning` (the
-//! same of `PlainTables`); `Handing` and `Counting`, for inner functions.
+//! Specs: `Kept` (what a call keeps), `Stops` (what a stop may leave), `Sinks`, `Entries`, `Starts`, `Faults`,
+//! `Tallies` (counts that are kept); of tables in maps `MapsMeaning` (the office with its book that the maps stand for), `PlainMeaning` (the
+//! same of `PlainTables`); `Handing`, for inner functions.
 #![tactic(auto)]
 
 mod access;
 mod counting;
-mod counts;
 mod domain_reads;
 mod entries;
 mod faults;
@@ -43,7 +41,6 @@ mod start;
 
 pub use access::Tables;
 pub use counting::counts_in;
-pub use counts::Counts;
 pub use faults::{EachFault, Lost};
 pub use handing::hand_entries;
 pub use plain::PlainTables;

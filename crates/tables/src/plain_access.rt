@@ -4,12 +4,11 @@ ghost use Rattle.std.specs.Prelude.{◌≡◌, false, ⊤};
 
 use crate::access::Tables;
 use crate::counting::counts_in;
-use crate::counts::Counts;
 use crate::domain_reads::hand_in;
 use crate::faults::{EachFault, Lost};
 use crate::plain::PlainTables;
 use crate::sink::EntrySink;
-use deliveries::{ActContext, Change};
+use deliveries::{ActContext, Change, Tally};
 use office_maps::OfficeMaps;
 use request_book::Record;
 use units::{Key, Lang, Name, Role, UnitView};
@@ -88,7 +87,7 @@ impl Tables for PlainTables {
         hand_in(self.alloc, &self.maps.office, domain, lang, sink)
     }
 
-    fn counts(&mut self, domain: &Name, lang: &Lang) -> Result<Option<Counts>, Lost> {
+    fn counts(&mut self, domain: &Name, lang: &Lang) -> Result<Option<Tally>, Lost> {
         Ok(counts_in(self.alloc, &self.maps.office, domain, lang)?)
     }
 }

@@ -13,7 +13,7 @@ use Rattle.request_book.specs.Words.{object_of, natural}
 use Rattle.views.specs.Parts.{text_or_null}
 use Rattle.views.specs.UnitTexts.{suggestion_fields, unit_fields}
 use Rattle.views.specs.CountsTexts.{counts_fields}
-use Rattle.tables.specs.declared.counts.Counts.{Counts}
+use Rattle.deliveries.specs.declared.tally.Tally.{Tally}
 
 whole_is_flat : (z : ℤ) → is_float (of_integer z) ≡ false
 whole_is_flat (pos n) = refl
@@ -41,5 +41,5 @@ suggestions_are_flat (suggestion ∷ suggestions) = rw (suggestion_is_flat sugge
 pub unit_is_flat : (view : UnitView) (rule : Rule) → has_float (object_of (unit_fields view rule)) ≡ false
 unit_is_flat view rule = simp (texts_are_flat, absent_is_flat, numbers_are_flat, suggestions_are_flat)
 
-pub counts_are_flat : (counts : Counts) → has_float (object_of (counts_fields counts)) ≡ false
+pub counts_are_flat : (counts : Tally) → has_float (object_of (counts_fields counts)) ≡ false
 counts_are_flat counts = refl

@@ -6,23 +6,23 @@ ghost use Rattle.request_book.specs.Words.{object_of};
 ghost use Rattle.views.specs.CountsTexts.{counts_fields, counts_text_of};
 
 use crate::parts::object_value;
+use deliveries::Tally;
 use serde_json::{Map, Value, put};
 use std::alloc::{AllocError, Global};
-use tables::Counts;
 use units::Memory;
 
 /// A language's counts as compact JSON (RFC 8259), keys in byte order.
 ///
 /// `Memory` where a growth was refused.
 #[tactic(auto, using(crate::proofs::Flat::counts_are_flat), unfolding(crate::specs::CountsTexts::counts_text_of))]
-pub fn counts_text(alloc: Global, counts: Counts) -> Result<String, Memory>
+pub fn counts_text(alloc: Global, counts: Tally) -> Result<String, Memory>
     ensures { IfOk result (λ text. string_bytes text ≡ counts_text_of counts) }
 {
     let map = counts_map(alloc, counts)?;
     Ok(object_value(map).to_string(alloc)?)
 }
 
-fn counts_map(alloc: Global, counts: Counts) -> Result<Map<String, Value>, AllocError>
+fn counts_map(alloc: Global, counts: Tally) -> Result<Map<String, Value>, AllocError>
     ensures { IfOk result
         (λ map. object (members_view map.entries) ≡ object_of (counts_fields counts)) }
 {

@@ -1,4 +1,4 @@
-use Rattle.std.proofs.Common.{◌≡◌, Bool, false, cond, sym, ap, subst, ◌∙◌, arith}
+use Rattle.std.proofs.Common.{◌≡◌, Bool, false, cond, refl, sym, ap, subst, ◌∙◌, arith}
 use Rattle.std.specs.Prelude.{nat_le}
 use Rattle.std.specs.Option.{option_map_or}
 use Rattle.std.specs.FinMap as maps
@@ -25,7 +25,7 @@ returns-in-Some c =
     sym (ap (λ (b : Bool). cond b (refuse project PastLimit) (option_map_or (loaded project lang header) (load_of project.template c.args.text.now c.args.rule project.policy) (refuse project PastLimit))) few
     ∙ ap (λ plan. option_map_or (loaded project lang header) plan (refuse project PastLimit)) (sym c.in-Ok.ensures ∙ c.in-Some.is)) in
     IfOk-weaker c.with_plan.result
-    (λ (outcome : DomainOutcome). (project : Project) → maps.contains_key project.headers lang ≡ false → IsSettledIn project outcome (loaded project lang header c.in-Some.plan))
+    (λ (outcome : DomainOutcome). (project : Project) → project.template ≡ c.args.project.now.domain.now.template.catalogue → maps.contains_key project.headers lang ≡ false → IsSettledIn project outcome (loaded project lang header c.in-Some.plan))
     (λ (outcome : DomainOutcome). IsSettledIn project outcome (with_rule project lang c.args.text.now header c.args.rule))
-    (λ outcome settled. subst (λ (stepped : Stepped Project). IsSettledIn project outcome stepped) step (settled project c.requires.new))
+    (λ outcome settled. subst (λ (stepped : Stepped Project). IsSettledIn project outcome stepped) step (settled project refl c.requires.new))
     c.with_plan.ensures

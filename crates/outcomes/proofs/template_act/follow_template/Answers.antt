@@ -19,10 +19,10 @@ by_plans project next = option_map_or (updated project next) (plans project next
 pub returns-in-Some : goal.returns-in-Some
 returns-in-Some c =
     let project = lent_project c.args.project.now in
-    let next = c.in_ok-next.next in
+    let next = c.in_ok-next.next.catalogue in
     let planned : plans project next ≡ Some c.in-Some.plans.items = sym c.in-Ok.ensures ∙ ap (option_map (λ all. all.items)) c.in-Some.is in
     let step : ◌≡◌ {A = Stepped Project} (updated project next c.in-Some.plans.items) (by_plans project (template_of c.args.text.now)) =
-    sym (ap (λ (found : Option (List LanguagePlan)). option_map_or (updated project next) found (refuse project PastLimit)) planned) ∙ ap (by_plans project) c.in_ok-next.ensures.entries in
+    sym (ap (λ (found : Option (List LanguagePlan)). option_map_or (updated project next) found (refuse project PastLimit)) planned) ∙ ap (by_plans project) (c.in_ok-next.ensures ∙ c.in_ok-template_of.ensures.entries) in
     IfOk-weaker c.with_plans.result
     (λ (outcome : DomainOutcome). (project : Project) → plans project next ≡ Some c.in-Some.plans.items → IsSettledIn project outcome (updated project next c.in-Some.plans.items))
     (λ (outcome : DomainOutcome). IsSettledIn project outcome (by_plans project (template_of c.args.text.now)))

@@ -5,6 +5,8 @@ use Rattle.sql_commits.specs.Changes.{WritesIn}
 use Rattle.sql_commits.proofs.ActsWritten.{writes_unit}
 use Rattle.sql_commits.proofs.WritesInTurn.{write_then}
 use Rattle.sql_commits.proofs.acts.put_record_and_view.Goals as goal
+use Rattle.sql_schema.specs.Inside.{OnRows}
+use Rattle.sql_schema.specs.Layouts.{rows_named}
 
 pub returns-in-Some-clause-put : goal.returns-in-Some-clause-put
 returns-in-Some-clause-put g c =
@@ -15,8 +17,8 @@ returns-in-Some-clause-put g c =
     let domain = c.args.domain.now in
     let lang = c.args.lang.now in
     let unit = c.in-Some.view.unit in
-    rw c.in-Some.is (write_then old mid new c.in_ok-put_record_of.field-0 c.write_unit_in.result (PutsNumberedRecord row) (WritesIn domain (WritesNumberedUnit lang unit)) (MakesIn domain row (WritesRecordAndUnit row lang unit))
-    (λ recorded. writes_unit row old.now mid.now new.now recorded domain lang unit) c.in_ok-put_record_of.ensures.put c.write_unit_in.ensures.put)
+    rw c.in-Some.is (write_then old mid new c.in_ok-put_record_of.field-0 c.write_unit_in.result (OnRows (PutsNumberedRecord row)) (OnRows (WritesIn domain (WritesNumberedUnit lang unit))) (OnRows (MakesIn domain row (WritesRecordAndUnit row lang unit)))
+    (λ recorded. writes_unit row (rows_named old.now) (rows_named mid.now) (rows_named new.now) recorded domain lang unit) c.in_ok-put_record_of.ensures.put c.write_unit_in.ensures.put)
 
 pub returns-in-None-clause-put : goal.returns-in-None-clause-put
 returns-in-None-clause-put g c = rw c.in-None.is c.in_ok-put_record_of.ensures.put

@@ -6,6 +6,8 @@ use Rattle.sql_changes.specs.UnitWrites.{WritesPlanned, WritesUnits}
 use Rattle.sql_commits.proofs.PlannedWrites.{units_next}
 use Rattle.sql_commits.proofs.WritesInTurn.{write_then, write_told}
 use Rattle.sql_commits.proofs.planned_units.write_units.Goals as goal
+use Rattle.sql_schema.specs.Inside.{OnRows}
+use Rattle.sql_schema.specs.Layouts.{rows_named}
 
 pub loop-unit-preserved : goal.loop-unit-preserved
 loop-unit-preserved g c =
@@ -15,9 +17,9 @@ loop-unit-preserved g c =
     let lang = c.args.lang.now in
     let units = c.args.units.now in
     let i = c.loop-unit.unit-index in
-    let One = WritesPlanned lang c.unit-item.result in (
+    let One = OnRows (WritesPlanned lang c.unit-item.result) in (
       c.in_ok-write_planned.ensures.same_reference ∙ c.loop-unit.invariant.0,
-      write_then old mid new {A = ℕ} {B = ℕ} {E = Error} {F = Error} 0 (Ok 0) (WritesUnits lang (take i units)) One (WritesUnits lang (take (i + 1) units))
-          (units_next lang units i c.unit-item.result old.now mid.now new.now c.loop-unit-test.true c.unit-item.is) c.loop-unit.invariant.1
+      write_then old mid new {A = ℕ} {B = ℕ} {E = Error} {F = Error} 0 (Ok 0) (OnRows (WritesUnits lang (take i units))) One (OnRows (WritesUnits lang (take (i + 1) units)))
+          (units_next lang units i c.unit-item.result (rows_named old.now) (rows_named mid.now) (rows_named new.now) c.loop-unit-test.true c.unit-item.is) c.loop-unit.invariant.1
           (write_told mid new {E = Failure} c.in_ok-write_planned.field-0 0 One One (λ made. made) c.in_ok-write_planned.ensures.put),
     )

@@ -1,7 +1,7 @@
 use Rattle.std.proofs.Common.{◌≡◌, Ok, ℕ, take}
 use Rattle.sqlite.specs.Held.{state}
 use Rattle.sqlite.specs.declared.error.Error.{Error}
-use Rattle.sql_schema.specs.Inside.{IsInside}
+use Rattle.sql_schema.specs.Inside.{IsInside, OnRows}
 use Rattle.sql_changes.specs.UnitWrites.{WritesUnits}
 use Rattle.sql_commits.proofs.planned_units.write_units.Given as goal
 
@@ -9,4 +9,4 @@ use Rattle.sql_commits.proofs.planned_units.write_units.Given as goal
 abbrev pub invariant-loop-unit : goal.invariant-loop-unit
 invariant-loop-unit g l =
     (l.tx.conn.ghost_name ≡ l.fn.tx.conn.ghost_name)
-    × IsInside {A = ℕ} {E = Error} (state g.S.Store l.fn.tx.conn.now) (state g.S.Store l.tx.conn.now) (Ok 0) (WritesUnits l.lang (take l.unit-index l.units))
+    × IsInside {A = ℕ} {E = Error} (state g.S.Store l.fn.tx.conn.now) (state g.S.Store l.tx.conn.now) (Ok 0) (OnRows (WritesUnits l.lang (take l.unit-index l.units)))

@@ -6,6 +6,8 @@ use Rattle.sql_changes.specs.UnitWrites.{WritesPlanned}
 use Rattle.sql_commits.proofs.PlannedWrites.{UnitsBehind, units_behind}
 use Rattle.sql_commits.proofs.WritesInTurn.{write_then, write_told}
 use Rattle.sql_commits.proofs.planned_units.write_units_back.Goals as goal
+use Rattle.sql_schema.specs.Inside.{OnRows}
+use Rattle.sql_schema.specs.Layouts.{rows_named}
 
 pub loop-last-preserved : goal.loop-last-preserved
 loop-last-preserved g c =
@@ -17,9 +19,9 @@ loop-last-preserved g c =
     let left = c.loop-last.left.now in
     let others = c.in-Some.others.now in
     let last = c.in-Some.last.now in
-    let One = WritesPlanned lang last in (
+    let One = OnRows (WritesPlanned lang last) in (
       c.in_ok-write_planned.ensures.same_reference ∙ c.loop-last.invariant.0,
-      write_then old mid new {A = ℕ} {B = ℕ} {E = Error} {F = Error} 0 (Ok 0) (UnitsBehind lang units left) One (UnitsBehind lang units others)
-          (units_behind lang units left others last old.now mid.now new.now c.in-Some.ensures.cases.0) c.loop-last.invariant.1
+      write_then old mid new {A = ℕ} {B = ℕ} {E = Error} {F = Error} 0 (Ok 0) (OnRows (UnitsBehind lang units left)) One (OnRows (UnitsBehind lang units others))
+          (units_behind lang units left others last (rows_named old.now) (rows_named mid.now) (rows_named new.now) c.in-Some.ensures.cases.0) c.loop-last.invariant.1
           (write_told mid new {E = Failure} c.in_ok-write_planned.field-0 0 One One (λ made. made) c.in_ok-write_planned.ensures.put),
     )

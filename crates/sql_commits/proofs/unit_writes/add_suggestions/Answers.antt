@@ -5,6 +5,8 @@ use Rattle.sql_decoding.specs.declared.faults.Failure.{Failure}
 use Rattle.sql_changes.specs.UnitWrites.{AddsNumberedSuggestion, AddsNumberedSuggestions}
 use Rattle.sql_commits.proofs.WritesInTurn.{write_then, write_told, adds_suggestion_next}
 use Rattle.sql_commits.proofs.unit_writes.add_suggestions.Goals as goal
+use Rattle.sql_schema.specs.Inside.{OnRows}
+use Rattle.sql_schema.specs.Layouts.{rows_named}
 
 pub loop-place-preserved : goal.loop-place-preserved
 loop-place-preserved g c =
@@ -15,10 +17,10 @@ loop-place-preserved g c =
     let key = c.args.key.now in
     let suggestions = c.args.suggestions.now in
     let place = c.loop-place.place in
-    let One = AddsNumberedSuggestion lang key place c.index-suggestions-place.result in (
+    let One = OnRows (AddsNumberedSuggestion lang key place c.index-suggestions-place.result) in (
       refl,
       c.in_ok-add_suggestion.ensures.same_reference ∙ c.loop-place.invariant.1,
-      write_then old mid new {A = ℕ} {B = ℕ} {E = Error} {F = Error} 0 (Ok 0) (AddsNumberedSuggestions lang key (take place suggestions)) One (AddsNumberedSuggestions lang key (take (place + 1) suggestions))
-          (adds_suggestion_next lang key suggestions place c.index-suggestions-place.result old.now mid.now new.now c.loop-place-test.true c.index-suggestions-place.is)
+      write_then old mid new {A = ℕ} {B = ℕ} {E = Error} {F = Error} 0 (Ok 0) (OnRows (AddsNumberedSuggestions lang key (take place suggestions))) One (OnRows (AddsNumberedSuggestions lang key (take (place + 1) suggestions)))
+          (adds_suggestion_next lang key suggestions place c.index-suggestions-place.result (rows_named old.now) (rows_named mid.now) (rows_named new.now) c.loop-place-test.true c.index-suggestions-place.is)
           c.loop-place.invariant.2 (write_told mid new {E = Failure} c.in_ok-add_suggestion.field-0 0 One One (λ made. made) c.in_ok-add_suggestion.ensures.put),
     )

@@ -1,12 +1,15 @@
 use Rattle.std.proofs.Common.{rules, codes}
 use Rattle.sqlite.specs.Held.{state}
 use Rattle.sql_schema.specs.Cleared.{ClearsUnit}
-use Rattle.sql_schema.specs.Inside.{Then, PutsRow, HoldsValues}
+use Rattle.sql_schema.specs.Inside.{Then, PutsRow, HoldsValues, OnRows}
 use Rattle.sql_schema.specs.Keys.{first_texts}
 use Rattle.sql_meaning.specs.Cells.{unit_cells}
 use Rattle.sql_changes.specs.UnitWrites.{AddsNumberedSuggestions, WritesNumberedUnit}
 use Rattle.sql_commits.proofs.WritesInTurn.{write_then, writes_numbered_unit}
 use Rattle.sql_commits.proofs.unit_writes.write_columns.Goals as goal
+use Rattle.sql_meaning.specs.RowChanges.{ClearsIn}
+use Rattle.sql_schema.specs.Layouts.{rows_named}
+use Rattle.sql_meaning.proofs.RowsByName.{puts_in, clears_in}
 
 pub returns-clause-put : goal.returns-clause-put
 returns-clause-put g c =
@@ -19,8 +22,9 @@ returns-clause-put g c =
     let Row = PutsRow (codes "unit") first_texts (HoldsValues (unit_cells lang unit)) in
     let Gone = ClearsUnit lang c.as_str.result.now in
     let All = AddsNumberedSuggestions lang c.as_str-2.result.now c.as_slice.result.now in
-    let rest = write_then mid next new c.in_ok-clear_suggestions.field-0 c.add_suggestions.result Gone All (Then Gone All) (λ gone put. (next.now, gone, put))
+    let Rest = Then (ClearsIn lang c.as_str.result.now) All in
+    let rest = write_then mid next new c.in_ok-clear_suggestions.field-0 c.add_suggestions.result Gone (OnRows All) (OnRows Rest) (λ gone put. (rows_named next.now, clears_in gone, put))
     c.in_ok-clear_suggestions.ensures.cleared c.add_suggestions.ensures.put in
-    write_then old mid new c.in_ok-put_row.field-0 c.add_suggestions.result Row (Then Gone All) (WritesNumberedUnit lang unit)
-    (writes_numbered_unit lang c.as_str.result.now c.as_str-2.result.now unit c.as_slice.result.now old.now mid.now new.now (search rules) (search rules) (search rules))
+    write_then old mid new c.in_ok-put_row.field-0 c.add_suggestions.result Row (OnRows Rest) (OnRows (WritesNumberedUnit lang unit))
+    (λ row. writes_numbered_unit lang c.as_str.result.now c.as_str-2.result.now unit c.as_slice.result.now (rows_named old.now) (rows_named mid.now) (rows_named new.now) (search rules) (search rules) (search rules) (puts_in row))
     c.in_ok-put_row.ensures.put rest

@@ -1,4 +1,6 @@
 use Rattle.std.proofs.Common.{Ok, Err, inl, ◌+◌, refl, ◌∙◌}
+use Rattle.sql_schema.specs.Layouts.{made_new}
+use Rattle.sql_schema.proofs.TablesInTurn.{table_texts, text_makes}
 use Rattle.sql_schema.proofs.TablesSoFar.{text_at, one_more, counted, all_made, one_failed}
 use Rattle.sql_schema.proofs.new_tables.make_tables.Goals as goal
 
@@ -11,9 +13,9 @@ returns-in_err-execute-clause-made g c =
     let mid = c.loop-text.tx.conn.now in
     let new = c.execute.new.self.conn.now in
     let k = c.loop-text.text-index in
-    let failed = one_more g.S.Store old mid new c.requires.fresh k _ (Err c.in_err-execute.field-0.0) c.loop-text.invariant.1 c.loop-text-test.true c.in_err-execute.ensures.runs c.in_err-execute.ensures.survives
-    (text_at _ c.loop-text.invariant.2 k _ c.loop-text-test.true) in
-    one_failed g.S.Store old new c.in_err-execute.field-0.0 c.from_residual.result (k + 1) c.from_residual.ensures.0 failed
+    let failed = one_more made_new g.S.Store old mid new table_texts text_makes c.requires.fresh k _ (Err c.in_err-execute.field-0.0) c.loop-text.invariant.1 c.loop-text-test.true c.in_err-execute.ensures.runs c.in_err-execute.ensures.survives
+    (text_at table_texts _ c.loop-text.invariant.2 k _ c.loop-text-test.true) in
+    one_failed made_new g.S.Store old new c.in_err-execute.field-0.0 c.from_residual.result (k + 1) c.from_residual.ensures.0 failed
 
 pub loop-text-preserved : goal.loop-text-preserved
 loop-text-preserved g c =
@@ -23,12 +25,12 @@ loop-text-preserved g c =
     let k = c.loop-text.text-index in
     let count = c.in_ok-execute.field-0 in (
       c.in_ok-execute.ensures.same_reference ∙ c.loop-text.invariant.0,
-      counted g.S.Store old new count (k + 1)
-          (one_more g.S.Store old mid new c.requires.fresh k _ (Ok count) c.loop-text.invariant.1 c.loop-text-test.true c.in_ok-execute.ensures.runs c.in_ok-execute.ensures.survives
-          (text_at _ c.loop-text.invariant.2 k _ c.loop-text-test.true)),
+      counted made_new g.S.Store old new count (k + 1)
+          (one_more made_new g.S.Store old mid new table_texts text_makes c.requires.fresh k _ (Ok count) c.loop-text.invariant.1 c.loop-text-test.true c.in_ok-execute.ensures.runs c.in_ok-execute.ensures.survives
+          (text_at table_texts _ c.loop-text.invariant.2 k _ c.loop-text-test.true)),
       c.loop-text.invariant.2,
     )
 
 pub returns-clause-made : goal.returns-clause-made
 returns-clause-made g c =
-    all_made g.S.Store c.args.tx.now.conn.now c.loop-text.tx.conn.now tt c.loop-text.text-index c.loop-text-test.false c.loop-text.invariant.1
+    all_made made_new g.S.Store c.args.tx.now.conn.now c.loop-text.tx.conn.now tt c.loop-text.text-index c.loop-text-test.false c.loop-text.invariant.1

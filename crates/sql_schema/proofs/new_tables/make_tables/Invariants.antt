@@ -1,4 +1,6 @@
 use Rattle.std.proofs.Common.{◌≡◌}
+use Rattle.sql_schema.specs.Layouts.{made_new}
+use Rattle.sql_schema.proofs.TablesInTurn.{table_texts}
 use Rattle.sql_schema.proofs.TablesSoFar.{MadeSoFar, AreTexts}
 use Rattle.sql_schema.proofs.new_tables.make_tables.Given as goal
 
@@ -6,5 +8,5 @@ use Rattle.sql_schema.proofs.new_tables.make_tables.Given as goal
 abbrev pub invariant-loop-text : goal.invariant-loop-text
 invariant-loop-text g l =
     (l.tx.conn.ghost_name ≡ l.fn.tx.conn.ghost_name)
-    × MadeSoFar g.S.Store l.fn.tx.conn.now l.tx.conn.now l.text-index
-    × AreTexts l.text-items
+    × MadeSoFar made_new g.S.Store l.fn.tx.conn.now l.tx.conn.now l.text-index
+    × AreTexts table_texts l.text-items

@@ -6,8 +6,8 @@ use Rattle.sql_statements.proofs.RecordRows.{puts_record}
 use Rattle.sql_statements.proofs.records.put_record.Goals as goal
 
 pub returns-clause-put : goal.returns-clause-put
-returns-clause-put g c =
+returns-clause-put g c form steady =
     said _ _ _ c.and.ensures (
-    puts_record c.args.number.now c.args.content.now c.args.status c.args.body.now (state g.S.Store c.args.tx.now.conn.now) (state g.S.Store c.execute.new.self.conn.now) c.execute.result c.requires.steady
+    puts_record c.args.number.now c.args.content.now c.args.status c.args.body.now (state g.S.Store c.args.tx.now.conn.now) (state g.S.Store c.execute.new.self.conn.now) c.execute.result steady
     (rw (c.params-to_sql.ensures, c.params-to_sql-2.ensures, c.params-to_sql-3.ensures, c.params-to_sql-4.ensures, to_z-of_z w64 c.args.status c.ranges.status) at c.execute.ensures.runs) c.execute.ensures.survives
     )

@@ -5,6 +5,6 @@ use Rattle.sql_statements.proofs.TableTexts.{reads_team}
 use Rattle.sql_statements.proofs.team.all_members.Goals as goal
 
 pub returns-clause-found : goal.returns-clause-found
-returns-clause-found g c =
-    reads_team (Vec Row Global) (λ rows. rows.items) (state g.S.Store c.args.tx.now.conn.now) (state g.S.Store c.query_all.new.self.conn.now) c.query_all.result c.requires.steady
+returns-clause-found g c form steady =
+    reads_team (Vec Row Global) (λ rows. rows.items) (state g.S.Store c.args.tx.now.conn.now) (state g.S.Store c.query_all.new.self.conn.now) c.query_all.result steady
     c.query_all.ensures.ok c.query_all.ensures.err c.query_all.ensures.survives

@@ -5,10 +5,10 @@ use Rattle.sql_statements.proofs.OfficeReads.{finds_member}
 use Rattle.sql_statements.proofs.team.find_member.Goals as goal
 
 pub returns-in_err-rows-clause-found : goal.returns-in_err-rows-clause-found
-returns-in_err-rows-clause-found g c =
+returns-in_err-rows-clause-found g c form steady =
     fails_to_read _ _ (state g.S.Store c.args.tx.now.conn.now) (state g.S.Store c.query_all.new.self.conn.now) _ c.from_residual.result _ c.from_residual.ensures.0 c.in_err-rows.ensures.err c.query_all.ensures.survives
 
 pub returns-clause-found : goal.returns-clause-found
-returns-clause-found g c =
-    finds_member c.args.name.now (state g.S.Store c.args.tx.now.conn.now) (state g.S.Store c.query_all.new.self.conn.now) c.in_ok-rows.rows.items c.pop.new.self.items c.pop.result c.requires.steady
+returns-clause-found g c form steady =
+    finds_member c.args.name.now (state g.S.Store c.args.tx.now.conn.now) (state g.S.Store c.query_all.new.self.conn.now) c.in_ok-rows.rows.items c.pop.new.self.items c.pop.result steady
     (rw c.params-to_sql.ensures at c.in_ok-rows.ensures.ok) c.query_all.ensures.survives c.pop.ensures.items (λ some. c.pop.ensures.variant.1 (omega (arith, c.in_ok-rows.rows.ok)))

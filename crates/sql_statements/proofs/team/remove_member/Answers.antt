@@ -4,8 +4,8 @@ use Rattle.sql_statements.proofs.MembersTaken.{takes_member}
 use Rattle.sql_statements.proofs.team.remove_member.Goals as goal
 
 pub returns-clause-taken : goal.returns-clause-taken
-returns-clause-taken g c =
+returns-clause-taken g c form steady =
     said _ _ _ c.and.ensures (
-    takes_member c.args.name.now (state g.S.Store c.args.tx.now.conn.now) (state g.S.Store c.execute.new.self.conn.now) c.execute.result c.requires.steady
+    takes_member c.args.name.now (state g.S.Store c.args.tx.now.conn.now) (state g.S.Store c.execute.new.self.conn.now) c.execute.result steady
     (rw c.params-to_sql.ensures at c.execute.ensures.runs) c.execute.ensures.survives
     )

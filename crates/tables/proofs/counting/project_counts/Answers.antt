@@ -3,8 +3,8 @@ use Rattle.std.specs.Option.{option_copied}
 use Rattle.units.specs.Project.{units_of}
 use Rattle.deliveries.specs.declared.values.Language.{Language}
 use Rattle.office_maps.specs.OfficeIn.{lent_project}
-use Rattle.tables.specs.Counts.{counts_in}
-use Rattle.tables.proofs.Countings.{counts_by}
+use Rattle.deliveries.specs.Tally.{counts_in}
+use Rattle.tables.proofs.CountsFound.{counts_by}
 use Rattle.tables.proofs.counting.project_counts.Goals as goal
 
 pub returns-in-None : goal.returns-in-None

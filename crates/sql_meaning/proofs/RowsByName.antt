@@ -1,0 +1,58 @@
+-- What statements make of a database, and show of it, is so of its rows by the names of their tables.
+use Rattle.std.proofs.Common.{ℕ, Bool, List}
+use Rattle.sqlite.specs.Order.{Row}
+use Rattle.sqlite.specs.Effect.{Database}
+use Rattle.sql_schema.specs.Cleared.{ClearsUnit}
+use Rattle.sql_schema.specs.Inside.{PutsRow, PutsIn}
+use Rattle.sql_schema.specs.Layouts.{rows_named}
+use Rattle.sql_statements.specs.Added.{AddsRow}
+use Rattle.sql_statements.specs.Emptied.{EmptiesUnits}
+use Rattle.sql_statements.specs.Renewed.{UnapprovesUnits}
+use Rattle.sql_statements.specs.Taken.{TakesRows}
+use Rattle.sql_statements.specs.Tables.{ShowsTable}
+use Rattle.po_text.specs.Texts.{Text}
+use Rattle.sql_meaning.specs.RowsShown.{ShowsIn}
+use Rattle.sql_meaning.specs.Beginnings.{MakesOpening, MakesDemo}
+use Rattle.sql_meaning.specs.BeginningRows.{MakesOpeningIn, MakesDemoIn}
+use Rattle.sql_meaning.specs.RowChanges.{AddsIn, TakesIn, EmptiesIn, ClearsIn, UnapprovesIn}
+
+module _ {old new : Database} where
+  pub puts_in : {K : Type 0} {name : List ℕ} {key : Row → K} {IsRow : Row → Type 0} → PutsRow name key IsRow old new → PutsIn name key IsRow (rows_named old) (rows_named new)
+  puts_in it = record { row = it.row; is_row = it.is_row; put = it.put; others = it.others }
+
+  pub adds_in : {K : Type 0} {name : List ℕ} {key : Row → K} {IsRow : Row → Type 0} → AddsRow name key IsRow old new → AddsIn name key IsRow (rows_named old) (rows_named new)
+  unfolding puts_in
+  adds_in it = record { puts = puts_in it.puts; fresh = it.fresh }
+
+  pub takes_in : {name : List ℕ} {test : Row → Bool} → TakesRows name test old new → TakesIn name test (rows_named old) (rows_named new)
+  takes_in it = record { rows = it.rows; others = it.others }
+
+  pub empties_in : EmptiesUnits old new → EmptiesIn (rows_named old) (rows_named new)
+  empties_in it = record { units = it.units; suggestions = it.suggestions; votes = it.votes; others = it.others }
+
+  pub clears_in : {lang key : List ℕ} → ClearsUnit lang key old new → ClearsIn lang key (rows_named old) (rows_named new)
+  clears_in it = record { suggestions = it.suggestions; votes_only = it.votes_only; votes_kept = it.votes_kept; others = it.others }
+
+  pub unapproves_in : UnapprovesUnits old new → UnapprovesIn (rows_named old) (rows_named new)
+  unapproves_in it next = let made = it next in record { rows = made.rows; others = made.others }
+
+-- ---- what reads of whole tables show
+
+pub shown_in : (db : Database) {name places order : List ℕ} {rows : List Row} → ShowsTable name places order db rows → ShowsIn name places order (rows_named db) rows
+shown_in db it = record { all = it.all; in_order = it.in_order }
+
+-- ---- beginnings
+
+pub opening_in : (name : Text) (old new : Database) → MakesOpening name old new → MakesOpeningIn name (rows_named old) (rows_named new)
+opening_in name old new (made, empty, (first, member, policy)) = (rows_named made, empty, (rows_named first, puts_in member, puts_in policy))
+
+pub demo_in : (old new : Database) → MakesDemo old new → MakesDemoIn (rows_named old) (rows_named new)
+demo_in old new (made, empty, (team, (one, root, ann), (closed, policy, (hello, entry, (german, language, unit))))) = (
+  rows_named made,
+  empty,
+  (
+    rows_named team,
+    (rows_named one, puts_in root, puts_in ann),
+    (rows_named closed, puts_in policy, (rows_named hello, puts_in entry, (rows_named german, puts_in language, puts_in unit))),
+  ),
+)

@@ -1,0 +1,36 @@
+use Rattle.std.proofs.Common.{Ok, Err, inl, ◌+◌, refl, ◌∙◌}
+use Rattle.sql_schema.specs.Layouts.{made_last}
+use Rattle.sql_schema.proofs.TablesByDomain.{texts_by_domain, text_makes}
+use Rattle.sql_schema.proofs.TablesSoFar.{text_at, one_more, counted, all_made, one_failed}
+use Rattle.sql_schema.proofs.new_tables.make_tables_by_domain.Goals as goal
+
+pub loop-text-init : goal.loop-text-init
+loop-text-init g c = (refl, inl (refl, refl), record { same = refl })
+
+pub returns-in_err-execute-clause-made : goal.returns-in_err-execute-clause-made
+returns-in_err-execute-clause-made g c =
+    let old = c.args.tx.now.conn.now in
+    let mid = c.loop-text.tx.conn.now in
+    let new = c.execute.new.self.conn.now in
+    let k = c.loop-text.text-index in
+    let failed = one_more made_last g.S.Store old mid new texts_by_domain text_makes c.requires.fresh k _ (Err c.in_err-execute.field-0.0) c.loop-text.invariant.1 c.loop-text-test.true c.in_err-execute.ensures.runs c.in_err-execute.ensures.survives
+    (text_at texts_by_domain _ c.loop-text.invariant.2 k _ c.loop-text-test.true) in
+    one_failed made_last g.S.Store old new c.in_err-execute.field-0.0 c.from_residual.result (k + 1) c.from_residual.ensures.0 failed
+
+pub loop-text-preserved : goal.loop-text-preserved
+loop-text-preserved g c =
+    let old = c.args.tx.now.conn.now in
+    let mid = c.loop-text.tx.conn.now in
+    let new = c.execute.new.self.conn.now in
+    let k = c.loop-text.text-index in
+    let count = c.in_ok-execute.field-0 in (
+      c.in_ok-execute.ensures.same_reference ∙ c.loop-text.invariant.0,
+      counted made_last g.S.Store old new count (k + 1)
+          (one_more made_last g.S.Store old mid new texts_by_domain text_makes c.requires.fresh k _ (Ok count) c.loop-text.invariant.1 c.loop-text-test.true c.in_ok-execute.ensures.runs c.in_ok-execute.ensures.survives
+          (text_at texts_by_domain _ c.loop-text.invariant.2 k _ c.loop-text-test.true)),
+      c.loop-text.invariant.2,
+    )
+
+pub returns-clause-made : goal.returns-clause-made
+returns-clause-made g c =
+    all_made made_last g.S.Store c.args.tx.now.conn.now c.loop-text.tx.conn.now tt c.loop-text.text-index c.loop-text-test.false c.loop-text.invariant.1

@@ -1,0 +1,11 @@
+use Rattle.sqlite.specs.Held.{state}
+use Rattle.sql_schema.proofs.Steps.{said}
+use Rattle.sql_statements.proofs.DomainLanguages.{puts_language}
+use Rattle.sql_statements.proofs.domain_languages.put_domain_language.Goals as goal
+
+pub returns-clause-put : goal.returns-clause-put
+returns-clause-put g c =
+    said _ _ _ c.and.ensures (
+    puts_language c.args.domain.now c.args.lang.now c.args.header.now c.args.plural.now (state g.S.Store c.args.tx.now.conn.now) (state g.S.Store c.execute.new.self.conn.now) c.execute.result c.requires.steady
+    (rw (c.params-to_sql.ensures, c.params-to_sql-2.ensures, c.params-to_sql-3.ensures, c.params-to_sql-4.ensures) at c.execute.ensures.runs) c.execute.ensures.survives
+    )

@@ -1,0 +1,11 @@
+use Rattle.sqlite.specs.Held.{state}
+use Rattle.sql_schema.proofs.Steps.{said}
+use Rattle.sql_statements.proofs.DomainTemplate.{takes_entries}
+use Rattle.sql_statements.proofs.domain_template.empty_domain_template.Goals as goal
+
+pub returns-clause-taken : goal.returns-clause-taken
+returns-clause-taken g c =
+    said _ _ _ c.and.ensures (
+    takes_entries c.args.domain.now (state g.S.Store c.args.tx.now.conn.now) (state g.S.Store c.execute.new.self.conn.now) c.execute.result c.requires.steady
+    (rw c.params-to_sql.ensures at c.execute.ensures.runs) c.execute.ensures.survives
+    )

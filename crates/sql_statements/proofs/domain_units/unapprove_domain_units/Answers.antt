@@ -1,0 +1,10 @@
+use Rattle.sqlite.specs.Held.{state}
+use Rattle.sql_schema.proofs.Steps.{said}
+use Rattle.sql_statements.proofs.DomainUnapproved.{unapproves_units}
+use Rattle.sql_statements.proofs.domain_units.unapprove_domain_units.Goals as goal
+
+pub returns-clause-unapproved : goal.returns-clause-unapproved
+returns-clause-unapproved g c =
+    said _ _ _ c.and.ensures (
+    unapproves_units (state g.S.Store c.args.tx.now.conn.now) (state g.S.Store c.execute.new.self.conn.now) c.execute.result c.requires.steady c.execute.ensures.runs c.execute.ensures.survives
+    )

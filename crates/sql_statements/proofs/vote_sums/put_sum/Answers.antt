@@ -1,0 +1,13 @@
+use Rattle.std.proofs.Common.{w64}
+use Rattle.std.proofs.lemmas.Int.{to_z-of_z}
+use Rattle.sqlite.specs.Held.{state}
+use Rattle.sql_schema.proofs.Steps.{said}
+use Rattle.sql_statements.proofs.VoteSums.{puts_sum}
+use Rattle.sql_statements.proofs.vote_sums.put_sum.Goals as goal
+
+pub returns-clause-put : goal.returns-clause-put
+returns-clause-put g c =
+    said _ _ _ c.and.ensures (
+    puts_sum c.args.number.now c.args.sum (state g.S.Store c.args.tx.now.conn.now) (state g.S.Store c.execute.new.self.conn.now) c.execute.result c.requires.steady
+    (rw (c.params-to_sql.ensures, c.params-to_sql-2.ensures, to_z-of_z w64 c.args.sum c.ranges.sum) at c.execute.ensures.runs) c.execute.ensures.survives
+    )

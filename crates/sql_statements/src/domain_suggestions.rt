@@ -1,0 +1,91 @@
+//! The table of the suggestions of all domains.
+ghost use Rattle.std.specs.Prelude.{◌≡◌, ◌∷◌, [], codes};
+ghost use Rattle.sqlite.specs.Held.{state};
+ghost use Rattle.sqlite.specs.declared.types.Value.TheVariants.{Int, Text};
+ghost use Rattle.sql_schema.specs.Layouts.{by_domain, rows_named};
+ghost use Rattle.sql_schema.specs.Views.{seen_in};
+ghost use Rattle.sql_schema.specs.Inside.{IsSteadyOver, IsInsideOf, HoldsValues, IsReadOf};
+ghost use Rattle.sql_schema.specs.Keys.{first_text};
+ghost use Rattle.sql_statements.specs.Added.{AddsRow};
+ghost use Rattle.sql_statements.specs.DomainCleared.{ClearsDomainUnit};
+ghost use Rattle.sql_statements.specs.DomainAnswers.{ShowsDomainSuggestions};
+ghost use Rattle.sql_statements.specs.Tables.{ShowsSuggestionsIn};
+
+use sqlite::{Alter, Error, Row, Transaction, params};
+
+/// Takes the suggestions on a unit of a domain away, and with them the votes on them and their sums.
+pub fn clear_domain_suggestions<'a, S: Alter>(
+    tx: &mut Transaction<'_, S>,
+    domain: &'a str,
+    lang: &'a str,
+    key: &'a str,
+) -> Result<(), Error>
+    requires steady { IsSteadyOver by_domain (state S.Store tx.old.conn.now) }
+    ensures same_reference { tx.new.conn.ghost_name ≡ tx.old.conn.ghost_name }
+    ensures cleared { IsInsideOf by_domain (state S.Store tx.old.conn.now) (state S.Store tx.new.conn.now) result (ClearsDomainUnit domain.now lang.now key.now) }
+{
+    tx.execute(
+        "DELETE FROM d_suggestion WHERE domain = ?1 AND lang = ?2 AND key = ?3",
+        params![domain, lang, key],
+    )
+    .and(Ok(()))
+}
+
+/// Adds a suggestion: the number of the request that made it, the domain, language and key of its unit, its place there, who made it and
+/// its forms. The unit must be there, and the record of that number; a suggestion of that number, or at that place, is an error, and
+/// nothing is written.
+pub fn add_domain_suggestion<'a, S: Alter>(
+    tx: &mut Transaction<'_, S>,
+    number: &'a str,
+    domain: &'a str,
+    lang: &'a str,
+    key: &'a str,
+    place: i64,
+    suggester: &'a str,
+    forms: &'a str,
+) -> Result<(), Error>
+    requires steady { IsSteadyOver by_domain (state S.Store tx.old.conn.now) }
+    ensures same_reference { tx.new.conn.ghost_name ≡ tx.old.conn.ghost_name }
+    ensures added { IsInsideOf by_domain (state S.Store tx.old.conn.now) (state S.Store tx.new.conn.now) result
+        (AddsRow (codes "d_suggestion") first_text (HoldsValues (Text number.now ∷ Text domain.now ∷ Text lang.now ∷ Text key.now ∷ Int place ∷ Text suggester.now ∷ Text forms.now ∷ []))) }
+{
+    tx.execute(
+        "INSERT INTO d_suggestion (number, domain, lang, key, place, suggester, forms) VALUES (?1, ?2, ?3, ?4, ?5, ?6, ?7)",
+        params![number, domain, lang, key, place, suggester, forms],
+    )
+    .and(Ok(()))
+}
+
+/// The suggestions on a unit of a domain, in the order of their places: each one's number, place, suggester and forms.
+pub fn domain_suggestions_of<'a, S: Alter>(
+    tx: &mut Transaction<'_, S>,
+    domain: &'a str,
+    lang: &'a str,
+    key: &'a str,
+) -> Result<Vec<Row>, Error>
+    requires steady { IsSteadyOver by_domain (state S.Store tx.old.conn.now) }
+    ensures same_reference { tx.new.conn.ghost_name ≡ tx.old.conn.ghost_name }
+    ensures found { IsReadOf by_domain (state S.Store tx.old.conn.now) (state S.Store tx.new.conn.now) result
+        (λ db rows. ShowsDomainSuggestions domain.now lang.now key.now db rows.items) }
+{
+    tx.query_all(
+        "SELECT number, place, suggester, forms FROM d_suggestion WHERE domain = ?1 AND lang = ?2 AND key = ?3 ORDER BY place",
+        params![domain, lang, key],
+    )
+}
+
+/// A domain's suggestions by language, key and place: each one's number, place, suggester, forms, language and key.
+pub(crate) fn all_domain_suggestions<S: Alter>(
+    tx: &mut Transaction<'_, S>,
+    domain: &str,
+) -> Result<Vec<Row>, Error>
+    requires steady { IsSteadyOver by_domain (state S.Store tx.old.conn.now) }
+    ensures same_reference { tx.new.conn.ghost_name ≡ tx.old.conn.ghost_name }
+    ensures found { IsReadOf by_domain (state S.Store tx.old.conn.now) (state S.Store tx.new.conn.now) result
+        (λ db rows. ShowsSuggestionsIn (seen_in domain.now (rows_named db)) rows.items) }
+{
+    tx.query_all(
+        "SELECT number, place, suggester, forms, lang, key FROM d_suggestion WHERE domain = ?1 ORDER BY lang, key, place",
+        params![domain],
+    )
+}

@@ -1,0 +1,88 @@
+//! The table of the templates of all domains.
+ghost use Rattle.std.specs.Prelude.{◌≡◌, ◌∷◌, [], codes};
+ghost use Rattle.sqlite.specs.Held.{state};
+ghost use Rattle.sqlite.specs.declared.types.Value.TheVariants.{Int, Text};
+ghost use Rattle.sql_schema.specs.Layouts.{by_domain, rows_named};
+ghost use Rattle.sql_schema.specs.Views.{seen_in};
+ghost use Rattle.sql_schema.specs.Inside.{IsSteadyOver, IsInsideOf, PutsRow, HoldsValues, IsReadOf};
+ghost use Rattle.sql_schema.specs.Keys.{has_text, domain_place};
+ghost use Rattle.sql_statements.specs.Taken.{TakesRows};
+ghost use Rattle.sql_statements.specs.DomainAnswers.{ShowsDomainEntry};
+ghost use Rattle.sql_statements.specs.Tables.{ShowsTemplateIn};
+ghost use Rattle.std.specs.Option.{option_copied};
+ghost use Rattle.sql_schema.specs.Rows.{text_or_null};
+
+use sqlite::{Alter, Error, Row, Transaction, params};
+
+/// Takes each entry out of a domain's template.
+pub fn empty_domain_template<S: Alter>(
+    tx: &mut Transaction<'_, S>,
+    domain: &str,
+) -> Result<(), Error>
+    requires steady { IsSteadyOver by_domain (state S.Store tx.old.conn.now) }
+    ensures same_reference { tx.new.conn.ghost_name ≡ tx.old.conn.ghost_name }
+    ensures taken { IsInsideOf by_domain (state S.Store tx.old.conn.now) (state S.Store tx.new.conn.now) result
+        (TakesRows (codes "d_template") (has_text 1 domain.now)) }
+{
+    tx.execute("DELETE FROM d_template WHERE domain = ?1", params![domain])
+        .and(Ok(()))
+}
+
+/// The entry of a key in a domain's template: plural, extracted comments, references and flags. None, where the template has no such
+/// entry.
+pub fn find_domain_entry<'a, S: Alter>(
+    tx: &mut Transaction<'_, S>,
+    domain: &'a str,
+    key: &'a str,
+) -> Result<Option<Row>, Error>
+    requires steady { IsSteadyOver by_domain (state S.Store tx.old.conn.now) }
+    ensures same_reference { tx.new.conn.ghost_name ≡ tx.old.conn.ghost_name }
+    ensures found { IsReadOf by_domain (state S.Store tx.old.conn.now) (state S.Store tx.new.conn.now) result
+        (ShowsDomainEntry domain.now key.now) }
+{
+    let mut rows = tx.query_all(
+        "SELECT plural, extracted, refs, flags FROM d_template WHERE domain = ?1 AND key = ?2",
+        params![domain, key],
+    )?;
+    Ok(rows.pop())
+}
+
+/// Writes an entry of a domain's template: its place and key there, which must be new, its plural or NULL, and its comments, references
+/// and flags.
+pub fn put_domain_entry<'a, S: Alter>(
+    tx: &mut Transaction<'_, S>,
+    domain: &'a str,
+    place: i64,
+    key: &'a str,
+    plural: Option<&'a str>,
+    extracted: &'a str,
+    refs: &'a str,
+    flags: &'a str,
+) -> Result<(), Error>
+    requires steady { IsSteadyOver by_domain (state S.Store tx.old.conn.now) }
+    ensures same_reference { tx.new.conn.ghost_name ≡ tx.old.conn.ghost_name }
+    ensures put { IsInsideOf by_domain (state S.Store tx.old.conn.now) (state S.Store tx.new.conn.now) result
+        (PutsRow (codes "d_template") domain_place (HoldsValues (Text domain.now ∷ Int place ∷ Text key.now ∷ text_or_null (option_copied plural.entry) ∷ Text extracted.now ∷ Text refs.now ∷ Text flags.now ∷ []))) }
+{
+    tx.execute(
+        "INSERT INTO d_template (domain, place, key, plural, extracted, refs, flags) VALUES (?1, ?2, ?3, ?4, ?5, ?6, ?7)",
+        params![domain, place, key, plural, extracted, refs, flags],
+    )
+    .and(Ok(()))
+}
+
+/// A domain's template by place: each entry's plural, extracted comments, references, flags, key and place.
+pub(crate) fn all_domain_entries<S: Alter>(
+    tx: &mut Transaction<'_, S>,
+    domain: &str,
+) -> Result<Vec<Row>, Error>
+    requires steady { IsSteadyOver by_domain (state S.Store tx.old.conn.now) }
+    ensures same_reference { tx.new.conn.ghost_name ≡ tx.old.conn.ghost_name }
+    ensures found { IsReadOf by_domain (state S.Store tx.old.conn.now) (state S.Store tx.new.conn.now) result
+        (λ db rows. ShowsTemplateIn (seen_in domain.now (rows_named db)) rows.items) }
+{
+    tx.query_all(
+        "SELECT plural, extracted, refs, flags, key, place FROM d_template WHERE domain = ?1 ORDER BY place",
+        params![domain],
+    )
+}
