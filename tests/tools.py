@@ -1,7 +1,7 @@
 #!/usr/bin/env python3
 """Tries the tools of share/tools with a real program `office` and real files.
 
-    tests/tools.py [PROGRAM]      (crates/cli/out/cli, as ./office has built it; wants GNU gettext, man, make, dpkg-deb, apt-get and the network)
+    tests/tools.py [PROGRAM]      (crates/cli/out/cli, as ./office has built it; wants GNU gettext, man, make, dpkg-dev, apt-get and the network)
 
 office-import gets the 30 catalogues of Debian's parted, fetched as tests/real_projects.py does, and files that can't be loaded; what it loads has to come out
 of an office as GNU gettext merges it. office-upload gets the German of popt (docs/example), edited as an editor does, twice, and through a
@@ -11,6 +11,7 @@ sent. All of them are installed by make, taken out again, and run from a package
 """
 import contextlib
 import datetime
+import gzip
 import http.client
 import http.server
 import json
@@ -24,6 +25,7 @@ import sys
 import tarfile
 import tempfile
 import threading
+import time
 import urllib.parse
 
 import real_projects
@@ -31,7 +33,21 @@ import serve
 from serve import HOST, PROGRAM, SECONDS, TOP, free_port, number, run, same
 
 TOOLS = TOP / "share" / "tools"
-NAMES = ("office-import", "office-log", "office-memory", "office-upload")
+NAMES = (
+    "office-check",
+    "office-door",
+    "office-export",
+    "office-feed",
+    "office-git",
+    "office-hook",
+    "office-import",
+    "office-log",
+    "office-memory",
+    "office-snapshot",
+    "office-stream",
+    "office-suggest",
+    "office-upload",
+)
 EXAMPLE = TOP / "docs" / "example"
 STORE = pathlib.Path(tempfile.gettempdir()) / "office-real-projects"
 ENVIRONMENT = {**os.environ, "LC_ALL": "C.UTF-8", "OFFICE_PASSWORD": "open sesame"}
@@ -134,10 +150,52 @@ def view(port, msgid):
 
 def words(folder):
     """Help and wrong words of each tool, and its man page beside its help."""
+    log, table = ["--log", "localhost:5672"], ["--table", "x"]
     wrong = {
-        "office-import": [[], ["--caller", "Root", "."], ["--plural-forms", "de", "."], ["--plural-forms", "de=n", "."], [".", "a", "b"]],
+        "office-door": [[], [*log, *table], [*log, "--port", "1"], ["--log", "localhost", *table, "--port", "1"], [*log, *table, "--port", "1", "--engine", "x"]],
+        "office-feed": [[], [*log, "--host", "x", "--folder", "x"], [*log, *table, "--host", "x", "--folder", "x", "--project", "y"], [*log, *table, "--host", "x"]],
+        "office-stream": [[], [*log, "--manager", "root"], [*log, "--manager", "Root", "x"], [*log, "--manager", "root", "X"], [*log, "--copy", "f", "x", "y"]],
+        "office-check": [
+            [],
+            [*at(1), "--store", "x"],
+            [*at(1), "--tool", "lint"],
+            [*at(1), "--fail", "never"],
+            [*at(1), "d"],
+            ["--url", "unix:"],
+        ],
+        "office-export": [
+            [],
+            [*at(1)],
+            [*at(1), "--store", "x", "po"],
+            [*at(1), "--layout", "{name}.po", "po"],
+            [*at(1), "--layout", "../{lang}.po", "po"],
+            [*at(1), "--layout", "/{lang}.po", "po"],
+            [*at(1), "--layout", "{lang}", "po"],
+            [*at(1), "--name", "a/b", "po"],
+            [*at(1), "--lang", "d", "po"],
+            ["--url", "unix:", "po"],
+        ],
+        "office-git": [
+            [],
+            [*at(1), "--caller", "git", "pull"],
+            [*at(1), "pull", "clone"],
+            [*at(1), "--caller", "git", "fetch", "clone"],
+            [*at(1), "--caller", "git", "--folder", "../po", "pull", "clone"],
+            [*at(1), "--caller", "git", "--make-pot", "make", "pull", "clone"],
+        ],
+        "office-hook": [[], ["--secrets", "x"], ["--marks", "x"]],
+        "office-import": [[], ["--caller", "Root", "."], ["--begin", "d", "."], ["--plural-forms", "de", "."], ["--plural-forms", "de=n", "."], [".", "a", "b"]],
         "office-log": [[], ["--lang", "d", "x"], ["--caller", "", "x"], ["a", "b"]],
         "office-memory": [[], [*at(1), "de"], ["--caller", "ann", "de"], [*at(1), "--caller", "ann", "d"], ["--url", "localhost", "--caller", "ann", "de"]],
+        "office-snapshot": [[], [*at(1), "--to", "x"], [*at(1), "de"], ["--to", "x", "de"], [*at(1), "--to", "x", "--every", "0", "de"], [*at(1), "--to", "x", "d"]],
+        "office-suggest": [
+            [*at(1), "--caller", "ann", "de"],
+            [*at(1), "--command", "cat", "de"],
+            [*at(1), "--caller", "ann", "--command", "cat", "--service", "http://localhost", "de"],
+            [*at(1), "--caller", "ann", "--service", "localhost:5000", "de"],
+            [*at(1), "--caller", "ann", "--command", "cat", "--most", "0", "de"],
+            [*at(1), "--caller", "ann", "--command", "cat", "--seconds", "x", "de"],
+        ],
         "office-upload": [
             ["--caller", "ann", "de", "a", "b"],
             [*at(1), "de", "a", "b"],
@@ -660,6 +718,51 @@ def remembers_on(port, words, count):
     same("memory, no language", tool("office-memory", *words), (1, "", "office-memory: fr: no-language: the office hasn't this language\n"))
 
 
+# ---- office-snapshot
+
+
+def snapshots(folder):
+    """What exports don't tell stands in a file: made at once, by few questions behind a change, and whole where the counts don't tell of one."""
+    path, place = popt_office(folder), room(folder)
+    office = place / "office.json"
+    office.write_text('{"project": "popt", "languages": ["de", "fr"]}')
+    file = place / "snapshot" / "de.json"
+
+    def units():
+        return sorted((it["id"], it["revision"], it["state"], it["suggestions"]) for it in json.loads(file.read_text())["units"])
+
+    def until(what, wanted):
+        end = time.monotonic() + SECONDS
+        while units() != wanted and time.monotonic() < end:
+            time.sleep(0.05)
+        same(f"snapshot: {what}", units(), wanted)
+
+    with served(path) as port:
+        words = [*at(port), "--to", place, "--project", office]
+        same("snapshot, once", tool("office-snapshot", *words, "--once"), (0, "", ""))
+        same("nothing to tell", (units(), sorted(json.loads(file.read_text()))), ([], ["domain", "lang", "made", "units"]))
+        same("no file of a language that isn't there", (place / "snapshot" / "fr.json").exists(), False)
+        with subprocess.Popen([TOOLS / "office-snapshot", *map(str, words), "--every", "0.1", "--whole", "2"], env=ENVIRONMENT) as process:
+            try:
+                act(port, 1, "zoe", act="suggest", lang="de", id=UNKNOWN, seen=1, forms=["Option kenne ich nicht"])
+                until("a suggestion", [(UNKNOWN, 1, "translated", 1)])
+                act(port, 2, "root", act="approve", lang="de", id=NUMERIC, seen=1)
+                until("an approval", [(NUMERIC, 2, "approved", 0), (UNKNOWN, 1, "translated", 1)])
+                act(port, 3, "root", act="send-back", lang="de", id=NUMERIC, seen=2)
+                until("sent back", [(UNKNOWN, 1, "translated", 1)])
+                # The counts are the same behind these two.
+                act(port, 4, "zoe", act="suggest", lang="de", id=NUMERIC, seen=3, forms=["Zahl ist falsch"])
+                act(port, 5, "root", act="dismiss", lang="de", id=UNKNOWN, seen=1, suggestion=number(1))
+                until("a suggestion for another", [(NUMERIC, 3, "needs-editing", 1)])
+                same("nothing beside it", sorted(it.name for it in file.parent.iterdir()), ["de.json"])
+            finally:
+                process.terminate()
+        made = datetime.datetime.fromisoformat(json.loads(file.read_text())["made"].replace("Z", "+00:00"))
+        same("the time", abs((datetime.datetime.now(datetime.timezone.utc) - made).total_seconds()) < 60, True)
+    status, out, faults = tool("office-snapshot", *at(port), "--to", place, "--once", "de", environment={})
+    same("no office", (status, out, "no answer" in faults), (1, "", True))
+
+
 # ---- office-log
 
 
@@ -758,10 +861,11 @@ def installed(folder):
     wanted |= {"share/office/schema/requests.schema.json", "share/office/openapi/office.yaml"}
     wanted |= {"share/bash-completion/completions/office", "share/zsh/site-functions/_office"}
     wanted |= {f"share/office/{it}/{file}" for it in ("web", "front") for file in files_in(TOP / "share" / it)}
-    wanted |= {f"lib/systemd/system/{file}" for file in files_in(TOP / "share" / "systemd")}
+    wanted |= {f"lib/systemd/system/{file}" for file in files_in(TOP / "share" / "systemd")} | {"lib/tmpfiles.d/office-front.conf"}
+    wanted |= {"share/office/openapi/office-front.yaml"}
     same("installed", wanted - there, set())
-    paths = [it for it in files_in(root / "usr/share/office/front") if b"/usr/local/share" in (root / "usr/share/office/front" / it).read_bytes()]
-    same("installed: the front's paths are the prefix's", paths, [])
+    paths = [it for it in there if it.startswith("share/") and b"/usr/local/" in (root / "usr" / it).read_bytes()]
+    same("installed: the paths of fronts and pages are the prefix's", paths, [])
     environment = {**ENVIRONMENT, "PATH": f"{root}/usr/bin:{os.environ['PATH']}"}
     for name in NAMES:
         done = subprocess.run([name, "--help"], capture_output=True, env=environment, check=False)
@@ -786,17 +890,35 @@ def packed(folder, there):
     same("the tarball", {it.removeprefix(f"office-{version}/") for it in listed if it and not it.endswith("/")}, there)
     subprocess.run(["dpkg-deb", "-x", package, folder / "package"], check=True)
     renamed = {re.sub(r"(man1/.*)$", r"\1.gz", it).replace("doc/office/LICENSE", "doc/office/copyright") for it in there}
-    same("the package", files_in(folder / "package" / "usr"), renamed)
-    told = subprocess.run(["dpkg-deb", "-f", package, "Version", "Suggests"], capture_output=True, check=True).stdout.decode()
-    same("the package's fields", told, f"Version: {version}\nSuggests: gettext\n")
-    done = subprocess.run([folder / "package" / "usr" / "bin" / "office", "--version"], capture_output=True, check=False)
-    same("the package's program", done.returncode, 0)
+    same("the package", files_in(folder / "package" / "usr"), renamed | {"share/doc/office/changelog.gz"})
+    described(package, folder / "package" / "usr", version)
+
+
+def described(package, root, version):
+    """The package says what it is and what it wants, packages that there are; its changelog is one; its program is stripped, and runs."""
+
+    def field(name):
+        return subprocess.run(["dpkg-deb", "-f", package, name], capture_output=True, check=True).stdout.decode().strip()
+
+    same("the package's version", field("Version"), version)
+    same("what it depends on", [it in field("Depends") for it in ("python3 (>= 3.9)", "libc6")], [True, True])
+    same("what it recommends", field("Recommends"), "gettext, curl")
+    same("what it suggests", field("Suggests"), "nginx | haproxy, libnginx-mod-http-lua, apache2, libapache2-mod-auth-openidc")
+    for it in re.split(r" \| |, ", f"{field('Recommends')}, {field('Suggests')}"):
+        same(f"Debian has {it}", subprocess.run(["apt-cache", "show", it], capture_output=True, check=False).returncode, 0)
+    told = gzip.decompress((root / "share/doc/office/changelog.gz").read_bytes())
+    changes = subprocess.run(["dpkg-parsechangelog", "-l", "-", "-S", "Version"], input=told, capture_output=True, check=False)
+    same("the package's changelog", (changes.stdout.decode().strip(), changes.stderr), (version, b""))
+    own = root / "bin" / "office"
+    sections = subprocess.run(["readelf", "-S", own], capture_output=True, check=True).stdout
+    same("the package's program is stripped", [it for it in (b".debug", b".symtab") if it in sections], [])
+    same("it runs", subprocess.run([own, "--version"], capture_output=True, check=False).returncode, 0)
 
 
 def main():
     with tempfile.TemporaryDirectory(prefix="office-tools-") as name:
         folder = pathlib.Path(name)
-        for it in (words, imports, odd_files, uploads, left_out, conflicts, checked, lost, raced, signs_in, suggests, contexts, noted, remembers, logs, installed):
+        for it in (words, imports, odd_files, uploads, left_out, conflicts, checked, lost, raced, signs_in, suggests, contexts, noted, remembers, snapshots, logs, installed):
             it(folder)
     print(f"{serve.looks} looks, {serve.wrong} wrong")
     return 1 if serve.wrong else 0

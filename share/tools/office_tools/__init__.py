@@ -4,6 +4,8 @@ import os
 import re
 import sys
 
+from office_tools.lines import put, seen, take_any_text
+
 # The forms of a caller's name and of a language, as docs/FORMATS.md has them.
 NAME = re.compile(r"[a-z][a-z0-9._-]{0,31}")
 LANG = re.compile(r"[A-Za-z][A-Za-z0-9_@-]{1,15}")
@@ -30,18 +32,25 @@ def lang(text):
     return text
 
 
-def parser(tool, about):
+class Parser(argparse.ArgumentParser):
+    """A reader of words, which tells of wrong ones as all else is told."""
+
+    def error(self, message):
+        super().error(seen(message))
+
+
+def parser(tool, about, kind=Parser, **more):
     """A reader of a tool's words, which tells the first line of what it is about."""
-    return argparse.ArgumentParser(prog=tool, description=about.split("\n")[0], epilog=f"{STATUSES} See {tool}(1).")
+    return kind(prog=tool, description=about.split("\n")[0], epilog=f"{STATUSES} See {tool}(1).", **more)
 
 
 def run(tool, main):
     """Runs a tool's main, and tells what it could not do. Ends with the tool's status."""
+    take_any_text(sys.stdout, sys.stderr)
     try:
         status = main()
-        sys.stdout.flush()
     except Fault as fault:
-        print(f"{tool}: {fault}", file=sys.stderr)
+        put(f"{tool}: {fault}", to=sys.stderr)
         status = NOT_DONE
     except BrokenPipeError:
         # Whoever read has gone away, and what is left is not to be written at the end.

@@ -6,11 +6,11 @@ import os
 import re
 import subprocess
 
-from office_tools import Fault
+from office_tools import LANG, Fault
 
-ENVIRONMENT = {**os.environ, "LC_ALL": "C.UTF-8"}
 # Where Debian's unicode-cldr-core has the plural rules of more languages than gettext's own table.
 CLDR = "/usr/share/unicode/cldr"
+ENVIRONMENT = {**({"GETTEXTCLDRDIR": CLDR} if os.path.isdir(CLDR) else {}), **os.environ, "LC_ALL": "C.UTF-8"}
 EMPTY = """msgid ""
 msgstr ""
 "Content-Type: text/plain; charset=UTF-8\\n"
@@ -19,6 +19,7 @@ msgstr ""
 PLURAL_FORMS = re.compile(r'"Plural-Forms: *(nplurals *= *([0-9]).*?)(?:\\n)?"')
 MESSAGE_LINE = re.compile(r'(?:(msgctxt|msgid|msgid_plural|msgstr(?:\[\d+\])?) )?"(.*)"')
 ESCAPES = {"n": "\n", "t": "\t", "r": "\r", "a": "\a", "b": "\b", "f": "\f", "v": "\v", '"': '"', "\\": "\\"}
+LETTERS = {character: "\\" + letter for letter, character in ESCAPES.items()}
 
 
 @dataclasses.dataclass
@@ -31,6 +32,8 @@ class Message:
     forms: list = dataclasses.field(default_factory=list)
     fuzzy: bool = False
     obsolete: bool = False
+    comments: dict = dataclasses.field(default_factory=dict)
+    previous: dict = dataclasses.field(default_factory=dict)
 
     @property
     def key(self):
@@ -100,13 +103,18 @@ def plural_forms(text):
 def known_rule(lang):
     """The plural rule that gettext knows for a language, or None."""
     words = ["msginit", "--no-translator", "--no-wrap", f"--locale={lang}", "--input=-", "--output-file=-"]
-    environment = {"GETTEXTCLDRDIR": CLDR, **ENVIRONMENT} if os.path.isdir(CLDR) else ENVIRONMENT
     try:
-        done = subprocess.run(words, input=EMPTY.encode(), capture_output=True, env=environment, check=False)
+        done = subprocess.run(words, input=EMPTY.encode(), capture_output=True, env=ENVIRONMENT, check=False)
     except FileNotFoundError:
         raise Fault("msginit is not there: GNU gettext has it") from None
     found = plural_forms(done.stdout.decode(errors="replace")) if done.returncode == 0 else None
     return found and found[0]
+
+
+def begun(template, lang):
+    """The text with which msginit begins a language of a template."""
+    words = ["msginit", "--no-translator", "--no-wrap", f"--locale={lang}", "--input=-", "--output-file=-"]
+    return utf8(gettext(*words, given=template.encode()))
 
 
 def with_plural_forms(text, rule):
@@ -122,20 +130,58 @@ def with_plural_forms(text, rule):
     return "\n".join([*kept, field]) + rest
 
 
+def rule(text):
+    """LANG=RULE, as a word of the command line."""
+    lang, sign, value = text.partition("=")
+    if not sign or not LANG.fullmatch(lang) or not PLURAL_FORMS.fullmatch(f'"Plural-Forms: {value}"'):
+        raise ValueError(text)
+    return lang, value
+
+
+def with_rule(lang, text, told_rules):
+    """The text with a plural rule in its header, and the rule that was put in: the one that was told, or that gettext knows; None where
+    it has its own."""
+    if plural_forms(text):
+        return text, None
+    found = told_rules.get(lang) or known_rule(lang)
+    if found is None:
+        raise Fault(f"its header has no Plural-Forms, and gettext knows no rule for it: --plural-forms '{lang}=RULE' tells one")
+    return with_plural_forms(text, found), found
+
+
 def unescaped(piece):
     return re.sub(r"\\(.)", lambda it: ESCAPES[it[1]], piece)
 
 
+def escaped(text):
+    return "".join(LETTERS.get(it, it) for it in text)
+
+
+def strings_in(lines):
+    """The strings of an entry's lines, by their keywords."""
+    parts, part = {}, None
+    for found in filter(None, map(MESSAGE_LINE.fullmatch, lines)):
+        part = found[1] or part
+        parts[part] = parts.get(part, "") + unescaped(found[2])
+    return parts
+
+
+def comments_in(block):
+    """What an entry's comment lines say, by their marks: references word by word, of the flags those of formats."""
+    found = {mark: [it[2:].strip(" ") for it in block if it.startswith(mark)] for mark in ("#:", "#.", "#,")}
+    flags = sorted(flag for it in found["#,"] for flag in it.replace(",", " ").split() if flag.endswith("-format"))
+    own = [it[1:].strip(" ") for it in block if it.startswith("#") and it[1:2] not in tuple(".:,|~=")]
+    return {"#:": " ".join(found["#:"]).split(), "#.": found["#."], "#,": flags, "#": own}
+
+
 def message_of(block):
-    """The message of an entry's lines, where gettext laid them out; None where there is none."""
-    parts, part, message = {}, None, Message()
+    """The message of an entry's lines, where gettext or the office laid them out; None where there is none."""
+    message = Message(comments=comments_in(block))
     for line in block:
         message.fuzzy |= line.startswith("#,") and "fuzzy" in line[2:].replace(" ", "").split(",")
         message.obsolete |= line.startswith("#~ ")
-        found = MESSAGE_LINE.fullmatch(line.removeprefix("#~ "))
-        if found:
-            part = found[1] or part
-            parts[part] = parts.get(part, "") + unescaped(found[2])
+    message.previous = strings_in(it.removeprefix("#~| ").removeprefix("#| ") for it in block if it.startswith(("#| ", "#~| ")))
+    parts = strings_in(it.removeprefix("#~ ") for it in block)
     if "msgid" not in parts:
         return None
     message.context, message.msgid, message.plural = parts.get("msgctxt"), parts["msgid"], parts.get("msgid_plural")
@@ -143,8 +189,17 @@ def message_of(block):
     return message
 
 
+def laid_out(text):
+    """The text as gettext lays it out, no line broken at a width."""
+    return gettext("msgcat", "--to-code=UTF-8", "--no-wrap", "--force-po", "-", given=text.encode()).decode()
+
+
+def messages_in(text):
+    """The messages of a text that gettext or the office laid out, without its header, by their keys."""
+    found = (message_of(it.split("\n")) for it in text.split("\n\n"))
+    return {it.key: it for it in found if it and it.key != (None, "")}
+
+
 def messages(text):
     """The messages of a text that `utf8` gave, without its header, by their keys."""
-    laid_out = gettext("msgcat", "--to-code=UTF-8", "--no-wrap", "--force-po", "-", given=text.encode()).decode()
-    found = (message_of(it.split("\n")) for it in laid_out.split("\n\n"))
-    return {it.key: it for it in found if it and it.key != (None, "")}
+    return messages_in(laid_out(text))

@@ -1,6 +1,8 @@
 """What the office answers, in words."""
 import json
 
+from office_tools import Fault
+
 REFUSALS = {
     "no-language": "the office hasn't this language",
     "no-unit": "the office hasn't this message (any more)",
@@ -48,18 +50,61 @@ RULE_FAULTS = {
 }
 
 
+# What an answer of these routes has, where it is one: each field with its type.
+VIEW = {"revision": int, "state": str, "suggestions": list}
+SUGGESTION = {"number": str}
+
+
+def value_of(text):
+    """The value of a JSON text; None of another text, and of one that is deeper than the office's own may be."""
+    try:
+        return json.loads(text)
+    except (ValueError, RecursionError):
+        return None
+
+
 def body_of(text):
     """A reply's body; an empty one where the text is none, as a front's own answer may be."""
-    try:
-        body = json.loads(text)
-    except ValueError:
-        return {}
+    body = value_of(text)
     return body if isinstance(body, dict) else {}
+
+
+def has_fields(value, fields):
+    """Whether a value is an object with these fields, each of its type. Truth values are no numbers."""
+    return isinstance(value, dict) and all(type(value.get(name)) is kind for name, kind in fields.items())
+
+
+def has_forms(value, fields):
+    """Whether a value is an object with these fields and with forms, each of them a text."""
+    return has_fields(value, {**fields, "forms": list}) and all(isinstance(it, str) for it in value["forms"])
+
+
+def view_of(text):
+    """The view of a unit that an answer of 200 has."""
+    view = value_of(text)
+    if not has_forms(view, VIEW) or not all(has_forms(it, SUGGESTION) for it in view["suggestions"]):
+        raise Fault("its answer is no view of a message: is an office there?")
+    return view
+
+
+def reply_of(text):
+    """The body of a reply of 200, an object."""
+    body = value_of(text)
+    if not isinstance(body, dict):
+        raise Fault("its answer is no reply to a request: is an office there?")
+    return body
 
 
 def word_of(body):
     """The name of a refusal, or the word of an error; None of what was done."""
-    return body.get("refusal", body.get("error"))
+    word = body.get("refusal", body.get("error"))
+    return word if isinstance(word, str) else None
+
+
+def number_in(body, name):
+    """A number that a body has; None where it hasn't."""
+    value = body.get(name)
+    return value if type(value) is int else None
 
 
 def in_words(status, body):
@@ -69,7 +114,9 @@ def in_words(status, body):
         return f"answered {status}"
     said = f"{word}: {REFUSALS.get(word, f'answered {status}')}"
     if word == "po":
-        said += f", at line {body['line']} as gettext lays it out: {PO_KINDS.get(body['kind'], body['kind'])}"
+        kind = number_in(body, "kind")
+        said += f", at line {number_in(body, 'line')} as gettext lays it out: {PO_KINDS.get(kind, kind)}"
     if word == "plural-forms":
-        said += ": " + RULE_FAULTS.get(body["fault"], str(body["fault"])).format(at=body.get("at"))
+        fault = number_in(body, "fault")
+        said += ": " + RULE_FAULTS.get(fault, str(fault)).format(at=number_in(body, "at"))
     return said

@@ -2,13 +2,22 @@
 import json
 import os
 import pathlib
+import re
 import time
 import uuid
 
 from office_tools import Fault
+from office_tools.files import opened
+from office_tools.lines import seen
+from office_tools.replies import has_fields, value_of
 
+# The domain that is always there.
+MAIN = "main"
 # Names the numbers that are made of a content.
 OFFICE = uuid.uuid5(uuid.NAMESPACE_URL, "urn:office:requests")
+# What each request has, and the form of a number.
+REQUEST = {"act": str, "caller": str, "number": str}
+NUMBER = re.compile(r"[0-9a-f]{8}(?:-[0-9a-f]{4}){3}-[0-9a-f]{12}")
 
 
 def new_number():
@@ -23,19 +32,19 @@ def number_of(*parts):
 
 
 def compact(value):
-    return json.dumps(value, ensure_ascii=False, separators=(",", ":"), sort_keys=True)
+    """A value as JSON on one line, without a character that is no letter to a terminal."""
+    return seen(json.dumps(value, ensure_ascii=False, separators=(",", ":"), sort_keys=True))
 
 
-def unit_of(lang, message):
-    """The fields that name a message's unit."""
-    unit = {"lang": lang, "id": message.msgid}
+def unit_of(lang, message, domain=MAIN):
+    """The fields that name a message's unit. One in main names no domain."""
+    unit = {"lang": lang, "id": message.msgid, **({} if domain == MAIN else {"domain": domain})}
     return unit if message.context is None else {**unit, "ctx": message.context}
 
 
 def shown(message):
     """A message's name, as the tools print it: its msgid in quotes, behind its context where it has one."""
-    quoted = [json.dumps(it, ensure_ascii=False) for it in (message.context, message.msgid) if it is not None]
-    return " ".join(quoted)
+    return " ".join(compact(it) for it in (message.context, message.msgid) if it is not None)
 
 
 class RequestFile:
@@ -44,20 +53,18 @@ class RequestFile:
     def __init__(self, path):
         self.path = pathlib.Path(path)
         self.requests = []
-        try:
-            lines = self.path.read_text(encoding="utf-8").removesuffix("\n").split("\n")
-        except FileNotFoundError:
+        if not self.path.exists():
             return
+        try:
+            with open(opened(self.path), encoding="utf-8") as it:
+                lines = it.read().removesuffix("\n").split("\n")
         except (OSError, UnicodeDecodeError) as why:
             raise Fault(f"{self.path}: {why}") from None
         self.requests = [self.request_of(number, line) for number, line in enumerate(lines, 1) if lines != [""]]
 
     def request_of(self, number, line):
-        try:
-            request = json.loads(line)
-        except ValueError:
-            request = None
-        if not isinstance(request, dict) or not {"act", "caller", "number"} <= request.keys():
+        request = value_of(line)
+        if not has_fields(request, REQUEST) or not NUMBER.fullmatch(request["number"]):
             raise Fault(f"{self.path}: line {number} is no request")
         return request
 
