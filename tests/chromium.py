@@ -21,15 +21,16 @@ WORDS = (
     "--lang=en-US",
 )
 # Of a key its number, and what it types.
-KEYS = {"Tab": (9, ""), "Enter": (13, "\r")}
-CONTROL, SHIFT = 2, 8
+KEYS = {"Tab": (9, ""), "Enter": (13, "\r"), "PageDown": (34, ""), "PageUp": (33, "")}
+ALT, CONTROL, SHIFT = 1, 2, 8
 
 
 class Browser:
-    """The program. Its messages are JSON and end with a zero byte. `faults` has what pages told as one, `asked` each address that they asked for."""
+    """The program. Its messages are JSON and end with a zero byte. `faults` has what pages told as one, `asked` each address that they asked for;
+    `password` is the login and the password that somebody types where they are asked for."""
 
     def __init__(self, folder):
-        self.made, self.rest, self.faults, self.asked = 0, b"", [], set()
+        self.made, self.rest, self.faults, self.asked, self.password = 0, b"", [], set(), None
         to, of = os.pipe(), os.pipe()
         words = ["chromium", *WORDS, f"--user-data-dir={folder}/chromium", "about:blank"]
         shell = ["bash", "-c", f'exec "$@" 3<&{to[0]} 4>&{of[1]}', "-", *words]
@@ -74,8 +75,11 @@ class Browser:
             case "Network.requestWillBeSent":
                 self.asked.add(fields["request"]["url"])
             case "Fetch.authRequired":
-                # The browser asks for a password: it is closed without one.
-                fields = {"requestId": fields["requestId"], "authChallengeResponse": {"response": "CancelAuth"}}
+                # The browser asks for a password: it is typed, or the question is closed without one.
+                told = {"response": "CancelAuth"}
+                if self.password:
+                    told = {"response": "ProvideCredentials", "username": self.password[0], "password": self.password[1]}
+                fields = {"requestId": fields["requestId"], "authChallengeResponse": told}
                 self.send("Fetch.continueWithAuth", message["sessionId"], **fields)
             case "Fetch.requestPaused":
                 self.send("Fetch.continueRequest", message["sessionId"], requestId=fields["requestId"])
@@ -159,9 +163,10 @@ class Tab:
         """The id of the element that has the keyboard."""
         return self.eval("document.activeElement.id")
 
-    def key(self, key, control=False, shift=False):
-        code, text = KEYS[key]
-        fields = {"key": key, "code": key, "windowsVirtualKeyCode": code, "modifiers": CONTROL * control + SHIFT * shift}
+    def key(self, key, control=False, shift=False, alt=False):
+        code, text = KEYS.get(key) or (ord(key), "")
+        named = key if key in KEYS else f"Digit{key}"
+        fields = {"key": key, "code": named, "windowsVirtualKeyCode": code, "modifiers": ALT * alt + CONTROL * control + SHIFT * shift}
         self.call("Input.dispatchKeyEvent", type="keyDown", **fields, **({"text": text} if text and not control else {}))
         self.call("Input.dispatchKeyEvent", type="keyUp", **fields)
 
@@ -199,6 +204,11 @@ class Tab:
         self.click(selector)
         self.eval(f"document.querySelector({json.dumps(selector)}).select()")
         self.type(text)
+
+    def give(self, selector, *paths):
+        """Chooses files in a field for files."""
+        found = self.call("Runtime.evaluate", expression=f"document.querySelector({json.dumps(selector)})")["result"]["objectId"]
+        self.call("DOM.setFileInputFiles", objectId=found, files=[str(it) for it in paths])
 
     def shot(self, path):
         path.write_bytes(base64.b64decode(self.call("Page.captureScreenshot", format="png")["data"]))

@@ -16,6 +16,7 @@ import json
 import pathlib
 import re
 import sqlite3
+import subprocess
 import sys
 import tempfile
 import time
@@ -28,6 +29,19 @@ TOP = pathlib.Path(__file__).resolve().parent.parent
 PASSWORD = "a good password"
 # The last is no caller's name.
 LOGINS = ("root", "ann", "bea", "rob", "eve", "7up")
+
+# What the operator tells the page, beside the project's name and languages.
+TOLD = {
+    "domains": {"manual": ["de"]}, "references": "https://git.example.org/sample/{file}#L{line}", "glossary": ["glossary/terms.csv", "glossary/terms.tbx"],
+    "sign_out": "sign-out",
+}  # fmt: skip
+CSV = 'term,de,fr,note\nfile,Datei,fichier,"a <img src=x onerror=alert(1)> of ""bytes"""\nsave,speichern,,\n'
+TBX = """<?xml version="1.0"?><martif type="TBX" xml:lang="en"><text><body><termEntry><descrip type="definition">What asks &amp; waits.</descrip>
+<langSet xml:lang="en"><tig><term>file selector</term></tig></langSet><langSet xml:lang="de"><tig><term>Dateiauswahl</term></tig></langSet></termEntry></body></text></martif>"""
+
+TBX_3 = """<?xml version="1.0"?><tbx type="TBX-Core" style="dca" xml:lang="en" xmlns="urn:iso:std:iso:30042:ed-2"><text><body><conceptEntry id="c1">
+<descrip type="definition">What asks &amp; waits.</descrip><langSec xml:lang="en"><termSec><term>file selector</term></termSec></langSec>
+<langSec xml:lang="de"><termSec><term>Dateiauswahl</term></termSec></langSec></conceptEntry></body></text></tbx>"""
 
 looks = wrong = 0
 
@@ -57,7 +71,8 @@ def header(plural):
 
 TASKS = (
     "lost reply", "lost request", "offline", "reload", "draft", "two tabs", "second tab", "answers", "used", "other caller", "signed out", "stale", "guest",
-    "votes", "approved", "unfit", "same", "dismissed", "full", "gone", "keys", "unread",
+    "votes", "approved", "unfit", "same", "dismissed", "full", "gone", "keys", "unread", "one step", "two steps", "a third step", "before", "role", "ballot",
+    "checked by others", "Save the file?", "sent from a file", "elsewhere",
 )  # fmt: skip
 # In an address it takes more bytes than the office reads of a head.
 LONG = "ä" * 3000
@@ -99,25 +114,31 @@ LANGUAGES = {
     "ru": "nplurals=3; plural=n%10==1 && n%100!=11 ? 0 : n%10>=2 && n%10<=4 && (n%100<10 || n%100>=20) ? 1 : 2;",
     "ar": "nplurals=6; plural=n==0 ? 0 : n==1 ? 1 : n==2 ? 2 : n%100>=3 && n%100<=10 ? 3 : n%100>=11 ? 4 : 5;",
 }
+# A translation of a message that was another then.
+BEFORE = '\n#, fuzzy\n#| msgid "long before"\nmsgid "before"\nmsgstr "davor"\n'
 NAMES = {"de": "German", "ru": "Russian", "ar": "Arabic"}
 POLICY = {"reviews": True, "guests_suggest": True, "voting": True, "accept_at": 3, "placeholders": True, "line_ends": True}
 BEGINNING = [
     {"act": "template", "po": TEMPLATE},
-    *({"act": "language", "lang": lang, "po": header(plural)} for lang, plural in LANGUAGES.items()),
+    *({"act": "language", "lang": lang, "po": header(plural) + (BEFORE if lang == "de" else "")} for lang, plural in LANGUAGES.items()),
     *({"act": "team", "name": name, "role": role} for name, role in (("ann", "translator"), ("bea", "translator"), ("rob", "reviewer"))),
     {"act": "policy", **POLICY},
-    *({"act": "suggest", "lang": "de", "id": "full", "seen": 1, "forms": [f"Vorschlag {n}"]} for n in range(100)),
 ]
 
 
 class PageTab(chromium.Tab):
     """A tab with the page, by somebody who is signed in."""
 
-    def __init__(self, world, login, context=None):
+    def __init__(self, world, login, context=None, stays=True, asks=True):
         super().__init__(world.browser, context)
         self.at = world.at
         self.sign_in(login)
         self.go()
+        self.eval(f"localStorage.setItem('office / stay', '{json.dumps(stays)}')")
+        if asks:
+            self.eval("location.hash = '#/de?show=all'")
+            self.wait("Object.keys(localStorage).some(it => it.includes(' rights ') && (it => it.least === it.most)(JSON.parse(localStorage[it])))")
+            self.go()
 
     def sign_in(self, login):
         word = base64.b64encode(f"{login}:{PASSWORD}".encode()).decode()
@@ -133,12 +154,18 @@ class PageTab(chromium.Tab):
         self.wait("!window.old && document.getElementById('project')?.textContent === 'Sample project'")
 
     def open(self, msgid, lang="de", ctx=None):
-        query = urllib.parse.urlencode({"id": msgid, **({"ctx": ctx} if ctx is not None else {})})
-        self.eval(f"location.hash = '#/{lang}'")
-        self.wait(f"document.title.endsWith({json.dumps(f'{NAMES[lang]} – Sample project')}) && document.querySelector('#translate') === null")
+        query = urllib.parse.urlencode({"id": msgid, **({"ctx": ctx} if ctx is not None else {}), "show": "all"})
+        self.eval(f"location.hash = '#/{lang}?show=all'")
+        self.wait(f"document.title.endsWith({json.dumps(f'{NAMES[lang]} – Sample project')}) && document.querySelector('#translation') === null")
         self.eval(f"location.hash = {json.dumps(f'#/{lang}/unit?{query}')}")
         self.wait(f"document.getElementById('source')?.textContent.replaceAll('↵', '') === {json.dumps(msgid)}")
-        self.wait_for("#translate")
+        self.wait_for("#translation")
+
+    def remember(self, caller, **known):
+        """What this browser takes for its caller's role and the policy; the page is loaded again."""
+        self.eval(f"localStorage.setItem('office / rights {caller}', {json.dumps(json.dumps(known))})")
+        self.reload()
+        self.wait_for("#translation")
 
     def waits(self):
         """The numbers of the requests that wait in this browser."""
@@ -148,7 +175,8 @@ class PageTab(chromium.Tab):
 class World:
     """What the cases have in common."""
 
-    def __init__(self, folder, program, server):
+    def __init__(self, folder, program, server, beside):
+        self.folder, self.beside, self.front = folder, beside, server.name
         self.office = page_office.Office(program, folder / "office.db", BEGINNING)
         self.relay = page_office.Relay(server.socket, self.office)
         self.office.start()
@@ -419,7 +447,7 @@ def case_other_caller(world):
 
 def case_no_name(world):
     """A login that is no caller's name may look, and is told that it can't act."""
-    tab = PageTab(world, "7up")
+    tab = PageTab(world, "7up", asks=False)
     words = "your login is no caller's name in this office; ask its operator"
     same("told", tab.text("#who"), words)
     translate(tab, "unread", "nichts")
@@ -454,9 +482,9 @@ def case_stale(world):
 def case_guest(world):
     """A guest may only suggest."""
     tab = world.tab("eve")
-    translate(tab, "guest", "Gast")
-    tab.wait_text("#alert", "Your role doesn't allow this.")
-    same("the text stays", tab.value("#form-0"), "Gast")
+    tab.open("guest")
+    same("what isn't allowed isn't there", tab.eval("[...document.querySelectorAll('#unit .buttons button')].map(it => it.id)"), ["suggest"])
+    tab.fill("#form-0", "Gast")
     tab.click("#suggest")
     tab.wait_text("#status", "Suggested.")
     has("it stands there", tab.text(".suggestions"), "by eve, with votes: 1")
@@ -502,7 +530,7 @@ def case_comment(world):
     sent = len(world.relay.posts)
     tab.fill("#comment", "x" * 1001)
     tab.click("#save-comment")
-    tab.wait_text("#alert", "The comment has a line of more than 1000 bytes. Nothing was sent.")
+    tab.wait_text("#alert", "The comment has a line of more than 1,000 bytes. Nothing was sent.")
     same("where the keyboard is", (tab.active(), tab.attribute("#comment", "aria-invalid")), ("comment", "true"))
     same("nothing was sent", len(world.relay.posts), sent)
     tab.fill("#comment", "")
@@ -516,14 +544,18 @@ def case_review(world):
     ann, rob = world.tab("ann"), world.tab("rob")
     translate(ann, "approved", "gut")
     ann.wait_text("#status", "Translated.")
-    ann.click("#approve")
-    ann.wait_text("#alert", "Your role doesn't allow this.")
+    same("no translator approves", ann.eval("document.querySelector('#approve, #send-back')"), None)
     rob.open("approved")
     rob.click("#approve")
     rob.wait_text("#status", "Approved. The message is now: approved.")
-    translate(ann, "approved", "besser")
+    ann.open("approved")
+    same("closed to translators", ann.eval("[document.querySelector('#translate'), document.querySelector('#suggest').className]"), [None, "first"])
+    has("which is told", ann.text(".allowed"), "This message is approved: only reviewers change it.")
+    ann.remember("ann", least=2, most=2)
+    ann.fill("#form-0", "besser")
+    ann.click("#translate")
     ann.wait_text("#alert", "This message is approved: only reviewers change it.")
-    same("the text stays", ann.value("#form-0"), "besser")
+    same("the text stays, and the role is another", (ann.value("#form-0"), ann.text("#who")), ("besser", "signed in as ann, translator"))
     ann.click("#drop-draft")
     rob.click("#send-back")
     rob.wait_text("#status", "Sent back. The message is now: needs editing.")
@@ -534,11 +566,11 @@ def case_refusals(world):
     """Each refusal that a page can meet, in its words; stale, role and approved have cases of their own."""
     ann, rob = world.tab("ann"), world.tab("rob")
     ann.open("Not for translators")
-    ann.fill("#form-0", "x")
-    ann.click("#translate")
-    ann.wait_text("#alert", "This message is read-only")
-    ann.click("#drop-draft")
+    has("read-only is told", ann.text(".allowed"), "This message is read-only")
+    same("and offers nothing", ann.eval("[...document.querySelectorAll('#unit .buttons button')].map(it => it.id)"), [])
+    same("needs editing", world.office.act("ann", act="translate", lang="de", id="unfit", seen=1, forms=["falsch\n"])[1]["state"], "needs-editing")
     rob.open("unfit")
+    same("what is refused anyway isn't there", rob.eval("document.querySelector('#send-back')"), None)
     rob.click("#approve")
     rob.wait_text("#alert", "The text doesn't allow it")
     rob.click("#suggest")
@@ -556,6 +588,8 @@ def case_refusals(world):
     same("dismissed", world.office.act("bea", act="dismiss", lang="de", id="dismissed", seen=1, suggestion=made)[0], 200)
     ann.click(f"#vote-for-{made}")
     ann.wait_text("#alert", "This suggestion isn't there any more")
+    for n in range(100):
+        same("a suggestion", world.office.act("root", act="suggest", lang="de", id="full", seen=1, forms=[f"Vorschlag {n}"])[0], 200)
     translate(ann, "full", "noch einer", "suggest")
     ann.wait_text("#alert", "It is full: a message has at most 100 suggestions")
     ann.click("#drop-draft")
@@ -572,6 +606,8 @@ def refused_by_policy(world, ann, rob):
     rob.click("#approve")
     rob.wait_text("#alert", "There are no reviews in this office.")
     same("policy", world.office.act("root", act="policy", **POLICY)[0], 200)
+    ann.remember("ann", least=1, most=1)
+    rob.remember("rob", least=2, most=2)
     ann.open("gone")
     without = TEMPLATE.replace('\nmsgid "gone"\nmsgstr ""\n', "")
     same("template", world.office.act("root", act="template", po=without)[0], 200)
@@ -610,17 +646,16 @@ def case_keyboard(world):
     tab.key("Enter")
     tab.wait_for("#filter")
     tab.wait("document.activeElement.id === 'units-title'")
+    same("no frame round a heading", tab.eval("getComputedStyle(document.activeElement).outlineStyle"), "none")
     tab.tab_to("filter")
-    tab.type_key("t")
-    tab.wait("document.getElementById('filter').value === 'todo'")
+    same("it opens on what is to do", tab.value("#filter"), "todo")
     tab.tab_to("search")
     tab.type("keys")
     tab.wait("document.querySelectorAll('#list li').length === 1")
     tab.wait_text("#found", f"1 of {MESSAGES} messages")
     tab.tab_to_where("document.activeElement.closest('#list') !== null")
     tab.key("Enter")
-    tab.wait("document.activeElement.id === 'unit-title'")
-    tab.tab_to("form-0")
+    tab.wait("document.activeElement.id === 'form-0'")
     tab.type("Tasten")
     tab.tab_to("translate")
     same("it is seen where the keyboard is", tab.eval("getComputedStyle(document.activeElement).outlineStyle"), "solid")
@@ -649,7 +684,7 @@ def case_lists(world):
     same("Russian", counts["untranslated"], MESSAGES - 1)
     has("its counts", tab.text(".languages li:nth-child(2)"), f"0 %\nuntranslated: {MESSAGES - 1}, read-only: 1")
     tab.click(".languages li:nth-child(2) a")
-    tab.wait_text("#found", f"{MESSAGES} of {MESSAGES} messages")
+    tab.wait_text("#found", f"{MESSAGES - 1} of {MESSAGES} messages")
     world.office.act("eve", act="suggest", lang="ru", id="Hello", seen=1, forms=["Здравствуйте"])
     world.office.act("ann", act="translate", lang="ru", id="draft", seen=1, forms=["черновик"])
     world.office.act("ann", act="translate", lang="ru", id="keys", seen=1, forms=["ключи"])
@@ -658,7 +693,7 @@ def case_lists(world):
     tab.click("#list-again")
     tab.wait_text("#language-counts", "needs editing: 1, translated: 1, approved: 1")
     for value, wanted in (
-        ("unapproved", ["draft"]), ("approved", ["keys"]), ("suggestions", ["Hello"]), ("needs-editing", ["%s: no such file"]),
+        ("review", ["draft"]), ("approved", ["keys"]), ("suggestions", ["Hello"]), ("needs-editing", ["%s: no such file"]),
         ("done", ["draft", "keys"]), ("read-only", ["Not for translators"]), ("obsolete", []),
     ):  # fmt: skip
         tab.choose("filter", value)
@@ -703,14 +738,14 @@ def case_plurals(world):
     """Forms with the numbers that they are for, a context, and a language that runs from right to left."""
     tab = world.tab("ann")
     tab.open("%d file", "ru")
-    labels = "[...document.querySelectorAll('#translation label')].map(it => it.innerText)"
+    labels = "[...document.querySelectorAll('#translation label[for^=form]')].map(it => it.innerText)"
     wanted = ["Form 0, for 1, 21, 31, 41, 51, …", "Form 1, for 2, 3, 4, 22, 23, …", "Form 2, for 0, 5, 6, 7, 8, …"]
     same("Russian", tab.eval(labels), wanted)
     for at, text in enumerate(("%d файл", "%d файла", "файлов")):
         tab.fill(f"#form-{at}", text)
     tab.click("#translate")
     tab.wait_text("#status", "Translated. The message is now: needs editing.")
-    has("a finding", tab.text("#finding-2"), "Its placeholders don't agree with the message's.")
+    has("a finding", tab.text("#finding-2"), "Missing: %d.")
     same("only there", tab.eval("document.querySelectorAll('.finding').length"), 1)
     has("told of the field", tab.attribute("#form-2", "aria-describedby"), "finding-2")
     tab.open("%d file", "ar")
@@ -735,7 +770,7 @@ def case_texts(world):
     tab.open(markup)
     same("the message", tab.text("#source"), markup)
     same("a suggestion", tab.text(".suggestions .text"), evil)
-    same("no elements of it", tab.eval("document.querySelectorAll('img, script:not([src]), a[href^=http]').length"), 0)
+    same("no elements of it", tab.eval("document.querySelectorAll('img, script:not([src]), main a[href^=http]').length"), 0)
     same("no text becomes HTML", tab.eval("(() => { try { document.body.innerHTML = '<b>x</b>'; return 'set'; } catch { return 'refused'; } })()"), "refused")
     same("which the browser tells", ["TrustedHTML" in it for it in world.browser.faults], [True])
     world.browser.faults.clear()
@@ -767,6 +802,518 @@ def case_texts(world):
     tab.wait_text("#status", "Translated. The message is now: translated.")
     same("a line end", world.office.unit("%s: no such file\n")["forms"], ["%s: keine solche Datei\n"])
 
+# ---- what makes it fast
+
+
+IDS = "[...document.querySelectorAll('#list .source')].map(it => it.innerText.trim())"
+
+
+def case_next(world):
+    """Control and Enter translate and go on, or stay where that is wanted; what is listed and where one is stand in the address."""
+    tab = PageTab(world, "ann", stays=False)
+    tab.eval("location.hash = '#/ru?search=step'")
+    tab.wait(f"JSON.stringify({IDS}) === '[\"one step\",\"two steps\",\"a third step\"]'")
+    same("what is to do, in the address", tab.eval("location.hash"), "#/ru?show=todo&search=step")
+    tab.click("#list li:nth-child(2) a")
+    tab.wait("document.activeElement.id === 'form-0'")
+    tab.key("PageUp", alt=True)
+    tab.wait_text("#source", "one step")
+    tab.wait("document.activeElement.id === 'form-0'")
+    tab.type("один шаг")
+    tab.key("Enter", control=True)
+    tab.wait_text("#source", "two steps")
+    tab.wait("document.activeElement.id === 'form-0'")
+    tab.wait_text("#status", "“one step”: Translated. The message is now: translated.")
+    same("translated", world.office.unit("one step", "ru")["forms"], ["один шаг"])
+    tab.wait("document.querySelector('#list li .state').innerText === 'translated'")
+    tab.reload()
+    tab.wait_text("#source", "two steps")
+    same("loaded again", (tab.value("#search"), tab.value("#filter"), tab.eval(IDS)), ("step", "todo", ["two steps", "a third step"]))
+    same("where one is", tab.text("[aria-current] .source"), "two steps")
+    same("bea", world.office.act("bea", act="translate", lang="ru", id="two steps", seen=1, forms=["два шага"])[0], 200)
+    tab.fill("#form-0", "два")
+    tab.key("Enter", control=True)
+    tab.wait_text("#source", "a third step")
+    tab.wait_text("#alert", "“two steps”: Not done. Someone changed this message")
+    tab.click("#told-link")
+    tab.wait_text("#office-text", "два шага")
+    same("the own text is kept", tab.value("#form-0"), "два")
+    tab.click("#drop-draft")
+    tab.click("#stay")
+    tab.fill("#form-0", "оба шага")
+    tab.key("Enter", control=True)
+    tab.wait_text("#status", "Translated. The message is now: translated.")
+    same("it stays", (tab.text("#source"), tab.active()), ("two steps", "form-0"))
+    tab.reload()
+    tab.wait_for("#stay")
+    same("also later", tab.eval("document.getElementById('stay').checked"), True)
+    tab.key("PageDown", alt=True)
+    tab.wait_text("#source", "a third step")
+    tab.key("PageDown", alt=True)
+    tab.wait_text("#status", "This is the last message of the list.")
+    tab.close()
+
+
+# Texts, the message that they are for, and what is found, by docs/FORMATS.md: [placeholders, line ends], and whether they may be left out.
+FINDINGS = (
+    ("%d Dateien", {"id": "%d files", "flags": ["c-format"]}, False, False, False),
+    ("Dateien", {"id": "%d files", "flags": ["c-format"]}, False, True, False),
+    ("eine Datei", {"id": "%d file", "plural": "%d files", "flags": ["c-format"]}, True, False, False),
+    ("eine %s", {"id": "%d file", "plural": "%d files", "flags": ["c-format"]}, True, True, False),
+    ("%2$s %1$s", {"id": "%1$s %2$s", "flags": ["c-format"]}, False, False, False),
+    ("%s %d", {"id": "%d %s", "flags": ["c-format"]}, False, True, False),
+    ("100 %%", {"id": "all %%", "flags": ["c-format"]}, False, False, False),
+    ("%5.2lf", {"id": "%5.2f", "flags": ["c-format"]}, False, True, False),
+    ("%d", {"id": "none", "flags": []}, False, False, False),
+    ("{name} in {0}", {"id": "{0} of {name}", "flags": ["python-brace-format"]}, False, False, False),
+    ("{name}", {"id": "{0} of {name}", "flags": ["python-brace-format"]}, False, True, False),
+    ("{{name}}", {"id": "{{x}} {01}", "flags": ["python-brace-format"]}, False, False, False),
+    ("zwei\n", {"id": "two", "flags": []}, False, False, True),
+    ("\nzwei", {"id": "\ntwo\n", "flags": []}, False, False, True),
+    ("", {"id": "%d\n", "flags": ["c-format"]}, False, False, False),
+)
+# Texts for a message, and what is hinted.
+HINTS = (
+    ("Hallo.", "Hello", "The text ends with a full stop, the message doesn't."),
+    ("Hallo", "Hello…", "The message ends with an ellipsis."),
+    ("Hallo…", "Hello...", ""),
+    ("こんにちは。", "Hello.", ""),
+    ("Was? ", "What?", "White space at the end isn't as in the message."),
+    (" Was?", "What?", "White space at the beginning isn't as in the message."),
+    ("in der der Datei", "in the file", "A word stands twice: der der"),
+    ("der derbe", "the rude", ""),
+)
+
+
+def case_findings(world):
+    """What is wrong with a text is told while it is typed, as the office finds it; placeholders are marked, and inserted by keys."""
+    tab = world.tab("ann")
+    for text, message, may, *wanted in FINDINGS:
+        given = ", ".join(json.dumps(it) for it in (text, {"plural": None, **message}, may))
+        found = tab.eval(f"import('./checks.js').then(it => it.findingsOf({given})).then(it => [it.placeholders.length > 0, it['line-ends'].length > 0])")
+        same(f"{text!r} for {message}", found, wanted)
+    for text, msgid, wanted in HINTS:
+        given = f"{json.dumps(text)}, {json.dumps({'id': msgid, 'plural': None})}, 0"
+        same(f"{text!r} for {msgid!r}", tab.eval(f"import('./checks.js').then(it => it.hintsOf({given}).join(' '))"), wanted)
+    tab.open("%s: no such file\n")
+    same("marked in the message", tab.eval("[...document.querySelectorAll('#source mark')].map(it => it.textContent)"), ["%s"])
+    tab.fill("#form-0", "keine keine Datei")
+    has("while it is typed", tab.text("#finding-0"), "Missing: %s. The message ends with a line end, the text doesn't. A word stands twice: keine keine")
+    same("described by it", tab.attribute("#form-0", "aria-describedby"), "source finding-0")
+    tab.fill("#form-0", "")
+    tab.type("Da: ")
+    tab.key("1", alt=True)
+    same("a placeholder by a key", (tab.value("#form-0"), tab.eval("[...document.querySelectorAll('.behind mark')].map(it => it.textContent)")), ("Da: %s", ["%s"]))
+    same("both texts stand at one place", tab.eval("(([a, b]) => Math.abs(a.width - b.width) + Math.abs(a.height - b.height) + Math.abs(a.x - b.x))([...document.querySelectorAll('.field > *')].map(it => it.getBoundingClientRect())) < 1"), True)
+    tab.key("0", alt=True)
+    same("the message by a key", (tab.value("#form-0"), tab.text("#finding-0").strip()), ("%s: no such file\n", ""))
+    tab.fill("#form-0", "")
+    tab.key("1", control=True)
+    same("by the other key", tab.value("#form-0"), "%s")
+    tab.key("0", alt=True)
+    tab.click("#insert-1")
+    has("a placeholder by its button", tab.value("#form-0"), "%s: no such file\n%s")
+    has("told at once", tab.text("#finding-0"), "Not in the message: %s.")
+    tab.fill("#form-0", "")
+    agreed(world, tab)
+
+
+def agreed(world, tab):
+    """The page finds what the office finds, in texts that the office has."""
+    seen = 1
+    for first, second in (("%d Datei", "%d Dateien"), ("Datei", "Dateien"), ("%s Datei", "%d Dateien %d"), ("eine Datei\n", "%d Dateien")):
+        same("ann", world.office.act("ann", act="translate", lang="ar", id="%d file", seen=seen, forms=[first, first, second, second, second, second])[0], 200)
+        seen += 1
+        wanted = world.office.unit("%d file", "ar")["findings"]
+        tab.open("%d file", "ar")
+        found = tab.eval("[0, 1, 2, 3, 4, 5].map(at => document.querySelectorAll(`#finding-${at} .finding`).length > 0)")
+        same(f"{first!r} and {second!r}", found, [at in wanted["placeholders"] + wanted["line-ends"] for at in range(6)])
+
+
+def case_changes(world):
+    """What is another than before: of a message, and of a suggestion."""
+    tab = world.tab("ann")
+    tab.open("before")
+    same("the message was before", tab.eval("[...document.querySelectorAll('#unit .changes')].map(it => [it.querySelector('del')?.textContent, it.innerText])"), [["long ", "long before"]])
+    same("eve", world.office.act("eve", act="suggest", lang="de", id="before", seen=1, forms=["kurz davor <b>"])[0], 200)
+    tab.click("#next")
+    tab.open("before")
+    same("a suggestion", tab.eval("[...document.querySelectorAll('.suggestions .changes')].map(it => [it.querySelector('ins').textContent, it.innerText])[0][1]"), "kurz davor <b>")
+    same("by words", tab.eval("import('./diff.js').then(it => it.changes('open the old file', 'open this file now').map(it => it.kind + ':' + it.text))"),
+         ["same:open ", "out:the old", "in:this", "same: file", "in: now"])
+
+
+# ---- what a caller may do
+
+
+def case_roles(world):
+    """A role is asked once, and kept; another one is learnt from a refusal, and asked again on a button. What isn't allowed isn't there."""
+    same("root", world.office.act("root", act="translate", lang="de", id="role", seen=1, forms=["Part"])[0], 200)
+    before = len(world.relay.posts)
+    tab = PageTab(world, "bea")
+    asked = [json.loads(body)["act"] for _, body, _ in world.relay.posts[before:]]
+    same("asked", asked, ["approve", "comment"])
+    has("told", tab.text("#who"), "signed in as bea, translator")
+    same("nothing came of it", [world.office.unit("Hello")[it] for it in ("revision", "state")], [1, "untranslated"])
+    tab.open("role")
+    buttons = "[...document.querySelectorAll('#translation .buttons button')].map(it => it.id)"
+    same("a translator's", tab.eval(buttons), ["translate", "suggest"])
+    same("no managing", tab.eval("document.getElementById('manage').hidden"), True)
+    same("root", world.office.act("root", act="team", name="bea", role="guest")[0], 200)
+    tab.fill("#form-0", "Rolle")
+    tab.click("#translate")
+    tab.wait_text("#alert", "Your role doesn't allow this.")
+    same("a guest's", (tab.eval(buttons), tab.text("#who"), tab.value("#form-0")), (["suggest"], "signed in as bea, guest", "Rolle"))
+    tab.reload()
+    tab.wait_for("#translation")
+    same("kept", tab.eval(buttons), ["suggest"])
+    same("root", world.office.act("root", act="team", name="bea", role="reviewer")[0], 200)
+    tab.click("#ask-role")
+    tab.wait_text("#who", "signed in as bea, reviewer")
+    same("a reviewer's", tab.eval(buttons), ["translate", "suggest", "approve", "send-back"])
+    same("asked no more than that", len(world.relay.posts) - before, 2 + 1 + 2)
+    same("root", world.office.act("root", act="team", name="bea", role="translator")[0], 200)
+    tab.close()
+    made = world.office.act("eve", act="suggest", lang="de", id="ballot", seen=1, forms=["Wahl"])[1]["suggestion"]
+    ann = world.tab("ann")
+    same("root", world.office.act("root", act="policy", **{**POLICY, "voting": False})[0], 200)
+    ann.open("ballot")
+    ann.click(f"#vote-for-{made}")
+    ann.wait_text("#alert", "There is no voting in this office.")
+    same("no votes are offered", ann.eval("document.querySelectorAll('[id^=vote-]').length"), 0)
+    same("root", world.office.act("root", act="policy", **POLICY)[0], 200)
+    ann.remember("ann", least=1, most=1)
+
+
+# ---- lists at once, and what lies beside the page
+
+
+def snapshot(world, lang):
+    words = [TOP / "share" / "tools" / "office-snapshot", "--url", f"http://{page_office.HOST}:{world.office.port}", "--to", world.beside, "--once", lang]
+    same("office-snapshot", subprocess.run(words, check=False, timeout=300).returncode, 0)
+
+
+def case_queues(world):
+    """What is with suggestions and what is to review is there at once, from a snapshot that says how old it is."""
+    act = world.office.act
+    act("eve", act="suggest", lang="ar", id="Hello", seen=1, forms=["مرحبا"])
+    for msgid in ("draft", "keys"):
+        same("ann", act("ann", act="translate", lang="ar", id=msgid, seen=1, forms=["نص"])[0], 200)
+    same("rob", act("rob", act="approve", lang="ar", id="keys", seen=2)[0], 200)
+    snapshot(world, "ar")
+    tab = PageTab(world, "rob")
+
+    def asked():
+        return {it for it in world.browser.asked if "/v1/unit?lang=ar" in it}
+
+    before = asked()
+    tab.eval("location.hash = '#/ar?show=suggestions'")
+    tab.wait(f"JSON.stringify({IDS}) === '[\"Hello\"]'")
+    has("how many", tab.text("#list .state"), "suggestions: 1")
+    has("how old", tab.text("#age"), "Suggestions and approvals: as of ")
+    for value, wanted in (("review", ["draft"]), ("approved", ["keys"])):
+        tab.choose("filter", value)
+        tab.wait(f"JSON.stringify({IDS}) === {json.dumps(json.dumps(wanted))}")
+    same("nothing was asked one by one", asked(), before)
+    tab.open("draft", "ar")
+    tab.click("#approve")
+    tab.wait_text("#status", "Approved.")
+    tab.choose("filter", "review")
+    tab.wait(f"JSON.stringify({IDS}) === '[]'")
+    same("what the office has told since stands", tab.text("#found"), f"0 of {MESSAGES} messages")
+    same("eve", act("eve", act="suggest", lang="ar", id="gone", seen=1, forms=["ذهب"])[0], 200)
+    snapshot(world, "ar")
+    tab.choose("filter", "suggestions")
+    tab.wait(f"JSON.stringify({IDS}) === '[\"Hello\",\"gone\"]'")
+    tab.close()
+
+
+def case_checks(world):
+    """What other tools found stands at the message, and is listed; whatever it says is text."""
+    evil = '<img src=x onerror="alert(1)">'
+    findings = [
+        {"id": "checked by others", "tool": "pofilter", "name": "startcaps", "text": f"begins with {evil}", "severity": "warning"},
+        {"id": "Open", "context": "menu", "tool": "msgfmt", "name": "c-format", "text": "is wrong", "severity": "error"},
+        {"id": "not there", "tool": "i18nspector", "name": "x", "text": "gone", "severity": "note"},
+        {"id": "", "tool": "i18nspector", "name": "no-language-header-field", "text": "Language: ru", "severity": "error"},
+    ]
+    report = {"made": "2026-11-29T12:00:00Z", "domain": "main", "lang": "ru", "findings": findings}
+    (world.beside / "checks" / "ru.json").write_text(json.dumps(report))
+    tab = PageTab(world, "ann")
+    tab.eval("location.hash = '#/ru?show=findings'")
+    tab.wait(f"JSON.stringify({IDS}) === '[\"Open\",\"checked by others\"]'")
+    has("counted", tab.text("#list li:last-child .state"), "findings: 1")
+    has("how old", tab.text("#age"), "Checks: ")
+    same("of the header", tab.text("#header-findings summary"), "1 finding about the header")
+    tab.click("#list li:last-child a")
+    tab.wait_text("#checks", f"warning begins with {evil} pofilter: startcaps")
+    same("no elements of it", tab.eval("document.querySelectorAll('img').length"), 0)
+    tab.eval("location.hash = '#/ar'")
+    tab.wait_text("#units-title", "Arabic")
+    tab.wait_for("#filter")
+    same("no such list without checks", tab.eval("document.querySelector('#filter [value=findings]')"), None)
+    (world.beside / "checks" / "ru.json").unlink()
+    tab.close()
+
+
+# ---- memory, glossary, places, and the search
+
+
+def case_memory(world):
+    """Beside the field stand translations of messages that are alike, terms, and other languages."""
+    same("bea", world.office.act("bea", act="translate", lang="de", id="two steps", seen=1, forms=["zwei Schritte"])[0], 200)
+    same("bea", world.office.act("bea", act="translate", lang="ru", id="elsewhere", seen=1, forms=["в другом месте"])[0], 200)
+    tab = PageTab(world, "ann")
+    tab.open("one step")
+    tab.wait_text("#memory", "zwei Schritte")
+    # Of 17 characters in both 12 are in common: "o", " step", and so both ways.
+    has("how alike", tab.text("#memory"), "70 % alike")
+    tab.click("#use-0")
+    same("it is used", tab.value("#form-0"), "zwei Schritte")
+    tab.click("#drop-draft")
+    tab.open("Save the file?")
+    tab.wait_text("#glossary", "Datei")
+    same("terms", tab.eval("[...document.querySelectorAll('#glossary li > span:first-child')].map(it => it.textContent)"), ["file", "save"])
+    has("a remark is text", tab.text("#glossary"), 'a <img src=x onerror=alert(1)> of "bytes"')
+    tab.click("#term-0-0")
+    same("inserted", tab.value("#form-0"), "Datei")
+    tab.fill("#form-0", "")
+    (world.beside / "glossary" / "three.tbx").write_text(TBX_3)
+    wanted = {"source": ["file selector"], "terms": [{"lang": "en", "term": "file selector"}, {"lang": "de", "term": "Dateiauswahl"}], "note": "What asks & waits."}
+    for name in ("terms", "three"):
+        found = tab.eval(f"import('./office.js').then(it => new it.Office(new URL('.', location.href)).xml('glossary/{name}.tbx'))"
+                         ".then(async it => (await import('./glossary.js')).fromTbx(it))")
+        same(f"a file of TBX, {name}", found, [wanted])
+    tab.open("elsewhere")
+    tab.eval("document.getElementById('also').open = true")
+    tab.click("#also-ru")
+    tab.wait_text("#others", "в другом месте")
+    tab.close()
+
+
+def case_alike(world):
+    """Of changed messages the page's memory finds the translation that msgmerge finds."""
+    example = TOP / "docs" / "example"
+    old = (example / "de.po").read_text()
+    renamed = {"unknown option": "an unknown option", "invalid numeric value": "invalid value", "missing argument": "missing arguments", "memory allocation failed": "allocation of memory failed",
+               "number too large or too small": "number too large", "Help options:": "Help option", "Display brief usage message": "Display a brief message of usage", "xyz": "qqqqq"}
+    pot = "".join(f'msgid "{it}"\nmsgstr ""\n\n' for it in renamed.values())
+    with tempfile.TemporaryDirectory() as place:
+        (pathlib.Path(place) / "new.pot").write_text(header("nplurals=2; plural=n != 1;") + "\n" + pot)
+        done = subprocess.run(["msgmerge", "--quiet", "--no-wrap", example / "de.po", f"{place}/new.pot"], capture_output=True, text=True, check=True)
+    wanted = {msgid: re.search(rf'^msgid "{re.escape(msgid)}"\nmsgstr "(.*)"', done.stdout, re.M)[1] for msgid in renamed.values()}
+    same("msgmerge finds some", sum(it != "" for it in wanted.values()) > 3, True)
+    tab = world.tab("ann")
+    tab.eval(f"window.old = {json.dumps(old)}")
+    for msgid, text in wanted.items():
+        found = tab.eval("Promise.all([import('./memory.js'), import('./catalogue.js')]).then(([m, c]) => new m.Memory().find("
+                         f"{{domain: 'main', ctx: null, id: {json.dumps(msgid)}}}, [new c.Catalogue({{domain: 'main', lang: 'de'}}, window.old)], () => true))"
+                         ".then(it => it[0]?.entry.forms[0] ?? '')")
+        same(f"alike: {msgid}", found, text)
+
+
+def case_places(world):
+    """Places in the sources are links by the project's pattern, and are found by the search; so are words without their accents."""
+    tab = PageTab(world, "ann")
+    tab.open("Hello")
+    same("a link", tab.eval("[...document.querySelectorAll('.places a')].map(it => [it.href, it.rel, it.textContent])"),
+         [["https://git.example.org/sample/src/main.c#L12", "noopener noreferrer", "src/main.c:12"]])
+    links = "import('./references.js').then(it => it.placesIn(['../a b.c:1 \u2068c d.c\u2069:2 e']).map(place => it.linkOf(place, {})))"
+    same("places", tab.eval(links.format("'https://x.example/{file}#L{line}'")), ["https://x.example/a", "https://x.example/b.c#L1", "https://x.example/c%20d.c#L2", "https://x.example/e"])
+    same("no other addresses", tab.eval(links.format("'javascript:alert(1)//{file}'")), [None] * 4)
+    same("bea", world.office.act("bea", act="translate", lang="ru", id="unfit", seen=1, forms=["Ёлка élan"])[0], 200)
+    tab.eval("location.hash = '#/ru?show=all'")
+    tab.wait_text("#units-title", "Russian")
+    tab.wait_for("#search")
+    for words, wanted in (("SRC/main.c", ["Hello"]), ("menu", ["Open"]), ("елка elan", ["unfit"]), ("at the start", ["Hello"])):
+        tab.fill("#search", words)
+        tab.wait(f"JSON.stringify({IDS}) === {json.dumps(json.dumps(wanted, separators=(',', ':')))}")
+    tab.close()
+
+
+# ---- files, managers, and signing out
+
+
+def case_files(world):
+    """A language's file is downloaded, edited elsewhere, and what changed in it is sent; what others changed meanwhile is left alone."""
+    tab = PageTab(world, "ann")
+    tab.eval("location.hash = '#/ru/file'")
+    tab.wait_for("#download")
+    same("what is downloaded", tab.eval("fetch(document.getElementById('download').href).then(it => it.text())"), world.office.export("ru"))
+    same("its name", tab.attribute("#download", "download"), "ru.po")
+    before, edited = world.folder / "ru.po", world.folder / "edited.po"
+    before.write_text(world.office.export("ru"))
+    text = before.read_text()
+    for msgid, translation in (("sent from a file", "из файла"), ("role", "роль"), ("gone", "")):
+        text = text.replace(f'msgid "{msgid}"\nmsgstr ""', f'msgid "{msgid}"\nmsgstr ""\n"{translation}"' if translation else f'#, fuzzy\nmsgid "{msgid}"\nmsgstr "?"')
+    done = subprocess.run(["msgconv", "--to-code=GB18030", "--width=40"], input=text.encode(), capture_output=True, check=True)
+    edited.write_bytes(done.stdout.replace(b"\n", b"\r\n"))
+    same("bea", world.office.act("bea", act="translate", lang="ru", id="role", seen=1, forms=["должность"])[0], 200)
+    tab.give("#upload-own", edited)
+    tab.give("#upload-before", before)
+    tab.click("#upload-look")
+    tab.wait_text("#upload-told", "1 message changed. 2 are left out:")
+    same("why", sorted(tab.text("#upload-left").split("\n")), ["gone: it is marked as fuzzy", "role: the office changed it meanwhile"])
+    tab.click("#upload-translate")
+    tab.wait_text("#upload-sent", "1 of 1 is on its way.")
+    tab.wait_text("#outbox", "All sent")
+    tab.wait_text("#status", "“sent from a file”: Translated.")
+    same("there", [world.office.unit(it, "ru")["forms"] for it in ("sent from a file", "role")], [["из файла"], ["должность"]])
+    tab.click("#upload-look")
+    tab.wait_text("#upload-told", "0 messages changed. 2 are left out:")
+    edited.write_text('msgid "a"\nmsgstr "b"\nwrong\n')
+    tab.give("#upload-own", edited)
+    tab.click("#upload-look")
+    tab.wait_text("#alert", "The file isn't read: line 3 is of no form.")
+    tab.close()
+
+
+def case_manage(world):
+    """Managers set roles, the policy, the template and languages, by requests like all others."""
+    tab = PageTab(world, "root", asks=False)
+    tab.eval("location.hash = '#/de'")
+    tab.wait_text("#who", "signed in as root, manager")
+    tab.click("#manage")
+    tab.wait("document.activeElement.id === 'manage-title'")
+    world.relay.mode = "half"
+    tab.fill("#team-name", "zed")
+    tab.click("#team-send")
+    tab.wait_text("#status", "zed is a translator now.")
+    same("zed", world.office.act("zed", act="translate", lang="ar", id="role", seen=1, forms=["دور"])[0], 200)
+    tab.fill("#team-name", "root")
+    tab.choose("team-role", "guest")
+    tab.click("#team-send")
+    tab.wait_text("#alert", "Not done. No manager would be left.")
+    for flag in ("reviews", "voting", "guests_suggest", "placeholders", "line_ends"):
+        tab.click(f"#policy-{flag}")
+    tab.fill("#policy-accept_at", "1")
+    tab.click("#policy-send")
+    tab.wait_text("#alert", "The sum of votes is 0, or from 2 to 100.")
+    tab.fill("#policy-accept_at", "2")
+    tab.click("#policy-send")
+    tab.wait_text("#status", "The policy is set; 0 messages changed their state.")
+    made = world.office.act("eve", act="suggest", lang="ar", id="ballot", seen=1, forms=["اقتراع"])[1]["suggestion"]
+    same("one vote is enough now", world.office.act("zed", act="vote", lang="ar", id="ballot", seen=1, suggestion=made, value=1)[1]["accepted"], True)
+    managed_texts(world, tab)
+    same("root", world.office.act("root", act="policy", **POLICY)[0], 200)
+    same("each once", len({use for use, _, _ in world.relay.posts}), len({(use, body) for use, body, _ in world.relay.posts}))
+    tab.close()
+    ann = world.tab("ann")
+    ann.eval("location.hash = '#/~manage'")
+    ann.wait_text("#manage-pane", "Only managers do this.")
+
+
+def managed_texts(world, tab):
+    file = world.folder / "new.pot"
+    file.write_text(TEMPLATE + '\nmsgid "Größe"\nmsgstr ""\n')
+    tab.give("#template-file", file)
+    tab.click("#template-send")
+    tab.wait_text("#status", "The template is set. ar: new 1, changed 0")
+    file.write_text(TEMPLATE + '\nmsgid "x\n')
+    tab.give("#template-file", file)
+    tab.click("#template-send")
+    tab.wait_text("#alert", f"The PO text has a fault in line {TEMPLATE.count(chr(10)) + 2}: a string without its quotes")
+    tab.fill("#language-code", "eo")
+    tab.fill("#language-rule", "nplurals=2; plural=n;")
+    tab.click("#language-send")
+    tab.wait_text("#alert", "The header's rule Plural-Forms: its value at 2 isn't below nplurals.")
+    tab.fill("#language-rule", "nplurals=2; plural=n != 1;")
+    tab.click("#language-send")
+    tab.wait_text("#status", "The language eo is there: translations taken over: 0")
+    file.write_bytes((header("nplurals=2; plural=n > 1;").replace("UTF-8", "ISO-8859-1") + '\nmsgid "Größe"\nmsgstr "café"\n').replace("\n", "\r\n").encode("latin-1"))
+    tab.fill("#language-code", "oc")
+    tab.give("#language-file", file)
+    tab.click("#language-send")
+    tab.wait_text("#status", "The language oc is there: translations taken over: 1")
+    same("in UTF-8", world.office.unit("Größe", "oc")["forms"], ["café"])
+    same("template", world.office.act("root", act="template", po=TEMPLATE)[0], 200)
+
+
+def case_sign_out(world):
+    """A browser that signed in by a password forgets it."""
+    world.browser.password = ("ann", PASSWORD)
+    tab = PageTab(world, None, asks=False)
+    has("signed in", tab.text("#who"), "signed in as ann")
+    world.browser.password = None
+    tab.click("#sign-out")
+    tab.wait("document.body.innerText.includes('You are signed out.')")
+    tab.call("Page.navigate", url=world.at)
+    tab.wait("document.title.startsWith('401')" if world.front == "nginx" else "document.body.innerText.includes('sign-in')")
+    same("signed out", "signed in as" in tab.text("body"), False)
+    tab.close()
+
+
+# ---- domains
+
+
+def case_domains(world):
+    """A further domain has languages of its own. What the program doesn't have yet a second office stands for."""
+    po = 'msgid "Hello"\nmsgstr ""\n\nmsgid "the manual"\nmsgstr ""\n'
+    beginning = [{"act": "template", "po": po}, {"act": "language", "lang": "de", "po": header(LANGUAGES["de"])}, *(it for it in BEGINNING if it["act"] in ("team", "policy"))]
+    manual = page_office.Office(world.office.program, world.folder / "manual.db", beginning)
+    manual.start()
+    world.relay.domains = {"manual": manual}
+    tab = PageTab(world, "ann")
+    tab.eval("location.hash = '#/'")
+    tab.wait_text("#languages", "manual")
+    tab.wait("document.querySelectorAll('.languages')[1].querySelectorAll('progress').length === 1")
+    has("its counts", tab.text(".languages:last-of-type"), "untranslated: 2")
+    tab.click(".languages:last-of-type a")
+    tab.wait_text("#found", "2 of 2 messages")
+    same("its address", tab.eval("location.hash"), "#/domains/manual/de?show=todo")
+    has("told", tab.text("#units-title"), "German de · manual")
+    tab.click("#list a")
+    tab.wait_for("#translate")
+    tab.fill("#form-0", "Hallo im Handbuch")
+    tab.click("#translate")
+    tab.wait_text("#status", "Translated. The message is now: translated.")
+    same("in its domain alone", (manual.unit("Hello")["forms"], world.office.unit("Hello")["forms"]), (["Hallo im Handbuch"], [""]))
+    has("in the replies", tab.text("#replies"), "Hello (de · manual)")
+    tab.fill("#form-0", "nur getippt")
+    tab.open("Hello")
+    same("its draft isn't main's", tab.value("#form-0"), "")
+    tab.reload()
+    tab.eval("location.hash = '#/domains/manual/de/unit?id=Hello'")
+    tab.wait_for("#office-text")
+    same("and is there", tab.value("#form-0"), "nur getippt")
+    world.relay.domains = {}
+    manual.kill()
+    tab.close()
+
+
+# ---- the page's own words
+
+
+def case_own_words(world):
+    """The page's words are in a catalogue; German has all of them, and the page speaks it where it is wanted."""
+    done = subprocess.run([TOP / "tools" / "page_words", "--check"], capture_output=True, text=True, check=False)
+    same("the catalogue is the page's, and German has all", (done.returncode, done.stderr), (0, ""))
+    tab = PageTab(world, "ann")
+    tab.choose("page-language", "de")
+    tab.wait_text("#languages", "Sprachen")
+    same("its language", (tab.eval("document.documentElement.lang"), tab.eval("document.title")), ("de", "Sprachen – Sample project"))
+    has("who", tab.text("#who"), "angemeldet als ann, Übersetzung")
+    tab.wait_text("#languages", "Russisch")
+    tab.eval("location.hash = '#/de/unit?id=unread'")
+    tab.wait_for("#translate")
+    same("buttons", tab.eval("[...document.querySelectorAll('#translation .buttons button')].map(it => it.innerText)"), ["Übersetzen", "Vorschlagen"])
+    has("a number", tab.text("#found"), "Meldungen")
+    same("a text for many and for one", tab.eval("import('./i18n.js').then(it => [1, 2].map(n => it.nt('{count} request waits', '{count} requests wait', n)))"), ["1 Auftrag wartet", "2 Aufträge warten"])
+    tab.reload()
+    has("also later", tab.text("#who"), "angemeldet als ann")
+    same("a language without a name is told once", tab.eval("import('./locales.js').then(it => ['xq', 'pt'].map(code => it.titleOf(code).map(it => it.textContent ?? it)))"),
+         [["xq"], ["Portugiesisch", " ", "pt"]])
+    tab.choose("page-language", "en")
+    tab.wait_text("#languages", "")
+    tab.wait_text("#who", "signed in as ann")
+    other = chromium.Tab(world.browser)
+    other.call("Emulation.setUserAgentOverride", userAgent="Chromium", acceptLanguage="de-AT,de")
+    PageTab.sign_in(other, "ann")
+    other.call("Page.navigate", url=world.at)
+    other.wait_text("#languages", "Sprachen")
+    other.close()
+    tab.close()
+
 
 # Of each text on the page the contrast with what is behind it, and of each thing to press its size, where they are too small.
 MEASURES = """(() => {
@@ -778,7 +1325,8 @@ MEASURES = """(() => {
   const ratio = (a, b) => { const [x, y] = [light(a), light(b)].sort((m, n) => n - m); return (x + 0.05) / (y + 0.05); };
   const seen = [...document.querySelectorAll('body *')].filter((it) => it.checkVisibility() && it.getClientRects().length > 0);
   const texts = seen.filter((it) => [...it.childNodes].some((n) => n.nodeType === 3 && n.data.trim()) || 'value' in it);
-  const pale = texts.map((it) => [it, ratio(numbers(getComputedStyle(it).color).slice(0, 3), behind(it).slice(0, 3))]).filter(([, r]) => r < 4.5);
+  const isSeen = (it) => (numbers(getComputedStyle(it).color)[3] ?? 1) > 0;
+  const pale = texts.filter(isSeen).map((it) => [it, ratio(numbers(getComputedStyle(it).color).slice(0, 3), behind(it).slice(0, 3))]).filter(([, r]) => r < 4.5);
   const small = seen.filter((it) => it.matches('button, select, input, textarea, nav a, .units a, .languages a'))
     .filter((it) => { const b = it.getBoundingClientRect(); return b.height < 24 || b.width < 24; });
   const name = (it) => `${it.tagName} ${it.id} ${it.className} ${it.textContent.slice(0, 20)}`;
@@ -827,6 +1375,7 @@ def popt(world, path):
     world.office = world.relay.office = page_office.Office(world.office.program, path, beginning)
     world.office.start()
     act = world.office.act
+    act("ann", act="translate", lang="ru", id="unknown errno", seen=1, forms=["неизвестная ошибка"])
     act("ann", act="translate", lang="de", id=FINDING, seen=1, forms=["Optionstyp ist in popt nicht vorhanden\n"])
     made = act("eve", act="suggest", lang="de", id=FINDING, seen=2, forms=["Optionstyp (%u) kennt popt nicht\n"])[1]["suggestion"]
     act("bea", act="vote", lang="de", id=FINDING, seen=2, suggestion=made, value=1)
@@ -837,13 +1386,16 @@ def popt(world, path):
 def pictures(world, folder):
     """What the page looks like, at some widths."""
     popt(world, world.office.path.with_name("popt.db"))
-    tab = PageTab(world, "ann")
+    tab = PageTab(world, "ann", stays=False)
     tab.wait("document.querySelectorAll('.languages progress').length === 3")
     message = "/unit?" + urllib.parse.urlencode({"id": FINDING})
     for name, path, ready, size in (
         ("languages", "#/", ".languages progress", (1000, 700)),
         ("list", "#/de", "#list a", (1280, 900)),
-        ("message", f"#/de{message}", "#translate", (1100, 860)),
+        ("message", f"#/de{message}", "#translate", (1100, 900)),
+        ("wide", f"#/de{message}", "#translate", (1500, 1000)),
+        ("memory", "#/de/unit?id=unknown+option", "#memory", (1500, 1000)),
+        ("file", "#/de/file", "#download", (1100, 860)),
         ("plural", "#/ru/unit?id=%25d+file", "#form-2", (1280, 900)),
         ("arabic", "#/ar/unit?id=%25d+file", "#form-5", (800, 1100)),
         ("narrow-list", "#/de", "#list a", (360, 740)),
@@ -891,10 +1443,12 @@ def main():
     cases = [(name, it) for name, it in globals().items() if name.startswith("case_") and (not given.words or any(word in name for word in given.words))]
     with tempfile.TemporaryDirectory() as made, contextlib.ExitStack() as after:
         folder = pathlib.Path(made)
-        configuration = {"project": "Sample project", "languages": [*LANGUAGES, "fr"]}
+        configuration = {"project": "Sample project", "languages": [*LANGUAGES, "fr"], **TOLD}
         passwords = dict.fromkeys(LOGINS, PASSWORD)
-        server = after.enter_context(page_office.front(folder / "front", given.front, passwords, TOP / "share" / "web", configuration))
-        world = World(folder, given.program.resolve(), server)
+        server, beside = after.enter_context(page_office.front(folder / "front", given.front, passwords, TOP / "share" / "web", configuration))
+        (beside / "glossary" / "terms.csv").write_text(CSV)
+        (beside / "glossary" / "terms.tbx").write_text(TBX)
+        world = World(folder, given.program.resolve(), server, beside)
         after.callback(world.close)
         for name, case in cases:
             begin, world.relay.mode = time.monotonic(), "pass"

@@ -6,6 +6,7 @@ import http.server
 import json
 import os
 import re
+import shutil
 import socket
 import socketserver
 import subprocess
@@ -61,6 +62,11 @@ class Office:
         finally:
             link.close()
 
+    def export(self, lang="de"):
+        with contextlib.closing(http.client.HTTPConnection(HOST, self.port, timeout=SECONDS)) as link:
+            link.request("GET", f"/v1/export/{lang}", headers={"Connection": "close"})
+            return link.getresponse().read().decode()
+
     def act(self, caller, use=None, **fields):
         self.made += 1
         use = use or number(10_000 + self.made)
@@ -81,13 +87,14 @@ def wait_until(what, condition):
 
 class Relay(socketserver.ThreadingUnixStreamServer):
     """Hands each message on to the office, and its answer back. `mode` says what becomes of the next ones instead; `posts` has the requests, each
-    with its number, its body and its time."""
+    with its number, its body and its time. `domains` has further offices: what names a domain of theirs goes to one of them, without its name.
+    That stands for an office of several domains, as the program's has but one."""
 
     daemon_threads = True
     request_queue_size = 128
 
     def __init__(self, path, office):
-        self.office, self.mode, self.posts = office, "pass", []
+        self.office, self.mode, self.posts, self.domains = office, "pass", [], {}
         super().__init__(str(path), RelayedMessage)
         os.chmod(path, 0o666)
         threading.Thread(target=self.serve_forever, daemon=True).start()
@@ -139,25 +146,43 @@ class RelayedMessage(socketserver.StreamRequestHandler):
                 self.wfile.write(told.encode())
 
     def of_office(self, head, body):
+        office, head, body = of_domain(self.server, head, body)
         try:
-            with socket.create_connection((HOST, self.server.office.port), SECONDS) as link:
+            with socket.create_connection((HOST, office.port), SECONDS) as link:
                 link.sendall(head + body)
                 return b"".join(iter(lambda: link.recv(65536), b""))
         except OSError:
             return b""
 
 
+def of_domain(relay, head, body):
+    """The office that has the domain of a message, and the message without that domain."""
+    for name, office in relay.domains.items():
+        path, query, field = (f"/v1/domains/{name}/".encode(), f"domain={name}".encode(), f'"domain":"{name}",'.encode())
+        if path in head or query in head or field in body:
+            length = f"Content-Length: {len(body) - len(field)}".encode()
+            head = head.replace(path, b"/v1/").replace(b"&" + query, b"")
+            return office, re.sub(rb"(?i)content-length: *\d+", length, head) if field in body else head, body.replace(field, b"")
+    return relay.office, head, body
+
+
 @contextlib.contextmanager
 def front(folder, name, passwords, files, configuration):
-    """nginx or HAProxy, as share/front has them, with the page's files and its office.json."""
-    with page_server(files) as port:
+    """nginx or HAProxy, as share/front has them, with the page's files and its office.json; and the folder of what lies beside the page."""
+    folder.mkdir()
+    site = folder / "site"
+    shutil.copytree(files, site)
+    with page_server(site) as port:
         if name == "haproxy":
-            server, own = front_servers.HAProxy(folder, passwords, port), folder / "office"
+            server, own, beside = front_servers.HAProxy(folder / "front", passwords, port), folder / "front" / "office", site
         else:
-            server, own = front_servers.Nginx(folder, {PROJECT: passwords}, files), folder / "office" / "projects" / PROJECT
+            server = front_servers.Nginx(folder / "front", {PROJECT: passwords}, site)
+            own, beside = folder / "front" / "office" / "projects" / PROJECT, folder / "front" / "beside" / PROJECT
         (own / "office.json").write_text(json.dumps(configuration))
+        for it in ("snapshot", "checks", "glossary"):
+            (beside / it).mkdir(parents=True)
         with server.serving():
-            yield server
+            yield server, beside
 
 
 class PageFile(http.server.SimpleHTTPRequestHandler):

@@ -1,6 +1,7 @@
 // How far a language is.
 
 import { el } from "./dom.js";
+import { mark, numberText, t } from "./i18n.js";
 import { STATES } from "./words.js";
 
 // A language is done when no message is left to translate or to edit; read-only messages don't count.
@@ -11,16 +12,17 @@ export function progressOf(counts) {
   return { done, all, percent };
 }
 
-const PARTS = { ...STATES, suggestions: "suggestions" };
+const PARTS = { ...STATES, suggestions: mark("suggestions") };
 
 // A bar with its label, and the counts that aren't 0.
 export function countsShown(counts, name) {
   const { done, all, percent } = progressOf(counts);
   const parts = Object.entries(PARTS).filter(([key]) => counts[key] > 0);
-  const words = parts.map(([key, text]) => `${text}: ${counts[key].toLocaleString("en")}`);
+  const words = parts.map(([key, text]) => `${t(text)}: ${numberText(counts[key])}`);
+  const label = t("{language}: {percent} % translated", { language: name, percent });
   return [
-    el("progress", { max: Math.max(all, 1), value: all === 0 ? 1 : done, "aria-label": `${name}: ${percent} % translated` }),
+    el("progress", { max: Math.max(all, 1), value: all === 0 ? 1 : done, "aria-label": label }),
     el("span", { className: "percent" }, `${percent} %`),
-    el("span", { className: "counts" }, words.join(", ") || "no messages"),
+    el("span", { className: "counts" }, words.join(", ") || t("no messages")),
   ];
 }

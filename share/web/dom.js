@@ -18,11 +18,27 @@ export function button(id, text, onclick, properties = {}) {
   return el("button", { id, type: "button", onclick, ...properties }, text);
 }
 
-// A text with its line ends made visible, and set apart from what stands around it, whichever way it runs.
-export function shown(text, properties = {}) {
+// A text with its line ends made visible and its placeholders marked, set apart from what stands around it, whichever way it runs.
+export function shown(text, properties = {}, placeholders = []) {
+  const className = `text ${properties.className ?? ""}`;
+  return el("p", { dir: "auto", ...properties, className }, ...marked(text, placeholders, withLineEnds));
+}
+
+// A text in pieces, with an element of its own for each of these words { word, at }; `rest` says what becomes of the others.
+export function marked(text, words, rest = (piece) => [piece]) {
+  const pieces = [];
+  let from = 0;
+  for (const { word, at } of words) {
+    if (at < from) continue;
+    pieces.push(...rest(text.slice(from, at)), el("mark", {}, word));
+    from = at + word.length;
+  }
+  return [...pieces, ...rest(text.slice(from))];
+}
+
+function withLineEnds(text) {
   const lines = text.split("\n");
-  const pieces = lines.flatMap((line, at) => (at === lines.length - 1 ? [line] : [line, lineEnd(), "\n"]));
-  return el("p", { dir: "auto", ...properties, className: `text ${properties.className ?? ""}` }, ...pieces);
+  return lines.flatMap((line, at) => (at === lines.length - 1 ? [line] : [line, lineEnd(), "\n"]));
 }
 
 function lineEnd() {

@@ -1,10 +1,18 @@
 // Texts that were typed and aren't in the office: kept in the browser for each caller and message until they are, or are dropped.
 
+import { MAIN } from "./routes.js";
+
 const keyOf = ({ id, ctx }) => (ctx === null ? id : `${ctx}\u0004${id}`);
 
-export const nameIn = (act) => ({ lang: act.lang, id: act.id, ctx: act.ctx ?? null });
+// The message that an act is about; null of an act on the office.
+export const nameIn = ({ domain = MAIN, lang, id, ctx = null }) => (id === undefined ? null : { domain, lang, id, ctx });
 
-export const isSame = (one, other) => one.lang === other.lang && keyOf(one) === keyOf(other);
+// The fields of an act that name a message.
+export function namedIn({ domain, lang, id, ctx }) {
+  return { ...(domain === MAIN ? {} : { domain }), lang, id, ...(ctx === null ? {} : { ctx }) };
+}
+
+export const isSame = (one, other) => one.domain === other.domain && one.lang === other.lang && keyOf(one) === keyOf(other);
 
 export class Drafts {
   #store;
@@ -16,7 +24,7 @@ export class Drafts {
   }
 
   #keyOf(unit) {
-    return `${this.#prefix}${unit.lang} ${keyOf(unit)}`;
+    return `${this.#prefix}${unit.domain === MAIN ? "" : `${unit.domain}/`}${unit.lang} ${keyOf(unit)}`;
   }
 
   // { forms, lines }, each only if there is a draft of it.
@@ -40,6 +48,7 @@ export class Drafts {
   // What an act has brought into the office is no draft any more.
   settle(act) {
     const unit = nameIn(act);
+    if (unit === null) return;
     const { forms, lines } = this.of(unit);
     if (isEqual(forms, act.forms)) this.keep(unit, { forms: null });
     if (isEqual(lines, act.lines)) this.keep(unit, { lines: null });

@@ -1,5 +1,8 @@
 // Languages as gettext names them (pt_BR, sr@latin), as browsers name them, and as people do.
 
+import { el } from "./dom.js";
+import { pageLanguage } from "./i18n.js";
+
 const SCRIPTS = { latin: "Latn", cyrillic: "Cyrl", devanagari: "Deva", arabic: "Arab" };
 const RIGHT_TO_LEFT = new Set(["Adlm", "Arab", "Hebr", "Mand", "Nkoo", "Rohg", "Samr", "Syrc", "Thaa"]);
 
@@ -19,7 +22,17 @@ export function directionOf(code) {
   return RIGHT_TO_LEFT.has(localeOf(code)?.maximize().script) ? "rtl" : "ltr";
 }
 
+// The code itself where the browser has no name for it.
 export function nameOf(code) {
   const tag = tagOf(code);
-  return tag === "" ? code : new Intl.DisplayNames("en", { type: "language" }).of(tag);
+  if (tag === "") return code;
+  const name = new Intl.DisplayNames(pageLanguage(), { type: "language" }).of(tag);
+  return name === tag ? code : name;
+}
+
+// A language's name, and its code behind it where that isn't the name.
+export function titleOf(code, domain = null) {
+  const name = nameOf(code);
+  const rest = [...(name === code ? [] : [code]), ...(domain === null ? [] : [domain])];
+  return rest.length === 0 ? [name] : [name, " ", el("span", { className: "code" }, rest.join(" · "))];
 }

@@ -1,5 +1,7 @@
-// The office's four routes, and what the front server and the operator's file tell beside them. All addresses are below the
-// page's own.
+// The office's four routes, and what the front server, the operator's file and the files beside the page tell. All addresses are
+// below the page's own.
+
+import { MAIN } from "./routes.js";
 
 const PATIENCE = 150_000;
 const CALLER = /^[a-z][a-z0-9._-]{0,31}$/;
@@ -25,16 +27,44 @@ export class Office {
     }
   }
 
-  stats(lang) {
-    return this.#fetch(`v1/stats/${lang}`);
+  stats(of) {
+    return this.#fetch(pathOf(of, "stats"));
   }
 
-  export(lang) {
-    return this.#fetch(`v1/export/${lang}`);
+  export(of) {
+    return this.#fetch(this.exportPath(of));
   }
 
-  unit({ lang, id, ctx }) {
-    return this.#fetch(`v1/unit?${new URLSearchParams({ lang, id, ...(ctx === null ? {} : { ctx }) })}`);
+  exportPath(of) {
+    return pathOf(of, "export");
+  }
+
+  unit({ domain, lang, id, ctx }) {
+    const further = { ...(ctx === null ? {} : { ctx }), ...(domain === MAIN ? {} : { domain }) };
+    return this.#fetch(`v1/unit?${new URLSearchParams({ lang, id, ...further })}`);
+  }
+
+  // A file beside the page of a language: its snapshot, or what checks found.
+  beside(kind, { domain, lang }) {
+    return this.#fetch(`${kind}/${domain === MAIN ? "" : `${domain}/`}${lang}.json`);
+  }
+
+  // A file of the page's or of the project's.
+  own(path) {
+    return this.#fetch(path);
+  }
+
+  // The same as a document of XML; null where it is none. The browser reads it: markup made of strings is forbidden here.
+  xml(path) {
+    return new Promise((resolve) => {
+      const request = new XMLHttpRequest();
+      request.open("GET", new URL(path, this.#base));
+      request.responseType = "document";
+      request.overrideMimeType("application/xml");
+      request.onload = () => resolve(request.status === 200 ? request.responseXML : null);
+      request.onerror = () => resolve(null);
+      request.send();
+    });
   }
 
   post(number, act) {
@@ -42,7 +72,7 @@ export class Office {
     return this.#fetch(`v1/requests/${number}`, { method: "POST", headers, body: JSON.stringify(act) });
   }
 
-  // The operator's file: `project` and `languages`.
+  // The operator's file.
   configuration() {
     return this.#fetch("office.json");
   }
@@ -54,6 +84,9 @@ export class Office {
     return { ...answer, caller: typeof name === "string" && CALLER.test(name) ? name : null };
   }
 }
+
+// Names of domains and languages stand in a path as they are.
+const pathOf = ({ domain, lang }, what) => (domain === MAIN ? `v1/${what}/${lang}` : `v1/domains/${domain}/${what}/${lang}`);
 
 function objectIn(text) {
   try {

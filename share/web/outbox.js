@@ -3,6 +3,7 @@
 // at a time, in the order of their making, by one tab of the browser at a time. A request belongs to its caller, and goes only
 // while that one is signed in.
 
+import { t } from "./i18n.js";
 import { faultWords } from "./words.js";
 
 const FIRST_PAUSE = 500;
@@ -30,15 +31,31 @@ export const timeOf = (number) => parseInt(number.replace("-", "").slice(0, 12),
 
 // What an answer to a request means: "reply", it is the office's and final; "lost", the same request goes again; "away", nobody
 // is signed in; "stopped", it would be answered so each time, and a person decides.
-export function meaningOf(status, body) {
-  if (isReply(status, body)) return "reply";
+export function meaningOf(status, body, act) {
+  if (isReply(status, body, act)) return "reply";
   if (status === 401) return "away";
   return status >= 400 && status < 500 && !PASSING.has(status) ? "stopped" : "lost";
 }
 
-function isReply(status, body) {
+function isReply(status, body, act) {
   if (!REPLIES.has(status) || body === undefined) return false;
-  return status === 200 ? Number.isInteger(body.revision) : typeof body.refusal === "string" || body.error === "number-used";
+  return status === 200 ? isDone(body, act) : typeof body.refusal === "string" || body.error === "number-used";
+}
+
+// Whether a body is that of an act that was done.
+function isDone(body, act) {
+  switch (act) {
+    case "template":
+      return typeof body.languages === "object" && body.languages !== null;
+    case "language":
+      return Number.isInteger(body.loaded);
+    case "team":
+      return typeof body.name === "string";
+    case "policy":
+      return Number.isInteger(body.units);
+    default:
+      return Number.isInteger(body.revision);
+  }
 }
 
 // Tells of "change", when what waits has changed, and of "reply", with a reply's record, in each tab of the browser.
@@ -136,7 +153,7 @@ export class Outbox extends EventTarget {
     const signedIn = await this.#office.caller();
     if (signedIn.caller !== this.caller) return this.#notSignedIn(signedIn);
     const answer = await this.#office.post(request.number, request.act);
-    const meaning = meaningOf(answer.status, answer.body);
+    const meaning = meaningOf(answer.status, answer.body, request.act.act);
     if (meaning === "reply") return this.#heard(request, answer);
     const words = faultWords(answer.status, answer.body);
     if (meaning === "stopped") {
@@ -149,7 +166,7 @@ export class Outbox extends EventTarget {
 
   // Where somebody else is signed in, or nobody, the requests wait until the page is looked at again.
   #notSignedIn({ status, body, caller }) {
-    const other = caller !== null && `${caller} is signed in now; load the page again`;
+    const other = caller !== null && t("{caller} is signed in now; load the page again", { caller });
     const isLost = status === 0 || status === 429 || status >= 500;
     return this.#trouble(other || faultWords(status, body), isLost ? "lost" : "away");
   }
@@ -163,7 +180,8 @@ export class Outbox extends EventTarget {
 
   // First the reply is written down and then the request is removed: what falls between sends it once more.
   #heard(request, { status, body }) {
-    const reply = { ...request, status, body, at: Date.now() };
+    // Of a template or a language the text isn't kept.
+    const reply = { ...request, act: { ...request.act, po: undefined }, status, body, at: Date.now() };
     const others = this.replies().filter((it) => it.number !== request.number);
     try {
       this.#store.setItem(this.#told, JSON.stringify([reply, ...others].slice(0, KEPT_REPLIES)));

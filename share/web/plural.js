@@ -4,7 +4,6 @@
 const FIELD = /^Plural-Forms:[ \t]*nplurals *= *(\d+) *; *plural *= *([^;\n]*)/m;
 const TOKENS = /\d+|n|\|\||&&|[=!<>]=|[-+*/%<>!?:()]/g;
 const TRIED = 1000;
-const SHOWN = 5;
 
 const truth = (value) => (value ? 1n : 0n);
 const OPERATORS = [
@@ -77,22 +76,32 @@ class Reader {
   }
 }
 
-// For each form the numbers below 1,000 that take it; null where the header has no rule that is read.
-export function numbersOfForms(header) {
+// The rule in a header as a function that gives a number's form, with how many forms there are; null where there is none that is read.
+function ruleIn(header) {
   const found = FIELD.exec(header);
   if (!found) return null;
   try {
-    const rule = new Reader(found[2]).rule();
-    const numbers = Array.from({ length: Number(found[1]) }, () => []);
-    for (let n = 0; n < TRIED; n += 1) numbers[Number(rule(BigInt(n)))].push(n);
-    return numbers;
+    return { count: Number(found[1]), rule: new Reader(found[2]).rule() };
   } catch {
     return null;
   }
 }
 
-// "1, 21, 31, 41, 51, …"
-export function examples(numbers) {
-  if (numbers.length === 0) return `no number below ${TRIED}`;
-  return numbers.slice(0, SHOWN).join(", ") + (numbers.length > SHOWN ? ", …" : "");
+// The index of the form that a number takes, as a function.
+export function indexIn(header) {
+  const found = ruleIn(header);
+  return found && ((n) => Number(found.rule(BigInt(n))));
+}
+
+// For each form the numbers below 1,000 that take it; null where the header has no rule that is read, or one that faults.
+export function numbersOfForms(header) {
+  const found = ruleIn(header);
+  if (!found) return null;
+  const numbers = Array.from({ length: found.count }, () => []);
+  try {
+    for (let n = 0; n < TRIED; n += 1) numbers[Number(found.rule(BigInt(n)))].push(n);
+    return numbers;
+  } catch {
+    return null;
+  }
 }

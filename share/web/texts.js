@@ -1,6 +1,8 @@
 // What the office takes as a string, and as lines of a comment (docs/FORMATS.md), and how a text with characters that a text
 // field can't hold is written in one.
 
+import { numberText, t } from "./i18n.js";
+
 const LONGEST_STRING = 262_144;
 const MOST_LINES = 20;
 const LONGEST_LINE = 1_000;
@@ -15,14 +17,14 @@ const bytesOf = (text) => new TextEncoder().encode(text).length;
 
 // What is wrong with a form, in words; null where nothing is.
 export function faultOfForm(text) {
-  if (NO_STRING.test(text)) return "has a control character that a translation can't have";
-  return bytesOf(text) > LONGEST_STRING ? `has more than ${LONGEST_STRING.toLocaleString("en")} bytes` : null;
+  if (NO_STRING.test(text)) return t("has a control character that a translation can't have");
+  return bytesOf(text) > LONGEST_STRING ? t("has more than {count} bytes", { count: numberText(LONGEST_STRING) }) : null;
 }
 
 export function faultOfLines(lines) {
-  if (lines.length > MOST_LINES) return `has more than ${MOST_LINES} lines`;
-  if (lines.some((line) => NO_LINE.test(line))) return "has a control character that a comment can't have";
-  return lines.some((line) => bytesOf(line) > LONGEST_LINE) ? `has a line of more than ${LONGEST_LINE} bytes` : null;
+  if (lines.length > MOST_LINES) return t("has more than {count} lines", { count: MOST_LINES });
+  if (lines.some((line) => NO_LINE.test(line))) return t("has a control character that a comment can't have");
+  return lines.some((line) => bytesOf(line) > LONGEST_LINE) ? t("has a line of more than {count} bytes", { count: numberText(LONGEST_LINE) }) : null;
 }
 
 export const needsEscapes = (texts) => texts.some((text) => UNSEEN.test(text));

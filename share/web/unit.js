@@ -1,40 +1,48 @@
 // One message: what is asked for, its translation, comment and suggestions, and the acts on it.
 
-import { examples } from "./plural.js";
+import { Beside } from "./beside.js";
 import { button, byId, el, redraw, shown } from "./dom.js";
-import { isEqual, isSame, nameIn } from "./drafts.js";
-import { directionOf, nameOf, tagOf } from "./locales.js";
+import { isEqual, isSame, nameIn, namedIn } from "./drafts.js";
+import { t } from "./i18n.js";
 import { hrefOf } from "./routes.js";
-import { escaped, faultOfForm, faultOfLines, linesOf, needsEscapes, unescaped } from "./texts.js";
-import { findings, notes, officeText, source, standing } from "./unit_parts.js";
+import { suggestions } from "./suggestions.js";
+import { faultOfLines, linesOf } from "./texts.js";
+import { Translation } from "./translation.js";
+import { notes, source, standing, toolFindings } from "./unit_parts.js";
 import { ACTS, faultWords } from "./words.js";
-
-const ESCAPES = "Written with escapes: \\r, \\a, \\b, \\f, \\v, and \\\\ for one backslash.";
 
 export class UnitPane {
   #app;
   #root;
-  #view = null;
-  #escapes = false;
+  #translation;
+  #beside;
   #waitsFor = "";
   #asked = 0;
   unit = null;
+  view = null;
 
   constructor(app, root) {
     this.#app = app;
     this.#root = root;
+    this.#translation = new Translation(app, this);
+    this.#beside = new Beside(app, this);
   }
 
   close() {
     this.#asked += 1;
     this.unit = null;
-    this.#root.replaceChildren(el("p", { className: "hint" }, "Choose a message from the list."));
+    this.view = null;
+    this.#root.replaceChildren(el("p", { className: "hint" }, t("Choose a message from the list.")));
   }
 
   async open(unit) {
+    const isOther = this.unit === null || !isSame(unit, this.unit);
     this.unit = unit;
-    this.#view = null;
-    this.#root.replaceChildren(...this.#head(), el("p", {}, "Asking the office…"));
+    if (isOther) {
+      this.view = null;
+      this.#translation.begin();
+      this.#root.replaceChildren(...this.#head(), el("p", {}, t("Asking the office…")));
+    }
     await this.refresh();
   }
 
@@ -48,214 +56,169 @@ export class UnitPane {
       this.#fail(faultWords(status, body));
       return;
     }
-    this.#view = body;
-    this.#escapes = needsEscapes([body.id, body.plural ?? "", ...body.forms]);
+    this.view = body;
     this.#app.units.learn(body);
     this.draw();
+    this.#beside.find();
   }
 
   #fail(words) {
-    this.#view = null;
-    const again = button("unit-again", "Try again", () => this.refresh());
-    const told = el("p", { className: "fault" }, `The message isn't here: ${words}.`);
+    this.view = null;
+    const again = button("unit-again", t("Try again"), () => this.refresh());
+    const told = el("p", { className: "fault" }, t("The message isn't here: {why}.", { why: words }));
     redraw(this.#root, [...this.#head(), shown(this.unit.id, { lang: "en", className: "source" }), told, again]);
   }
 
   // What waits for a reply may have changed.
   onRequests() {
-    if (this.unit && this.#view && this.#numbers() !== this.#waitsFor) this.draw();
+    if (this.unit && this.view && this.#numbers() !== this.#waitsFor) this.draw();
   }
 
   #numbers() {
-    return this.#requests().map((it) => it.number).join(" ");
+    return this.requests().map((it) => it.number).join(" ");
+  }
+
+  // What an export tells of the message; null where the template doesn't have it.
+  get entry() {
+    return this.#app.units.catalogue?.entryOf(this.unit) ?? null;
+  }
+
+  get isReadOnly() {
+    return this.view.state === "read-only";
+  }
+
+  // Whether this caller may not translate it as it stands, whatever else they may do.
+  get isClosed() {
+    return this.isReadOnly || (this.view.state === "approved" && !this.#app.rights.may("approve"));
+  }
+
+  // What reviewers can do with its state: a text that needs editing may be approved, if it is whole.
+  get isApprovable() {
+    return this.view.state === "translated" || this.view.state === "needs-editing";
+  }
+
+  get isReturnable() {
+    return this.view.state === "translated" || this.view.state === "approved";
+  }
+
+  get locale() {
+    return this.#translation.locale;
   }
 
   draw() {
-    const view = this.#view;
+    const { view, entry } = this;
     this.#waitsFor = this.#numbers();
-    const entry = this.#app.units.catalogue?.entryOf(this.unit);
-    const parts = [...this.#head(), ...source(view), ...notes(entry), standing(view)];
-    if (!view.obsolete) parts.push(...this.#waiting(), this.#translation(), ...this.#suggestions(), this.#comment());
+    const flags = view.obsolete ? [] : (entry?.flags ?? []);
+    const parts = [...this.#head(), ...source(view, flags), ...notes(entry, this.#app.references), standing(view, this.#waiting())];
+    if (!view.obsolete) {
+      const found = toolFindings(entry, this.#app.units.catalogue?.checked);
+      const own = el("div", {}, this.#translation.draw(), ...found, ...suggestions(this.#app, this));
+      parts.push(el("div", { className: "work" }, own, this.#beside.draw()), this.#comment());
+    }
     redraw(this.#root, parts);
   }
 
   #head() {
-    const link = (text, unit) => (unit ? el("a", { href: hrefOf(unit) }, text) : el("span", { className: "off" }, text));
+    const { units } = this.#app;
+    const link = (id, text, unit) => (unit ? el("a", { id, href: hrefOf(unit) }, text) : el("span", { id, className: "off" }, text));
+    const { domain, lang } = this.unit;
+    const place = units.place(this.unit);
     return [
-      el("h2", { id: "unit-title", tabIndex: -1 }, "One message"),
-      el("nav", { "aria-label": "Messages" },
-        el("a", { href: hrefOf({ lang: this.unit.lang }) }, "All messages"),
-        link("Previous", this.#app.units.neighbour(this.unit, -1)),
-        link("Next", this.#app.units.neighbour(this.unit, 1))),
+      el("h2", { id: "unit-title", tabIndex: -1 }, t("One message")),
+      el("nav", { "aria-label": t("Messages") },
+        el("a", { href: hrefOf({ domain, lang, ...units.view }) }, t("All messages")),
+        link("previous", t("Previous"), units.neighbour(this.unit, -1)),
+        link("next", t("Next"), units.neighbour(this.unit, 1)),
+        el("span", { className: "note" }, place === null ? "" : t("{at} of {of}", place))),
     ];
   }
 
+  // The messages beside this one may be others now.
+  onPlace() {
+    if (this.unit === null || !byId("unit-title")) return;
+    const [title, nav] = this.#head();
+    byId("unit-title").replaceWith(title);
+    this.#root.querySelector("nav").replaceWith(nav);
+  }
+
+  // Puts the keyboard where one types; false where there is nothing to type.
+  focusField() {
+    const area = byId("form-0");
+    if (!area) return false;
+    area.focus({ preventScroll: true });
+    area.setSelectionRange(area.value.length, area.value.length);
+    return true;
+  }
+
   // The requests about this message that have no reply yet.
-  #requests() {
+  requests() {
     const { outbox, caller } = this.#app;
-    return outbox.requests().filter((it) => it.caller === caller && !it.stopped && isSame(nameIn(it.act), this.unit));
+    const isOwn = (it) => it.caller === caller && !it.stopped && nameIn(it.act) !== null;
+    return outbox.requests().filter((it) => isOwn(it) && isSame(nameIn(it.act), this.unit));
   }
 
   #waiting() {
-    const words = this.#requests().map((it) => ACTS[it.act.act]).join(", ");
-    return words === "" ? [] : [el("p", { className: "waiting" }, `Waits for the office's reply: ${words}.`)];
+    const words = this.requests().map((it) => t(ACTS[it.act.act])).join(", ");
+    return words === "" ? "" : el("span", { className: "waiting" }, t("Waits for the office's reply: {acts}.", { acts: words }));
   }
 
   // An act's button: it stays where it is, and does nothing, while another act on the message waits for its reply.
-  #act(id, text, act, properties = {}) {
-    const off = this.#requests().length > 0;
+  act(id, text, act, properties = {}) {
+    const off = this.requests().length > 0;
     const onclick = () => off || act();
     return button(id, text, onclick, { "aria-disabled": String(off), ...properties });
   }
 
-  #send(fields) {
-    const { lang, id, ctx } = this.unit;
-    this.#app.send({ lang, id, ...(ctx === null ? {} : { ctx }), seen: this.#view.revision, ...fields });
+  // Whether it is kept now, and is on its way.
+  send(fields) {
+    return this.#app.send({ ...namedIn(this.unit), seen: this.view.revision, ...fields });
   }
 
-  // ---- the translation
-
-  #locale() {
-    return { lang: tagOf(this.unit.lang), dir: directionOf(this.unit.lang) };
-  }
-
-  #translation() {
-    const waiting = this.#requests().find((it) => it.act.forms);
-    const draft = this.#app.drafts.of(this.unit).forms;
-    const forms = waiting?.act.forms ?? draft ?? this.#view.forms;
-    const own = !isEqual(forms, this.#view.forms);
-    const form = el("form", { id: "translation", "aria-labelledby": "translation-title" },
-      el("h3", { id: "translation-title" }, "Translation"),
-      ...this.#view.forms.map((_, at) => this.#field(at, forms[at] ?? "", waiting !== undefined)),
-      ...(this.#escapes ? [el("p", { className: "note" }, ESCAPES)] : []),
-      ...(own ? [officeText(this.#view, this.#locale())] : []),
-      ...(own && !waiting ? [button("drop-draft", "Drop my text", () => this.#drop())] : []),
-      el("div", { className: "buttons" },
-        this.#act("translate", "Translate", () => this.#translate("translate"), { className: "first" }),
-        this.#act("suggest", "Suggest", () => this.#translate("suggest")),
-        this.#act("approve", "Approve", () => this.#send({ act: "approve" })),
-        this.#act("send-back", "Send back", () => this.#send({ act: "send-back" }))),
-      el("p", { className: "note" }, "Control and Enter in a field translate too."));
-    form.onsubmit = (event) => event.preventDefault();
-    form.onkeydown = (event) => {
-      if (event.key === "Enter" && event.ctrlKey) byId("translate").click();
-    };
-    return form;
-  }
-
-  #field(at, text, readOnly) {
-    const found = findings(this.#view, at);
-    const area = el("textarea", {
-      id: `form-${at}`, value: this.#escapes ? escaped(text) : text, rows: 1 + text.split("\n").length, readOnly,
-      ...this.#locale(), spellcheck: true, oninput: () => this.#typed(),
-      "aria-describedby": found.length === 0 ? "source" : `source finding-${at}`,
-    });
-    const label = el("label", { htmlFor: area.id }, this.#label(at));
-    const note = el("p", { id: `finding-${at}`, className: "finding" }, `In the office's text: ${found.join(" ")}`);
-    return el("div", {}, label, area, ...(found.length === 0 ? [] : [note]));
-  }
-
-  #label(at) {
-    const numbers = this.#app.units.catalogue?.numbers;
-    if (this.#view.plural === null) return `In ${nameOf(this.unit.lang)}`;
-    return numbers?.[at] ? `Form ${at}, for ${examples(numbers[at])}` : `Form ${at}`;
-  }
-
-  // The texts in the fields; of a field with a wrong escape null.
-  #forms() {
-    const texts = this.#view.forms.map((_, at) => byId(`form-${at}`).value);
-    return this.#escapes ? texts.map(unescaped) : texts;
-  }
-
-  #typed() {
-    const forms = this.#forms();
-    if (forms.includes(null)) return;
-    this.#keep({ forms: isEqual(forms, this.#view.forms) ? null : forms });
-  }
-
-  #keep(parts) {
+  keep(parts) {
     if (this.#app.drafts.keep(this.unit, parts)) return;
-    this.#app.alert("This browser has no room left: what you type isn't kept here.");
+    this.#app.alert(t("This browser has no room left: what you type isn't kept here."));
   }
 
-  #drop() {
-    this.#keep({ forms: null });
-    this.draw();
-    byId("form-0").focus();
-  }
-
-  #translate(act) {
-    const forms = this.#forms();
-    const at = forms.findIndex((form) => form === null || faultOfForm(form) !== null);
-    if (at === -1) {
-      this.#send({ act, forms });
-      return;
-    }
-    const fault = forms[at] === null ? "has a backslash that begins no escape" : faultOfForm(forms[at]);
-    this.#refuse(byId(`form-${at}`), `${this.#label(at)}: the text ${fault}. Nothing was sent.`);
-  }
-
-  #refuse(field, words) {
+  refuse(field, words) {
     field.setAttribute("aria-invalid", "true");
     field.focus();
     this.#app.alert(words);
   }
 
-  // ---- the suggestions
-
-  #suggestions() {
-    const { suggestions } = this.#view;
-    const title = el("h3", { id: "suggestions-title" }, `Suggestions: ${suggestions.length}`);
-    if (suggestions.length === 0) return [title];
-    const items = suggestions.map((it) => this.#suggestion(it));
-    return [title, el("ol", { className: "suggestions", "aria-labelledby": "suggestions-title" }, ...items)];
-  }
-
-  #suggestion({ number, forms, suggester, votes }) {
-    const text = `suggested-${number}`;
-    const one = { suggestion: number };
-    const described = { "aria-describedby": text };
-    const act = (name, words, fields) =>
-      this.#act(`${name}-${number}`, words, () => this.#send({ ...fields, ...one }), described);
-    return el("li", {},
-      el("div", { id: text }, ...forms.map((form) => shown(form, this.#locale()))),
-      el("p", { className: "note" }, "by ", el("bdi", {}, suggester), `, with votes: ${votes}`),
-      el("div", { className: "buttons" },
-        act("vote-for", "Vote for", { act: "vote", value: 1 }),
-        act("vote-against", "Vote against", { act: "vote", value: -1 }),
-        act("vote-back", "Take vote back", { act: "vote", value: 0 }),
-        act("accept", "Accept", { act: "accept" }),
-        act("dismiss", "Dismiss", { act: "dismiss" }),
-        this.#act(`take-${number}`, "Edit it", () => this.#take(forms), described)));
-  }
-
-  // Puts a suggestion's text into the fields.
-  #take(forms) {
-    this.#keep({ forms });
+  // Puts a text of somebody else's into the fields.
+  take(forms) {
+    this.keep({ forms: isEqual(forms, this.view.forms) ? null : forms });
     this.draw();
     byId("form-0").focus();
+  }
+
+  // Puts a piece of text where the keyboard was in the fields.
+  insert(text) {
+    this.#translation.insert(text);
   }
 
   // ---- the comment
 
   #comment() {
-    const waiting = this.#requests().find((it) => it.act.lines);
-    const lines = waiting?.act.lines ?? this.#app.drafts.of(this.unit).lines ?? this.#view.comment;
+    const waiting = this.requests().find((it) => it.act.lines);
+    const lines = waiting?.act.lines ?? this.#app.drafts.of(this.unit).lines ?? this.view.comment;
+    const mayComment = this.#app.rights.may("comment") && !this.isClosed;
     const area = el("textarea", {
-      id: "comment", value: lines.join("\n"), rows: Math.max(2, lines.length + 1), readOnly: waiting !== undefined, dir: "auto",
-      oninput: () => this.#keep({ lines: isEqual(linesOf(area.value), this.#view.comment) ? null : linesOf(area.value) }),
+      id: "comment", value: lines.join("\n"), rows: Math.max(2, lines.length + 1), readOnly: waiting !== undefined || !mayComment, dir: "auto",
+      oninput: () => this.keep({ lines: isEqual(linesOf(area.value), this.view.comment) ? null : linesOf(area.value) }),
     });
+    const save = this.act("save-comment", t("Save comment"), () => this.#saveComment(area));
     return el("section", { "aria-labelledby": "comment-title" },
-      el("h3", { id: "comment-title" }, "Comment"),
-      el("label", { htmlFor: "comment" }, "For all translators; it stands in the exported file"),
+      el("h3", { id: "comment-title" }, t("Comment")),
+      el("label", { htmlFor: "comment" }, t("For all translators; it stands in the exported file")),
       area,
-      el("div", { className: "buttons" }, this.#act("save-comment", "Save comment", () => this.#saveComment(area))));
+      el("div", { className: "buttons" }, ...(mayComment ? [save] : [])));
   }
 
   #saveComment(area) {
     const lines = linesOf(area.value);
     const fault = faultOfLines(lines);
-    if (fault === null) this.#send({ act: "comment", lines });
-    else this.#refuse(area, `The comment ${fault}. Nothing was sent.`);
+    if (fault === null) this.send({ act: "comment", lines });
+    else this.refuse(area, t("The comment {fault}. Nothing was sent.", { fault }));
   }
 }
