@@ -3,12 +3,13 @@
 
     tests/front.py [--program FILE] [PART..]
 
-PART is rules, queue, projects, acts or units; all where none is named. The first three ask nginx and HAProxy for what the
+PART is rules, queue, projects, acts, oidc or units; all where none is named. The first three ask nginx and HAProxy for what the
 configurations promise, before a stand-in for an office, which writes down what reaches it: who the caller is, however a head is
-spelled; who may send what; what is refused by which status; that no slow client holds the office. `acts` sends 2,000
-translations by 50 and by 500 clients to the program, by each way that DEPLOYING names, also while it is killed by SIGKILL again and
-again, and while it moves: each is answered, and recorded once. It wants nginx, HAProxy, openssl and curl; FILE is
-crates/cli/out/cli where none is named.
+spelled; who may send what, how much and how often, from whatever addresses; what is refused by which status; that no slow client
+holds the office. `acts` sends 2,000 translations by 50 and by 500 clients to the program, by each way that DEPLOYING names, also
+while it is killed by SIGKILL again and again, and while it moves: each is answered, and recorded once. `oidc` is in front_oidc.py.
+It wants nginx with its module of Lua, HAProxy, openssl and curl, and a machine that has time: what comes too fast has to come fast.
+FILE is crates/cli/out/cli where none is named.
 
 The last line is 'N looks, M wrong'.
 """
@@ -24,9 +25,12 @@ import http.server
 import json
 import pathlib
 import random
+import re
+import shlex
 import shutil
 import socket
 import sqlite3
+import struct
 import subprocess
 import sys
 import tempfile
@@ -34,6 +38,7 @@ import threading
 import time
 import uuid
 
+import front_oidc
 import front_servers as servers
 from front_servers import HOST, PROJECT, SECONDS, TOP
 
@@ -54,8 +59,11 @@ CALLERS = {
     "ann,root": None,
     "\u00e4nn": None,
 }
-# The busy one sends more than one may, and the slow one doesn't end.
-LOGINS = {it: PASSWORD for it in [*CALLERS, "busy", "slow"]}
+# The busy one sends more than one may, the slow one doesn't end, and what the others send is refused.
+LOGINS = {it: PASSWORD for it in [*CALLERS, "busy", "Busy", "slow", "refused", "at-once", "gone", "done"]}
+# From where messages come. No address is used for two cases of wrong passwords.
+ADDRESSES = [f"127.0.0.{it}" for it in range(2, 22)]
+GUESSING, GUESSING_SLOWLY = "127.0.1.1", "127.0.1.2"
 # What an export is, by the end of its path.
 TEXTS = {"long": b"# long\n" * 600_000, "middle": b"# text\n" * 14_000, "de": b"# short\n"}
 # Lines of a head that tell of a caller, in ways that a server behind might hear.
@@ -139,10 +147,11 @@ class Message:
 
 
 class StandIn:
-    """Takes connections as an office does: one after another, each kept as long as its client doesn't ask for less."""
+    """Takes connections as an office does: one after another, each kept as long as its client doesn't ask for less. A body that begins with
+    {"told":403, is answered by that status, and each message behind a pause."""
 
     def __init__(self, path):
-        self.messages, self.connections = [], 0
+        self.messages, self.connections, self.pause = [], 0, 0
         self.listener = socket.socket(socket.AF_UNIX)
         self.listener.bind(str(path))
         self.listener.listen(4096)
@@ -164,12 +173,14 @@ class StandIn:
         message = Message(head[0], head[1:], b"", self.connections)
         message.body = reader.read(int((message.values("content-length") or ["0"])[0]))
         self.messages.append(message)
+        time.sleep(self.pause)
         export = "/export/" in head[0]
-        text = TEXTS[head[0].split()[1].rpartition("/")[2]] if export else b'{"revision":2,"state":"translated"}'
+        text = TEXTS.get(head[0].split()[1].rpartition("/")[2], b"") if export else b'{"revision":2,"state":"translated"}'
+        status = (re.findall(rb'^{"told":([0-9]{3}),', message.body) or [b"200"])[0].decode()
         closes = head[0].endswith("HTTP/1.0") or "close" in [it.lower() for it in message.values("connection")]
         kind = "text/plain; charset=utf-8" if export else "application/json"
         end = "Connection: close\r\n" if closes else ""
-        connection.sendall(f"HTTP/1.1 200 OK\r\nContent-Type: {kind}\r\nContent-Length: {len(text)}\r\n{end}\r\n".encode() + text)
+        connection.sendall(f"HTTP/1.1 {status} Told\r\nContent-Type: {kind}\r\nContent-Length: {len(text)}\r\n{end}\r\n".encode() + text)
         if closes:
             connection.shutdown(socket.SHUT_WR)
             message.rest = reader.read()
@@ -212,9 +223,9 @@ def act(login, *lines, body=b"{}", kind="application/json", length=True):
     return message("POST", path_of_act(), signed(login), *kinds, *lines, body=body, length=length)
 
 
-def answer_of(connection):
-    """The first answer on a connection; the status 0 where there is none."""
-    response = http.client.HTTPResponse(connection)
+def answer_of(connection, method=None):
+    """The first answer on a connection, to a message of this method; the status 0 where there is none."""
+    response = http.client.HTTPResponse(connection, method=method)
     try:
         response.begin()
         headers = collections.defaultdict(list)
@@ -225,11 +236,12 @@ def answer_of(connection):
         return Answer(0, {}, b"")
 
 
-def told(front, given, seconds=SECONDS):
-    with socket.create_connection((HOST, front.port), timeout=seconds) as connection:
+def told(front, given, seconds=SECONDS, source=HOST):
+    """The answer to a message that comes from this address."""
+    with socket.create_connection((HOST, front.port), timeout=seconds, source_address=(source, 0)) as connection:
         with contextlib.suppress(BrokenPipeError, ConnectionResetError):
             connection.sendall(given)
-        return answer_of(connection)
+        return answer_of(connection, given.partition(b" ")[0].decode())
 
 
 # ---- rules: what both fronts promise
@@ -271,9 +283,8 @@ def sign_in(front, office):
             method = "POST" if "requests" in path else "GET"
             kinds = ("Content-Type: application/json",) if method == "POST" else ()
             body = b"{}" if method == "POST" else b""
-            found = refused(front, office, f"{what}, {path[:12]}", message(method, path, *lines, *kinds, body=body), 401)
+            found = refused(front, office, f"{what}, {path[:12]}", message(method, path, *lines, *kinds, body=body), 401, "sign-in")
             same(f"{front.name}: the challenge", found.headers["www-authenticate"][0][:11], "Basic realm")
-    refused(front, office, "no login", message("GET", look), 401, "sign-in")
     reached = let_in(front, office, "a look", message("GET", look, signed("ann")))
     same(f"{front.name}: a look's path", reached.first.split()[:2], ["GET", look])
 
@@ -414,21 +425,32 @@ def slow(front, office):
 
 
 def rate(front, office):
-    """What comes too fast is 429 with Retry-After (RFC 6585, 4), of one caller alone. nginx takes 20 acts a second and lets 40 wait, and 2 exports
-    and 10; HAProxy takes 200 acts in ten seconds, and 20 exports."""
+    """What comes too fast is 429 with Retry-After (RFC 6585, 4), of one caller alone, by whatever addresses and logins it comes. nginx takes 20 acts
+    a second and lets 40 wait, 2 exports and 10, 100 questions and 200, of which the first 100 don't wait; HAProxy takes ten seconds together."""
     slowly = front.name == "nginx"
-    hasty(front, office, "acts", act, *((130, 41, 20) if slowly else (260, 200, 0)))
+
+    def asks(path):
+        return lambda login: message("GET", path, signed(login))
+
+    hasty(front, office, "acts", act, *((130, 41, 20, 2) if slowly else (260, 200, 0, 0)))
     statuses = [told(front, message("GET", "/v1/stats/de", signed("busy"))).status for _ in range(5)]
     same(f"{front.name}: and questions", statuses, [200] * 5)
     office.taken()
-    hasty(front, office, "exports", lambda login: message("GET", "/v1/export/de", signed(login)), *((25, 11, 2) if slowly else (40, 20, 0)))
-
-
-def hasty(front, office, what, given, count, taken, more):
-    """So many messages at once: `taken` of them, and `more` a second, are let in, the last when their time has come; somebody else doesn't wait."""
+    hasty(front, office, "exports", asks("/v1/export/de"), *((25, 11, 2, 5) if slowly else (40, 20, 0, 0)))
+    hasty(front, office, "exports of a domain", asks("/v1/domains/man/export/de"), *((25, 0, 2, 0) if slowly else (40, 0, 0, 0)))
+    hasty(front, office, "questions", asks("/v1/unit?lang=de&id=x"), *((900, 201, 100, 1) if slowly else (1_100, 995, 0, 0)))
     begun = time.monotonic()
-    with concurrent.futures.ThreadPoolExecutor(count if more else 1) as pool:
-        answers = [pool.submit(told, front, given("busy")) for _ in range(count)]
+    statuses = collections.Counter(told(front, act("root"), source=ADDRESSES[it % 20]).status for it in range(300))
+    same(f"{front.name}: 300 acts of a manager", statuses, {200: 300})
+    same(f"{front.name}: in {time.monotonic() - begun:.1f} s", time.monotonic() - begun < 6, True)
+    office.taken()
+
+
+def hasty(front, office, what, given, count, taken, more, lasts):
+    """So many messages at once: `taken` of them, and `more` a second, are let in, the last behind so many seconds; somebody else doesn't wait."""
+    begun = time.monotonic()
+    with concurrent.futures.ThreadPoolExecutor(min(count, 250) if more else 20) as pool:
+        answers = [pool.submit(told, front, given(("busy", "Busy")[it % 2]), SECONDS, ADDRESSES[it % 20]) for it in range(count)]
         time.sleep(0.3)
         other = time.monotonic()
         same(f"{front.name}: another caller among the {what}", told(front, given("ann")).status, 200)
@@ -436,13 +458,129 @@ def hasty(front, office, what, given, count, taken, more):
         answers = [it.result() for it in answers]
     seconds = time.monotonic() - begun
     statuses = collections.Counter(it.status for it in answers)
-    same(f"{front.name}: {what}, all answered", sorted(statuses), [200, 429])
-    same(f"{front.name}: {what}, {statuses[200]} in {seconds:.1f} s", taken <= statuses[200] <= taken + 1 + more * seconds, True)
-    if more:
-        same(f"{front.name}: {what}, the last in {seconds:.1f} s", seconds > 0.9 * (taken - 1) / more, True)
+    same(f"{front.name}: {what}, all answered", {429} <= set(statuses) <= {200, 429}, True)
+    same(f"{front.name}: {what}, {statuses[200]} in {seconds:.1f} s", taken <= statuses[200] <= taken + 6 + more * seconds, True)
+    same(f"{front.name}: {what}, the last in {seconds:.1f} s", seconds > 0.9 * lasts, True)
     same(f"{front.name}: {what}, as many reach the office", len(office.taken()), statuses[200] + 1)
-    late = next(it for it in answers if it.status == 429)
-    same(f"{front.name}: {what}, when to come again", (late.headers["retry-after"], late.body), (["1"], b'{"error":"rate"}'))
+    late = {(*it.headers["retry-after"], it.body) for it in answers if it.status == 429}
+    same(f"{front.name}: {what}, when to come again", late, {("1", b'{"error":"rate"}')})
+
+
+def in_one_minute():
+    """Waits, where it is needed, so that what follows falls into one minute of the clock."""
+    if time.time() % 60 > 45:
+        time.sleep(60 - time.time() % 60)
+
+
+def passwords(front, office):
+    """Wrong passwords use up what their address has, and no caller's rate; behind 120 of them in a minute none is looked at there, but one that
+    was right there before."""
+    in_one_minute()
+
+    def look(login, source, password=PASSWORD):
+        return told(front, message("GET", "/v1/stats/de", signed(login, password)), source=source).status
+
+    wrong_act = act("ann").replace(signed("ann").encode(), signed("ann", "x").encode())
+    with concurrent.futures.ThreadPoolExecutor(60) as pool:
+        guesses = [pool.submit(told, front, wrong_act, SECONDS, [GUESSING_SLOWLY, *ADDRESSES][it % 3]) for it in range(180)]
+        begun = time.monotonic()
+        same(f"{front.name}: acts of their owner", [told(front, act("ann"), source=GUESSING_SLOWLY).status for _ in range(10)], [200] * 10)
+        same(f"{front.name}: at once", time.monotonic() - begun < 2, True)
+        same(f"{front.name}: wrong passwords", {it.result().status for it in guesses}, {401})
+    same(f"{front.name}: somebody is signed in there", look("Bea", GUESSING), 200)
+    statuses = [look("ann", GUESSING, "x") for _ in range(200)]
+    same(f"{front.name}: guesses", (statuses[:120], set(statuses[121:])), ([401] * 120, {429}))
+    late = told(front, message("GET", "/", signed("ann", "x")), source=GUESSING)
+    same(f"{front.name}: when to come again", (late.status, late.headers["retry-after"], late.body), (429, ["60"], b'{"error":"rate"}'))
+    same(f"{front.name}: a right password is no better there", look("ann", GUESSING), 429)
+    same(f"{front.name}: none is", told(front, message("GET", "/"), source=GUESSING).status, 429)
+    same(f"{front.name}: who was signed in there", look("Bea", GUESSING), 200)
+    same(f"{front.name}: with another password", look("Bea", GUESSING, "x"), 429)
+    same(f"{front.name}: from elsewhere", [look(it, source) for it in ("ann", "Bea") for source in (HOST, GUESSING_SLOWLY)], [200] * 4)
+    office.taken()
+
+
+REFUSED_BYTES = 2_000_000
+
+
+def told_as(status, login, size=99_850):
+    body = b'{"told":%d,' % status
+    return act(login, body=body + b"x" * (size - len(body)))
+
+
+def refusals(front, office):
+    """2,000,000 bytes of a caller's acts may be refused in an hour, by whatever statuses and addresses, those on their way among them."""
+    kinds = (403, 404, 409, 422)
+    statuses = [told(front, told_as(kinds[it % 4], "refused"), source=ADDRESSES[it % 20]).status for it in range(25)]
+    same(f"{front.name}: refused acts", statuses, [kinds[it % 4] for it in range(20)] + [429] * 5)
+    late = told(front, told_as(200, "refused", 5_000))
+    same(f"{front.name}: a short one more", (late.status, late.headers["retry-after"], late.body), (429, ["60"], b'{"error":"refused"}'))
+    same(f"{front.name}: they may look", told(front, message("GET", "/v1/stats/de", signed("refused"))).status, 200)
+    same(f"{front.name}: what reaches the office", sum(len(it.body) for it in office.taken()) <= REFUSED_BYTES, True)
+    let_in(front, office, "another caller", act("ann"))
+    same(f"{front.name}: what is done costs nothing", {told(front, told_as(200, "done")).status for _ in range(40)}, {200})
+    same(f"{front.name}: nor what is no reply", {told(front, told_as(it, "done")).status for it in (400, 413, 500, 503, 507) * 6}, {400, 413, 500, 503, 507})
+    same(f"{front.name}: a manager's", {told(front, told_as(422, "root", 1_000_000)).status for _ in range(5)}, {422})
+    office.taken()
+    office.pause = 0.05
+    with concurrent.futures.ThreadPoolExecutor(60) as pool:
+        statuses = collections.Counter(pool.map(lambda _: told(front, told_as(403, "at-once")).status, range(60)))
+    same(f"{front.name}: at once", (10 <= statuses[403] <= 20, set(statuses)), (True, {403, 429}))
+    same(f"{front.name}: at once, at the office", len(office.taken()), statuses[403])
+    office.pause = 0.15
+    for _ in range(40):
+        with socket.create_connection((HOST, front.port), timeout=SECONDS) as connection:
+            connection.setsockopt(socket.SOL_SOCKET, socket.SO_LINGER, struct.pack("ii", 1, 0))
+            connection.sendall(told_as(403, "gone"))
+            time.sleep(0.07)
+    reached = -1
+    while len(office.messages) > reached:
+        reached = len(office.messages)
+        time.sleep(1)
+    office.pause = 0
+    office.taken()
+    same(f"{front.name}: by who goes away before the answer, {reached}", 5 <= reached <= 20, True)
+
+
+def methods(front, office):
+    """What the front answers itself is asked for by GET, or HEAD; else it is 405, with what would do (RFC 9110, 15.5.6)."""
+    for path in ("/caller", "/office.json"):
+        for method in ("POST", "PUT", "DELETE", "PATCH", "OPTIONS", "FOO"):
+            found = told(front, message(method, path, signed("ann"), "Content-Type: application/json", body=b"{}"))
+            same(f"{front.name}: {method} {path}", (found.status, found.headers["allow"], found.body), (405, ["GET, HEAD"], b'{"error":"method"}'))
+        found = told(front, message("HEAD", path, signed("ann"), "Connection: close"))
+        same(f"{front.name}: HEAD {path}", found.status, 200)
+    same(f"{front.name}: nothing of it at the office", office.taken(), [])
+
+
+def escapes(front, office):
+    """A path's words may be escaped (RFC 3986, 2.1): the office gets them as they are meant, or as they came where they are none of its words."""
+    for path, meant in {
+        "/v1/stats/sr%40latin": "/v1/stats/sr@latin",
+        "/v1/stats/pt%5FBR": "/v1/stats/pt_BR",
+        "/v1/export/%64e": "/v1/export/de",
+        "/v1/domains/man%2Dpages/stats/de": "/v1/domains/man-pages/stats/de",
+        "/v1/%75nit?lang=de&id=%C3%A4%40%2F": "/v1/unit?lang=de&id=%C3%A4%40%2F",
+        "/v1/stats/%C3%A4": "/v1/stats/%C3%A4",
+        "/v1/stats/a%20b": "/v1/stats/a%20b",
+        "/v1/stats/a%3Fb": "/v1/stats/a%3Fb",
+        "/v1/stats/a%23b": "/v1/stats/a%23b",
+        "/v1/stats/a%25%34%30b": "/v1/stats/a%25%34%30b",
+        "/v1/stats/a%0d%0aX-Office-Caller:%20root%0d%0a": "/v1/stats/a%0d%0aX-Office-Caller:%20root%0d%0a",
+    }.items():
+        reached = let_in(front, office, path, message("GET", path, signed("ann")))
+        same(f"{front.name}: {path}", reached.first.split()[1:2], [meant])
+    path = path_of_act()
+    given = message("POST", path.replace("requests", "%72%65quests"), signed("ann"), "Content-Type: application/json", body=b"{}")
+    same(f"{front.name}: an act's path", let_in(front, office, "an act's path", given).first.split()[1], path)
+    refused(front, office, "an act's path, as text", given.replace(b"application/json", b"text/plain"), 415, "type")
+
+
+def sign_out(front, office):
+    """A browser forgets a password that it is asked for again; another site can't have that done."""
+    found = refused(front, office, "sign-out", message("GET", "/sign-out", signed("ann")), 401, "sign-in")
+    same(f"{front.name}: the challenge", [it[:11] for it in found.headers["www-authenticate"]], ["Basic realm"])
+    refused(front, office, "sign-out by another site", message("GET", "/sign-out", signed("ann"), "Sec-Fetch-Site: cross-site"), 403, "other-site")
 
 
 def page(front, office):
@@ -460,6 +598,8 @@ def page(front, office):
         same(f"{front.name}: {path}, to itself", [found.headers[it] for it in told_once], [["nosniff"], ["no-referrer"], ["same-origin"], ["same-origin"]])
         kept = "no-cache" if "page" in path or path == "/" else "no-store"
         same(f"{front.name}: {path}, kept", found.headers["cache-control"], [kept])
+    out = told(front, message("GET", "/sign-out", signed("ann")))
+    same(f"{front.name}: signed out", (out.status, out.headers["www-authenticate"], out.body), (401, ['Basic realm="Translations"'], b"You are signed out."))
     same(f"{front.name}: the page's own", json.loads(told(front, message("GET", "/office.json", signed("ann"))).body)["project"], "Example")
     for path in ("/../office/managers", "/%2e%2e/office/managers", "/..%2foffice/users", "/page/../../nginx.conf", "/.htpasswd"):
         same(f"{front.name}: {path}", told(front, message("GET", path, signed("ann"))).status in (400, 403, 404), True)
@@ -500,6 +640,38 @@ def log(front, office):
     office.taken()
 
 
+def no_office(front, office):
+    """Where no office is there, or it breaks off, the front says so in a word, as 502 or 503 (RFC 9110, 15.6)."""
+    front.socket.unlink()
+    found = told(front, act("ann"))
+    same(f"{front.name}: no office", (found.status in (502, 503), found.headers["content-type"], found.body), (True, ["application/json"], b'{"error":"no-office"}'))
+    same(f"{front.name}: but who is signed in", told(front, message("GET", "/caller", signed("ann"))).status, 200)
+    office.taken()
+
+
+def behind(front, office):
+    """Behind a server that signs people in: the caller is the one that its header names, and without one nobody is signed in."""
+
+    def by(*lines, path=None, login=()):
+        path = path or path_of_act()
+        body, kinds = (b"{}", ("Content-Type: application/json",)) if "requests" in path else (b"", ())
+        return message("POST" if body else "GET", path, *lines, *kinds, *login, body=body)
+
+    for path in ("/", "/caller", "/office.json", "/v1/stats/de", "/v1/export/de", None):
+        for lines in ((), ("X-Forwarded-User: ",), ("X-Forwarded-User: \t ",), ("X-Office-Caller: root",), (signed("ann"),)):
+            refused(front, office, f"behind another server, {lines}, {path}", by(*lines, path=path), 401, "sign-in")
+    for login, caller in CALLERS.items():
+        if caller and login.isascii():
+            let_in(front, office, f"behind another server, {login}", by(f"X-Forwarded-User: {login}", "X-Office-Caller: root"), caller)
+        elif login.isascii():
+            refused(front, office, f"behind another server, {login}", by(f"X-Forwarded-User: {login}"), 403, "login")
+    found = told(front, by("X-Forwarded-User: Bea", path="/caller"))
+    same(f"{front.name}: behind another server, who am I", found.body, b'{"caller":"bea"}')
+    statuses = {told(front, by(path="/v1/stats/de")).status for _ in range(300)}
+    same(f"{front.name}: nobody is signed in, again and again", (statuses, told(front, by("X-Forwarded-User: ann")).status), ({401}, 200))
+    office.taken()
+
+
 @contextlib.contextmanager
 def page_server(folder):
     """A server of files, for the fronts that have none."""
@@ -523,22 +695,25 @@ def page_files(folder):
     return path
 
 
-RULES = [sign_in, callers, contents, lengths, heads, slow, rate, page, log]
+RULES = [sign_in, callers, contents, lengths, heads, methods, escapes, sign_out, slow, rate, passwords, refusals, page, log, no_office]
 
 
 def rules(folder, _):
     files = page_files(folder)
     with page_server(files) as page_port:
-        for tls in (False, True):
-            for make in (
-                lambda at: servers.Nginx(at, {PROJECT: LOGINS}, files, tls=tls),
-                lambda at: servers.HAProxy(at, LOGINS, page_port, tls=tls),
-            ):
-                front = make(pathlib.Path(tempfile.mkdtemp(dir=folder)) / "front")
-                office = StandIn(front.socket)
-                with front.serving():
-                    for it in [by_http2] if tls else RULES:
-                        it(front, office)
+
+        def tried(cases, make, *given, **named):
+            front = make(pathlib.Path(tempfile.mkdtemp(dir=folder)) / "front", *given, **named)
+            office = StandIn(front.socket)
+            with front.serving():
+                for it in cases:
+                    it(front, office)
+
+        for tls, cases in ((False, RULES), (True, [by_http2])):
+            tried(cases, servers.Nginx, {PROJECT: LOGINS}, files, tls=tls)
+            tried(cases, servers.HAProxy, LOGINS, page_port, tls=tls)
+        tried([behind], servers.Nginx, {PROJECT: {}}, files, site="office-behind")
+        tried([behind], servers.HAProxy, {}, page_port, behind=True)
 
 
 # ---- the queue
@@ -661,14 +836,14 @@ ACTS = 2_000
 HEADER = 'msgid ""\nmsgstr ""\n"Content-Type: text/plain; charset=UTF-8\\n"\n"Plural-Forms: nplurals=2; plural=n != 1;\\n"\n'
 
 
-def make_office(program, path):
-    """An office of 500 messages and as many translators in a file; how many requests made it."""
+def make_office(program, path, size=max(CLIENTS)):
+    """An office of so many messages and as many translators in a file; how many requests made it."""
 
     def run(*words, given=""):
         return subprocess.run([program, *words, "--store", path], input=given, capture_output=True, text=True, check=True).stdout
 
-    po = "\n".join(f'msgid "message {it}"\nmsgstr ""\n' for it in range(max(CLIENTS)))
-    requests = [{"act": "team", "name": f"u{it}", "role": "translator"} for it in range(max(CLIENTS))]
+    po = "\n".join(f'msgid "message {it}"\nmsgstr ""\n' for it in range(size))
+    requests = [{"act": "team", "name": f"u{it}", "role": "translator"} for it in range(size)]
     requests += [{"act": "template", "po": po}, {"act": "language", "lang": "de", "po": HEADER}]
     run("init", "--manager", "root")
     told = run("deliver", given="".join(json.dumps({**it, "caller": "root", "number": str(uuid.uuid4())}) + "\n" for it in requests))
@@ -806,17 +981,105 @@ def acts(folder, program):
                     sent(what, front, office, clients, trouble, again or not trouble and clients < BACKLOG)
 
 
+# ---- sign-in by OpenID Connect
+
+
+def oidc(folder, program):
+    front_oidc.run(folder, program, same)
+
+
 # ---- units of systemd
 
 
+class Told(http.server.BaseHTTPRequestHandler):
+    """Answers with the status that its server has."""
+
+    def do_GET(self):
+        self.server.asked.append(self.path)
+        self.send_error(self.server.status)
+
+    def log_message(self, *_):
+        pass
+
+
+def looked(folder, port, tools=("curl",)):
+    """What the command of office-look@.service does, with an office on this port and these programs beside the shell's own: its status, what it
+    told, and what it asked systemctl for."""
+    own = folder / f"bin-{uuid.uuid4()}"
+    own.mkdir()
+    for it in ("sh", *tools):
+        (own / it).symlink_to(shutil.which(it))
+    (own / "systemctl").write_text(f'#!/bin/sh\necho "$@" >> {own}/asked\n')
+    (own / "systemctl").chmod(0o755)
+    text = (TOP / "share" / "systemd" / "office-look@.service").read_text()
+    line = servers.replaced(re.search("^ExecStart=(.*)$", text, re.MULTILINE)[1], {"%%": "%", "%i": PROJECT, ":8765": f":{port}"})
+    done = subprocess.run(shlex.split(line), capture_output=True, text=True, env={"PATH": str(own)}, check=False)
+    asked = (own / "asked").read_text().splitlines() if (own / "asked").exists() else []
+    return done.returncode, done.stderr.strip(), asked
+
+
+def look(folder, program):
+    """The office is started anew for 507 alone. What is asked is answered by the program, whose disk failed too."""
+    again = ["restart office@example.service"]
+    with http.server.ThreadingHTTPServer((HOST, 0), Told) as it:
+        threading.Thread(target=it.serve_forever, daemon=True).start()
+        port, it.asked = it.server_address[1], []
+        for it.status in (200, 404, 400, 503, 507):
+            same(f"a look, told {it.status}", looked(folder, port), (0, "", again if it.status == 507 else []))
+        status, fault, asked = looked(folder, port, ())
+        same("a look without curl", (status != 0, "curl" in fault, asked), (True, True, []))
+        path, status = it.asked[0], it.shutdown()
+    same("a look, where nobody listens", looked(folder, servers.free_port()), (0, "", []))
+    make_office(program, folder / "office.db", 20)
+    port = servers.free_port()
+    # (from a size on, whatever is written to a file fails)
+    kilobytes = sum(it.stat().st_size for it in folder.glob("office.db*")) // 1024 + 200
+    words = ["bash", "-c", f'trap "" XFSZ; ulimit -f {kilobytes}; exec "$@"', "-", program, "serve", "--store", folder / "office.db"]
+    with servers.running([*words, "--port", port, "--connections", "100000"]) as process:
+        servers.listening(port, process, 10 * SECONDS)
+        same("a look at the program", (asked_of(port, "GET", path)[0], looked(folder, port)), (404, (0, "", [])))
+        statuses = set()
+        for it in range(20):
+            act = {"act": "comment", "lang": "de", "id": f"message {it}", "seen": 1, "lines": ["x" * 900] * 20}
+            statuses.add(asked_of(port, "POST", path_of_act(), json.dumps(act), {"X-Office-Caller": "root"})[0])
+        same("the disk fails", 507 in statuses, True)
+        same("a look at the program then", (asked_of(port, "GET", path)[0], looked(folder, port)), (507, (0, "", again)))
+
+
+def asked_of(port, method, path, body=None, headers=None):
+    connection = http.client.HTTPConnection(HOST, port, timeout=SECONDS)
+    connection.request(method, path, body, {"Connection": "close", **(headers or {})})
+    answer = connection.getresponse()
+    text = answer.read()
+    connection.close()
+    return answer.status, text
+
+
+def first_requests(folder, program):
+    """The command by which DEPLOYING has the first requests delivered makes an office where there is none, and takes the one that is there."""
+    text = (TOP / "docs" / "DEPLOYING.md").read_text()
+    command = re.search(r"-p WorkingDirectory=/var/lib/office/example sh -c '(.*?)' < requests", text, re.DOTALL)[1]
+    (folder / "office").symlink_to(program)
+    given = "".join(json.dumps({"act": "team", "name": it, "role": "guest", "caller": "root", "number": str(uuid.uuid4())}) + "\n" for it in ("ann", "bea"))
+    for turn in ("where there is none", "where it is"):
+        words = {"cwd": folder, "input": given, "capture_output": True, "text": True, "check": False}
+        done = subprocess.run(["sh", "-c", command], env={"PATH": f"{folder}:/usr/bin:/bin"}, **words)
+        wanted = "".join(f'200 {{"name":"{it}","role":"guest"}}\n' for it in ("ann", "bea"))
+        same(f"the first requests, {turn}", (done.returncode, done.stdout), (0, wanted))
+
+
 def units(folder, program):
-    """Systemd itself finds nothing wrong in the units, and the services shut in."""
+    """Systemd itself finds nothing wrong in the units, and the services shut in; the look does what it should, and so do the first requests."""
+    for it in (first_requests, look):
+        (folder / it.__name__).mkdir()
+        it(folder / it.__name__, program)
     if not servers.program("systemd-analyze"):
         print("systemd isn't installed: its units aren't tried")
         return
     for it in sorted((TOP / "share" / "systemd").iterdir()):
-        (folder / it.name).write_text(it.read_text().replace("ExecStart=office", f"ExecStart={program}"))
-    for it in sorted(folder.iterdir()):
+        text = re.sub(r"^(ExecStart=-?)(office-[a-z]+)", rf"\1{TOP}/share/tools/\2", it.read_text(), flags=re.M)
+        (folder / it.name).write_text(text.replace("ExecStart=office ", f"ExecStart={program} "))
+    for it in sorted(folder.glob("office*@*")):
         tries = {"verify": ["verify", "--man=no", it]}
         if it.suffix == ".service":
             # The exposure in tenths: up to 2 is "safe" or "ok".
@@ -828,7 +1091,7 @@ def units(folder, program):
 
 
 def main():
-    parts = {"rules": rules, "queue": queue, "projects": projects, "acts": acts, "units": units}
+    parts = {"rules": rules, "queue": queue, "projects": projects, "acts": acts, "oidc": oidc, "units": units}
     words = argparse.ArgumentParser(description=__doc__, formatter_class=argparse.RawDescriptionHelpFormatter)
     words.add_argument("--program", type=pathlib.Path, default=TOP / "crates" / "cli" / "out" / "cli")
     words.add_argument("part", nargs="*", choices=[[], *parts])

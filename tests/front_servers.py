@@ -88,7 +88,7 @@ def certificate(folder):
 
 
 BASE = """{user}daemon off;
-pid {folder}/nginx.pid;
+{modules}pid {folder}/nginx.pid;
 error_log {folder}/error.log;
 events {{ worker_connections 4096; }}
 http {{
@@ -112,16 +112,20 @@ class Nginx:
     name = "nginx"
 
     def __init__(self, folder, projects, page, site="office", managers=("root",), tls=False, office=None):
+        beside = pathlib.Path(folder) / "beside"
         self.folder, self.port = pathlib.Path(folder), free_port()
         self.socket, self.log = self.folder / "run" / f"{PROJECT}.sock", self.folder / "access.log"
         for it in ("sites-enabled", "temp", "run"):
             (self.folder / it).mkdir(parents=True)
         for it in ("conf.d", "office"):
             shutil.copytree(FRONT / "nginx" / it, self.folder / it)
-        self.write("nginx.conf", BASE.format(user="user root;\n" if os.getuid() == 0 else "", folder=self.folder, types=mime_types()))
+        user = "user root;\n" if os.getuid() == 0 else ""
+        self.write("nginx.conf", BASE.format(user=user, modules=lua_modules(), folder=self.folder, types=mime_types()))
         self.set_site(site, tls)
-        self.rewrite("office/server", {"/etc/nginx": self.folder, "/usr/local/share/office/web": page})
-        self.rewrite("office/pass", {"unix:/run/office/$project.sock": office or f"unix:{self.folder}/run/$project.sock"})
+        paths = {"/etc/nginx": self.folder, "/usr/local/share/office/web": page, "/run/office-snapshot": beside, "/var/lib/office-page": beside}
+        self.rewrite("office/server", paths)
+        own = f"unix:{self.folder}/run/$project.sock:$route"
+        self.rewrite("office/pass", {"unix:/run/office/$project.sock:$route": f"{office}$route" if office else own})
         with (self.folder / "office" / "managers").open("a") as file:
             file.writelines(f'"{project} {name}" 1;\n' for project in projects for name in managers)
         for project, passwords in projects.items():
@@ -133,6 +137,8 @@ class Nginx:
         words = {"listen 443 ssl http2;": f"listen {HOST}:{self.port}{' ssl http2' if tls else ''};"}
         if site == "office-projects":
             words["/etc/nginx"] = self.folder
+        if site == "office-behind":
+            words = {"listen unix:/run/office-front/nginx.sock;": f"listen {HOST}:{self.port};", "/var/log/nginx/access.log": self.log}
         self.write(f"sites-enabled/{site}", replaced(text, words))
 
     def rewrite(self, name, words):
@@ -158,11 +164,12 @@ class Nginx:
 
 
 class HAProxy:
-    """HAProxy with the shipped configuration of a front in a folder, before the office of one project and a server of the page's files."""
+    """HAProxy with the shipped configuration of a front in a folder, before the office of one project and a server of the page's files; or,
+    `behind` a server that signs people in, with the changes that the configuration names."""
 
     name = "haproxy"
 
-    def __init__(self, folder, passwords, page_port, managers=("root",), tls=False):
+    def __init__(self, folder, passwords, page_port, managers=("root",), tls=False, behind=False):
         self.folder, self.port = pathlib.Path(folder), free_port()
         self.socket, self.log = self.folder / "run" / f"{PROJECT}.sock", self.folder / "log"
         (self.folder / "run").mkdir(parents=True)
@@ -177,7 +184,8 @@ class HAProxy:
         words = {"  user haproxy\n  group haproxy\n": "", shipped: bind}
         words |= {"unix@/run/office/example.sock": f"unix@{self.socket}", f"{HOST}:8090": f"{HOST}:{page_port}"}
         text = replaced((FRONT / "haproxy" / "office" / "front.cfg").read_text(), words)
-        (self.folder / "office" / "front.cfg").write_text(replaced(text, {"/etc/haproxy": self.folder}))
+        text = replaced(text, {"/etc/haproxy": self.folder})
+        (self.folder / "office" / "front.cfg").write_text(signed_in_before(text) if behind else text)
         lines = zip(passwords, hashes(passwords.values(), "1"))
         with (self.folder / "office" / "users.cfg").open("a") as file:
             file.writelines(f"  user {name} password {it}\n" for name, it in lines)
@@ -190,6 +198,62 @@ class HAProxy:
             with running(words, stdout=log, stderr=log) as process:
                 listening(self.port, process)
                 yield self
+
+
+def signed_in_before(text):
+    """HAProxy's configuration, changed as it says itself for a header of another server that signs people in."""
+    first, last = text.index("  # Who isn't signed in "), text.index("  # The login, in lower case.")
+    return text[:first] + replaced(text[last:], {"set-var(txn.caller) http_auth_user,lower": "set-var(txn.caller) req.fhdr(x-forwarded-user),lower"})
+
+
+class Apache:
+    """Apache with the shipped site for OpenID Connect, without TLS, before a front of nginx on a port; `changes` are further words of the site."""
+
+    name = "apache"
+    MODULES = ("mpm_event", "authn_core", "authz_core", "authz_user", "alias", "headers", "proxy", "proxy_http", "auth_openidc")
+
+    def __init__(self, folder, provider, secret, nginx_port, **changes):
+        self.folder, self.port = pathlib.Path(folder), free_port()
+        self.at = f"http://{HOST}:{self.port}"
+        shutil.copytree(FRONT / "apache", self.folder)
+        self.write("office/secrets.conf", {"OIDCClientSecret CHANGE": f'OIDCClientSecret "{secret}"', "Passphrase CHANGE": "Passphrase of-a-test"})
+        words = {
+            "*:443": f"{HOST}:{self.port}",
+            "ServerName translate.example.org": f"ServerName {HOST}",
+            "  SSLEngine on\n": "",
+            "  SSLCertificateFile /etc/apache2/office/certificate.pem\n": "",
+            "  SSLCertificateKeyFile /etc/apache2/office/key.pem\n": "",
+            "OIDCProviderMetadataURL https://login.example.org": f"OIDCProviderMetadataURL {provider}",
+            "/etc/apache2": self.folder,
+            "logout=https%3A%2F%2Ftranslate.example.org%2F": f"logout=http%3A%2F%2F{HOST}%3A{self.port}%2F",
+            "unix:/run/office-front/nginx.sock|http://translate.example.org/": f"http://{HOST}:{nginx_port}/",
+        }
+        self.write("sites-available/office-oidc.conf", {**words, **changes})
+        self.write_base()
+
+    def write(self, name, words):
+        path = self.folder / name
+        path.write_text(replaced(path.read_text(), words))
+
+    def write_base(self):
+        modules = "".join(f"LoadModule {it}_module /usr/lib/apache2/modules/mod_{it}.so\n" for it in self.MODULES)
+        user = "User www-data\nGroup www-data\n" if os.getuid() == 0 else ""
+        own = f"ServerRoot {self.folder}\nServerName {HOST}\nPidFile {self.folder}/pid\nErrorLog {self.folder}/error.log\nDefaultRuntimeDir {self.folder}\n"
+        own += f"Mutex posixsem\nListen {HOST}:{self.port}\n"
+        (self.folder / "apache2.conf").write_text(f"{modules}{user}{own}Include {self.folder}/sites-available/office-oidc.conf\n")
+
+    @contextlib.contextmanager
+    def serving(self):
+        with running([program("apache2"), "-f", self.folder / "apache2.conf", "-DFOREGROUND"]) as process:
+            listening(self.port, process)
+            yield self
+
+
+def lua_modules():
+    """The lines that load the module of Lua, as libnginx-mod-http-lua has them for Debian's nginx; none where nginx has it built in."""
+    files = [pathlib.Path(f"/usr/share/nginx/modules-available/mod-http-{it}.conf") for it in ("ndk", "lua")]
+    folder = "/usr/lib/nginx/modules/"
+    return "".join(it.read_text().strip().replace(" modules/", f" {folder}") + "\n" for it in files if it.exists())
 
 
 def mime_types():

@@ -1,5 +1,5 @@
 #!/usr/bin/env python3
-"""Checks the JSON Schema of requests and the OpenAPI description under share/ against the rows of requests, replies and messages.
+"""Checks the JSON Schema of requests and the OpenAPI descriptions under share/ against the rows of requests, replies and messages.
 
     tests/schema.py      (wants jsonschema 4.18 or later, referencing, PyYAML and openapi-spec-validator:
                           pip install openapi-spec-validator, or in a later Debian than 12 apt-get install python3-openapi-spec-validator)
@@ -7,8 +7,10 @@
 The rows are those of crates/cases_model/stdin (part requests), crates/cases_office/stdin (parts desks, maps and streams) and crates/cli, whose
 programs say what the office reads and answers. Each request that a row reads has to be valid, and each that a row calls malformed has to be not,
 but for what a schema can't say, which UNSAYABLE lists; a row there that a schema can say after all is told too. Each reply, view of a unit,
-counts, and each message over HTTP with its answer has to be what the description says of its route. Both files have to be valid themselves, and
-the description has the program's version. Prints what is otherwise, and last `N looks, M wrong`; the status is 1 if anything was.
+counts, and each message over HTTP with its answer has to be what the description says of its route, and what the one file office-front.yaml says,
+which has to be the one that tools/one_description.py makes, and to describe each answer that the fronts of share/front are set to give, and no
+other. Of a request with one wrong field the schema's errors name that field and no other. The files have to be valid themselves, and the
+description has the program's version. Prints what is otherwise, and last `N looks, M wrong`; the status is 1 if anything was.
 """
 import collections
 import json
@@ -22,6 +24,9 @@ import openapi_spec_validator
 import referencing
 import referencing.jsonschema
 import yaml
+
+sys.path.insert(0, str(pathlib.Path(__file__).resolve().parent.parent / "tools"))
+import one_description  # noqa: E402
 
 TOP = pathlib.Path(__file__).resolve().parent.parent
 SCHEMA = TOP / "share" / "schema" / "requests.schema.json"
@@ -54,19 +59,18 @@ def look(what, holds):
 
 
 def registry():
-    files = {"requests.schema.json": json.loads(SCHEMA.read_text()), "office.yaml": yaml.safe_load(OPENAPI.read_text())}
+    files = {"schema/requests.schema.json": json.loads(SCHEMA.read_text()), "openapi/office.yaml": DESCRIPTION, "openapi/office-front.yaml": ONE}
     make = referencing.jsonschema.DRAFT202012.create_resource
-    return referencing.Registry().with_resources(
-        [("file:///schema/requests.schema.json", make(files["requests.schema.json"])), ("file:///openapi/office.yaml", make(files["office.yaml"]))]
-    )
+    return referencing.Registry().with_resources([(f"file:///{name}", make(it)) for name, it in files.items()])
 
 
-REGISTRY = registry()
 DESCRIPTION = yaml.safe_load(OPENAPI.read_text())
+ONE = yaml.safe_load(one_description.MADE.read_text())
+REGISTRY = registry()
 
 
 def validator(place):
-    """A validator of the schema at a place of one of the two files, schema/.. or openapi/..."""
+    """A validator of the schema at a place of one of the files, schema/.. or openapi/..."""
     return jsonschema.Draft202012Validator({"$ref": f"file:///{place}"}, registry=REGISTRY)
 
 
@@ -155,28 +159,32 @@ def request_rows():
 # ---- replies
 
 
-def answers_of(path, method, status):
-    """The place of what the description says of an answer, or None."""
-    responses = DESCRIPTION["paths"][path][method]["responses"]
+def answers_of(path, method, status, description=DESCRIPTION):
+    """What a description says of an answer, or None, and its place."""
+    responses = description["paths"][path][method]["responses"]
     answer = responses.get(str(status))
     place = f"paths/{path.replace('/', '~1')}/{method}/responses/{status}"
     if answer and "$ref" in answer:
         place = answer["$ref"].removeprefix("#/")
-        answer = DESCRIPTION["components"]["responses"][place.rpartition("/")[2]]
+        answer = description["components"]["responses"][place.rpartition("/")[2]]
     return answer, place
 
 
 VALIDATORS = {}
 
 
-def is_described(path, method, status, body):
-    """Whether this answer with this body of JSON is what the description says."""
-    answer, place = answers_of(path, method, status)
+def is_told_by(name, description, path, method, status, body):
+    answer, place = answers_of(path, method, status, description)
     if answer is None:
         return False
-    place = f"openapi/office.yaml#/{place}/content/application~1json/schema"
+    place = f"openapi/{name}#/{place}/content/application~1json/schema"
     validates = VALIDATORS.setdefault(place, validator(place))
     return is_valid(validates, body)
+
+
+def is_described(path, method, status, body):
+    """Whether this answer with this body of JSON is what the description says, and the one file."""
+    return all(is_told_by(name, it, path, method, status, body) for name, it in (("office.yaml", DESCRIPTION), ("office-front.yaml", ONE)))
 
 
 POST = "/v1/requests/{number}"
@@ -335,16 +343,88 @@ def stream_rows():
                 exchange(where, message, answer)
 
 
+NUMBER = "00000000-0000-4000-8000-000000000001"
+UNIT = {"lang": "de", "id": "Hello", "seen": 1}
+# Of each kind of act a request that is well.
+WELL = {
+    "suggest": {**UNIT, "forms": ["Hallo"]},
+    "vote": {**UNIT, "suggestion": NUMBER, "value": 1},
+    "accept": {**UNIT, "suggestion": NUMBER},
+    "dismiss": {**UNIT, "suggestion": NUMBER},
+    "translate": {**UNIT, "forms": ["Hallo"]},
+    "comment": {**UNIT, "lines": ["a line"]},
+    "approve": UNIT,
+    "send-back": UNIT,
+    "template": {"po": ""},
+    "language": {"lang": "de", "po": ""},
+    "team": {"name": "ann", "role": "guest"},
+    "policy": {"reviews": True, "guests_suggest": True, "voting": True, "accept_at": 2, "placeholders": True, "line_ends": True},
+    "domain": {"name": "manual"},
+}
+
+
+def named(error):
+    """The field that an error of the schema names: where it is, or which is missing or too many."""
+    if error.absolute_path:
+        return error.absolute_path[0]
+    return re.match("'([a-z_]+)' is (?:a required property|not one of)", error.message)[1]
+
+
+def wrong_fields():
+    """Of a request with one wrong field, one missing and one too many, each error of the schema names that field."""
+    for act, fields in WELL.items():
+        well = {"act": act, "number": NUMBER, "caller": "ann", **fields}
+        look(f"{act}: not valid", REQUEST.is_valid(well))
+        for name in well:
+            for what, it in (("wrong", {**well, name: {}}), ("missing", {key: value for key, value in well.items() if key != name})):
+                found = {named(error) for error in REQUEST.iter_errors(it)}
+                look(f"{act}: {name} is {what}, and told of {found}", found == {name})
+        for name in {"forms", "suggestion", "value", "lines", "po", "ctx", "other"} - set(well) - ({"ctx"} if "id" in well else set()):
+            found = {named(error) for error in REQUEST.iter_errors({**well, name: "x"})}
+            look(f"{act}: {name} is too many, and told of {found}", found == {name})
+        for name in ("number", "caller"):
+            body = {key: value for key, value in well.items() if key not in {"number", "caller"} - {name}}
+            found = {named(error) for error in BODY.iter_errors(body)}
+            look(f"{act}: {name} in a body, and told of {found}", found == {name})
+
+
+def set_answers():
+    """Each answer that a front's configuration is set to give: its status and its word."""
+    nginx = "".join(it.read_text() for it in sorted((TOP / "share" / "front" / "nginx" / "office").glob("*")) if it.is_file())
+    haproxy = (TOP / "share" / "front" / "haproxy" / "office" / "front.cfg").read_text()
+    found = re.findall(r"return ([0-9]{3}) '(\{\"error\":.*?\})'", nginx)
+    return found, re.findall(r"status ([0-9]{3}) .*?string '(\{\"error\":.*?\})'", haproxy)
+
+
+def front_answers():
+    """Each of them is described of some route; and each of the front's that is described is one of them."""
+    nginx, haproxy = set_answers()
+    look("no answers of a front were found", len(set(nginx)) > 9 and len(set(haproxy)) > 9)
+    routes = [(path, method) for path, it in ONE["paths"].items() for method in it]
+    for status, body in sorted({*nginx, *haproxy}):
+        look(f"a front answers {status} {body}", any(is_told_by("office-front.yaml", ONE, *route, status, body) for route in routes))
+    for name, it in ONE["components"]["schemas"].items():
+        if name.startswith("Front"):
+            told = it["properties"]["error"]
+            for word in told.get("enum", [told.get("const")]):
+                for what, answers in (("nginx", nginx), ("haproxy", haproxy)):
+                    look(f"{what} has no {word}", any(json.loads(body)["error"] == word for _, body in answers))
+
+
 def files():
-    """Both files are valid themselves, and the version is the program's."""
+    """The files are valid themselves, the one file has nothing outside, and the version is the program's."""
     jsonschema.Draft202012Validator.check_schema(json.loads(SCHEMA.read_text()))
     openapi_spec_validator.validate(DESCRIPTION, base_uri=OPENAPI.as_uri())
+    openapi_spec_validator.validate(ONE)
+    text = one_description.MADE.read_text()
+    look("tools/one_description.py makes another file", text == one_description.made())
+    look("the one file has references to others", not re.search(r"\$ref: '?[^'#]", text))
     version = re.search(r'const VERSION: &str = "(.*?)";', (CLI / "src" / "subcommands.rt").read_text())[1]
-    look(f"the description's version isn't {version}", DESCRIPTION["info"]["version"] == version)
+    look(f"the description's version isn't {version}", (DESCRIPTION["info"]["version"], ONE["info"]["version"]) == (version, version))
 
 
 def main():
-    for it in (files, request_rows, desk_rows, program_rows, stream_rows):
+    for it in (files, wrong_fields, front_answers, request_rows, desk_rows, program_rows, stream_rows):
         before = looks
         it()
         print(f"{it.__name__}: {looks - before} looks")
