@@ -1,0 +1,242 @@
+#!/usr/bin/env python3
+"""Fails each call to the disk of the program in turn, on real files, and looks what is left.
+
+    tests/failing_calls.py [PROGRAM] [--every K] [--minutes M]      (crates/cli/out/cli, each call, no end; wants cc)
+
+`init`, `deliver`, `export` and `serve` run with one write, sync, truncation, opening or removal failed, the first, the second and so on till none
+is met, by EIO and by ENOSPC, and with a write that takes half its bytes; and with all calls from one on failed. Files are cut at every 512 bytes
+of their log too, and the last 512 are torn. Behind each the file has to be whole for SQLite, each request that was answered there with its reply,
+the next one perhaps, and nothing else; then the same lines by the program get the replies of a disk that works. With `--every K` each K-th is
+tried. The last line is `N failures, C cuts, W wrong`; the status is 1 if anything was wrong.
+"""
+import argparse
+import contextlib
+import http.client
+import json
+import os
+import pathlib
+import shutil
+import sqlite3
+import subprocess
+import sys
+import tempfile
+import time
+
+import serve as serving
+
+TOP = pathlib.Path(__file__).resolve().parent.parent
+SECONDS = 300
+HEADER = 'msgid ""\nmsgstr ""\n"Content-Type: text/plain; charset=UTF-8\\n"\n"Plural-Forms: nplurals=2; plural=n != 1;\\n"\n'
+ACTS = [
+    {"act": "template", "po": 'msgid "Hello"\nmsgstr ""\n'},
+    {"act": "language", "lang": "de", "po": HEADER},
+    {"act": "translate", "lang": "de", "id": "Hello", "seen": 1, "forms": ["Hallo"]},
+    {"act": "team", "name": "ann", "role": "translator"},
+    {"act": "suggest", "lang": "de", "id": "Hello", "seen": 2, "forms": ["Servus"]},
+]
+# The replies, by the page of formats.
+REPLIES = [
+    '200 {"languages":{}}',
+    '200 {"loaded":0,"missing":1,"obsolete":0}',
+    '200 {"revision":2,"state":"translated"}',
+    '200 {"name":"ann","role":"translator"}',
+    '200 {"revision":2,"state":"translated","suggestion":"00000000-0000-4000-8000-000000000004","votes":1}',
+]
+DISK = '507 {"error":"disk"}'
+TEXT = HEADER + '\nmsgid "Hello"\nmsgstr "Hallo"\n'
+KINDS = ("pwrite", "sync", "truncate", "open", "unlink")
+WAYS = [{"FAIL_ERRNO": "5"}, {"FAIL_ERRNO": "28"}, {"FAIL_ERRNO": "5", "FAIL_ON": "1"}]
+SHORT = {"FAIL_ERRNO": "0", "FAIL_SHORT": "1"}
+
+
+def number(n):
+    return f"00000000-0000-4000-8000-{n:012}"
+
+
+LINES = [json.dumps({**it, "caller": "root", "number": number(n)}) for n, it in enumerate(ACTS)]
+
+
+class Trial:
+    def __init__(self, program, folder, given):
+        self.program, self.folder, self.given = program, folder, given
+        self.store, self.met, self.library = folder / "office.db", folder / "met", folder / "fail_call.so"
+        self.failures = self.cuts = self.wrong = 0
+        self.end = time.monotonic() + given.minutes * 60
+        subprocess.run(["cc", "-shared", "-fPIC", "-O1", "-o", self.library, TOP / "tests" / "growths" / "fail_call.c", "-ldl"], check=True)
+
+    def say(self, what, why):
+        self.wrong += 1
+        print(f"{what}: {why}", flush=True)
+
+    def run(self, *words, given="", how=None):
+        environment = {**os.environ, "ASAN_OPTIONS": "verify_asan_link_order=0:detect_leaks=0", **(how or {})}
+        if how:
+            environment |= {"LD_PRELOAD": str(self.library), "FAIL_MET": str(self.met)}
+        done = subprocess.run([self.program, *map(str, words)], input=given.encode(), capture_output=True, timeout=SECONDS, check=False, env=environment)
+        return done.returncode, done.stdout.decode(), done.stderr.decode()
+
+    def clear(self):
+        for it in self.folder.glob("office.db*"):
+            it.unlink()
+        self.met.unlink(missing_ok=True)
+
+    def begin(self, count):
+        """An office that has taken so many of the requests."""
+        self.clear()
+        begun = self.folder / f"begun{count}"
+        if not begun.exists():
+            replies = self.run("init", "--store", self.store, "--manager", "root")[1], self.run("deliver", "--store", self.store, given="".join(it + "\n" for it in LINES[:count]))[1]
+            if replies != ("ready\n", "".join(it + "\n" for it in REPLIES[:count])):
+                sys.exit(f"the office: {replies}")
+            begun.mkdir()
+            for it in self.folder.glob("office.db*"):
+                shutil.copy(it, begun)
+        for it in begun.iterdir():
+            shutil.copy(it, self.folder)
+
+    def recorded(self, what):
+        """The numbers and replies that a copy of the file has, which has to be whole."""
+        with tempfile.TemporaryDirectory(dir=self.folder) as name:
+            for it in self.folder.glob("office.db*"):
+                shutil.copy(it, name)
+            with contextlib.closing(sqlite3.connect(pathlib.Path(name, "office.db"))) as db:
+                whole = db.execute("PRAGMA integrity_check").fetchall() + db.execute("PRAGMA foreign_key_check").fetchall()
+                if whole != [("ok",)]:
+                    self.say(what, whole[:2])
+                there = db.execute("SELECT count(*) FROM sqlite_schema WHERE name = 'record'").fetchone()[0]
+                return [(it, f"{status} {body}") for it, status, body in db.execute("SELECT number, status, body FROM record ORDER BY rowid")] if there else None
+
+    def look(self, what, answered):
+        """Behind a failure: what was answered is there, perhaps the next, and nothing else; the same lines get the replies that they get."""
+        found = self.recorded(what)
+        wanted = [(number(n), it) for n, it in enumerate(REPLIES)]
+        if found is None or found not in (wanted[:answered], wanted[: answered + 1]):
+            self.say(what, f"records {found}, {answered} were answered")
+        status, out, faults = self.run("deliver", "--store", self.store, "--export", "de", given="".join(it + "\n" for it in LINES))
+        if (status, out, faults) != (0, "".join(it + "\n" for it in REPLIES) + TEXT, ""):
+            self.say(what, f"then {status} {faults} {out[:300]}")
+
+    # the programs, each with what it may say
+
+    def init(self, what, how):
+        self.clear()
+        status, out, faults = self.run("init", "--store", self.store, "--manager", "root", how=how)
+        if (status, out, faults) not in ((0, "ready\n", ""), (1, "", "store fault 2\n")):
+            self.say(what, f"{status} {out}{faults}")
+        if status:
+            again = self.run("init", "--store", self.store, "--manager", "root")
+            if again not in ((0, "ready\n", ""), (1, "", "store: exists\n")):
+                self.say(what, f"and again {again}")
+        self.look(what, 0)
+
+    def deliver(self, what, how):
+        self.begin(1)
+        status, out, faults = self.run("deliver", "--store", self.store, given="".join(it + "\n" for it in LINES), how=how)
+        said = out.split("\n")[:-1]
+        count = next((n for n, it in enumerate(said) if it == DISK), len(said))
+        # (a file that can't be closed is a fault behind the replies)
+        is_told = (status, faults) == (1, "store fault 2\n") or said and (status, faults) == (0, "")
+        if said not in ([], REPLIES[:count] + [DISK] * (len(LINES) - count)) or not is_told:
+            self.say(what, f"{status} {faults} {said}")
+        self.look(what, max(count, 1))
+
+    def export(self, what, how):
+        self.begin(3)
+        status, out, faults = self.run("export", "--store", self.store, "--lang", "de", how=how)
+        is_done = status == 0 and out == TEXT and faults.startswith(f"bytes {len(TEXT)} ")
+        if not is_done and not (status == 1 and TEXT.startswith(out) and faults in ("store fault 2\n", "export fault 4\n")):
+            self.say(what, f"{status} {out}{faults}")
+        self.look(what, 3)
+
+    def serve(self, what, how):
+        self.begin(1)
+        port = serving.free_port()
+        words = [self.program, "serve", "--store", str(self.store), "--port", str(port), "--connections", "1"]
+        environment = {**os.environ, "ASAN_OPTIONS": "verify_asan_link_order=0:detect_leaks=0", **how, "LD_PRELOAD": str(self.library), "FAIL_MET": str(self.met)}
+        with subprocess.Popen(words, stdin=subprocess.DEVNULL, stdout=subprocess.PIPE, stderr=subprocess.PIPE, env=environment) as process:
+            said = self.posted(port, process)
+            faults = process.communicate(timeout=SECONDS)[1].decode()
+        count = next((n for n, it in enumerate(said) if it == DISK), len(said))
+        if said not in ([], REPLIES[:count] + [DISK] * (len(LINES) - count)) or faults not in ("", "store fault 2\n"):
+            self.say(what, f"{process.returncode} {faults} {said}")
+        self.look(what, max(count, 1))
+
+    def posted(self, port, process):
+        """The answers to the requests over one connection."""
+        client, said = http.client.HTTPConnection(serving.HOST, port, timeout=SECONDS), []
+        while process.poll() is None:
+            try:
+                client.connect()
+                break
+            except ConnectionRefusedError:
+                time.sleep(0.02)
+        if process.poll() is not None:
+            return said
+        for n, act in enumerate(ACTS):
+            client.request("POST", f"/v1/requests/{number(n)}", json.dumps(act), {"X-Office-Caller": "root"})
+            answer = client.getresponse()
+            said.append(f"{answer.status} {answer.read().decode()}")
+        client.close()
+        return said
+
+    def fail_each(self, name):
+        """Each call of a program failed in turn, in each way, till none is met."""
+        for kind in KINDS:
+            for how in [*WAYS, *([SHORT] if kind == "pwrite" else [])]:
+                at = 1
+                while time.monotonic() < self.end:
+                    self.met.unlink(missing_ok=True)
+                    getattr(self, name)(f"{name}, {kind} {at}, {how}", {**how, "FAIL_CALL": kind, "FAIL_N": str(at)})
+                    if not self.met.exists():
+                        break
+                    self.failures += 1
+                    at += self.given.every
+
+    def cut_each(self):
+        """The log cut at every 512 bytes, and torn: the last 512 are as they were before, which is nothing."""
+        self.begin(1)
+        with subprocess.Popen([self.program, "deliver", "--store", self.store], stdin=subprocess.PIPE, stdout=subprocess.PIPE, stderr=subprocess.DEVNULL) as process:
+            for line, wanted in zip(LINES, REPLIES):
+                process.stdin.write(f"{line}\n".encode())
+                process.stdin.flush()
+                if process.stdout.readline().decode() != f"{wanted}\n":
+                    self.say("before the cuts", wanted)
+            process.kill()
+        log = (self.folder / "office.db-wal").read_bytes()
+        main = self.store.read_bytes()
+        for at in range(0, len(log) + 1, 512 * self.given.every):
+            for torn in (False, True):
+                if time.monotonic() > self.end:
+                    return
+                self.clear()
+                self.store.write_bytes(main)
+                kept = log[: max(at - 512, 0)] + bytes(min(at, 512)) if torn else log[:at]
+                (self.folder / "office.db-wal").write_bytes(kept)
+                self.cut(f"the log {'torn' if torn else 'cut'} at {at} of {len(log)}")
+
+    def cut(self, what):
+        self.cuts += 1
+        found = self.recorded(what)
+        wanted = [(number(n), it) for n, it in enumerate(REPLIES)]
+        if found is None or found != wanted[: len(found)]:
+            self.say(what, f"records {found}")
+        self.look(what, len(found or []))
+
+
+def main():
+    parser = argparse.ArgumentParser(description=__doc__.split("\n", 1)[0])
+    parser.add_argument("program", nargs="?", type=pathlib.Path, default=TOP / "crates" / "cli" / "out" / "cli")
+    parser.add_argument("--every", type=int, default=1)
+    parser.add_argument("--minutes", type=float, default=float("inf"))
+    parser.add_argument("--only", choices=("init", "deliver", "export", "serve", "cuts"), action="append")
+    given = parser.parse_args()
+    with tempfile.TemporaryDirectory(prefix="office-failing-") as name:
+        trial = Trial(given.program.resolve(), pathlib.Path(name), given)
+        for it in given.only or ("init", "deliver", "export", "serve", "cuts"):
+            trial.cut_each() if it == "cuts" else trial.fail_each(it)
+    print(f"{trial.failures} failures, {trial.cuts} cuts, {trial.wrong} wrong")
+    return 1 if trial.wrong else 0
+
+
+if __name__ == "__main__":
+    sys.exit(main())
