@@ -599,7 +599,7 @@ def page(front, office):
         kept = "no-cache" if "page" in path or path == "/" else "no-store"
         same(f"{front.name}: {path}, kept", found.headers["cache-control"], [kept])
     out = told(front, message("GET", "/sign-out", signed("ann")))
-    same(f"{front.name}: signed out", (out.status, out.headers["www-authenticate"], out.body), (401, ['Basic realm="Translations"'], b"You are signed out."))
+    same(f"{front.name}: signed out", (out.status, out.headers["www-authenticate"], out.body), (401, ['Basic realm="Translations"'], b'{"error":"sign-in"}'))
     same(f"{front.name}: the page's own", json.loads(told(front, message("GET", "/office.json", signed("ann"))).body)["project"], "Example")
     for path in ("/../office/managers", "/%2e%2e/office/managers", "/..%2foffice/users", "/page/../../nginx.conf", "/.htpasswd"):
         same(f"{front.name}: {path}", told(front, message("GET", path, signed("ann"))).status in (400, 403, 404), True)

@@ -1236,7 +1236,7 @@ def case_sign_out(world):
     has("signed in", tab.text("#who"), "signed in as ann")
     world.browser.password = None
     tab.click("#sign-out")
-    tab.wait("document.body.innerText.includes('You are signed out.')")
+    tab.wait("document.body.innerText.includes('sign-in')")
     tab.call("Page.navigate", url=world.at)
     tab.wait("document.title.startsWith('401')" if world.front == "nginx" else "document.body.innerText.includes('sign-in')")
     same("signed out", "signed in as" in tab.text("body"), False)

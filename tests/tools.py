@@ -903,7 +903,8 @@ def described(package, root, version):
     same("the package's version", field("Version"), version)
     same("what it depends on", [it in field("Depends") for it in ("python3 (>= 3.9)", "libc6")], [True, True])
     same("what it recommends", field("Recommends"), "gettext, curl")
-    same("what it suggests", field("Suggests"), "nginx | haproxy, libnginx-mod-http-lua, apache2, libapache2-mod-auth-openidc")
+    suggested = "nginx | haproxy, libnginx-mod-http-lua, apache2, libapache2-mod-auth-openidc"
+    same("what it suggests", field("Suggests"), f"{suggested}, git, translate-toolkit, i18nspector, python3-pika, rabbitmq-server")
     for it in re.split(r" \| |, ", f"{field('Recommends')}, {field('Suggests')}"):
         same(f"Debian has {it}", subprocess.run(["apt-cache", "show", it], capture_output=True, check=False).returncode, 0)
     told = gzip.decompress((root / "share/doc/office/changelog.gz").read_bytes())
