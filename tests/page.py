@@ -1021,7 +1021,8 @@ def case_queues(world):
     tab.choose("filter", "review")
     tab.wait(f"JSON.stringify({IDS}) === '[]'")
     same("what the office has told since stands", tab.text("#found"), f"0 of {MESSAGES} messages")
-    same("eve", act("eve", act="suggest", lang="ar", id="gone", seen=1, forms=["ذهب"])[0], 200)
+    seen = world.office.unit("gone", "ar")["revision"]
+    same("eve", act("eve", act="suggest", lang="ar", id="gone", seen=seen, forms=["ذهب"])[0], 200)
     snapshot(world, "ar")
     tab.choose("filter", "suggestions")
     tab.wait(f"JSON.stringify({IDS}) === '[\"Hello\",\"gone\"]'")
