@@ -1,8 +1,11 @@
 //! What a language with its text comes to.
 
-ghost use Rattle.std.specs.Prelude.{◌≡◌, Ok, Some, IfOk, false};
+ghost use Rattle.std.specs.Prelude.{◌≡◌, Ok, Some, IfOk, false, map};
+ghost use Rattle.std.specs.List.{IsDistinct};
 ghost use Rattle.std.specs.FinMap as maps;
-ghost use Rattle.units.specs.Project.{Project};
+ghost use Rattle.po_text.specs.Valid.{IsValid};
+ghost use Rattle.units.specs.Project.{Project, place_eq};
+ghost use Rattle.units.specs.Projects.{IsProject};
 ghost use Rattle.units.specs.Rules.{rule_in};
 ghost use Rattle.replies.specs.Bodies.{count_fields, reply as reply_of};
 ghost use Rattle.deliveries.specs.ProjectActs as spec;
@@ -20,7 +23,7 @@ use plural_expr::PluralForms;
 use po_text::{Catalogue, Duplicate, Entry, Text};
 use request_book::Reply;
 use std::alloc::{AllocError, Global};
-use template_update::{Plan, load};
+use template_update::{Plan, load, loads_count_the_template};
 use units::{Lang, Memory, Refusal};
 
 /// How many languages a project has at most.
@@ -66,6 +69,7 @@ fn with_plan(
 ) -> Result<DomainOutcome, Memory>
     requires { rule_in (Some header.now) ≡ Ok rule }
     ensures { IfOk result (λ outcome. (project : Project) → project.template ≡ template.now.catalogue → maps.contains_key project.headers lang.now ≡ false →
+        (IsProject project → IsDistinct place_eq (map (λ e. e.0) (spec.placed (lang.now, plan)))) →
         IsSettledIn project outcome (spec.loaded project lang.now header.now plan)) }
 {
     match coming_of(alloc, template, lang, header, &plan) {
@@ -101,9 +105,11 @@ fn load_language(
 ) -> Result<DomainOutcome, Memory>
     requires rule { rule_in (Some header.now) ≡ Ok rule }
     requires new { maps.contains_key (lent_project project.now).headers lang.now ≡ false }
+    requires valid { IsValid text.now }
     ensures { IfOk result
         (λ outcome. IsSettledIn (lent_project project.now) outcome (spec.with_rule (lent_project project.now) lang.now text.now header.now rule)) }
 {
+    loads_count_the_template();
     if project.language_count() >= MAX_LANGUAGES {
         drop(rule);
         return DomainOutcome::refused(alloc, Refusal::PastLimit);
@@ -137,6 +143,7 @@ fn add_language(
     text: &Catalogue,
 ) -> Result<DomainOutcome, Memory>
     requires new { maps.contains_key (lent_project project.now).headers lang.now ≡ false }
+    requires valid { IsValid text.now }
     ensures { IfOk result
         (λ outcome. IsSettledIn (lent_project project.now) outcome (spec.of_entries (lent_project project.now) lang.now text.now)) }
 {

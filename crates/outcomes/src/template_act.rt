@@ -2,6 +2,7 @@
 
 ghost use Rattle.std.specs.Prelude.{◌≡◌, Some, IfOk, map};
 ghost use Rattle.std.specs.Option.{option_map_or};
+ghost use Rattle.po_text.specs.Valid.{IsValid};
 ghost use Rattle.units.specs.Project.{Project};
 ghost use Rattle.units.specs.declared.unit.Refusal.TheVariants.{PastLimit};
 ghost use Rattle.template_update.specs.Templates.{template_of};
@@ -50,6 +51,7 @@ fn with_plans(
     next: Template,
     plans: Vec<(Lang, Plan)>,
 ) -> Result<DomainOutcome, Memory>
+    requires valid { IsValid next.catalogue }
     ensures { IfOk result (λ outcome. (project : Project) → spec.plans project next.catalogue ≡ Some plans.items →
         IsSettledIn project outcome (spec.updated project next.catalogue plans.items)) }
 {
@@ -76,6 +78,7 @@ fn follow_template(
     project: &ProjectMaps<'_>,
     text: &Catalogue,
 ) -> Result<DomainOutcome, Memory>
+    requires valid { IsValid text.now }
     ensures { IfOk result (λ outcome. IsSettledIn (lent_project project.now) outcome
         (option_map_or (spec.updated (lent_project project.now) (template_of text.now)) (spec.plans (lent_project project.now) (template_of text.now)) (refuse (lent_project project.now) PastLimit))) }
 {

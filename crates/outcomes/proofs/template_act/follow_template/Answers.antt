@@ -2,6 +2,8 @@ use Rattle.std.proofs.Common.{◌≡◌, List, Option, Some, option_map, sym, ap
 use Rattle.std.specs.Option.{option_map_or}
 use Rattle.std.proofs.lemmas.Result.{IfOk-weaker}
 use Rattle.po_text.specs.declared.entry.Entry.{Entry}
+use Rattle.po_text.specs.Valid.{IsValid}
+use Rattle.template_update.proofs.TemplateLemmas.{valid_template}
 use Rattle.template_update.specs.Templates.{template_of}
 use Rattle.units.specs.Project.{Project}
 use Rattle.units.specs.declared.unit.Refusal.TheVariants.{PastLimit}
@@ -28,3 +30,6 @@ returns-in-Some c =
     (λ (outcome : DomainOutcome). IsSettledIn project outcome (by_plans project (template_of c.args.text.now)))
     (λ outcome settled. subst (λ (stepped : Stepped Project). IsSettledIn project outcome stepped) step (settled project planned))
     c.with_plans.ensures
+
+pub with_plans-requires : goal.with_plans-requires
+with_plans-requires c = record { valid = subst IsValid (sym (c.in_ok-next.ensures ∙ c.in_ok-template_of.ensures.entries)) (valid_template c.args.text.now c.requires.valid) }
