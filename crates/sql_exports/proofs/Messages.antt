@@ -33,7 +33,6 @@ use Rattle.sql_statements.specs.Queries.{AreUnits, ShowsMessages, entry_places, 
 use Rattle.sql_decoding.specs.ShownEntries.{message_shown}
 use Rattle.sql_schema.specs.Layouts.{rows_named}
 use Rattle.sql_meaning.proofs.OfficeRows.{office_rows}
-use Rattle.sql_meaning.proofs.RowsByName.{shown_in}
 
 mapped_alike : {A B : Type 0} (f g : A → B) (xs : List A) → ((x : A) → Has xs x → f x ≡ g x) → map f xs ≡ map g xs
 mapped_alike f g [] same = refl
@@ -92,4 +91,4 @@ module _ (db : Database) (office : AreOfficeTables db) (lang : Text) (unit_of : 
       mapped_alike message_shown (λ r. with_unit (shown_entry (key_at 4 (cut r)) (cut r))) rows of_shown
       ∙ sym (map-map with_unit (λ r. shown_entry (key_at 4 (cut r)) (cut r)) rows)
       ∙ ap (map with_unit) (sym (map-map (λ r. shown_entry (key_at 4 r) r) cut rows))
-      ∙ ap (map with_unit) (sym (whole_template (rows_named db) (office_rows db office) (map cut rows) (shown_in db shows_template)))
+      ∙ ap (map with_unit) (sym (whole_template (rows_named db) (office_rows db office) (map cut rows) shows_template))

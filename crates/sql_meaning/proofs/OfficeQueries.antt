@@ -10,7 +10,7 @@ use Rattle.units.specs.Project.{entry_of}
 use Rattle.units.specs.declared.unit.Key.{Key}
 use Rattle.sql_schema.specs.Inside.{IsInOrder}
 use Rattle.sql_schema.specs.Keys.{second_text, has_text, is_on_unit, columns}
-use Rattle.sql_meaning.specs.RowsShown.{ShowsPolicyIn}
+use Rattle.sql_statements.specs.Answers.{ShowsPolicyIn}
 use Rattle.sql_meaning.specs.Meaning.{policy_in, template_in, suggestions_in, votes_in}
 use Rattle.sql_meaning.specs.Shown.{shown_policy, shown_entry, shown_suggestion, shown_votes}
 use Rattle.sql_meaning.proofs.UniqueKeys.{one_place_each}

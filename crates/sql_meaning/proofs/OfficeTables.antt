@@ -33,7 +33,8 @@ use Rattle.sql_meaning.proofs.Books.{same_texts}
 use Rattle.sql_meaning.proofs.OfficeQueries.{policy_found}
 use Rattle.sql_meaning.proofs.RowsInOrder.{in_order, in_order_answers, values_in_order}
 use Rattle.sql_meaning.proofs.ShownMaps.{map_is, inserted_answers}
-use Rattle.sql_meaning.specs.RowsShown.{ShowsPolicyIn, ShowsTeamIn, ShowsTemplateIn, ShowsLanguagesIn}
+use Rattle.sql_statements.specs.Answers.{ShowsPolicyIn}
+use Rattle.sql_statements.specs.Tables.{ShowsTeamIn, ShowsTemplateIn, ShowsLanguagesIn}
 use Rattle.sql_meaning.specs.OfficeShown.{team_shown, policy_shown, template_shown, headers_shown}
 use Rattle.sql_meaning.proofs.WholeRows.{in_order_of_one}
 use Rattle.sql_meaning.specs.RowKeys.{HoldsIntegers, AreOfficeRows}

@@ -1,4 +1,4 @@
--- What statements make of a database, and show of it, is so of its rows by the names of their tables.
+-- What statements make of a database is so of its rows by the names of their tables.
 use Rattle.std.proofs.Common.{ℕ, Bool, List}
 use Rattle.sqlite.specs.Order.{Row}
 use Rattle.sqlite.specs.Effect.{Database}
@@ -9,9 +9,7 @@ use Rattle.sql_statements.specs.Added.{AddsRow}
 use Rattle.sql_statements.specs.Emptied.{EmptiesUnits}
 use Rattle.sql_statements.specs.Renewed.{UnapprovesUnits}
 use Rattle.sql_statements.specs.Taken.{TakesRows}
-use Rattle.sql_statements.specs.Tables.{ShowsTable}
 use Rattle.po_text.specs.Texts.{Text}
-use Rattle.sql_meaning.specs.RowsShown.{ShowsIn}
 use Rattle.sql_meaning.specs.Beginnings.{MakesOpening, MakesDemo}
 use Rattle.sql_meaning.specs.BeginningRows.{MakesOpeningIn, MakesDemoIn}
 use Rattle.sql_meaning.specs.RowChanges.{AddsIn, TakesIn, EmptiesIn, ClearsIn, UnapprovesIn}
@@ -35,11 +33,6 @@ module _ {old new : Database} where
 
   pub unapproves_in : UnapprovesUnits old new → UnapprovesIn (rows_named old) (rows_named new)
   unapproves_in it next = let made = it next in record { rows = made.rows; others = made.others }
-
--- ---- what reads of whole tables show
-
-pub shown_in : (db : Database) {name places order : List ℕ} {rows : List Row} → ShowsTable name places order db rows → ShowsIn name places order (rows_named db) rows
-shown_in db it = record { all = it.all; in_order = it.in_order }
 
 -- ---- beginnings
 

@@ -22,13 +22,13 @@ use Rattle.sql_meaning.proofs.OfficeQueries.{votes_found, suggestions_found}
 use Rattle.sql_meaning.proofs.ShownMaps.{map_is, inserted_answers}
 use Rattle.sql_meaning.proofs.Units.{by_place}
 use Rattle.sql_statements.specs.declared.whole_office.UnitTables.{UnitTables}
-use Rattle.sql_meaning.specs.RowsShown.{ShowsUnitsIn}
+use Rattle.sql_statements.specs.WholeOffice.{ShowsUnitTablesIn}
 use Rattle.sql_meaning.specs.OfficeShown.{votes_shown, is_of_unit, suggestions_shown, place_shown, unit_shown, units_shown}
 use Rattle.sql_meaning.proofs.WholeRows.{kept_listed, fold_mapped, kept_in_order, cut_in_order}
 use Rattle.sql_schema.specs.Layouts.{NamedRows}
 use Rattle.sql_meaning.specs.RowKeys.{AreOfficeRows}
 
-module _ (tables : NamedRows) (office : AreOfficeRows tables) (rows : UnitTables) (shows : ShowsUnitsIn tables rows) where
+module _ (tables : NamedRows) (office : AreOfficeRows tables) (rows : UnitTables) (shows : ShowsUnitTablesIn tables rows) where
   -- ---- the votes on a suggestion
 
   -- what a query by the number shows

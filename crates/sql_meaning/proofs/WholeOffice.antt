@@ -7,37 +7,28 @@ use Rattle.sql_schema.specs.Inside.{AreOfficeTables}
 use Rattle.sql_schema.specs.Whole.{IsIdle, IsLookUp}
 use Rattle.sql_meaning.specs.Meaning.{project_of_rows}
 use Rattle.sql_statements.specs.declared.whole_office.WholeOffice.{WholeOffice}
-use Rattle.sql_statements.specs.WholeOffice.{ShowsWholeOffice}
-use Rattle.sql_meaning.specs.RowsShown.{ShowsOfficeIn}
+use Rattle.sql_statements.specs.WholeOffice.{ShowsWholeOfficeIn, ShowsWholeOffice}
 use Rattle.sql_meaning.proofs.OfficeRows.{office_rows}
 use Rattle.sql_meaning.specs.OfficeShown.{project_shown}
 use Rattle.sql_meaning.proofs.OfficeTables.{whole_team, whole_policy, whole_headers, whole_template}
 use Rattle.sql_meaning.proofs.UnitTables.{whole_units}
 use Rattle.sql_schema.specs.Layouts.{rows_named, NamedRows}
 use Rattle.sql_meaning.specs.RowKeys.{AreOfficeRows}
-use Rattle.sql_meaning.proofs.RowsByName.{shown_in}
 
 -- by the names of the tables, wherever these are
-pub whole_rows : (tables : NamedRows) → AreOfficeRows tables → (rows : WholeOffice) → ShowsOfficeIn tables rows → project_shown rows ≡ project_of_rows tables
+pub whole_rows : (tables : NamedRows) → AreOfficeRows tables → (rows : WholeOffice) → ShowsWholeOfficeIn tables rows → project_shown rows ≡ project_of_rows tables
 whole_rows tables office rows shows =
-    let template = whole_template tables office rows.office.template.items shows.template in
-    let headers = whole_headers tables office rows.office.languages.items shows.languages in
+    let template = whole_template tables office rows.office.template.items shows.office.template in
+    let headers = whole_headers tables office rows.office.languages.items shows.office.languages in
     let units = whole_units tables office rows.units shows.units in
-    let team = whole_team tables office rows.office.team.items shows.team in
-    let policy = whole_policy tables office rows.office.policy shows.policy in
+    let team = whole_team tables office rows.office.team.items shows.office.team in
+    let policy = whole_policy tables office rows.office.policy shows.office.policy in
     let read : project_of_rows tables ≡ project_shown rows = λ i. record { template = template i; headers = headers i; units = units i; team = team i; policy = policy i } in
     sym read
 
 -- those of a database
 pub whole_office : (db : Database) → AreOfficeTables db → (rows : WholeOffice) → ShowsWholeOffice db rows → project_shown rows ≡ project_of_rows (rows_named db)
-whole_office db office rows shows =
-    whole_rows (rows_named db) (office_rows db office) rows (record {
-      team = shown_in db shows.office.team;
-      policy = shows.office.policy;
-      template = shown_in db shows.office.template;
-      languages = shown_in db shows.office.languages;
-      units = record { units = shown_in db shows.units.units; suggestions = shown_in db shows.units.suggestions; votes = shown_in db shows.units.votes };
-    })
+whole_office db office = whole_rows (rows_named db) (office_rows db office)
 
 -- what the whole read answers is the project that was committed
 pub office_looked_up : (old new : State) (rows : WholeOffice) → IsIdle old → IsLookUp {E = Error} old new (Ok rows) ShowsWholeOffice → HasCleanDisk new

@@ -3,7 +3,6 @@ pub mod Values
 pub mod Meaning
 pub mod RowKeys
 pub mod RowChanges
-pub mod RowsShown
 pub mod Cells
 pub mod Written
 pub mod Shown

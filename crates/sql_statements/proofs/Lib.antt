@@ -47,3 +47,5 @@ pub mod DomainUnapproved
 pub mod DomainMessages
 pub mod DomainObsolete
 pub mod LookedUp
+pub mod SeenChanges
+pub mod SeenAnswers

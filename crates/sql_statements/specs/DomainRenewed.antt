@@ -1,5 +1,5 @@
 -- Rows of all domains become others where they stand: those of approved units, and each tally, under a policy without reviews.
-use Rattle.std.specs.Prelude.{◌≡◌, ℕ, pos, ◌+ℤ◌, Bool, true, List, [], ◌∷◌, ◌++◌, drop, codes}
+use Rattle.std.specs.Prelude.{◌≡◌, pos, ◌+ℤ◌, Bool, true, [], ◌∷◌, ◌++◌, drop, codes}
 use Rattle.sqlite.specs.declared.types.Value.TheVariants.{Int}
 use Rattle.sqlite.specs.Order.{Row, column}
 use Rattle.sqlite.specs.Effect.{Database}

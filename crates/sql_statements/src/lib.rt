@@ -10,7 +10,8 @@
 //! - `domain_office`: what a domain sees of them
 //!
 //! Specs: `Answers`, `DomainAnswers`, `UnitRows`, `Queries`, `Tables`, `RecordTable`, `WholeOffice` are what reads show; `Added`,
-//! `Taken`, `Emptied`, `Renewed`, `DomainCleared` what becomes of rows. A lemma about one table's texts stands in `proofs/` under the
+//! `Taken`, `Emptied`, `Renewed`, `DomainRenewed`, `DomainCleared` what becomes of rows. What a domain sees of that is in
+//! `proofs/SeenChanges` and `proofs/SeenAnswers`. A lemma about one table's texts stands in `proofs/` under the
 //! table's name (`UnitPuts`, `PolicySet`, `UnitReads`); what INSERT, INSERT with ON CONFLICT, DELETE and UPDATE do to
 //! any table of the office in `Additions`, `Upserts`, `Removals`, `Renewals`.
 //!

@@ -1,0 +1,70 @@
+-- What look-ups by a domain show is what would be shown of the tables that it sees.
+use Rattle.std.proofs.Common.{◌≡◌, ℕ, List, [], ◌∷◌, ◌&&◌, map, filter, Bool, true, false, Option, codes, refl, sym, ap, subst, ◌∙◌}
+use Rattle.std.proofs.lemmas.Bool.{and_from}
+use Rattle.std.specs.List.Sorted.{IsPermutation}
+use Rattle.sqlite.specs.Order.{Row}
+use Rattle.sqlite.specs.Effect.{Database}
+use Rattle.sqlite_rules.specs.Lists.{Has}
+use Rattle.sqlite_rules.proofs.ListLemmas.{some_from}
+use Rattle.sql_laws.proofs.RowMaps.{texts_are_one, text_ties_itself}
+use Rattle.sql_schema.specs.Layouts.{rows_named}
+use Rattle.sql_schema.specs.Keys.{text_at, first_text, has_text, is_on_unit, columns}
+use Rattle.sql_schema.specs.Views.{suggestion_seen, is_vote_in, vote_seen, seen_in}
+use Rattle.sql_schema.proofs.Queries.{filtered_same}
+use Rattle.sql_schema.proofs.Views.{found_seen}
+use Rattle.sql_schema.proofs.DomainViews.{is_text, languages_viewed}
+use Rattle.sql_statements.specs.Answers.{ShowsEntryIn, ShowsLanguageIn, ShowsSuggestionsOfIn, ShowsVotesOnIn}
+use Rattle.sql_statements.specs.DomainCleared.{is_on_domain_unit}
+use Rattle.sql_statements.specs.DomainAnswers.{ShowsDomainEntry, ShowsDomainLanguage, ShowsDomainSuggestions, ShowsDomainVotes}
+use Rattle.sql_statements.proofs.Seen.{mapped_seen, filtered_seen}
+use Rattle.sql_statements.proofs.SeenChanges.{entry_keys_viewed}
+
+pub entry_found_seen : (domain key : List ℕ) (db : Database) (found : Option Row) → ShowsDomainEntry domain key db found
+    → ShowsEntryIn key (seen_in domain (rows_named db)) found
+entry_found_seen domain key db found it =
+    found_seen (entry_keys_viewed domain) (columns (4 ∷ 5 ∷ 6 ∷ 7 ∷ [])) (columns (3 ∷ 4 ∷ 5 ∷ 6 ∷ [])) (rows_named db (codes "d_template")) (domain ∷ key ∷ []) key
+    (λ r e. let name : text_at 1 r ≡ domain = cc in let of_key : text_at 3 r ≡ key = cc in (is_text 1 domain r name, of_key))
+    (λ r passes e. let name = texts_are_one (text_at 1 r) domain passes in let of_key : text_at 3 r ≡ key = e in λ i. name i ∷ of_key i ∷ [])
+    (λ r. refl) found it
+
+pub language_found_seen : (domain lang : List ℕ) (db : Database) (found : Option Row) → ShowsDomainLanguage domain lang db found
+    → ShowsLanguageIn lang (seen_in domain (rows_named db)) found
+language_found_seen domain lang db found it =
+    found_seen (languages_viewed domain) (columns (3 ∷ 4 ∷ [])) (columns (2 ∷ 3 ∷ [])) (rows_named db (codes "d_language")) (domain ∷ lang ∷ []) lang
+    (λ r e. let name : text_at 1 r ≡ domain = cc in let of_lang : text_at 2 r ≡ lang = cc in (is_text 1 domain r name, of_lang))
+    (λ r passes e. let name = texts_are_one (text_at 1 r) domain passes in let of_lang : text_at 2 r ≡ lang = e in λ i. name i ∷ of_lang i ∷ [])
+    (λ r. refl) found it
+
+pub suggestions_shown_seen : (domain lang key : List ℕ) (db : Database) (rows : List Row) → ShowsDomainSuggestions domain lang key db rows
+    → ShowsSuggestionsOfIn lang key (seen_in domain (rows_named db)) rows
+suggestions_shown_seen domain lang key db rows it =
+    let all = rows_named db (codes "d_suggestion") in (
+      subst (λ l. IsPermutation l rows)
+          (mapped_seen (columns (1 ∷ 5 ∷ 6 ∷ 7 ∷ [])) (columns (1 ∷ 4 ∷ 5 ∷ 6 ∷ [])) suggestion_seen (filter (is_on_domain_unit domain lang key) all) (λ row there. refl)
+          ∙ ap (map (columns (1 ∷ 4 ∷ 5 ∷ 6 ∷ []))) (filtered_seen (has_text 2 domain) (is_on_unit lang key) suggestion_seen all)) it.0,
+      it.1,
+    )
+
+-- the votes on a suggestion of the domain
+module _ (domain number : List ℕ) (db : Database) (suggestion : Row) (there : Has (rows_named db (codes "d_suggestion")) suggestion) (own : has_text 2 domain suggestion ≡ true) (numbered : first_text suggestion ≡ number) where
+  seen_too : (vote : Row) → (b : Bool) → has_text 1 number vote ≡ b → has_text 1 number vote ≡ (is_vote_in domain (rows_named db (codes "d_suggestion")) vote && has_text 1 number vote)
+  seen_too vote true e =
+      let same : first_text suggestion ≡ first_text vote = numbered ∙ sym (texts_are_one (first_text vote) number e) in
+      let on : has_text 1 (first_text vote) suggestion ≡ true = rw same (text_ties_itself (first_text vote)) in
+      let seen : is_vote_in domain (rows_named db (codes "d_suggestion")) vote ≡ true =
+      some_from (λ s. has_text 1 (first_text vote) s && has_text 2 domain s) (rows_named db (codes "d_suggestion")) suggestion there (and_from _ _ on own) in
+      e ∙ sym (and_from _ _ seen e)
+  seen_too vote false e = e ∙ sym (none (is_vote_in domain (rows_named db (codes "d_suggestion")) vote) (has_text 1 number vote) e)
+    where
+      none : (a b : Bool) → b ≡ false → (a && b) ≡ false
+      none true b e = e
+      none false b e = refl
+
+  pub votes_shown_seen : (rows : List Row) → ShowsDomainVotes number db rows → ShowsVotesOnIn number (seen_in domain (rows_named db)) rows
+  votes_shown_seen rows it =
+      let all = rows_named db (codes "d_vote") in
+      let seen = λ (vote : Row). is_vote_in domain (rows_named db (codes "d_suggestion")) vote && has_text 1 number vote in
+      subst (λ l. IsPermutation l rows)
+      (ap (map (columns (2 ∷ 3 ∷ []))) (filtered_same (has_text 1 number) seen all (λ vote listed. seen_too vote (has_text 1 number vote) refl))
+      ∙ mapped_seen (columns (2 ∷ 3 ∷ [])) (columns (2 ∷ 3 ∷ [])) vote_seen (filter seen all) (λ vote listed. refl)
+      ∙ ap (map (columns (2 ∷ 3 ∷ []))) (filtered_seen (is_vote_in domain (rows_named db (codes "d_suggestion"))) (has_text 1 number) vote_seen all)) it
