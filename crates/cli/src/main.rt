@@ -97,8 +97,7 @@ fn store_fault(rt: &HostRuntime, fault: OpenFault) -> u8 {
 /// Delivers what the standard input gives, to the office in a file, or to one in memory.
 fn deliver_standard(rt: &HostRuntime, options: &Deliver<'_>) -> io::Result<u8> {
     if let Some(path) = options.store {
-        let work = Work::Deliver(&options.domain, options.export.as_ref());
-        return Ok(in_file(rt, path, work));
+        return Ok(in_file(rt, path, Work::Deliver(options)));
     }
     let mut replies = Output::new(BufWriter::new(rt.alloc(), rt.stdout())?);
     let status = deliver_in_memory(rt, options, &mut replies);
@@ -124,6 +123,7 @@ fn deliver_in_memory(
                 &mut faults,
                 &options.domain,
                 options.export.as_ref(),
+                options.at_lost,
             );
             drop(desk);
             status

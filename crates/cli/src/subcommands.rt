@@ -114,6 +114,12 @@ pub(crate) const DELIVER: Subcommand = Subcommand {
             value: Value::TextOr("main"),
             help: "The language's domain",
         },
+        Word {
+            name: "stop-at-lost",
+            called: "",
+            value: Value::Flag,
+            help: "Delivers nothing behind the first line that is answered 503 or 507",
+        },
     ],
     behind: MAN_PAGE,
 };

@@ -5,7 +5,7 @@ use crate::subcommands::{
 };
 use clap::error::ErrorKind;
 use clap::{ArgMatches, Command, Error};
-use commands::FAILED;
+use commands::{AtLost, FAILED};
 use std::alloc::{AllocError, Global};
 use tables::Start;
 use units::{Lang, Name};
@@ -40,6 +40,8 @@ pub(crate) struct Deliver<'a> {
     pub(crate) domain: Name,
     /// The language to export at the end.
     pub(crate) export: Option<Lang>,
+    /// What becomes of the lines behind one that is lost.
+    pub(crate) at_lost: AtLost,
 }
 
 /// The options of `export`: the file, the domain, and its language.
@@ -262,6 +264,11 @@ fn start(is_demo: bool, manager: Name) -> Start {
     }
 }
 
+/// What becomes of the lines behind a lost one, by whether the list is to stop there.
+fn at_lost(stops: bool) -> AtLost {
+    if stops { AtLost::End } else { AtLost::GoOn }
+}
+
 fn deliver_options<'a>(alloc: Global, found: &ArgMatches<'a>) -> Result<Asked<'a>, Error> {
     let manager = name_of(alloc, found, "manager", DELIVER, "office deliver")?;
     let domain = name_of(alloc, found, "domain", DELIVER, "office deliver")?;
@@ -274,5 +281,6 @@ fn deliver_options<'a>(alloc: Global, found: &ArgMatches<'a>) -> Result<Asked<'a
         start: start(found.get_flag("demo"), manager),
         domain,
         export,
+        at_lost: at_lost(found.get_flag("stop-at-lost")),
     }))
 }

@@ -2,7 +2,7 @@
 ghost use Rattle.std.specs.Prelude.{◌≡◌, false};
 
 use crate::serve::serve_opened;
-use crate::words::Serve;
+use crate::words::{Deliver, Serve};
 use crate::{DONE, second_output};
 use commands::{FAILED, Input, Output};
 use file_commands::{Closed, deliver_store, export_store, init_store, say_ready};
@@ -18,7 +18,7 @@ pub(crate) enum Work<'a> {
     /// It is made, as this start has it.
     Make(&'a Start),
     /// The standard input is delivered to it, and then the domain's language is exported, if one is named.
-    Deliver(&'a Name, Option<&'a Lang>),
+    Deliver(&'a Deliver<'a>),
     /// The domain's language is exported.
     Export(&'a Name, &'a Lang),
     /// It is served on a port.
@@ -50,7 +50,7 @@ pub(crate) fn done<S: Alter + Drop>(
 {
     match work {
         Work::Make(start) => make(rt, connection, start),
-        Work::Deliver(domain, export) => deliver(rt, connection, domain, export),
+        Work::Deliver(options) => deliver(rt, connection, options),
         Work::Export(domain, lang) => export(rt, connection, domain, lang),
         Work::Serve(options) => serve_opened(rt, connection, options),
     }
@@ -65,8 +65,7 @@ fn make<S: Alter + Drop>(rt: &HostRuntime, connection: Connection<S>, start: &St
 fn deliver<S: Alter + Drop>(
     rt: &HostRuntime,
     connection: Connection<S>,
-    domain: &Name,
-    export: Option<&Lang>,
+    options: &Deliver<'_>,
 ) -> Closed<S>
     requires { connection.in_transaction ≡ false }
 {
@@ -77,8 +76,9 @@ fn deliver<S: Alter + Drop>(
             &mut Input::new(rt.stdin()),
             &mut Output::new(buffer),
             &mut second_output(rt),
-            domain,
-            export,
+            &options.domain,
+            options.export.as_ref(),
+            options.at_lost,
         ),
         Err(_) => Closed {
             status: FAILED,

@@ -1,8 +1,7 @@
 -- What comes of a text that was read.
-use Rattle.std.proofs.Common.{◌≡◌, ℕ, ◌-◌, ◌^◌, ◌<◌, ◌≤◌, List, [], ◌∷◌, ◌++◌, ◌⊎◌, inl, inr, Bool, true, false, Option, Some, None, Result, Ok, Err, MatchResult, length, refl, sym, ap, subst, ◌∙◌, append_assoc, append-nil, arith, nat_lt, length-append}
-use Rattle.std.specs.Prelude.{IfOk, IfErr}
+use Rattle.std.proofs.Common.{◌≡◌, ℕ, ◌<◌, ◌≤◌, List, [], ◌++◌, ◌⊎◌, inl, inr, Bool, true, false, Option, Some, None, Result, MatchResult, length, refl, sym, ap, subst, ◌∙◌, append-nil, arith, nat_lt, length-append}
 use Rattle.std.proofs.lemmas.Bool.Decides.{nat_tests}
-use Rattle.byte_streams.specs.Streams.{Took, TookBeginning, RoseOrStands, prepend_known, IsAtEnd, one_more}
+use Rattle.byte_streams.specs.Streams.{Took, TookBeginning, RoseOrStands}
 use Rattle.po_lex.specs.declared.fault.FaultKind.{FaultKind}
 use Rattle.po_lex.specs.declared.fault.FaultKind.TheVariants.{Memory}
 use Rattle.po_lex.specs.declared.fault.PoFault.{PoFault}
@@ -10,10 +9,9 @@ use Rattle.po_text.specs.declared.entry.Entry.{Entry}
 use Rattle.po_read.specs.Spells.{Spells, IsWithin, limits}
 use Rattle.po_read.specs.Faults.{IsFault, too_long, not_utf8, at_line, at_end}
 use Rattle.po_read.specs.Views.{IsMemory}
-use Rattle.po_write.specs.Sending.{TookAll, TookPart}
 use Rattle.po_write.specs.Text.{text_of}
 use Rattle.office.proofs.Streaming.{took_none, all_or_part}
-use Rattle.commands.specs.CanonText.{read_limit, WasRead, WasGathered, po_fault_line, Writer, TakesAll, TakesPart, Canon, written, broke, told, unread}
+use Rattle.commands.specs.CanonText.{read_limit, WasGathered, po_fault_line, Writer, TakesAll, TakesPart, Canon, written, broke, told, unread}
 
 -- ---- writing
 

@@ -1,5 +1,5 @@
 -- How the lines of a rule end.
-use Rattle.std.proofs.Common.{◌≡◌, ◌≢◌, ℕ, List, [], ◌⊎◌, inl, inr, Option, Some, None, Result, Ok, Err, MatchResult, refl, sym, ap, subst, ◌∙◌}
+use Rattle.std.proofs.Common.{◌≡◌, ◌≢◌, ℕ, List, [], ◌⊎◌, inl, inr, Option, Some, Result, Ok, Err, MatchResult, refl, sym, ap, subst, ◌∙◌}
 use Rattle.byte_streams.specs.Streams.{RoseOrStands}
 use Rattle.byte_streams.proofs.Taking.{append_known-nil}
 use Rattle.plural_expr.specs.declared.fault.EvalFault.{EvalFault}

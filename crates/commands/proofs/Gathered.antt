@@ -1,12 +1,19 @@
 -- Lines that are gathered from pieces, and answered on the way.
-use Rattle.std.proofs.Common.{◌≡◌, ◌≢◌, ℕ, List, [], ◌∷◌, ◌++◌, Bool, true, false, refl, sym, ap, subst, ◌∙◌, append_assoc, append-nil}
-use Rattle.std.specs.Prelude.{flat_map, Option, Result, Ok, Err, MatchResult, IsErr}
-use Rattle.byte_streams.specs.Streams.{prepend_known}
+use Rattle.std.proofs.Common.{◌≡◌, ◌≢◌, ℕ, List, [], ◌∷◌, ◌++◌, inr, refl, sym, ap, subst, ◌∙◌, append_assoc, append-nil}
+use Rattle.std.specs.Prelude.{◌⊎◌, flat_map, Option, Result, Ok, Err, IsErrAnd, MatchResult}
+use Rattle.byte_streams.specs.Streams.{prepend_known, RoseOrStands}
+use Rattle.commands.specs.declared.deliver.AtLost.{AtLost}
+use Rattle.commands.specs.declared.deliver.Broken.{Broken}
+use Rattle.commands.specs.declared.deliver.Broken.TheVariants.{Stream, Lost}
 use Rattle.commands.specs.declared.lines.Line.{Line}
 use Rattle.commands.specs.TextLines.{HasNoEnd, with_end, IsCut, with_rest}
 use Rattle.office.specs.Exchanges.{Exchange, IsLine, exchange_line, Answered}
-use Rattle.commands.specs.Gathering.{Gathers, Passed, BrokeOff, ReadOff}
+use Rattle.commands.specs.LostLines.{BrokenOff}
+use Rattle.commands.specs.Gathering.{Gathers, Passed, BrokeOff, BreaksOff, ReadsOff}
+use Rattle.office.specs.Writers.{Writer, TakesAll, TakesPart}
 use Rattle.office.proofs.Going.{answered_further, one_answered, none_answered}
+use Rattle.office.proofs.Streaming.{took_all, took_part}
+use Rattle.commands.proofs.Losing.{where_it_ends}
 use Rattle.commands.proofs.Cutting.{no_end-append, nothing_cut, one_cut, cut_further, whole_further, each_further}
 
 -- ---- one line
@@ -129,21 +136,33 @@ broke_so so it = record { lines = it.lines; rest = it.rest; whole = it.whole; ea
 broke_at_once : (Did : List Exchange → Type 0) (Wrote : List ℕ → Type 0) (begun : List ℕ) → Did [] → Wrote [] → BrokeOff Did Wrote (begun ++ [])
 broke_at_once Did Wrote begun did wrote = record { lines = []; rest = begun; whole = append-nil begun; each = tt; answered = none_answered did wrote }
 
--- what stands behind `?`
-pub failed : {T E : Type 0} (r : Result T E) (All : T → Type 0) (Part : Type 0) → IsErr r → Part → MatchResult r All (λ _. Part)
-failed (Ok x) All Part err part = let differs : false ≡ true = err in cc
-failed (Err e) All Part err part = part
+-- the same by other words for what was done
+pub answered_did : {Did DidAs : List Exchange → Type 0} {Wrote : List ℕ → Type 0} {lines : List (List ℕ)} → ((xs : List Exchange) → Did xs → DidAs xs) → Answered Did Wrote lines → Answered DidAs Wrote lines
+answered_did so it = record { exchanges = it.exchanges; are = it.are; did = so it.exchanges it.did; wrote = it.wrote }
+
+-- ---- what stands behind `?`
+
+-- why it isn't Ok
+abbrev pub IsErrOf : {T : Type 0} → Broken → Result T Broken → Type 0
+IsErrOf why r = IsErrAnd r (λ e. e ≡ why)
+
+pub failed : {T : Type 0} (r : Result T Broken) (why : Broken) (All : T → Type 0) (Part : Broken → Type 0) → IsErrOf why r → Part why → MatchResult r All Part
+failed (Ok x) why All Part err part = absurd err
+failed (Err e) why All Part err part = subst Part (sym err) part
 
 -- ---- one read
 
 -- a stream failed before anything came
-pub off_at_once : {T E : Type 0} (r : Result T E) (All : T → Type 0) (Did : List Exchange → Type 0) (Wrote : List ℕ → Type 0) (left_old left_new : Option (List ℕ)) (begun : List ℕ) → IsErr r → left_old ≡ prepend_known [] left_new →
-    Did [] → Wrote [] → MatchResult r All (λ _. ReadOff left_old left_new Did Wrote begun)
-off_at_once r All Did Wrote left_old left_new begun err read did wrote =
-    failed r All (ReadOff left_old left_new Did Wrote begun) err (record { piece = []; read = read; broke = broke_at_once Did Wrote begun did wrote })
+pub off_at_once : {T : Type 0} (r : Result T Broken) (at : AtLost) (All : T → Type 0) (Did : List Exchange → Type 0) (left_old left_new : Option (List ℕ)) (f0 f1 : ℕ) (w0 w1 : Writer) (begun : List ℕ) → IsErrOf Stream r → left_old ≡ prepend_known [] left_new →
+    Did [] → (RoseOrStands f0 f1 × TakesAll w0 w1 []) ⊎ TakesPart w0 w1 [] → MatchResult r All (λ why. ReadsOff why at left_old left_new f0 f1 Did w0 w1 begun)
+off_at_once r at All Did left_old left_new f0 f1 w0 w1 begun err read did wrote =
+    failed r Stream All (λ why. ReadsOff why at left_old left_new f0 f1 Did w0 w1 begun) err
+    (record { piece = []; read = read; broke = broke_at_once (BrokenOff at Did) (λ a. (RoseOrStands f0 f1 × TakesAll w0 w1 a) ⊎ TakesPart w0 w1 a) begun (record { did = did; behind = where_it_ends at tt }) wrote })
 
--- the writer failed at an answer
-pub off_behind : {T E : Type 0} (r : Result T E) (All : T → Type 0) (Did : List Exchange → Type 0) (WroteThen Wrote : List ℕ → Type 0) (left_old left_new : Option (List ℕ)) (begun piece : List ℕ) → IsErr r → left_old ≡ prepend_known piece left_new →
-    ((a : List ℕ) → WroteThen a → Wrote a) → BrokeOff Did WroteThen (begun ++ piece) → MatchResult r All (λ _. ReadOff left_old left_new Did Wrote begun)
-off_behind r All Did WroteThen Wrote left_old left_new begun piece err read so broke =
-    failed r All (ReadOff left_old left_new Did Wrote begun) err (record { piece = piece; read = read; broke = broke_so so broke })
+-- no further line is taken behind some of a piece
+pub off_behind : {T : Type 0} (r : Result T Broken) (why : Broken) (at : AtLost) (All : T → Type 0) (Did : List Exchange → Type 0) (left_old left_new : Option (List ℕ)) (f0 f1 : ℕ) (w0 w1 w2 : Writer) (begun piece : List ℕ) → IsErrOf why r → left_old ≡ prepend_known piece left_new →
+    TakesAll w0 w1 [] → BreaksOff why at Did (TakesAll w1 w2) (TakesPart w1 w2) (begun ++ piece) → MatchResult r All (λ e. ReadsOff e at left_old left_new f0 f1 Did w0 w2 begun)
+off_behind r Stream at All Did left_old left_new f0 f1 w0 w1 w2 begun piece err read first broke =
+    failed r Stream All (λ e. ReadsOff e at left_old left_new f0 f1 Did w0 w2 begun) err (record { piece = piece; read = read; broke = broke_so (λ a part. inr (took_part [] a first part)) broke })
+off_behind r Lost at All Did left_old left_new f0 f1 w0 w1 w2 begun piece err read first broke =
+    failed r Lost All (λ e. ReadsOff e at left_old left_new f0 f1 Did w0 w2 begun) err (broke.0, record { piece = piece; read = read; broke = broke_so (λ a all. took_all [] a first all) broke.1 })

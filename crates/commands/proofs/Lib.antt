@@ -2,6 +2,7 @@ pub mod PluralLemmas
 pub mod Ends
 pub mod CanonLemmas
 pub mod Cutting
+pub mod Losing
 pub mod Gathered
 pub mod Reading
 pub mod Exporting

@@ -1,8 +1,8 @@
 -- The lines of a rule, one after another.
-use Rattle.std.proofs.Common.{◌≡◌, ℕ, ◌+◌, ◌<◌, ◌≤◌, List, [], ◌∷◌, ◌++◌, length, drop, get_or, Option, Some, None, Result, Ok, Err, refl, sym, ap, ◌∙◌, drop-cons, add-one, arith}
+use Rattle.std.proofs.Common.{◌≡◌, ℕ, ◌+◌, ◌<◌, ◌≤◌, List, [], ◌∷◌, ◌++◌, length, drop, get_or, Some, None, Ok, Err, sym, ap, ◌∙◌, drop-cons, add-one}
 use Rattle.std.proofs.lemmas.List.{drop_all}
 use Rattle.plural_expr.specs.declared.fault.EvalFault.{EvalFault}
-use Rattle.plural_expr.specs.Values.{Rule, Value, index_of}
+use Rattle.plural_expr.specs.Values.{Rule, index_of}
 use Rattle.commands.specs.PluralLines.{index_line, line_then, lines_of, fault_then, fault_of}
 
 next : (ns : List ℕ) (i : ℕ) → i < length ns → drop i ns ≡ get_or ns i 0 ∷ drop (i + 1) ns

@@ -1,6 +1,6 @@
 -- What comes of `office deliver`: the lines of a text, what each is answered, and behind the answers the text of a domain's language. This
 -- project's own rule.
-use Rattle.std.specs.Prelude.{◌≡◌, ◌≤◌, ◌-◌, ◌^◌, ℕ, List, [], ◌++◌, length, Option, Some, None, IsSomeAnd}
+use Rattle.std.specs.Prelude.{◌≡◌, ◌≤◌, ◌-◌, ◌^◌, ◌⊎◌, ℕ, List, [], ◌++◌, length, Option, Some, None, IsSomeAnd}
 use Rattle.po_text.specs.Texts.{Text}
 use Rattle.units.specs.Office.{Office, project_in}
 use Rattle.byte_streams.specs.Streams.{Took, RoseOrStands}
@@ -10,7 +10,10 @@ use Rattle.office.specs.declared.faults.ExportFault.TheVariants.{NoLanguage}
 use Rattle.office.specs.Writers.{Writer, TakesAll, TakesPart}
 use Rattle.commands.specs.TextLines.{AreLinesOf}
 use Rattle.office.specs.Exchanges.{Exchange, HasDelivered, Answered}
+use Rattle.commands.specs.declared.deliver.AtLost.{AtLost}
+use Rattle.commands.specs.declared.deliver.AtLost.TheVariants.{End}
 use Rattle.commands.specs.ExportLines.{EndedWithFault}
+use Rattle.commands.specs.LostLines.{GoingOn, BrokenOff, EndedAt}
 
 -- ---- lines and their answers
 
@@ -72,19 +75,27 @@ HandsOn old new = TakesAll old new []
 abbrev pub HoldsBack : Writer → Writer → Type 0
 HoldsBack old new = TakesPart old new []
 
+-- the answers were handed on, or the writer failed
+abbrev pub HandsOnOrFails : Type 0 → Writer → Writer → List ℕ → Type 0
+HandsOnOrFails HandedOn old new answers = (TakesAll old new answers × HandedOn) ⊎ TakesPart old new answers
+
 -- What came of a text, at the desk, on the outputs and in the exit status:
-pub data Delivered (Honest Whole Gone : Type 0) (before after : OfficeWithBook) (domain : Text) (lang : Option Text) (text : List ℕ) (reads_failed_old reads_failed_new : ℕ)
-    (replies_old replies_new faults_old faults_new : Writer) (status : ℕ) : Type 0 where
+pub data Delivered (at : AtLost) (HandedOn Honest Whole Gone : Type 0) (before after : OfficeWithBook) (domain : Text) (lang : Option Text) (text : List ℕ)
+    (reads_failed_old reads_failed_new : ℕ) (replies_old replies_new faults_old faults_new : Writer) (status : ℕ) : Type 0 where
   -- each line was answered, and the language exported behind the answers;
-  done : AllAnswered (HasDelivered Honest Whole Gone before after)
+  done : AllAnswered (GoingOn at (HasDelivered Honest Whole Gone before after))
       (TookBehind (λ old new. Exported Honest Whole after.office domain lang old new faults_old faults_new status) HandsOn replies_old replies_new) text
-      → Delivered Honest Whole Gone before after domain lang text reads_failed_old reads_failed_new replies_old replies_new faults_old faults_new status
+      → Delivered at HandedOn Honest Whole Gone before after domain lang text reads_failed_old reads_failed_new replies_old replies_new faults_old faults_new status
   -- or the writer held back some of that;
-  held : (exit : ℕ) → AllAnswered (HasDelivered Honest Whole Gone before after)
+  held : (exit : ℕ) → AllAnswered (GoingOn at (HasDelivered Honest Whole Gone before after))
       (TookBehind (λ old new. Exported Honest Whole after.office domain lang old new faults_old faults_new exit) HoldsBack replies_old replies_new) text
       → status ≡ 1
-      → Delivered Honest Whole Gone before after domain lang text reads_failed_old reads_failed_new replies_old replies_new faults_old faults_new status
-  -- or a stream failed behind the first lines.
-  stopped : SomeAnswered (HasDelivered Honest Whole Gone before after) (Stopped text reads_failed_old reads_failed_new replies_old replies_new) text
+      → Delivered at HandedOn Honest Whole Gone before after domain lang text reads_failed_old reads_failed_new replies_old replies_new faults_old faults_new status
+  -- or a stream failed behind the first lines;
+  stopped : SomeAnswered (BrokenOff at (HasDelivered Honest Whole Gone before after)) (Stopped text reads_failed_old reads_failed_new replies_old replies_new) text
       → TakesAll faults_old faults_new [] → status ≡ 1
-      → Delivered Honest Whole Gone before after domain lang text reads_failed_old reads_failed_new replies_old replies_new faults_old faults_new status
+      → Delivered at HandedOn Honest Whole Gone before after domain lang text reads_failed_old reads_failed_new replies_old replies_new faults_old faults_new status
+  -- or the list was to end at a lost line, and did: nothing behind it was delivered.
+  lost : at ≡ End → SomeAnswered (EndedAt (HasDelivered Honest Whole Gone before after)) (HandsOnOrFails HandedOn replies_old replies_new) text
+      → TakesAll faults_old faults_new [] → status ≡ 1
+      → Delivered at HandedOn Honest Whole Gone before after domain lang text reads_failed_old reads_failed_new replies_old replies_new faults_old faults_new status

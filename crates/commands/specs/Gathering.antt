@@ -1,13 +1,18 @@
 -- How lines are gathered from the pieces of a stream and answered on the way. This project's own words, for the code's own steps.
-use Rattle.std.specs.Prelude.{◌≡◌, ◌<◌, ℕ, List, ◌++◌, length, flat_map, true, false, Bool, Option, IfSome, Result, MatchResult}
+use Rattle.std.specs.Prelude.{◌≡◌, ◌<◌, ◌⊎◌, ℕ, List, ◌++◌, length, flat_map, true, false, Bool, Option, IfSome, Result, MatchResult}
 use Rattle.std.specs.List.{AllByRecursion}
-use Rattle.byte_streams.specs.Streams.{prepend_known, IsAtEnd}
+use Rattle.byte_streams.specs.Streams.{prepend_known, IsAtEnd, RoseOrStands}
 use Rattle.commands.specs.declared.lines.Gathered.{Gathered}
 use Rattle.commands.specs.declared.lines.Gathered.TheVariants.{Whole, TooLong, NoMemory}
 use Rattle.commands.specs.declared.lines.Line.{Line}
+use Rattle.commands.specs.declared.deliver.AtLost.{AtLost}
+use Rattle.commands.specs.declared.deliver.AtLost.TheVariants.{End}
+use Rattle.commands.specs.declared.deliver.Broken.{Broken}
+use Rattle.commands.specs.declared.deliver.Broken.TheVariants.{Stream, Lost}
+use Rattle.commands.specs.LostLines.{GoingOn, BrokenOff, EndedAt}
 use Rattle.commands.specs.TextLines.{HasNoEnd, with_end, IsCut}
 use Rattle.office.specs.Exchanges.{Exchange, line_limit, Answered}
-use Rattle.office.specs.Writers.{Writer, TakesAll}
+use Rattle.office.specs.Writers.{Writer, TakesAll, TakesPart}
 use Rattle.commands.specs.DeliverLines.{AllAnswered, SomeAnswered, Stopped, HandsOn, HoldsBack}
 
 -- what is known of bytes by how they were gathered, how many they are, and which were kept
@@ -36,6 +41,11 @@ pub record BrokeOff (Did : List Exchange → Type 0) (Wrote : List ℕ → Type 
   pub each : AllByRecursion HasNoEnd lines
   pub answered : Answered Did Wrote lines
 
+-- By why no further one was: the writer failed, or the list ends at the last of them, which is lost.
+abbrev pub BreaksOff : Broken → AtLost → (List Exchange → Type 0) → (List ℕ → Type 0) → (List ℕ → Type 0) → List ℕ → Type 0
+BreaksOff Stream at Did Wrote WrotePart text = BrokeOff (BrokenOff at Did) WrotePart text
+BreaksOff Lost at Did Wrote WrotePart text = (at ≡ End) × BrokeOff (EndedAt Did) Wrote text
+
 -- A piece was read behind what was begun, or the end was found.
 pub record ReadOn (left_old left_new : Option (List ℕ)) (failed_old failed_new : ℕ) (Did : List Exchange → Type 0) (Wrote : List ℕ → Type 0) (begun : List ℕ) (line : Line) (more : Bool) : Type 0 where
   pub piece : List ℕ
@@ -45,17 +55,28 @@ pub record ReadOn (left_old left_new : Option (List ℕ)) (failed_old failed_new
   pub end : more ≡ false → IsAtEnd left_new
   pub passed : Passed Did Wrote (begun ++ piece) line
 
--- A stream failed.
+-- No further line is taken.
 pub record ReadOff (left_old left_new : Option (List ℕ)) (Did : List Exchange → Type 0) (Wrote : List ℕ → Type 0) (begun : List ℕ) : Type 0 where
   pub piece : List ℕ
   pub read : left_old ≡ prepend_known piece left_new
   pub broke : BrokeOff Did Wrote (begun ++ piece)
 
--- What came of the text that a source gives, by whether a stream failed.
-pub record LinesAnswered {T E : Type 0} (Did : List Exchange → Type 0) (left_old : Option (List ℕ)) (reads_failed_old reads_failed_new : ℕ) (old new : Writer) (result : Result T E) : Type 0 where
+-- A stream failed, or the list ends at a lost line.
+abbrev pub ReadsOff : Broken → AtLost → Option (List ℕ) → Option (List ℕ) → ℕ → ℕ → (List Exchange → Type 0) → Writer → Writer → List ℕ → Type 0
+ReadsOff Stream at left_old left_new failed_old failed_new Did old new begun =
+    ReadOff left_old left_new (BrokenOff at Did) (λ answers. (RoseOrStands failed_old failed_new × TakesAll old new answers) ⊎ TakesPart old new answers) begun
+ReadsOff Lost at left_old left_new failed_old failed_new Did old new begun = (at ≡ End) × ReadOff left_old left_new (EndedAt Did) (TakesAll old new) begun
+
+-- The first lines of a text were answered, and no further one, for this reason.
+abbrev pub EndsBy : Broken → AtLost → (List Exchange → Type 0) → ℕ → ℕ → Writer → Writer → List ℕ → Type 0
+EndsBy Stream at Did failed_old failed_new old new text = SomeAnswered (BrokenOff at Did) (Stopped text failed_old failed_new old new) text
+EndsBy Lost at Did failed_old failed_new old new text = (at ≡ End) × SomeAnswered (EndedAt Did) (TakesAll old new) text
+
+-- What came of the text that a source gives.
+pub record LinesAnswered {T : Type 0} (at : AtLost) (Did : List Exchange → Type 0) (left_old : Option (List ℕ)) (reads_failed_old reads_failed_new : ℕ) (old new : Writer) (result : Result T Broken) : Type 0 where
   pub text : List ℕ
   pub given : IfSome left_old (λ all. text ≡ all)
-  pub outcome : MatchResult result (λ _. AllAnswered Did (TakesAll old new) text) (λ _. SomeAnswered Did (Stopped text reads_failed_old reads_failed_new old new) text)
+  pub outcome : MatchResult result (λ _. AllAnswered (GoingOn at Did) (TakesAll old new) text) (λ why. EndsBy why at Did reads_failed_old reads_failed_new old new text)
 
 -- An export, with its exit status, and then the writer handed on what it held back, or failed to.
 pub data Finished (Exports : Writer → Writer → ℕ → Type 0) (old new : Writer) (status : ℕ) : Type 0 where

@@ -7,7 +7,7 @@
 //! - `plural`: `office plural` (`plural_lines`)
 //! - `streams`, `numbers`: readers and writers of std as streams of bytes (`Input`, `Output`); numbers in lines
 //!
-//! Specs: `DeliverLines`, `TextLines`, `ExportLines`, `CanonText`, `PluralLines`; `Gathering` and `StdStreams` are the
+//! Specs: `DeliverLines`, `LostLines`, `TextLines`, `ExportLines`, `CanonText`, `PluralLines`; `Gathering` and `StdStreams` are the
 //! code's own steps and streams.
 #![tactic(auto)]
 
@@ -21,7 +21,7 @@ mod plural;
 mod streams;
 
 pub use canon::canon_text;
-pub use deliver::deliver_lines;
+pub use deliver::{AtLost, deliver_lines};
 pub use export::{FAILED, export_text};
 pub use plural::plural_lines;
 pub use streams::{Input, Output};

@@ -13,7 +13,7 @@ ghost use Rattle.sql_schema.specs.Layouts.{rows_named};
 use crate::faults::{hand_on, tell_store_fault};
 use crate::opening::{Closed, Unopened, close_desk, open_desk};
 use byte_streams::{ByteSink, ByteSource};
-use commands::{FAILED, deliver_lines, export_text};
+use commands::{AtLost, FAILED, deliver_lines, export_text};
 use office::Desk;
 use sqlite::{Alter, Connection};
 use std::alloc::Global;
@@ -23,7 +23,7 @@ use units::{Lang, Name};
 /// Opens the office in a database, delivers each line of the source to it and writes the answers, as `deliver_lines` does, and closes it. Where
 /// the office can't be opened, a line `store fault K` is written on `faults`, and nothing is read.
 ///
-/// Answers the exit status: 0, or 1 after a fault or where a stream failed; and the connection.
+/// Answers the exit status: 0, or 1 after a fault, where a stream failed or where the list ended at a lost line; and the connection.
 pub fn deliver_store<S: Alter + Drop, R: ByteSource, W: ByteSink, E: ByteSink>(
     alloc: Global,
     connection: Connection<S>,
@@ -32,13 +32,14 @@ pub fn deliver_store<S: Alter + Drop, R: ByteSource, W: ByteSink, E: ByteSink>(
     faults: &mut E,
     domain: &Name,
     lang: Option<&Lang>,
+    at_lost: AtLost,
 ) -> Closed<S>
     requires autocommit { connection.in_transaction ≡ false }
     // What the connection's rows mean afterwards is what the lines left, behind the office that was opened. Whether the tables were
     // stopped isn't seen of a connection.
     ensures delivered { Ran S.Store
         (λ opened. (text : List ℕ) × IfSome (R.left source.old) (λ all. text ≡ all) × (stopped : Bool)
-        × Delivered (HasCleanDisk (state S.Store result.connection)) (IsTrue (state S.Store result.connection).is_open) (stopped ≡ true)
+        × Delivered at_lost (W.holds_back replies.new ≡ false) (HasCleanDisk (state S.Store result.connection)) (IsTrue (state S.Store result.connection).is_open) (stopped ≡ true)
         (meaning_in (rows_named (state S.Store opened).now)) (meaning_in (rows_named (state S.Store result.connection).now)) domain.now
         (option_map (λ named. named.now) lang.entry) text (R.failed source.old) (R.failed source.new)
         (writer_at W.taken W.failed replies.old) (writer_at W.taken W.failed replies.new)
@@ -50,7 +51,9 @@ pub fn deliver_store<S: Alter + Drop, R: ByteSource, W: ByteSink, E: ByteSink>(
 {
     match open_desk(alloc, connection) {
         Ok(mut desk) => {
-            let status = deliver_lines(alloc, &mut desk, source, replies, faults, domain, lang);
+            let status = deliver_lines(
+                alloc, &mut desk, source, replies, faults, domain, lang, at_lost,
+            );
             Closed {
                 status,
                 connection: close_desk(desk),

@@ -3,7 +3,7 @@ use crate::desks::desk_opened;
 use crate::places::Place;
 use crate::stream_rows::streams::Streams;
 use crate::stream_rows::words::{has, word_behind};
-use commands::{canon_text, deliver_lines, export_text, plural_lines};
+use commands::{AtLost, canon_text, deliver_lines, export_text, plural_lines};
 use std::alloc::Global;
 use units::{Lang, Name};
 
@@ -57,6 +57,7 @@ fn deliver(
         &mut streams.faults,
         &domain,
         lang.as_ref(),
+        AtLost::GoOn,
     );
     drop(desk);
     Some(status)

@@ -4,6 +4,7 @@ ghost use Rattle.std.specs.Prelude.{◌≡◌, false};
 use crate::desk_rows::unit_told;
 use crate::stream_rows::streams::{Kept, Streams};
 use crate::stream_rows::table_rows::push_rows;
+use commands::AtLost;
 use file_commands::{
     Closed, Unopened, deliver_store, export_store, init_store, open_desk, say_ready,
     tell_store_fault,
@@ -75,6 +76,7 @@ fn deliver<S: Alter + Drop>(
         &mut streams.faults,
         domain,
         lang,
+        AtLost::GoOn,
     )
 }
 

@@ -1,6 +1,5 @@
-use Rattle.std.proofs.Common.{◌≡◌, ◌≤◌, ℕ, List, ◌++◌, take, length, vec_len, refl, arith, length-append, length-take}
+use Rattle.std.proofs.Common.{◌++◌, take, arith}
 use Rattle.std.proofs.lemmas.Grind.{common_steps}
-use Rattle.commands.specs.CanonText.{WasRead, read_limit}
 use Rattle.office.proofs.Streaming.{read_more}
 use Rattle.commands.proofs.canon.gather.Goals as goal
 

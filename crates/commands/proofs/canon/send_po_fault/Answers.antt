@@ -1,4 +1,4 @@
-use Rattle.std.proofs.Common.{◌≡◌, ℕ, List, ◌∷◌, ◌++◌, [], refl, sym, ap}
+use Rattle.std.proofs.Common.{◌≡◌, ◌∷◌, ◌++◌, [], refl, sym, ap}
 use Rattle.std.specs.Prelude.{decimal}
 use Rattle.commands.specs.CanonText.{po_fault_line}
 use Rattle.po_write.proofs.Sent.{begin, more, stopped, outcome}

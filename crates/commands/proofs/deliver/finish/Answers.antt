@@ -1,6 +1,5 @@
-use Rattle.std.proofs.Common.{◌≡◌, refl, rules}
+use Rattle.std.proofs.Common.{refl, rules}
 use Rattle.commands.specs.Gathering.{flushed, held}
-use Rattle.office.specs.Writers.{writer_at}
 use Rattle.commands.proofs.deliver.finish.Goals as goal
 
 pub returns-in-Ok-clause-finished : goal.returns-in-Ok-clause-finished

@@ -1,4 +1,4 @@
-use Rattle.std.proofs.Common.{◌≡◌, refl, sym, ap, Result, Err}
+use Rattle.std.proofs.Common.{refl, sym, ap, Result, Err}
 use Rattle.std.specs.Prelude.{option_map}
 use Rattle.office.specs.declared.export.ExportReceipt.{ExportReceipt}
 use Rattle.office.specs.declared.faults.ExportFault.{ExportFault}

@@ -1,6 +1,5 @@
 use Rattle.std.proofs.Common.{◌≡◌, ◌++◌, refl, sym, ap}
-use Rattle.std.specs.Prelude.{codes, decimal}
-use Rattle.hex.specs.Hex.{encode_lower}
+use Rattle.std.specs.Prelude.{codes}
 use Rattle.commands.specs.ExportLines.{receipt_line}
 use Rattle.po_write.proofs.Sent.{begin, more, stopped, outcome}
 use Rattle.commands.proofs.export.send_receipt.Goals as goal
