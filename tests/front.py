@@ -576,11 +576,32 @@ def escapes(front, office):
     refused(front, office, "an act's path, as text", given.replace(b"application/json", b"text/plain"), 415, "type")
 
 
+# What a browser says that it takes, where a person opens an address (Firefox, Chromium), and what its scripts and programs say.
+OPENED = ["text/html,application/xhtml+xml,application/xml;q=0.9,*/*;q=0.8", "TEXT/HTML", "image/webp, text/html;q=0.5"]
+ASKED = [None, "*/*", "application/json", "text/plain"]
+
+
+def signed_out_page(front, what, given, challenges=1):
+    """A person is told by a page, which leads back to where one signs in."""
+    found = told(front, given)
+    same(f"{front.name}: {what}, a page", (found.status, found.headers["content-type"]), (401, ["text/html; charset=utf-8"]))
+    same(f"{front.name}: {what}, the challenge", [it[:11] for it in found.headers.get("www-authenticate", [])], ["Basic realm"] * challenges)
+    same(f"{front.name}: {what}, words and a way back", re.findall('>([^<>]+)<|href="([^"]*)"', found.body.decode())[1:], [("You are not signed in. ", ""), ("", "/"), ("Sign in", "")])
+
+
 def sign_out(front, office):
-    """A browser forgets a password that it is asked for again; another site can't have that done."""
-    found = refused(front, office, "sign-out", message("GET", "/sign-out", signed("ann")), 401, "sign-in")
-    same(f"{front.name}: the challenge", [it[:11] for it in found.headers["www-authenticate"]], ["Basic realm"])
-    refused(front, office, "sign-out by another site", message("GET", "/sign-out", signed("ann"), "Sec-Fetch-Site: cross-site"), 403, "other-site")
+    """A browser forgets a password that it is asked for again; a person gets a page, all others JSON; another site can't have that done."""
+    for accept in ASKED:
+        lines = [signed("ann"), *([f"Accept: {accept}"] if accept else [])]
+        found = refused(front, office, f"sign-out, {accept}", message("GET", "/sign-out", *lines), 401, "sign-in")
+        same(f"{front.name}: the challenge, {accept}", [it[:11] for it in found.headers["www-authenticate"]], ["Basic realm"])
+    for accept in OPENED:
+        signed_out_page(front, f"sign-out, {accept}", message("GET", "/sign-out", signed("ann"), f"Accept: {accept}"))
+        for path in ("/sign-out", "/"):
+            signed_out_page(front, f"{path} by nobody, {accept}", message("GET", path, f"Accept: {accept}"))
+    site = "Sec-Fetch-Site: cross-site"
+    for accept in (ASKED[1], OPENED[0]):
+        refused(front, office, f"sign-out by another site, {accept}", message("GET", "/sign-out", signed("ann"), site, f"Accept: {accept}"), 403, "other-site")
 
 
 def page(front, office):
@@ -665,6 +686,8 @@ def behind(front, office):
             let_in(front, office, f"behind another server, {login}", by(f"X-Forwarded-User: {login}", "X-Office-Caller: root"), caller)
         elif login.isascii():
             refused(front, office, f"behind another server, {login}", by(f"X-Forwarded-User: {login}"), 403, "login")
+    for lines in ((), ("X-Forwarded-User: \t ",)):
+        signed_out_page(front, f"behind another server, {lines}", by(*lines, f"Accept: {OPENED[0]}", path="/"), challenges=0)
     found = told(front, by("X-Forwarded-User: Bea", path="/caller"))
     same(f"{front.name}: behind another server, who am I", found.body, b'{"caller":"bea"}')
     statuses = {told(front, by(path="/v1/stats/de")).status for _ in range(300)}

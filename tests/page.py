@@ -1231,16 +1231,19 @@ def managed_texts(world, tab):
 
 
 def case_sign_out(world):
-    """A browser that signed in by a password forgets it."""
+    """A browser that signed in by a password forgets it; who signed out is told so by a page, and comes back by its link."""
     world.browser.password = ("ann", PASSWORD)
     tab = PageTab(world, None, asks=False)
     has("signed in", tab.text("#who"), "signed in as ann")
     world.browser.password = None
     tab.click("#sign-out")
-    tab.wait("document.body.innerText.includes('sign-in')")
+    tab.wait("document.body.innerText === 'You are not signed in. Sign in'")
     tab.call("Page.navigate", url=world.at)
-    tab.wait("document.body.innerText.includes('sign-in')")
+    tab.wait("document.body.innerText === 'You are not signed in. Sign in'")
     same("signed out", "signed in as" in tab.text("body"), False)
+    world.browser.password = ("ann", PASSWORD)
+    tab.click("a")
+    tab.wait_text("#who", "signed in as ann")
     tab.close()
 
 

@@ -389,16 +389,26 @@ def wrong_fields():
 
 
 def set_answers():
-    """Each answer that a front's configuration is set to give: its status and its word."""
+    """Each answer that a front's configuration is set to give: its status and its word; and each page in such an answer's place, with its type."""
     nginx = "".join(it.read_text() for it in sorted((TOP / "share" / "front" / "nginx" / "office").glob("*")) if it.is_file())
     haproxy = (TOP / "share" / "front" / "haproxy" / "office" / "front.cfg").read_text()
-    found = re.findall(r"return ([0-9]{3}) '(\{\"error\":.*?\})'", nginx)
-    return found, re.findall(r"status ([0-9]{3}) .*?string '(\{\"error\":.*?\})'", haproxy)
+    words = re.findall(r"return ([0-9]{3}) '(\{\"error\":.*?\})'", nginx), re.findall(r"status ([0-9]{3}) .*?string '(\{\"error\":.*?\})'", haproxy)
+    pages = re.findall(r"default_type \"(.*?)\";\s+return ([0-9]{3}) '<", nginx), re.findall(r"status ([0-9]{3}) .*?content-type '(.*?)' file .*?\.html", haproxy)
+    return *words, {(status, kind) for kind, status in pages[0]}, set(pages[1])
+
+
+def kinds_of(answer):
+    """The types of a described answer's body."""
+    name = answer.get("$ref", "").rpartition("/")[2]
+    return (ONE["components"]["responses"][name] if name else answer).get("content", ())
 
 
 def front_answers():
     """Each of them is described of some route; and each of the front's that is described is one of them."""
-    nginx, haproxy = set_answers()
+    nginx, haproxy, *pages = set_answers()
+    told = {(status, kind) for it in ONE["paths"]["/sign-out"].values() for status, answer in it["responses"].items() for kind in kinds_of(answer)}
+    for what, found in zip(("nginx", "haproxy"), pages):
+        look(f"{what} answers the pages {found}, and described are {told}", found == {it for it in told if it[1] != "application/json"} != set())
     look("no answers of a front were found", len(set(nginx)) > 9 and len(set(haproxy)) > 9)
     routes = [(path, method) for path, it in ONE["paths"].items() for method in it]
     for status, body in sorted({*nginx, *haproxy}):

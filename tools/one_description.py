@@ -79,6 +79,8 @@ def made():
     for name, it in front["responses"].items():
         components["schemas"][name] = of_words(it["words"])
         content = as_json({"$ref": f"#/components/schemas/{name}"})
+        if it.get("page"):
+            content["text/html; charset=utf-8"] = {"schema": {"type": "string"}}
         headers = {"headers": it["headers"]} if "headers" in it else {}
         components["responses"][name] = {"description": it["description"], **headers, "content": content}
     add_answers(description, front)
