@@ -25,7 +25,7 @@ import urllib.parse
 import serve
 import tools
 from serve import HOST, PROGRAM, number, same
-from tools import HEADER, RULE, act, at, ask, new_office, records, replies, served, tool
+from tools import HEADER, RULE, act, at, ask, between, new_office, records, replies, served, tool
 
 CHECKERS = ("msgfmt", "pofilter", "i18nspector")
 
@@ -159,6 +159,7 @@ def checks(folder):
     same("check: nothing else is written", [str(it.relative_to(page)) for it in page.rglob("*")], ["checks", "checks/de.json"])
     as_lines(path, findings)
     served_alike(path, out)
+    of_a_domain(path, page, findings)
 
 
 def links(findings):
@@ -194,6 +195,16 @@ def served_alike(path, out):
         same("check: served", (found[0], json.loads(found[1])["findings"]), (0, [{k: v for k, v in it.items() if k != "link"} for it in json.loads(out)["findings"]]))
         same("check: no such language", checked(*at(port), "nl", "--tool", "msgfmt")[::2], (1, "office-check: nl: no-language: the office hasn't this language\n"))
         same("check: no such domain", checked(*at(port), "--domain", "web", "de", "--tool", "msgfmt")[0], 1)
+
+
+def of_a_domain(path, page, findings):
+    """What is found in a further domain stands in a folder of its own beside the page, and has links to the messages of that domain."""
+    with served(path) as office, between(office) as port:
+        words = [*at(port), "--domain", "manual", "--json", "--beside", page, "--page", "https://l10n.test/hello/", "de"]
+        told = json.loads(checked(*words)[1])
+        same("check: a domain's links", [it["link"] for it in told["findings"]], [it["link"].replace("#/de", "#/domains/manual/de") for it in findings])
+        made = json.loads((page / "checks" / "manual" / "de.json").read_text())
+        same("check: a domain's file", (made["domain"], len(made["findings"])), ("manual", len(findings)))
 
 
 def lists_and_tools(folder):

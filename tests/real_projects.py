@@ -17,7 +17,7 @@ The program is the one that ./office has built, or FILE (or the variable OFFICE)
 outside the gate. The last line is 'N catalogues come out as they went in, M not'.
 """
 import argparse
-import io
+import contextlib
 import json
 import os
 import pathlib
@@ -30,7 +30,8 @@ import tempfile
 TOP = pathlib.Path(__file__).resolve().parent.parent
 LIST = TOP / "tests" / "real_projects.txt"
 BUILT = TOP / "crates" / "cli" / "out" / "cli"
-SOURCES = "deb-src [signed-by=/usr/share/keyrings/debian-archive-keyring.gpg] http://deb.debian.org/debian bookworm main\n"
+SUITE = "bookworm"
+SOURCES = "deb-src [signed-by=/usr/share/keyrings/debian-archive-keyring.gpg] http://deb.debian.org/debian {} main\n"
 SETTINGS = """Dir::Etc::sourcelist "{0}/sources.list";
 Dir::Etc::sourceparts "/dev/null";
 Dir::State::lists "{0}/lists";
@@ -61,7 +62,15 @@ def on_file(text, *words):
         return tool(*(it.name if word == "FILE" else word for word in words))
 
 
-def archive_of(package, store):
+def archive_in(suite, package, store):
+    """The archive of the package's sources of a suite, each of which has a folder beside the store's."""
+    with contextlib.suppress(subprocess.CalledProcessError):
+        # (what isn't there of its packaging is not needed)
+        return archive_of(package, store / f"office-real-projects-{suite}", suite)
+    return archive_of(package, store / f"office-real-projects-{suite}", suite)
+
+
+def archive_of(package, store, suite=SUITE):
     """The archive of the package's sources, fetched if it isn't there."""
     folder = store / package
     found = [it for it in folder.glob("*.tar.*") if not it.name.endswith(".asc") and ".debian." not in it.name]
@@ -69,13 +78,13 @@ def archive_of(package, store):
         folder.mkdir(parents=True, exist_ok=True)
         for it in ("lists/partial", "cache/archives/partial"):
             (store / it).mkdir(parents=True, exist_ok=True)
-        (store / "sources.list").write_text(SOURCES)
+        (store / "sources.list").write_text(SOURCES.format(suite))
         (store / "settings").write_text(SETTINGS.format(store))
         apt = {**ENVIRONMENT, "APT_CONFIG": str(store / "settings")}
         if not list((store / "lists").glob("*Sources*")):
             subprocess.run(["apt-get", "-qq", "update"], env=apt, check=True)
         subprocess.run(["apt-get", "-qq", "source", "--download-only", package], cwd=folder, env=apt, check=True)
-        return archive_of(package, store)
+        return archive_of(package, store, suite)
     return found[0]
 
 

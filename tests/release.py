@@ -121,6 +121,7 @@ def exports(folder):
         same(f"export: {lang}", without_header(text), without_header(said[lang]))
         same(f"export: {lang}, msgfmt", subprocess.run(["msgfmt", "-c", "-o", "-", out / f"{lang}.po"], capture_output=True, check=False).stdout, (out / f"{lang}.mo").read_bytes())
     headers(texts, said)
+    no_person(folder, path, people)
     served_exports(folder, path, people, texts)
     written(folder, path, people, said)
 
@@ -141,6 +142,17 @@ def headers(texts, said):
     old = [it for it in said["de"].split("\n\n")[0].split("\n") if it.startswith("#")]
     same("export: the lines of translators", lines, [*old, "# Ann Example <ann@example.org>, 2023, 2024.", "# Bea Ö. Beispiel <bea@example.org>, 2024."])
     same("export: nobody acted", fields_of(texts["fr"]), {**fields_of(said["fr"]), "Project-Id-Version": "popt 1.19", "X-Generator": "Hirthusk"})
+
+
+def no_person(folder, path, people):
+    """Who is no person isn't named: ann is then, by whose vote bea's suggestion was accepted, and nobody where neither is one."""
+    words = ["office-export", "--store", path, "--office", PROGRAM, "--people", people, "--lang", "de"]
+    said = fields_of(run("export", "--store", path, "--lang", "de")[1])
+    for named, translator in ((["bea"], "Ann Example <ann@example.org>"), (["bea", "ann"], said["Last-Translator"])):
+        out = folder / f"without-{len(named)}"
+        same("no person", tool(*words, *(word for it in named for word in ("--no-person", it)), out), (0, "1 written, 0 not\n", ""))
+        text = (out / "de.po").read_text()
+        same(f"no person: {named}", (fields_of(text)["Last-Translator"], [it for it in named if f"<{it}@" in text]), (translator, []))
 
 
 def served_exports(folder, path, people, texts):
@@ -565,13 +577,8 @@ LANGUAGES = ("de", "sv")
 
 def psmisc(suite):
     """The template and some languages of the psmisc that a suite of Debian has, in UTF-8."""
-    store = STORE.parent / f"office-real-projects-{suite}"
-    real_projects.SOURCES = f"deb-src [signed-by=/usr/share/keyrings/debian-archive-keyring.gpg] http://deb.debian.org/debian {suite} main\n"
-    with contextlib.suppress(subprocess.CalledProcessError):
-        # (what isn't there of its packaging is not needed)
-        real_projects.archive_of("psmisc", store)
     wanted, found = {"psmisc.pot", *(f"{it}.po" for it in LANGUAGES)}, {}
-    with tarfile.open(real_projects.archive_of("psmisc", store)) as archive:
+    with tarfile.open(real_projects.archive_in(suite, "psmisc", STORE.parent)) as archive:
         for it in archive.getmembers():
             name = pathlib.PurePath(it.name)
             if it.isfile() and name.parent.name == "po" and name.name in wanted:
@@ -727,9 +734,7 @@ def imports(folder):
     po = folder / "many"
     po.mkdir()
     (po / "x.pot").write_text(HEADER % ("CHARSET", "") + HELLO % "")
-    rows = (TOP / "docs" / "FORMATS.md").read_text()
-    limits = {name: int(value.replace(",", "")) for name, value in re.findall(r"^\| ([a-zA-Z][^|]*?) \| ([0-9,]+)(?: bytes)? \|$", rows, re.M)}
-    most = limits["languages of a domain"]
+    most = tools.told_limits()["languages of a domain"]
     codes = [f"{a}{b}" for a in "abcd" for b in "abcdefghijklmnopqrstuvwxyz"][: most + 3]
     for it in codes:
         (po / f"{it}.po").write_text(HEADER % ("UTF-8", RULE) + HELLO % it)
@@ -737,18 +742,26 @@ def imports(folder):
     same("many: at last", (status, out, tools.last_of(faults)), (1, "", f"{most} of {most + 3} languages, {most + 1} new requests"))
     told = [it for it in faults.split("\n")[:-2]]
     same("many: each once", told, [f"office-import: {it}: not loaded: limit: {most} languages are loaded, and a domain has no more" for it in codes[most:]])
+    pulls_many(folder, {it.name: it.read_text() for it in po.glob("*.po*")}, most)
     same("many: those that are wanted", tools.last_of(tools.imported("--lang", codes[-1], "--lang", "zz", po)[2]), "1 of 2 languages, 2 new requests")
-    long = folder / "long"
-    long.mkdir()
-    (long / "x.pot").write_text(HEADER % ("CHARSET", "") + HELLO % "")
-    entries = limits["entries of a PO text besides the header"]
-    (long / "de.po").write_text(HEADER % ("UTF-8", RULE) + "".join(f'\nmsgid "{n}"\nmsgstr "{n}"\n' for n in range(entries + 1)))
-    (long / "fr.po").write_text(HEADER % ("UTF-8", RULE) + HELLO % ("x" * (limits["string, in UTF-8"] + 1)))
-    faults = tools.imported(long)[2]
-    same("long: entries", f"office-import: de: not loaded: limit: its text has {entries + 1:,} entries, and a text at most {entries:,}\n" in faults, True)
-    most = limits["string, in UTF-8"]
-    same("long: a string", f"office-import: fr: not loaded: limit: a string of its text has {most + 1:,} bytes, and a string at most {most:,}\n" in faults, True)
     begun(folder)
+
+
+def pulls_many(folder, files, most):
+    """office-git says of each language that is too much, and of one whose text is too long, which limit that is; a second run has nothing to say."""
+    longest = tools.told_limits()["string, in UTF-8"]
+    files = {**files, "aa.po": HEADER % ("UTF-8", RULE) + HELLO % ("x" * (longest + 1))}
+    place = folder / "pulled"
+    place.mkdir()
+    project, path = Project(place, {f"po/{name}": text for name, text in files.items()}), git_office(place)
+    with served(path) as port:
+        status, out, faults = sync(project, port, words="pull")
+        told = re.findall(r"^not taken: (\S+) \((.*)\)$", out, re.M)
+        same("many: pulled", (status, out.count("taken: ") - out.count("not taken: "), faults), (1, most + 1, ""))
+        same("many: a long one", told[:1], [("aa", f"limit: a string of its text has {longest + 1:,} bytes, and a string at most {longest:,}")])
+        same("many: those left out", told[1:], [(lang, "limit: a domain has no more languages than are there: --lang names those that are wanted") for lang, _ in told[1:]])
+        same("many: so many are left out", len(told), len(files) - 1 - most)
+        same("many: again", sync(project, port, words="pull"), (0, "nothing has changed\n", ""))
 
 
 def begun(folder):

@@ -50,7 +50,8 @@ NAMES = (
 )
 EXAMPLE = TOP / "docs" / "example"
 STORE = pathlib.Path(tempfile.gettempdir()) / "office-real-projects"
-ENVIRONMENT = {**os.environ, "LC_ALL": "C.UTF-8", "OFFICE_PASSWORD": "open sesame"}
+# (gettext's own rules alone, whatever of Unicode's is installed)
+ENVIRONMENT = {**os.environ, "LC_ALL": "C.UTF-8", "OFFICE_PASSWORD": "open sesame", "GETTEXTCLDRDIR": "/nowhere"}
 # Of parted 3.5: the languages whose headers have no rule, and that gettext's own table has none for.
 UNRULED = ("ca", "rw", "zh_CN")
 RULED = {"cs", "da", "es", "fr", "ja", "nn", "pt", "sk", "sv"}
@@ -374,6 +375,76 @@ EDITS = {
 NO_ANSWER = "office-upload: no answer, 2 times; run it again: what was sent acts once\n"
 
 
+def told_limits():
+    """The limits of an office, as FORMATS has them, by what they are of."""
+    rows = (TOP / "docs" / "FORMATS.md").read_text()
+    return {name: int(value.replace(",", "")) for name, value in re.findall(r"^\| ([a-zA-Z][^|]*?) \| ([0-9,]+)(?: bytes)? \|$", rows, re.M)}
+
+
+# What FORMATS has limits of.
+ENTRIES, TEXT, STRING, UNITS, LINE = (
+    *("entries of a PO text besides the header", "PO text", "string, in UTF-8"),
+    *("units of a language, obsolete ones included", "line of `office deliver`, its line end aside"),
+)
+
+
+def entries(count, name="", text="", least=0):
+    """So many entries, each translated so."""
+    return "".join(f'\nmsgid "{name}{n}"\nmsgstr "{text or n}"\n' for n in range(least, least + count))
+
+
+def limits(folder):
+    """What is longer or more than it may be the office refuses, and office-import says which limit that is, what it allows, and what was found."""
+    most, po = told_limits(), folder / "limits"
+    po.mkdir()
+    template = HEADER % ("CHARSET", "") + HELLO % ""
+    (po / "x.pot").write_text(template)
+    beginning = HEADER % ("UTF-8", RULE)
+    quotes = '\\"' * (most[STRING] // 2)
+    # A line of JSON has four bytes for a quote that is escaped in PO, which has two.
+    texts = {
+        "da": beginning + entries(most[ENTRIES]),
+        "sv": beginning + HELLO % ("x" * most[STRING]),
+        "de": beginning + entries(most[ENTRIES] + 1),
+        "fr": beginning + HELLO % ("ä" * (most[STRING] // 2) + "x"),
+        "nl": beginning + entries(most[TEXT] // most[STRING] + 1, text="x" * most[STRING]),
+        "es": beginning + entries(most[LINE] // (2 * most[STRING]) + 1, text=quotes),
+    }
+    for lang, text in texts.items():
+        (po / f"{lang}.po").write_text(text)
+    status, out, faults = imported(po, po / "requests")
+    same("limits: at last", (status, out, last_of(faults)), (1, "", "2 of 6 languages, 3 new requests"))
+    line = len(json.dumps({"act": "language", "caller": "root", "lang": "es", "number": number(1), "po": texts["es"]}, separators=(",", ":"), ensure_ascii=False))
+    told = {
+        "de": f"its text has {most[ENTRIES] + 1:,} entries, and a text at most {most[ENTRIES]:,}",
+        "fr": f"a string of its text has {most[STRING] + 1:,} bytes, and a string at most {most[STRING]:,}",
+        "nl": f"its text has {len(texts['nl']):,} bytes, and a text at most {most[TEXT]:,}",
+        "es": f"its request has {line:,} bytes, and a line at most {most[LINE]:,}",
+    }
+    for lang, why in told.items():
+        same(f"limits: {lang}", re.findall(rf"^office-import: {lang}: (.*)$", faults, re.M), [f"not loaded: limit: {why}"])
+    requests = [{"act": "template", "po": HELLO % ""}, *({"act": "language", "lang": lang, "po": texts[lang]} for lang in texts)]
+    lines = "".join(json.dumps({**it, "caller": "root", "number": number(n)}, ensure_ascii=False) + "\n" for n, it in enumerate(requests))
+    found = [(it[:3], word) for it in run("deliver", given=lines)[1].split("\n")[1:-1] for word in re.findall('"(?:kind|error)":("?[a-z0-9]+)', it) or [""]]
+    same("limits: the office itself", found, [("200", ""), ("200", ""), ("422", "9"), ("422", "9"), ("422", "9"), ("400", '"malformed')])
+    many_units(folder, most)
+
+
+def many_units(folder, most):
+    """Messages that went stay in a language: of the template by which they would be too many it is said how many."""
+    po, each = folder / "units", most[ENTRIES]
+    po.mkdir()
+    (po / "de.po").write_text(HEADER % ("UTF-8", RULE) + entries(each, "own"))
+    told = f"office-import: x.pot: not loaded: limit: de would have {3 * each + 1:,} units, and a language at most {most[UNITS]:,}"
+    # The second template fills the language; the third has one message that it doesn't have.
+    for messages, wanted in ((entries(each), ""), (entries(each, least=each), ""), (entries(each - 1) + entries(1, "one more "), told)):
+        (po / "x.pot").write_text(HEADER % ("CHARSET", "") + re.sub('^msgstr ".+"$', 'msgstr ""', messages, flags=re.M))
+        status, out, faults = imported(po, po / "requests")
+        same("units: what is told", (status, faults.split("\n")[0] if wanted else ""), (1 if wanted else 0, wanted))
+    replies = run("deliver", given=(po / "requests").read_text() + json.dumps({"act": "template", "caller": "root", "number": number(1), "po": messages}) + "\n")[1]
+    same("units: the office itself", [it[:43] for it in replies.split("\n")[3:-1]], ['422 {"refusal":"limit","rule":17}'])
+
+
 def quoted(text):
     return json.dumps(text, ensure_ascii=False)
 
@@ -506,7 +577,9 @@ class Between(http.server.BaseHTTPRequestHandler):
             self.server.before(self)
         client = http.client.HTTPConnection(HOST, self.server.office, timeout=SECONDS)
         headers = {name: value for name, value in self.headers.items() if name in ("X-Office-Caller", "Content-Type")}
-        client.request(self.command, self.path.removeprefix("/project"), body or None, {**headers, **self.server.more(self), "Connection": "close"})
+        # (a further domain, which the program hasn't yet, is main here)
+        path = self.path.removeprefix("/project").replace("/v1/domains/manual/", "/v1/")
+        client.request(self.command, path, body or None, {**headers, **self.server.more(self), "Connection": "close"})
         reply = client.getresponse()
         text = reply.read()
         client.close()
@@ -919,7 +992,7 @@ def described(package, root, version):
 def main():
     with tempfile.TemporaryDirectory(prefix="office-tools-") as name:
         folder = pathlib.Path(name)
-        for it in (words, imports, odd_files, uploads, left_out, conflicts, checked, lost, raced, signs_in, suggests, contexts, noted, remembers, snapshots, logs, installed):
+        for it in (words, imports, odd_files, limits, uploads, left_out, conflicts, checked, lost, raced, signs_in, suggests, contexts, noted, remembers, snapshots, logs, installed):
             it(folder)
     print(f"{serve.looks} looks, {serve.wrong} wrong")
     return 1 if serve.wrong else 0

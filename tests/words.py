@@ -233,7 +233,7 @@ def zsh_differs(commands, own):
         for name, about in parts.get("Arguments", {}).items():
             place = "*" if name.endswith("...") else str(1 + list(parts["Arguments"]).index(name))
             wanted.add(quoted(f"{place}:{page_name(name)} ({about[0].lower()}{about[1:]}):"))
-    found = {it for it in lines if re.match(r"""["'][(\w*-].*:.*["']$|'\(-""", it) or re.match(r"'--\w+\[", it)}
+    found = {it for it in lines if re.match(r"""["'][(\w*-].*:.*["']$|'\(-""", it) or re.match(r"'--[\w-]+\[", it)}
     yield from (f"zsh lacks {it}" for it in sorted(wanted - found))
     yield from (f"zsh has {it}" for it in sorted(found - wanted))
 

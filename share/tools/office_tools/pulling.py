@@ -8,7 +8,7 @@ import pathlib
 import shlex
 import subprocess
 
-from office_tools import Fault, po
+from office_tools import Fault, limits, po
 from office_tools.files import write
 from office_tools.replies import in_words, word_of
 from office_tools.requests import MAIN, RequestFile, compact, number_of, unit_of
@@ -19,6 +19,8 @@ PUSHED, UNPUSHED = "pushed", "not pushed"
 # Refusals of a translation that another's act is the reason of: the office's text stands, and upstream's is suggested.
 OVERTAKEN = ("stale", "approved", "read-only")
 SUGGESTED = "the office's text stands, upstream's is suggested"
+# Limits that a text passes beside others.
+SEVERAL = {"language": "a domain has no more languages than are there: --lang names those that are wanted", "template": "a language would have too many units"}
 
 
 class Told:
@@ -40,6 +42,14 @@ def named(request):
     """What a request is about, as it is told."""
     parts = [request.get("lang")] + [compact(request[field]) for field in ("ctx", "id") if field in request]
     return " ".join(it for it in parts if it) if "lang" in request else "the template"
+
+
+def why(request, status, body):
+    """Why the office didn't take a request: of a limit which one it is, with its number where the request itself tells."""
+    passed = "po" in request and limits.is_passed(body) and limits.passed_by_request(request)
+    if not passed and word_of(body) == "limit":
+        passed = SEVERAL.get(request["act"])
+    return f"limit: {passed}" if passed else in_words(status, body)
 
 
 class Plan:
@@ -205,7 +215,7 @@ class Pull:
         elif word in ("same", "number-used") and self.stands(request):
             self.told.tell(STANDS, named(request))
         else:
-            self.told.tell(UNSENT, named(request), in_words(status, body))
+            self.told.tell(UNSENT, named(request), why(request, status, body))
         return status == 200 or word == "number-used"
 
     def suggest(self, request):

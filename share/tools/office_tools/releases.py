@@ -29,6 +29,9 @@ def add_words(parser):
     parser.add_argument("--domain", type=name, default=MAIN, metavar="NAME", help="the domain [default: main]")
     parser.add_argument("--log", type=pathlib.Path, metavar="FILE", help="what office-log --json printed of a copy of the file, where an address is given")
     parser.add_argument("--people", type=pathlib.Path, metavar="FILE", help="who the callers are, a line of 'Ann Example <ann@example.org> ann' each")
+    parser.add_argument(
+        "--no-person", type=name, action="append", default=[], metavar="NAME", help="a caller who is no person, and isn't named: who brings in a repository's changes, say"
+    )
     parser.add_argument("--template", type=pathlib.Path, metavar="FILE", help="the template's file, whose header is taken [default: that of the records]")
     parser.add_argument("--project", metavar="TEXT", help="the header's Project-Id-Version [default: the template's]")
     parser.add_argument("--layout", type=layout, default=LAYOUT, metavar="PATH", help="where a language's file stands in the folder [default: {lang}.po]")
@@ -67,7 +70,7 @@ def lang_of(given, path):
 @contextlib.contextmanager
 def sources(given, but=()):
     """The office, and what its records say, or None where there are none: at an address, or of a copy of a file, which is opened once."""
-    people = People(given.people)
+    people, but = People(given.people), {*but, *given.no_person}
     if given.url:
         found = records.in_log(given.log) if given.log else None
         office = client.Office(given.url, given.caller, given.login, given.tries, given.domain)
