@@ -1,13 +1,14 @@
 #!/usr/bin/python3
 """Measures projects whose requests are in a replicated log: one from client to reply, a late replica, a host taking over, and many streams.
 
-    bench/streams.py [--engine nats] [--program FILE] [--folder FOLDER] [--seconds S] [--requests N] [--streams N] [PART..]
+    bench/streams.py [--engine nats] [--program FILE] [--folder FOLDER] [--seconds S] [--requests N] [--streams N] [--page FILE] [PART..]
 
 PART is latency, replay, takeover or streams; all where none is named. Three nodes, hosts, door and clients are processes of this machine, on loopback
 and on one disk, so they share what three machines have each for themselves: a figure is an upper bound of a time and a lower bound of a rate, the
 more so where the machine does other work, whose load is printed beside. It wants what tests/cluster.py wants.
 
-Prints a row of a table for each figure.
+Prints a row of a table for each figure. With --page they stand in that page too, between the two lines that name this program; a row that wasn't
+measured now stays there.
 """
 import argparse
 import http.client
@@ -15,6 +16,7 @@ import json
 import os
 import pathlib
 import shutil
+import signal
 import subprocess
 import sys
 import tempfile
@@ -31,10 +33,40 @@ from log_nodes import HOST, NAMES, memory_of, seconds_of
 PARTS = ("latency", "replay", "takeover", "streams")
 MESSAGES = 2000
 FILLER = "x" * 100
+HEAD = ("| What | Measured | Load of the machine |", "|---|---|---|")
+# What stands before the table in a page, and behind it.
+MARKS = ("<!-- bench/streams.py writes this table -->", "<!-- up to here -->")
+# A program that says nothing of `--stop-at-lost`, so that each line waits for the answer to the one before.
+ONE_LINE = """#!/bin/sh
+test "$2" = --help || exec {program} "$@"
+"""
 
 
-def row(what, figure):
-    print(f"| {what} | {figure} | {os.getloadavg()[0]:.0f} |", flush=True)
+class Rows:
+    """The rows of the table, printed as they come, and put into a page."""
+
+    def __init__(self, page):
+        self.page = page and pathlib.Path(page)
+        print(*HEAD, sep="\n", flush=True)
+
+    def add(self, what, figure):
+        row = f"| {what} | {figure} | {os.getloadavg()[0]:.0f} |"
+        print(row, flush=True)
+        if self.page:
+            self.put(what, row)
+
+    def put(self, what, row):
+        before, _, rest = self.page.read_text().partition(MARKS[0])
+        table, mark, behind = rest.partition(MARKS[1])
+        if not mark:
+            raise SystemExit(f"{self.page} has no place for the table")
+        rows = {it.split(" | ")[0][2:]: it for it in table.strip().splitlines()[len(HEAD) :]}
+        rows[what] = row
+        self.page.write_text("\n".join((before + MARKS[0], *HEAD, *rows.values(), MARKS[1] + behind)))
+
+
+def clients_of(count):
+    return f"{count} client{'s' if 1 < count else ''}"
 
 
 def quantiles(took):
@@ -49,6 +81,7 @@ class Figures:
         self.nodes = log_nodes.KINDS[given.engine](self.folder / "nodes", given.base)
         self.place = log_hosts.Place(self.folder, self.nodes, given.program, given.port)
         self.hosts, self.door = [], None
+        self.rows = Rows(given.page)
         self.turn = 0
 
     def host(self, name, *words):
@@ -62,6 +95,9 @@ class Figures:
         for it in hosts:
             if it.feed is None or it.feed.poll() is not None:
                 it.start()
+        # A door reads the table anew in a moment.
+        while clients.Sender([self.door.port]).get(project, "/v1/stats/xx")[1] == b'{"error":"no-project"}':
+            time.sleep(0.1)
 
     def begin(self, project, messages=MESSAGES):
         """The acts of managers, over the door."""
@@ -79,13 +115,13 @@ class Figures:
         one, two = self.host("h1"), self.host("h2")
         self.put("one", one)
         self.begin("one")
-        row("memory of a feed; of a door", f"{memory_of(one.feed.pid) >> 20} MiB; {memory_of(self.door.process.pid) >> 20} MiB")
+        self.rows.add("memory of a feed; of a door", f"{memory_of(one.feed.pid) >> 20} MiB; {memory_of(self.door.process.pid) >> 20} MiB")
         for count in (1, 50):
-            row(f"acts on one project by {count} clients, one replica", self.load(self.door.port, "one", count))
+            self.rows.add(f"acts on one project behind a door, {clients_of(count)}, one replica", self.load(self.door.port, "one", count))
         self.put("one", one, two)
         time.sleep(10)
         for count in (1, 50):
-            row(f"the same by {count}, two replicas", self.load(self.door.port, "one", count))
+            self.rows.add(f"acts on one project behind a door, {clients_of(count)}, two replicas", self.load(self.door.port, "one", count))
 
     def alone(self):
         """An office that is served, without a log; 50 clients wait for it in turn, a connection for each act."""
@@ -101,7 +137,7 @@ class Figures:
                 while not log_nodes.answers(port):
                     time.sleep(0.05)
                 for count in (1, 50):
-                    row(f"`office serve` alone, {count} clients", self.load(port, None, count, kept=count == 1))
+                    self.rows.add(f"acts on `office serve` alone, {clients_of(count)}", self.load(port, None, count, kept=count == 1))
             finally:
                 office.kill()
 
@@ -177,29 +213,44 @@ class Figures:
         size = self.nodes.disk("a")
         self.publish("many", count)
         time.sleep(5)
-        row(f"a request in a node's stream, of {count}", f"{(self.nodes.disk('a') - size) / count:.0f} bytes")
+        self.rows.add("a request in a node's stream", f"{(self.nodes.disk('a') - size) / count:.0f} bytes")
         late = self.host("late")
-        row("a late replica, from the stream's beginning", self.caught_up(late))
+        self.rows.add("a late replica, from the stream's beginning, many lines ahead", self.caught_up(late))
+        one_line = ["--program", self.one_line_program()]
+        self.rows.add("a late replica, from the stream's beginning, a line at a time", self.caught_up(self.host("slow", *one_line)))
         files = late.store("many").parent.glob("office.db*")
-        row("a request in a replica's file", f"{sum(it.stat().st_size for it in files) / count:.0f} bytes")
+        self.rows.add("a request in a replica's file", f"{sum(it.stat().st_size for it in files) / count:.0f} bytes")
         late.store("many").with_name("office.db.offset").unlink()
-        row("the same again, without its hint: all repeats", self.caught_up(late))
+        self.rows.add("a replica that has it all, without its hint: all repeats", self.caught_up(late))
         began = time.monotonic()
         late.to_the_end("many")
-        row("started again with its hint, up to the end", f"{time.monotonic() - began:.1f} s")
-        if self.given.memory:
-            quick = self.host("quick")
-            shutil.rmtree(quick.folder)
-            quick.folder = pathlib.Path(self.given.memory) / "quick"
-            quick.folder.mkdir(parents=True)
-            row("a late replica, its file in memory", self.caught_up(quick))
-            shutil.rmtree(quick.folder)
+        self.rows.add("a replica that has it all, with its hint, up to the end", f"{time.monotonic() - began:.1f} s")
+        for name, words, how in ("quick", [], "many lines ahead"), ("slow-too", one_line, "a line at a time"):
+            if self.given.memory:
+                it = self.in_memory(name, *words)
+                self.rows.add(f"a late replica, its file in memory, {how}", self.caught_up(it))
+                shutil.rmtree(it.folder)
+
+    def one_line_program(self):
+        path = self.folder / "one-line"
+        path.write_text(ONE_LINE.format(program=self.given.program))
+        path.chmod(0o755)
+        return path
+
+    def in_memory(self, name, *words):
+        """A host whose folder is in memory."""
+        it = self.host(name, *words)
+        it.folder.rmdir()
+        it.folder = pathlib.Path(self.given.memory) / name
+        shutil.rmtree(it.folder, ignore_errors=True)
+        it.folder.mkdir(parents=True)
+        return it
 
     def caught_up(self, host):
         status, told = host.to_the_end("many", timeout=3600)
         assert status == 0, told
         taken, seconds = told.rsplit("taken ", 1)[1].split(" s,")[0].split(" in ")
-        return f"{int(taken) / float(seconds):.0f} requests a second"
+        return f"{int(taken) / float(seconds):.0f} requests a second, of {taken}"
 
     # --- a host that is lost
 
@@ -218,7 +269,8 @@ class Figures:
                 shutil.copytree(copy, second.store("many").parent)
             self.put("many", second)
             self.ask()
-            row(f"taken over from {how}, {self.given.requests} requests", f"first reply {time.monotonic() - began:.1f} s behind the loss")
+            what = f"first reply {time.monotonic() - began:.1f} s behind the loss, {self.given.requests} requests in the stream"
+            self.rows.add(f"a lost host's project taken over from {how}", what)
             second.ended()
 
     def ask(self):
@@ -237,11 +289,11 @@ class Figures:
             maker.make(name, "start", b'{"manager":"root"}')
         took = time.monotonic() - began
         maker.close()
-        row(f"{count} streams made", f"{took:.0f} s, {took / count * 1000:.0f} ms each")
+        self.rows.add("streams made", f"{count} in {took:.0f} s, {took / count * 1000:.0f} ms each")
         time.sleep(10)
         costs = [[now - was for now, was in zip((self.nodes.memory(it), self.nodes.disk(it), self.nodes.files(it)), before[it])] for it in NAMES]
         memory, disk, files = (max(it[part] for it in costs) / count for part in range(3))
-        row("a stream, on the node where it costs most", f"{memory / 1024:.0f} KiB of memory, {disk / 1024:.0f} KiB of disk, {files:.1f} descriptors")
+        self.rows.add("a stream, on the node where it costs most", f"{memory / 1024:.0f} KiB of memory, {disk / 1024:.0f} KiB of disk, {files:.1f} descriptors")
         self.idle(names)
 
     def idle(self, names):
@@ -255,22 +307,21 @@ class Figures:
         while not self.is_whole(host, len(names)):
             time.sleep(1)
             if 900 < time.monotonic() - began:
-                row(f"a feed of {len(names)} idle projects", "not whole in 900 s")
+                self.rows.add("a feed of as many idle projects", "not whole in 900 s")
                 return
         took = time.monotonic() - began
         one = [self.nodes.seconds(it) for it in NAMES] + [seconds_of(host.feed.pid)]
         time.sleep(20)
         two = [self.nodes.seconds(it) for it in NAMES] + [seconds_of(host.feed.pid)]
         spent = [f"{(after - before) * 5:.0f} %" for before, after in zip(one, two)]
-        row(f"a feed of {len(names)} idle projects", f"{memory_of(host.feed.pid) >> 20} MiB, attached to all in {took:.0f} s, {spent[-1]} of a core")
-        row("the nodes meanwhile", f"{', '.join(spent[:-1])} of a core; {', '.join(str(self.nodes.memory(it) >> 20) for it in NAMES)} MiB")
+        self.rows.add("a feed of as many idle projects", f"{memory_of(host.feed.pid) >> 20} MiB, attached to all in {took:.0f} s, {spent[-1]} of a core")
+        self.rows.add("the nodes meanwhile", f"{', '.join(spent[:-1])} of a core; {', '.join(str(self.nodes.memory(it) >> 20) for it in NAMES)} MiB")
 
     def is_whole(self, host, count):
         """Whether a feed has made the office of each project."""
         return sum(1 for _ in host.folder.glob("*/office.db")) == count
 
     def run(self):
-        print("| What | Measured | Load of the machine |\n|---|---|---|")
         try:
             self.nodes.start_all()
             self.place.table.write()
@@ -287,6 +338,7 @@ class Figures:
 
 
 def main():
+    signal.signal(signal.SIGTERM, lambda *_: sys.exit(1))
     parser = argparse.ArgumentParser(description=__doc__.split("\n")[0])
     parser.add_argument("--engine", choices=log_nodes.KINDS, default="rabbitmq")
     parser.add_argument("--program", type=lambda it: str(pathlib.Path(it).resolve()), default=str(TOP / "crates" / "cli" / "out" / "cli"))
@@ -296,6 +348,7 @@ def main():
     parser.add_argument("--requests", type=int, default=20000)
     parser.add_argument("--streams", type=int, default=3000)
     parser.add_argument("--memory", metavar="FOLDER", help="a folder in memory, where a late replica is made too")
+    parser.add_argument("--page", metavar="FILE", help="a page that has a place for the table")
     parser.add_argument("parts", nargs="*", choices=[*PARTS, []], metavar="PART")
     given = parser.parse_args()
     given.parts = given.parts or PARTS

@@ -85,7 +85,7 @@ class Trial:
         self.nodes.start_all()
         self.say("nodes are there")
         if self.given.tls:
-            self.check(self.nodes.is_shut_in(), "nodes talk without TLS")
+            self.check(self.nodes.is_shut_in(), "nodes talk, or take clients, without TLS")
         made = self.place.make(*self.projects)
         self.check(made.count("made 3") == len(self.projects), made)
         first, second = self.host("h1"), self.host("h2")
@@ -435,7 +435,7 @@ def main():
     signal.signal(signal.SIGTERM, lambda *_: sys.exit(1))
     parser = argparse.ArgumentParser(description=__doc__.split("\n")[0])
     parser.add_argument("--engine", choices=log_nodes.KINDS, default="rabbitmq")
-    parser.add_argument("--tls", action="store_true", help="TLS between the nodes")
+    parser.add_argument("--tls", action="store_true", help="TLS between the nodes, and between them and doors and feeds")
     parser.add_argument("--program", type=lambda it: str(pathlib.Path(it).resolve()), default=str(TOP / "crates" / "cli" / "out" / "cli"))
     log_nodes.add_words(parser)
     parser.add_argument("--folder", help="where all is [default: a new one, which is taken away]")

@@ -6,17 +6,20 @@
 PART is one of these, and all are tried where none is named:
   older_file     a file that was put back from a copy, beside a newer hint
   no_memory      a replica that loses a third of what comes, a line at a time, and with many lines ahead of their answers
+  refused        the program itself, with many lines ahead, where a growth of its memory is refused now and then (wants cc)
   another_log    the file of another project
   lost_beginning a stream whose beginning is gone
   messages       a door answers what `office serve` answers, to messages in whatever spelling; and the fronts stand before it unchanged
   lines          bodies that hide what a line would have, taken as lines
   held           a file isn't written while its project is held
+  apart          a project that is let go in the midst of its messages costs no other its connection
   late           no replica answers: a door tells it in time
   disagreement   a door tells that two replicas differ
   placement      a project's replica is moved, copied while it is held, and made late
   rules          an upgrade that changes a rule, at one offset of all replicas; one host hasn't the program
   full_disk      the disk of a node is full: RabbitMQ's own limit, and a small disk of its own (a tmpfs, where this process may mount one)
   rolling        all three nodes are started again, one after another, while clients act
+  power          two nodes are killed, and then all three at once, while clients act
   lost_end       all nodes lose what they wrote last, as by power; then a file is the project, and its copy begins a new stream
 
 It wants what tests/cluster.py wants, and nginx for the fronts. A line for each look, and last `N looks, M wrong`.
@@ -40,7 +43,9 @@ import log_hosts
 import log_nodes
 from log_nodes import HOST, NAMES, TOP
 
-PARTS = "older_file no_memory another_log lost_beginning messages lines held late disagreement placement rules full_disk rolling lost_end".split()
+PARTS = (
+    "older_file no_memory refused another_log lost_beginning messages lines held apart late disagreement placement rules full_disk rolling power lost_end"
+).split()
 SMALL_DISK = "size=160m"
 
 # `office deliver` by a sound program, but a third of the lines is lost for want of memory: they are answered 503 and don't reach it. Where it
@@ -68,6 +73,13 @@ with subprocess.Popen([PROGRAM, *words], stdin=subprocess.PIPE, stdout=subproces
         sys.stdout.buffer.flush()
     office.stdin.close()
 sys.exit(office.returncode)
+"""
+# The program itself, which is refused one growth of its memory, another each time that it takes lines.
+REFUSED = """#!/usr/bin/python3
+import os, random, sys
+if sys.argv[1] == "deliver" and "--help" not in sys.argv:
+    os.environ.update(LD_PRELOAD={library!r}, FAIL_N=str(random.randrange({first}, {last})))
+os.execv({program!r}, [{program!r}, *sys.argv[1:]])
 """
 # A program that writes down which requests it took as lines.
 NOTING = """#!/usr/bin/python3
@@ -199,6 +211,24 @@ class Doubts:
             in_order = self.names(project) == [f"n{it}" for it in range(60)]
             how = "many lines ahead" if many else "a line at a time"
             self.check(status == 0 and in_order and "no memory" in told, f"{how}: 60 requests in order, lost {told.count('no memory')} times: {told[-200:]}")
+
+    def refused(self):
+        """The same of the program itself: it ends behind the first line that it has no memory for, with the lines behind it untaken."""
+        library = self.folder / "refuse.so"
+        subprocess.run(["cc", "-shared", "-fPIC", "-O1", "-o", library, TOP / "tests" / "growths" / "refuse.c", "-ldl"], check=True)
+        self.place.make("refused")
+        self.publish("refused", 0, 120)
+        # Where an opening is refused the replica is tried anew, as ever.
+        refused = self.program("refused", REFUSED, library=str(library), first=5_000, last=30_000)
+        told = []
+        for _ in range(60):
+            status, one = self.fed("refused", further=["--program", refused])
+            told += one.splitlines()
+            if status == 0:
+                break
+        lost = sum("no memory" in it for it in told)
+        in_order = self.names("refused") == [f"n{it}" for it in range(120)]
+        self.check(status == 0 and in_order and lost, f"120 requests in order, lost {lost} times by the program itself: {told[-1:]}")
 
     def another_log(self):
         self.place.make("two", "three")
@@ -332,6 +362,34 @@ class Doubts:
         self.end_feeds(host)
         self.check(self.records("held", host) == 7, f"with what came meanwhile: {self.records('held', host)}")
 
+    def apart(self):
+        """Two projects whose streams one feed reads at the same node, over one connection: the one is held again and again while much comes."""
+        host = self.new_host("a1", "--idle", 60)
+        busy, calm = "apart-ab", "apart-ba"
+        self.serve(calm, host)
+        self.serve(busy, host)
+        folder = host.store(busy).parent
+        self.wait(lambda: host.store(busy).exists() and host.store(calm).exists(), "both are fed")
+        stopping = threading.Event()
+
+        def come():
+            while not stopping.is_set():
+                self.publish(busy, 0, 50)
+
+        coming = threading.Thread(target=come, daemon=True)
+        coming.start()
+        for _ in range(8):
+            (folder / "hold").touch()
+            self.wait_quietly(lambda: (folder / "held").exists())
+            (folder / "held").unlink(missing_ok=True)
+            self.wait_quietly(lambda: host.told(busy)["taken"])
+            time.sleep(2)
+        stopping.set()
+        coming.join(60)
+        told = (self.place.folder / f"feed-{host.name}.log").read_text()
+        self.check(told.count(f"{busy}: held") == 8 and f"{calm}:" not in told, f"held {told.count(busy + ': held')} times: {told[-300:]}")
+        self.end_feeds(host)
+
     def late(self):
         self.place.make("late")
         self.place.table.place("late", self.host)
@@ -395,24 +453,27 @@ class Doubts:
         status, told = late.to_the_end(project)
         self.check(status == 0 and self.equal(project, two, late)[0], f"and so is a late one: {told}")
 
-    def acting(self, project, door):
+    def acting(self, project, door, seconds=90):
         """A call that makes one act more, and says its status."""
         sender, counter = clients.Sender([door.port]), iter(range(10**6))
 
         def act():
             body = json.dumps({"act": "team", "name": f"n{next(counter)}", "role": "translator"}).encode()
-            return sender.post(project, clients.new_number(), "root", body, seconds=90)[0]
+            return sender.post(project, clients.new_number(), "root", body, seconds)[0]
 
         return act
 
     def wait(self, holds, text, seconds=40):
+        self.check(self.wait_quietly(holds, seconds), text)
+
+    def wait_quietly(self, holds, seconds=40):
         end = time.monotonic() + seconds
         good = False
         while not good and time.monotonic() < end:
             with contextlib.suppress(OSError, KeyError, ValueError):
                 good = holds()
             time.sleep(0.2)
-        self.check(good, text)
+        return good
 
     def rules(self):
         """From one offset on another program takes the requests, on each replica; who hasn't it waits there."""
@@ -442,7 +503,7 @@ class Doubts:
     # --- nodes
 
     def full_disk(self):
-        one, two = self.new_host("f1"), self.new_host("f2")
+        one, two = self.new_host("f1", "--idle", 2), self.new_host("f2", "--idle", 2)
         self.serve("full", one, two)
         door = self.new_door(wait=3.0)
         act = self.acting("full", door)
@@ -466,27 +527,34 @@ class Doubts:
         number, body = clients.new_number(), b'{"act":"team","name":"patient","role":"translator"}'
         status = sender.once("full", number, "root", body)[0]
         self.check(status == 504, f"past the limit an act is late: {status}")
+        # A node takes nothing from a connection that published either, so feeds hear nothing, however often they attach.
+        time.sleep(30)
         self.check(sender.get("full", "/v1/stats/xx")[0] == 404, "a question is answered")
+        told = [it.read_text().count("ends before") for it in self.place.folder.glob("feed-f?.log")]
+        self.check(told == [0, 0], f"no feed says that the log lost its end: {told}")
         self.nodes.set_disk_limit("b", 1000)
         self.check(sender.post("full", number, "root", body, seconds=60)[0] == 200, "behind it the same request gets its reply")
 
     def small_disk(self, door):
-        """The disk of a node is full: the other two go on. With room again, and the node started anew, it has what it missed."""
+        """The disk of a node is full. The node ends, or the log takes nothing until it is stopped; then the other two go on. With room again, and
+        the node started anew, it has what it missed."""
         sender = clients.Sender([door.port])
         filler = self.nodes.data("b") / "filler"
-        with open(filler, "wb") as it, contextlib.suppress(OSError):
+        with open(filler, "wb", buffering=0) as it, contextlib.suppress(OSError):
             while True:
                 it.write(b"x" * 65536)
-                it.flush()
+        free = shutil.disk_usage(self.nodes.data("b")).free
+        number, body = clients.new_number(), b'{"act":"team","name":"patient","role":"reviewer"}'
+        status = sender.once("full", number, "root", body)[0]
+        self.check(status in (200, 504), f"an act while a node has {free} bytes free: {status}")
+        self.nodes.kill("b")
+        self.check(sender.post("full", number, "root", body, seconds=120)[0] == 200, "the node is stopped, and the same request gets its reply")
         statuses, long_text = [], "x" * 60_000
         for it in range(40):
             body = json.dumps({"act": "template", "po": f'msgid "{it} {long_text}"\nmsgstr ""\n'}).encode()
             statuses.append(sender.post("full", clients.new_number(), "root", body, seconds=120)[0])
-        free = shutil.disk_usage(self.nodes.data("b")).free
-        self.check(statuses == [200] * 40, f"40 acts of 60 kB while a node has {free} bytes free: {statuses.count(200)} done")
+        self.check(statuses == [200] * 40, f"40 acts of 60 kB without that node: {statuses.count(200)} done")
         filler.unlink()
-        if self.nodes.running["b"].poll() is None:
-            self.nodes.kill("b", signal.SIGTERM)
         self.nodes.start("b")
         self.nodes.wait_for_all()
         if self.given.engine == "rabbitmq":
@@ -496,15 +564,50 @@ class Doubts:
 
     def rolling(self):
         """Each node is stopped in good order and started again, the next when it is back, while clients act."""
-        one, two = self.new_host("o1"), self.new_host("o2")
-        projects = [f"roll-{it}" for it in range(3)]
+
+        def restart(_project, _door):
+            for name in NAMES:
+                self.nodes.kill(name, signal.SIGTERM)
+                self.nodes.start(name)
+                self.nodes.wait_for_all()
+                time.sleep(5)
+
+        self.while_clients_act("roll", restart)
+
+    def power(self):
+        """Two nodes are killed, so that nothing is taken, and then, with these there again, all three at once."""
+
+        def fail(project, door):
+            for name in NAMES[:2]:
+                self.nodes.kill(name)
+            # So long it takes at most until feeds know that they have lost the log.
+            time.sleep(25)
+            sender = clients.Sender([door.port])
+            status = sender.once(project, clients.new_number(), "nobody", b'{"act":"team","name":"nobody","role":"guest"}')[0]
+            self.check(status == 504, f"two nodes are away, and an act is late: {status}")
+            self.check(sender.get(project, "/v1/stats/xx", tries=2)[0] == 404, "a question is answered")
+            for name in NAMES[:2]:
+                self.nodes.start(name)
+            self.nodes.wait_for_all()
+            time.sleep(10)
+            self.kill_all()
+            self.start_all()
+            self.nodes.wait_for_all()
+            time.sleep(10)
+
+        self.while_clients_act("power", fail)
+
+    def while_clients_act(self, mark, what):
+        """Three projects with two replicas each, and a client of each, while something happens: each act is recorded once, on both replicas."""
+        one, two = self.new_host(f"{mark}1"), self.new_host(f"{mark}2")
+        projects = [f"{mark}-{it}" for it in range(3)]
         for it in projects:
             self.serve(it, one, two)
         door = self.new_door(wait=5.0)
         stopping, took, statuses = threading.Event(), [], []
 
         def client(project):
-            act = self.acting(project, door)
+            act = self.acting(project, door, seconds=900)
             while not stopping.is_set():
                 began = time.monotonic()
                 statuses.append(act())
@@ -514,21 +617,19 @@ class Doubts:
         threads = [threading.Thread(target=client, args=(it,), daemon=True) for it in projects]
         for it in threads:
             it.start()
-        for name in NAMES:
-            self.nodes.kill(name, signal.SIGTERM)
-            self.nodes.start(name)
-            self.nodes.wait_for_all()
-            time.sleep(5)
+        what(projects[0], door)
         stopping.set()
         for it in threads:
-            it.join(120)
+            it.join(900)
         self.check(statuses and set(statuses) == {200}, f"{len(statuses)} acts through it, the longest in {max(took):.1f} s: {set(statuses)}")
         self.end_feeds(one, two)
         for it in projects:
             one.to_the_end(it)
             two.to_the_end(it)
         found = [self.equal(it, one, two) for it in projects]
-        self.check(all(it[0] for it in found) and sum(it[1] for it in found) == len(statuses), f"replicas are equal, each act once: {found}, {len(statuses)}")
+        recorded = [name for it in projects for name in self.names(it, one) if name != "nobody"]
+        good = all(it[0] for it in found) and len(recorded) == len(statuses)
+        self.check(good, f"replicas are equal, each act once: {found}, {len(statuses)}")
 
     def keep_data(self, name, kept):
         """Copies a node's data; the folder itself may be a disk of its own."""

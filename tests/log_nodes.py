@@ -6,9 +6,11 @@ which has to find its place. All ports are from `base` on: 130 of them.
 import contextlib
 import os
 import pathlib
+import re
 import shutil
 import signal
 import socket
+import ssl
 import subprocess
 import sys
 import time
@@ -24,6 +26,23 @@ NAMES = ("a", "b", "c")
 BASE, PORT = 25600, 20400
 COOKIE = "OFFICETESTS"
 RABBITMQ = pathlib.Path("/usr/lib/rabbitmq/bin")
+USER, PASSWORD = "office", "swordfish"
+# What the user of doors and feeds may, as the page says.
+RIGHTS = re.search(r"set_permissions office '(.*)' '(.*)' '(.*)'", (TOP / "docs" / "SCALING.md").read_text()).groups()
+LOOPBACK = ["-kernel", "inet_dist_use_interface", "{127,0,0,1}"]
+# A node of Erlang that says of each line `NODE EXPRESSION` what that node says the expression is.
+ASKER = """
+Ask = fun(Again) ->
+  case io:get_line("") of
+    eof -> halt();
+    Line ->
+      [Node, Text] = string:split(string:trim(Line), " "),
+      {ok, Tokens, _} = erl_scan:string(Text),
+      {ok, Expressions} = erl_parse:parse_exprs(Tokens),
+      io:format("~0p~n", [rpc:call(list_to_atom(Node), erl_eval, exprs, [Expressions, []], 60000)]),
+      Again(Again)
+  end
+end, Ask(Ask)."""
 
 
 def add_words(parser):
@@ -63,10 +82,43 @@ def authority(folder):
     openssl("x509", "-req", "-in", folder / "node.csr", *signed, "-out", folder / "node.pem")
 
 
+def takes(port, room, has_certificate, greets):
+    """Whether a port takes who comes by TLS, with a certificate of the authority or with none, and shows one itself. One that greets says a line
+    in the clear first."""
+    context = ssl.create_default_context(cafile=room / "authority.pem")
+    if has_certificate:
+        context.load_cert_chain(room / "node.pem", room / "node.key")
+    try:
+        with socket.create_connection((HOST, port), 10) as plain:
+            while greets and plain.recv(1) not in b"\n":
+                pass
+            with context.wrap_socket(plain, server_hostname=HOST) as it:
+                # Who misses a certificate says so behind the handshake.
+                it.settimeout(2)
+                with contextlib.suppress(TimeoutError):
+                    return it.recv(1) != b""
+        return True
+    except OSError:
+        return False
+
+
+def said_in_clear(port, text):
+    """What a port says to these bytes within a moment."""
+    found = b""
+    with contextlib.suppress(OSError), socket.create_connection((HOST, port), 10) as it:
+        it.sendall(text)
+        it.settimeout(2)
+        while part := it.recv(4096):
+            found += part
+    return found
+
+
 class Nodes:
     """What both kinds have in common."""
 
     engine = None
+    # Whether a node greets clients in the clear before TLS begins, and what it says to one that it takes so.
+    greets, welcome = False, None
 
     def __init__(self, folder, base=BASE, tls=False):
         self.folder, self.base, self.tls = pathlib.Path(folder).resolve(), base, tls
@@ -82,9 +134,14 @@ class Nodes:
     def log(self):
         return ",".join(f"{HOST}:{self.port(name)}" for name in NAMES)
 
+    @property
+    def trusted(self):
+        """The authority's certificate, where there is TLS."""
+        return str(self.folder / "tls" / "authority.pem") if self.tls else None
+
     def words(self):
         """What tells a tool where the log is."""
-        return ["--engine", self.engine, "--log", self.log]
+        return ["--engine", self.engine, "--log", self.log, *(["--authority", self.trusted] if self.tls else [])]
 
     def data(self, name):
         return self.folder / name / "data"
@@ -98,8 +155,12 @@ class Nodes:
         for name in NAMES[1:]:
             self.start(name)
         self.wait_for_all()
+        self.sign_in(is_new)
 
-    def wait(self, name, seconds=600):
+    def sign_in(self, is_new):
+        """Has the tools sign in as doors and feeds do."""
+
+    def wait(self, name, seconds=1800):
         """Waits until the node takes connections; how long that took."""
         began = time.monotonic()
         while time.monotonic() - began < seconds:
@@ -120,6 +181,16 @@ class Nodes:
         except subprocess.TimeoutExpired:
             os.killpg(self.running[name].pid, signal.SIGKILL)
             self.running[name].wait(60)
+
+    def asks_nodes_for_certificates(self):
+        """Whether the ports between nodes take who has a certificate, and nobody else."""
+        room, ports = self.folder / "tls", [self.base + 20 + it for it in range(len(NAMES))]
+        return all(takes(it, room, True, False) and not takes(it, room, False, False) for it in ports)
+
+    def takes_clients_by_tls(self):
+        """Whether each node shows clients a certificate of the authority, and takes none without TLS."""
+        room, ports = self.folder / "tls", [self.port(name) for name in NAMES]
+        return all(takes(it, room, False, self.greets) for it in ports) and not any(self.welcome in self.in_clear(name) for name in NAMES)
 
     def memory(self, name):
         """The node's resident memory, in bytes."""
@@ -165,16 +236,17 @@ def seconds_of(pid):
 
 class RabbitNodes(Nodes):
     engine = "rabbitmq"
+    welcome = b"PLAIN"
 
     def __init__(self, folder, base=BASE, tls=False, schedulers=2):
         super().__init__(folder, base, tls)
         self.schedulers = schedulers
-        self.epmd = None
+        self.epmd = self.asker = None
 
     def environment(self, name):
         home = self.folder / name
         # No busy waiting: three nodes share this machine with all else.
-        few = f"+S {self.schedulers}:{self.schedulers} +sbwt none +sbwtdcpu none +sbwtdio none -kernel inet_dist_use_interface {{127,0,0,1}}"
+        few = f"+S {self.schedulers}:{self.schedulers} +sbwt none +sbwtdcpu none +sbwtdio none {' '.join(LOOPBACK)}"
         found = {
             "PATH": "/usr/sbin:/usr/bin:/sbin:/bin",
             "HOME": str(home),
@@ -187,6 +259,7 @@ class RabbitNodes(Nodes):
             "RABBITMQ_LOG_BASE": str(home / "log"),
             "RABBITMQ_CONFIG_FILE": str(home / "rabbitmq"),
             "RABBITMQ_ADVANCED_CONFIG_FILE": str(home / "advanced.config"),
+            "RABBITMQ_CONFIG_FILES": str(home / "conf.d"),
             "RABBITMQ_ENABLED_PLUGINS_FILE": str(home / "plugins"),
             "RABBITMQ_PID_FILE": str(home / "pid"),
             "RABBITMQ_CTL_DIST_PORT_MIN": str(self.base + 95),
@@ -194,14 +267,16 @@ class RabbitNodes(Nodes):
             "RABBITMQ_SERVER_ADDITIONAL_ERL_ARGS": few,
         }
         if self.tls:
-            over = f" -pa {ssl_folder()} -proto_dist inet_tls -ssl_dist_optfile {home / 'inter-node-tls.config'}"
-            found["RABBITMQ_SERVER_ADDITIONAL_ERL_ARGS"] += over
-            found["RABBITMQ_CTL_ERL_ARGS"] = over
+            found["RABBITMQ_SERVER_ADDITIONAL_ERL_ARGS"] += " " + " ".join(map(str, self.over_tls(name)))
         return found
+
+    def over_tls(self, name):
+        """The words by which a node talks to others by TLS."""
+        return ["-pa", ssl_folder(), "-proto_dist", "inet_tls", "-ssl_dist_optfile", self.folder / name / "inter-node-tls.config"]
 
     def prepare(self, name):
         home = self.folder / name
-        for part in (self.data(name), home / "log"):
+        for part in (self.data(name), home / "log", home / "conf.d"):
             part.mkdir(parents=True, exist_ok=True)
         cookie = home / ".erlang.cookie"
         if not cookie.exists():
@@ -217,6 +292,8 @@ class RabbitNodes(Nodes):
         if self.tls:
             text = replaced((STREAMS / "inter-node-tls.config").read_text(), paths)
             (home / "inter-node-tls.config").write_text(text)
+            text = replaced((STREAMS / "tls.conf").read_text(), {**paths, "@ADDRESS@": HOST, "@PORT@": self.port(name)})
+            (home / "conf.d" / "tls.conf").write_text(text)
         (home / "plugins").write_text("[].\n")
 
     def start_epmd(self):
@@ -243,31 +320,39 @@ class RabbitNodes(Nodes):
         return int((self.folder / name / "pid").read_text())
 
     def told(self, name, expression):
-        """What a node says an expression of Erlang is. rabbitmqctl would say it too, and takes seconds to start; over TLS only that one can ask."""
+        """What a node says an expression of Erlang is. rabbitmqctl would say it too, and takes seconds to start. Over TLS a node of our own asks."""
         if self.tls:
-            words, given = ["/bin/sh", str(RABBITMQ / "rabbitmqctl"), "--silent", "eval", expression], None
-        else:
-            words, given = ["erl_call", "-c", COOKIE, "-address", f"{HOST}:{self.base + 20 + NAMES.index(name)}", "-e"], expression + "\n"
-        done = subprocess.run(
-            words, env=self.environment(name), input=given, capture_output=True, text=True, timeout=600, cwd=self.folder, check=False
-        )
+            return self.asked_over_tls(name, expression)
+        words = ["erl_call", "-c", COOKIE, "-address", f"{HOST}:{self.base + 20 + NAMES.index(name)}", "-e"]
+        done = subprocess.run(words, env=self.environment(name), input=expression + "\n", capture_output=True, text=True, timeout=600, check=False)
         return done.stdout
 
-    def is_shut_in(self):
-        """Whether nodes talk to each other, and replicate streams, by TLS alone, with a certificate of the authority."""
-        transport = self.told(NAMES[0], "application:get_env(osiris, replication_transport).")
-        return "ssl" in transport and all(self.asks_for_certificates(self.base + 20 + it) for it in range(len(NAMES)))
+    def asked_over_tls(self, name, expression):
+        if self.asker is None:
+            words = ["erl", "-noshell", "-hidden", "-sname", "asker@localhost", "-setcookie", COOKIE, *LOOPBACK, "-eval", ASKER]
+            words = list(map(str, words + self.over_tls(name)))
+            self.asker = subprocess.Popen(words, env=self.environment(name), stdin=subprocess.PIPE, stdout=subprocess.PIPE, text=True)
+        self.asker.stdin.write(f"{name}@localhost {expression}\n")
+        self.asker.stdin.flush()
+        return self.asker.stdout.readline()
 
-    def asks_for_certificates(self, port):
-        """Whether a port takes who has a certificate, and nobody else."""
-        room = self.folder / "tls"
-        own = ["-cert", room / "node.pem", "-key", room / "node.key"]
-        told = []
-        for words in own, []:
-            command = ["openssl", "s_client", "-connect", f"{HOST}:{port}", "-CAfile", room / "authority.pem", *words]
-            done = subprocess.run(command, input="", capture_output=True, text=True, timeout=60, check=False)
-            told.append("Verify return code: 0" in done.stdout and "alert" not in done.stderr)
-        return told == [True, False]
+    def is_shut_in(self):
+        """Whether nodes talk to each other, and replicate streams, by TLS with a certificate of the authority alone, and take clients by TLS alone."""
+        transport = self.told(NAMES[0], "application:get_env(osiris, replication_transport).")
+        return "ssl" in transport and self.asks_nodes_for_certificates() and self.takes_clients_by_tls()
+
+    def in_clear(self, name):
+        """What a node says to a client that comes without TLS."""
+        return said_in_clear(self.port(name), b"AMQP\x00\x00\x09\x01")
+
+    def sign_in(self, is_new):
+        if is_new:
+            made = self.told(NAMES[0], f'rabbit_auth_backend_internal:add_user(<<"{USER}">>, <<"{PASSWORD}">>, <<"tests">>).')
+            rights = ", ".join(f'<<"{it}">>' for it in RIGHTS)
+            may = self.told(NAMES[0], f'rabbit_auth_backend_internal:set_permissions(<<"{USER}">>, <<"/">>, {rights}, <<"tests">>).')
+            if "ok" not in made or "ok" not in may:
+                raise RuntimeError(f"no user: {made} {may}")
+        os.environ["OFFICE_LOG_LOGIN"] = f"{USER}:{PASSWORD}"
 
     def set_disk_limit(self, name, size):
         """How many bytes a node's disk has to have free, or the log takes nothing."""
@@ -277,10 +362,8 @@ class RabbitNodes(Nodes):
         """Waits until all have joined: a stream that is made before that has no replica on the others."""
         for name in NAMES:
             self.wait(name)
-        end = time.monotonic() + 900
-        # Over TLS one is asked, since that takes long.
-        asked = NAMES[:1] if self.tls else NAMES
-        while not all(self.told(name, "rabbit_nodes:all_running().").count("@localhost") == len(NAMES) for name in asked):
+        end = time.monotonic() + 1800
+        while not all(self.told(name, "rabbit_nodes:all_running().").count("@localhost") == len(NAMES) for name in NAMES):
             if end < time.monotonic():
                 raise TimeoutError("the nodes haven't joined")
             time.sleep(0.5)
@@ -293,6 +376,9 @@ class RabbitNodes(Nodes):
 
     def stop(self):
         super().stop()
+        if self.asker is not None:
+            self.asker.stdin.close()
+            self.asker.wait(10)
         if self.epmd is not None:
             self.epmd.terminate()
             self.epmd.wait(10)
@@ -305,6 +391,7 @@ def ssl_folder():
 
 class NatsNodes(Nodes):
     engine = "nats"
+    greets, welcome = True, b"PONG"
 
     def start(self, name):
         home = self.folder / name
@@ -312,7 +399,8 @@ class NatsNodes(Nodes):
         place = NAMES.index(name)
         routes = ", ".join(f"nats://{HOST}:{self.base + 20 + it}" for it in range(len(NAMES)))
         words = {"@NAME@": name, "@ADDRESS@": HOST, "@PORT@": self.port(name), "@FOLDER@": self.data(name)}
-        text = replaced((STREAMS / "nats.conf").read_text(), {**words, "@ROUTE@": self.base + 20 + place, "@ROUTES@": routes})
+        words.update({"@ROUTE@": self.base + 20 + place, "@ROUTES@": routes, **({"/etc/nats/": f"{self.folder / 'tls'}/"} if self.tls else {})})
+        text = replaced((STREAMS / ("nats-tls.conf" if self.tls else "nats.conf")).read_text(), words)
         (home / "nats.conf").write_text(text)
         program = shutil.which("nats-server", path="/usr/sbin:/usr/bin")
         with open(home / "out", "ab") as out:
@@ -327,6 +415,14 @@ class NatsNodes(Nodes):
             self.wait(name)
         # The nodes elect a leader of their own before they make streams.
         time.sleep(3)
+
+    def is_shut_in(self):
+        """Whether nodes talk to each other by TLS with a certificate of the authority alone, and take clients by TLS alone."""
+        return self.asks_nodes_for_certificates() and self.takes_clients_by_tls()
+
+    def in_clear(self, name):
+        """What a node says to a client that comes without TLS."""
+        return said_in_clear(self.port(name), b"CONNECT {}\r\nPING\r\n")
 
     def info(self):
         """What the one stream's leader tells of it."""
@@ -348,7 +444,7 @@ def tool_words(nodes, names=NAMES):
     from office_streams import Node
 
     return types.SimpleNamespace(
-        log=[Node(HOST, nodes.port(name)) for name in names], engine=nodes.engine, authority=None, heartbeat=10, ahead=200, confirm=4.0
+        log=[Node(HOST, nodes.port(name)) for name in names], engine=nodes.engine, authority=nodes.trusted, heartbeat=10, ahead=200, confirm=4.0
     )
 
 

@@ -37,7 +37,8 @@ SPOILS = (
         "messages, turn = messages[done:], 1 if done", "messages, turn = messages[done + 1:], 1 if done",
         doubts("no_memory"),
     ),
-    ("a feed that hands two at once", OFFICES, "self.window = 64 if many else 1", "self.window = 64 if many else 2", doubts("no_memory")),
+    ("a feed that hands two at once", OFFICES, "self.window = WINDOW if many else 1", "self.window = WINDOW if many else 2", doubts("no_memory")),
+    ("a feed that lets an office go on behind a lost line", OFFICES, '(["--stop-at-lost"] if many else [])', "[]", doubts("no_memory")),
     (
         "a feed that exchanges two",
         REPLICA,
@@ -54,11 +55,17 @@ SPOILS = (
     ("a feed that compares nothing", REPLICA, "other = is_again and", "other = False and", doubts("another_log", "lost_end")),
     ("a feed that takes a caller of the body", OFFICES, 'or "number" in keys or "caller" in keys', "", doubts("lines")),
     ("a feed that has one program for all rules", REPLICA, "self.rules = self.hint.rules = rules", "self.hint.rules = rules", doubts("rules")),
+    (
+        "a feed that answers no question without the log",
+        REPLICA,
+        "if has_log else self.was_late", "if has_log else True",
+        doubts("power"),
+    ),
     ("a feed that isn't held", REPLICA, "            self.stop()\n            hold.rename", "            hold.rename", doubts("held")),
     (
         "a door that answers on a confirm",
         ASKED,
-        'self.counts["confirmed"] += 1', 'self.counts["confirmed"] += 1\n        asked.settle(200, b"{}")',
+        'self.counts["confirmed"] += 1', 'self.counts["confirmed"] += 1\n            asked.settle(200, b"{}")',
         FEW,
     ),
     ("a door that compares nothing", ASKED, "if had != reply:", "if False:", doubts("disagreement")),
@@ -71,6 +78,17 @@ SPOILS = (
         doubts("messages"),
     ),
 )
+# Of the engine's own module.
+SPOILS_OF = {
+    "rabbitmq": (
+        (
+            "a feed whose project costs others their connection",
+            "office_streams/rabbitmq.py",
+            "channel._impl.close()", "channel.close()",
+            doubts("apart"),
+        ),
+    ),
+}
 
 
 def tried(given, test, tools):
@@ -99,7 +117,7 @@ def main():
     add_words(parser)
     parser.add_argument("words", nargs="*", metavar="WORD")
     given = parser.parse_args()
-    chosen = [it for it in SPOILS if not given.words or any(word in it[0] for word in given.words)]
+    chosen = [it for it in SPOILS + SPOILS_OF.get(given.engine, ()) if not given.words or any(word in it[0] for word in given.words)]
     looks = wrong = 0
     sound = []
     for name, file, old, new, test in chosen:

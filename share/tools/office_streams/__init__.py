@@ -8,7 +8,7 @@ nowhere else:
     Writer(words)    ask(asked), and what `asked.Asking` has
 
 A reader hands the messages of a project's stream to `hear`, one after another from the offset `begin` on, until it tells `lost` why it can't;
-`turn` says at which node. What `attach` returns is told `taken(message)`, so that no more than some come ahead, and is closed.
+`turn` says at which node. What `attach` returns is told `taken(message)`, once or again, so that no more than some come ahead, and is closed.
 A writer publishes what is asked until it is settled by a reply, whatever was confirmed meanwhile.
 """
 import argparse

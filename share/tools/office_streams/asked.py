@@ -60,10 +60,11 @@ class Asking:
             return self.asked.get(publication.partition(".")[0])
 
     def note_confirm(self, asked, publication):
-        """A majority has a message, says the log. Only a reply tells a client anything."""
-        self.counts["confirmed"] += 1
-        if self.trace:
-            self.trace.write(f"{asked.name} {asked.number} {publication}\n")
+        """A majority has a message, says the log. Only a reply tells a client anything. The connection before may still tell one meanwhile."""
+        with self.lock:
+            self.counts["confirmed"] += 1
+            if self.trace:
+                self.trace.write(f"{asked.name} {asked.number} {publication}\n")
 
     def take_reply(self, publication, number, status, body, replica):
         """The first replica's reply is the answer; the others' have to be the same."""

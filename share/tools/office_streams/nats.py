@@ -6,7 +6,9 @@ project have gaps. What a node acknowledges tells a client nothing here either: 
 import collections
 import json
 import os
+import select
 import socket
+import ssl
 import threading
 import time
 
@@ -52,7 +54,11 @@ class Connection(threading.Thread):
         self.socket = socket.create_connection(node, 3)
         self.socket.setsockopt(socket.IPPROTO_TCP, socket.TCP_NODELAY, 1)
         self.buffer = b""
-        self.greet()
+        try:
+            self.greet()
+        except BaseException:
+            self.socket.close()
+            raise
         self.start()
 
     def greet(self):
@@ -74,8 +80,26 @@ class Connection(threading.Thread):
         with self.sending:
             self.socket.sendall(b"".join([line.encode(), b"\r\n", *parts]))
 
+    def received(self, size):
+        """What comes next. TLS isn't read and written at once."""
+        if not isinstance(self.socket, ssl.SSLSocket):
+            return self.socket.recv(size)
+        comes, seconds = select.poll(), self.socket.gettimeout()
+        comes.register(self.socket, select.POLLIN)
+        while True:
+            with self.sending:
+                self.socket.settimeout(0)
+                try:
+                    return self.socket.recv(size)
+                except ssl.SSLWantReadError:
+                    pass
+                finally:
+                    self.socket.settimeout(seconds)
+            if not comes.poll(seconds * 1000):
+                raise TimeoutError("timed out")
+
     def more(self):
-        found = self.socket.recv(1 << 16)
+        found = self.received(1 << 16)
         if not found:
             raise EOFError("the node closed the connection")
         self.buffer += found
@@ -89,7 +113,7 @@ class Connection(threading.Thread):
     def exactly(self, size):
         parts, have = [self.buffer], len(self.buffer)
         while have < size:
-            found = self.socket.recv(min(1 << 20, size - have))
+            found = self.received(min(1 << 20, size - have))
             if not found:
                 raise EOFError("the node closed the connection")
             parts.append(found)
@@ -108,6 +132,8 @@ class Connection(threading.Thread):
         except (*LOST, ValueError) as lost:
             why = lost
         self.close()
+        with self.sending:
+            self.socket.close()
         told = f"node {self.node.host}:{self.node.port}: {type(why).__name__} {why}"
         for it in list(self.attachments):
             it.end(told)
@@ -193,12 +219,12 @@ class Connection(threading.Thread):
         return told["message"]["seq"]
 
     def close(self):
+        """Ends the connection. The socket is closed by the thread that reads it: else that might read a file which got the socket's number."""
         self.is_over = True
         try:
             self.socket.shutdown(socket.SHUT_RDWR)
         except OSError:
             pass
-        self.socket.close()
 
 
 def connected(words, rounds=10):

@@ -14,6 +14,9 @@ from office_streams import Fault
 HOST = "127.0.0.1"
 LOST = b'{"error":"memory"}'
 MALFORMED = (400, b'{"error":"malformed"}')
+# How many lines are ahead of their answers, where the office stops at the first that it loses; and from which length on a line is alone on its
+# way, so that neither side waits for the other.
+WINDOW, LONG_LINE = 64, 16_384
 # An answer that is longer lies in a file until it is handed on.
 IN_MEMORY = 1 << 20
 # What of a served office's answer goes on.
@@ -60,38 +63,43 @@ class Lines:
     answers_questions = False
 
     def __init__(self, program, store, many):
-        self.window = 64 if many else 1
+        self.window = WINDOW if many else 1
         self.takes_no_more = False
         words = [program, "deliver", "--store", store] + (["--stop-at-lost"] if many else [])
-        self.child = subprocess.Popen(words, stdin=subprocess.PIPE, stdout=subprocess.PIPE, preexec_fn=end_with_parent)
+        self.child = subprocess.Popen(words, 1 << 16, stdin=subprocess.PIPE, stdout=subprocess.PIPE, preexec_fn=end_with_parent)
 
     def deliver(self, messages):
         """Each message's status and body, as far as they were taken; the last may be one that was lost."""
         ahead = collections.deque()
         for message in messages:
             line = line_of(message)
-            # A long line is alone on its way, so that neither side waits for the other.
-            while ahead and (self.window <= len(ahead) or line is None or 16_384 < len(line)):
+            for _ in range(self.due(len(ahead), line)):
                 yield self.answer(ahead.popleft())
             if line is None:
                 yield MALFORMED
             elif not self.takes_no_more:
-                self.write(line)
+                self.write(self.child.stdin.write, line)
                 ahead.append(message)
         while ahead:
             yield self.answer(ahead.popleft())
         if self.takes_no_more:
             self.gone()
 
-    def write(self, line):
+    def due(self, ahead, line):
+        """How many answers are read before this line goes. A full window is emptied by half, so that lines go many at once."""
+        if line is None or LONG_LINE < len(line):
+            return ahead
+        return 0 if ahead < self.window else ahead - self.window // 2
+
+    def write(self, how, *line):
         """An office that takes nothing more may have answered lines before, which are read first."""
         try:
-            self.child.stdin.write(line)
-            self.child.stdin.flush()
+            how(*line)
         except OSError:
             self.takes_no_more = True
 
     def answer(self, _message):
+        self.write(self.child.stdin.flush)
         told = self.child.stdout.readline()
         if not told.endswith(b"\n"):
             self.gone()

@@ -128,22 +128,32 @@ class Maker:
         self.connection.close()
 
 
-def is_read(connection, name, tries=20):
-    for _ in range(tries):
-        channel = connection.channel()
+def is_read(connection, name, seconds=20.0):
+    """Whether a stream's first message is read at this node. A replica that is new is there in a while."""
+    end = time.monotonic() + seconds
+    while time.monotonic() < end:
+        found = []
         try:
+            channel = connection.channel()
             channel.basic_qos(prefetch_count=1)
-            for method, _, _ in channel.consume(stream(name), arguments={"x-stream-offset": "first"}, inactivity_timeout=0.5):
-                if method is not None:
-                    channel.close()
-                    return True
-                break
-            channel.close()
-        except pika.exceptions.ChannelClosedByBroker as why:
-            if "does not have a replica" in str(why):
-                return False
-        time.sleep(0.2)
+            channel.basic_consume(stream(name), lambda _c, method, _p, _b: found.append(method), arguments={"x-stream-offset": "first"})
+            began = time.monotonic()
+            while not found and time.monotonic() - began < 3:
+                connection.process_data_events(time_limit=0.1)
+            close_reading(channel)
+        except pika.exceptions.ChannelClosedByBroker:
+            time.sleep(0.5)
+        if found:
+            return True
     return False
+
+
+def close_reading(channel):
+    """Closes a channel that reads a stream, and nothing else. Its own `close` cancels first, and rejects what comes meanwhile: a stream takes no
+    rejection, and its node ends the connection for all who are on it."""
+    if channel.is_open:
+        channel._impl.close()
+        channel._flush_output(lambda: channel.is_closed)
 
 
 # ---- reading
@@ -155,6 +165,7 @@ class Attachment:
     def __init__(self, name, begin, hear, lost, ahead):
         self.name, self.begin, self.hear, self.lost, self.ahead = name, begin, hear, lost, ahead
         self.connection = self.channel = None
+        self.acknowledged = 0
         self.closed = False
 
     def open(self):
@@ -192,7 +203,8 @@ class Attachment:
         self.connection.submit(lambda: self.acknowledge(tag))
 
     def acknowledge(self, tag):
-        if not self.closed and self.channel is not None and self.channel.is_open:
+        if self.acknowledged < tag and not self.closed and self.channel is not None and self.channel.is_open:
+            self.acknowledged = tag
             self.channel.basic_ack(tag, multiple=True)
 
     def end(self, why):
@@ -207,8 +219,8 @@ class Attachment:
 
     def let_go(self):
         self.connection.attachments.discard(self)
-        if self.channel is not None and self.channel.is_open:
-            self.channel.close()
+        if self.channel is not None:
+            close_reading(self.channel)
 
 
 class Connection(threading.Thread):
@@ -250,6 +262,8 @@ class Connection(threading.Thread):
                 if 1 < time.monotonic() - looked:
                     looked = time.monotonic()
                     self.look()
+            for it in list(self.attachments):
+                it.let_go()
             self.link.close()
         except LOST as lost:
             why = lost
@@ -308,19 +322,25 @@ class Reader:
         """The offset of the last message there is now; -1 where there is none."""
         connection = connected(self.words)
         found = []
+
+        def heard(channel, method, properties, _body):
+            found.append(properties.headers["x-stream-offset"])
+            channel.basic_ack(method.delivery_tag)
+
         look = connection.channel()
         look.basic_qos(prefetch_count=100)
         try:
-            look.basic_consume(stream(name), lambda c, m, p, b: found.append(p.headers["x-stream-offset"]), arguments={"x-stream-offset": "last"})
+            look.basic_consume(stream(name), heard, arguments={"x-stream-offset": "last"})
         except pika.exceptions.ChannelClosedByBroker as why:
             raise (NoStream(name) if why.reply_code == 404 else Fault(f"{name}: {why}")) from None
-        # The last chunk comes whole; nothing for half a second means that it has come.
+        # The last chunk comes whole; nothing for a second means that it has come.
         quiet = time.monotonic()
-        while time.monotonic() - quiet < 0.5:
+        while time.monotonic() - quiet < (1.0 if found else 10.0):
             had = len(found)
             connection.process_data_events(time_limit=0.1)
             if len(found) != had:
                 quiet = time.monotonic()
+        close_reading(look)
         connection.close()
         return max(found, default=-1)
 

@@ -6,7 +6,7 @@ import signal
 import threading
 import time
 
-from office_streams import CALLER, FIRST_RULES, NUMBER, REQUEST, RULES, START, Fault, NoStream, hints, offices, say
+from office_streams import CALLER, FIRST_RULES, NUMBER, REQUEST, RULES, START, Fault, NoStream, engine, hints, offices, say
 
 # Statuses of replies that stand in the record; the two errors aren't recorded, and are the same on each replica.
 RECORDED = (200, 403, 404, 409, 422)
@@ -14,10 +14,15 @@ FOR_GOOD = RECORDED + (400,)
 NUMBER_USED = b'{"error":"number-used"}'
 # A request that was published longer ago tells that a replica is late; and for how long behind it no question is answered.
 LATE, QUIET = 5.0, 0.3
+# Where nothing came for so long behind such a request, nothing was to come: a connection that is lost is told before.
+SURE = 30.0
 # One that is later still is better taken as a line.
 FAR_BEHIND = 30.0
 # How long whoever asks a question waits.
 PATIENCE = 10.0
+# How many messages wait, and of how many bytes, where many lines may be ahead of their answers, and how many are delivered before anything else is
+# looked at. As many come beside as are read ahead.
+MOST_WAITING, MOST_BYTES, MOST_AT_ONCE = 1024, 4 << 20, 256
 # How often a request that was lost for want of memory comes again without another being taken.
 TURNS = 40
 # Between two tries of a replica that can't go on, at most.
@@ -61,10 +66,12 @@ class Replica:
         # The last message that was taken, of whatever kind.
         self.at = -1
         self.turn = sum(name.encode())
-        self.unheard = self.taken_now = self.total = 0
+        self.unheard = self.heard = self.taken_now = self.total = 0
         self.pause, self.due = 0.1, 0.0
         self.late_at = self.asked_at = self.used_at = float("-inf")
         self.started = self.held = self.stopping = False
+        # Whether the last request was late, and whether it was late when it lost the log, or hasn't had it yet.
+        self.is_behind, self.was_late = False, True
 
     def say(self, text):
         say(self.tool, f"{self.name}: {text}")
@@ -108,7 +115,7 @@ class Replica:
                 self.hint = hints.Hint(self.store, self.tool)
             with self.lock:
                 self.begin, self.last, self.rules = self.hint.offset, self.hint.number, self.hint.rules
-                self.started, self.fault = True, None
+                self.started, self.was_late, self.fault = True, True, None
             self.attach()
         except Fault as fault:
             self.failed(fault)
@@ -131,14 +138,25 @@ class Replica:
         if not self.seen.compared:
             # A node that comes back may be behind the others; all of them are asked.
             self.unheard += 1
-            if 2 * len(self.words.log) <= self.unheard:
-                self.failed(Fault(f"the log ends before offset {self.begin}, which fed this file: it has lost its end, or is another"))
-                return
+            if self.unheard % (2 * len(self.words.log)) == 0:
+                threading.Thread(target=self.ask_for_end, args=(self.seen,), daemon=True).start()
         self.let_go()
         self.attach()
 
+    def ask_for_end(self, seen):
+        """A log that takes nothing for now, where a disk is full, say, may be silent too. So where it ends is asked before anything is said."""
+        try:
+            ends = self.reader.end(self.name)
+        except (Fault, NoStream, *engine(self.words).LOST):
+            return
+        with self.lock:
+            is_behind = 0 <= ends < seen.begin == self.begin and self.unheard
+        if is_behind:
+            self.failed(Fault(f"the log ends before offset {seen.begin}, which fed this file: it has lost its end, or is another"))
+
     def let_go(self):
         with self.lock:
+            self.note_late()
             seen, self.seen = self.seen, None
             self.waiting.clear()
         if seen is not None and seen.handle is not None:
@@ -148,6 +166,7 @@ class Replica:
         with self.lock:
             if seen is not self.seen:
                 return
+            self.note_late()
             self.seen = None
             self.pause = 0.1 if self.taken_now else min(self.pause * 2, 3.0)
             self.taken_now = 0
@@ -166,10 +185,22 @@ class Replica:
                 self.at = max(self.at, message.offset) if is_again else self.at
                 if not is_again or not self.is_old(message):
                     self.waiting.append((message, is_again))
+                    self.have_more(message)
                     self.wake()
         if other:
             at = f"the log has {message.number} at offset {message.offset}, where {seen.last} at {seen.begin} fed this file"
             self.failed(Fault(f"{at}: it is another"))
+
+    def have_more(self, message):
+        """A replica that catches up by many lines has further messages come while these are taken; the lock is held."""
+        self.heard += 1
+        if self.heard % max(1, self.words.ahead // 2) == 0 and self.takes_many() and len(self.waiting) < MOST_WAITING:
+            if sum(len(it.body) for it, _ in self.waiting) < MOST_BYTES:
+                message.tag[0].taken(message)
+
+    def takes_many(self):
+        office = self.office
+        return isinstance(office, offices.Lines) and 1 < office.window
 
     def is_old(self, message):
         """Whether nobody waits for the reply any more."""
@@ -277,8 +308,8 @@ class Replica:
         return found
 
     def messages(self):
-        found = []
-        while self.waiting and len(found) < self.words.ahead:
+        found, most = [], MOST_AT_ONCE if self.takes_many() else self.words.ahead
+        while self.waiting and len(found) < most:
             message, is_again = self.waiting.popleft()
             if self.last is None or self.begin < message.offset or is_again:
                 found.append(message)
@@ -287,8 +318,17 @@ class Replica:
         return found
 
     def is_late(self, now):
-        """Whether there is more in the stream than was taken, for all that is known; then another replica answers questions better."""
-        return self.seen is None or not self.seen.compared or now - self.late_at < QUIET or not pathlib.Path(self.store).exists()
+        """Whether there is more in the stream than was taken, for all that is known; then another replica answers questions better. Without the log
+        it is as it was when that was lost."""
+        if not pathlib.Path(self.store).exists():
+            return True
+        has_log = self.seen is not None and self.seen.compared
+        return now - self.late_at < QUIET if has_log else self.was_late
+
+    def note_late(self):
+        """The log is lost; the lock is held."""
+        if self.seen is not None and self.seen.compared:
+            self.was_late = bool(self.waiting) or self.is_behind and time.monotonic() - self.late_at < SURE
 
     def take(self, messages):
         requests = []
@@ -358,7 +398,7 @@ class Replica:
         if TURNS < turn:
             raise Fault(f"no memory for offset {message.offset}")
         self.say(f"no memory for offset {message.offset}: the same again")
-        if isinstance(self.office, offices.Lines) and 1 < self.office.window:
+        if self.takes_many():
             # Lines that were ahead are let go, with the process, which ended behind the first that it lost.
             self.shut(wanted=(0, 1))
         time.sleep(min(0.05 * 2**turn, 5.0))
@@ -374,7 +414,8 @@ class Replica:
 
     def taken(self, message, status, body):
         now = time.monotonic()
-        if message.sent is None or LATE < time.time() - message.sent:
+        self.is_behind = message.sent is None or LATE < time.time() - message.sent
+        if self.is_behind:
             self.late_at = now
         with self.lock:
             if self.last is None or self.begin < message.offset:
@@ -388,7 +429,7 @@ class Replica:
     def kind_for(self, messages):
         """A served office, where questions came of late, unless much is to be caught up with."""
         sent = messages[0].sent
-        is_far = len(messages) == self.words.ahead and (sent is None or FAR_BEHIND < time.time() - sent)
+        is_far = self.words.ahead <= len(messages) and (sent is None or FAR_BEHIND < time.time() - sent)
         if isinstance(self.office, offices.Served):
             return offices.Lines if is_far else offices.Served
         return offices.Served if not is_far and time.monotonic() - self.asked_at < self.words.keep else offices.Lines
