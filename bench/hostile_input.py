@@ -116,11 +116,12 @@ def many_units(path, requests):
 
     def copy(db):
         for i in range(1, LANGUAGES):
-            db.execute("INSERT INTO language SELECT ?, header, plural FROM language WHERE lang = ?", (code(i), code(0)))
-            db.execute(
-                "INSERT INTO unit SELECT ?, key, plural, forms, state, obsolete, revision, comment, previous FROM unit WHERE lang = ?",
-                (code(i), code(0)),
-            )
+            for table, columns in (
+                ("d_language", "header, plural"),
+                ("d_unit", "key, plural, forms, state, obsolete, revision, comment, previous"),
+                ("d_tally", "untranslated, needs_editing, translated, approved, read_only, suggestions, obsolete"),
+            ):
+                db.execute(f"INSERT INTO {table} SELECT domain, ?, {columns} FROM {table} WHERE lang = ?", (code(i), code(0)))
 
     written(path, copy)
 
@@ -136,9 +137,11 @@ def many_votes(path, requests):
     made(path, lines)
 
     def vote(db):
-        for (number,) in db.execute("SELECT number FROM suggestion").fetchall():
+        for (number,) in db.execute("SELECT number FROM d_suggestion").fetchall():
             rows = ((number, "v%05d" % i, 1 if i % 2 == 0 else -1) for i in range(VOTES))
-            db.executemany("INSERT INTO vote (number, voter, value) VALUES (?, ?, ?)", rows)
+            db.executemany("INSERT INTO d_vote (number, voter, value) VALUES (?, ?, ?)", rows)
+        votes = "SELECT sum(value) FROM d_vote WHERE d_vote.number = d_vote_sum.number"
+        db.execute(f"UPDATE d_vote_sum SET sum = 1 + ({votes})")
 
     written(path, vote)
 

@@ -25,6 +25,12 @@ import front_servers as servers  # noqa: E402
 
 SIZES = ((3, 1_000), (10, 5_000), (30, 5_000), (8, 50_000), (32, 20_000), (32, 50_000))
 RECORDS = 20_000
+# What a language has in each table, beside its code, in the order of their references.
+COPIED = {
+    "d_language": "header, plural",
+    "d_unit": "key, plural, forms, state, obsolete, revision, comment, previous",
+    "d_tally": "untranslated, needs_editing, translated, approved, read_only, suggestions, obsolete",
+}
 HEADER = 'msgid ""\nmsgstr ""\n"Content-Type: text/plain; charset=UTF-8\\n"\n"Plural-Forms: nplurals=2; plural=n != 1;\\n"\n\n'
 
 
@@ -55,10 +61,8 @@ def made(program, path, languages, messages):
     with contextlib.closing(sqlite3.connect(path)) as db:
         for n in range(1, languages):
             lang = "a" + chr(97 + n // 26) + chr(97 + n % 26)
-            db.execute("INSERT INTO language SELECT ?, header, plural FROM language WHERE lang = 'aa'", (lang,))
-            db.execute(
-                "INSERT INTO unit SELECT ?, key, plural, forms, state, obsolete, revision, comment, previous FROM unit WHERE lang = 'aa'", (lang,)
-            )
+            for table, columns in COPIED.items():
+                db.execute(f"INSERT INTO {table} SELECT domain, ?, {columns} FROM {table} WHERE lang = 'aa'", (lang,))
         db.commit()
         db.execute("PRAGMA wal_checkpoint(TRUNCATE)")
 

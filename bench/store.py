@@ -26,10 +26,12 @@ ROUNDS = int(sys.argv[3]) if len(sys.argv) > 3 else 5
 PROGRAM = pathlib.Path(sys.argv[4] if len(sys.argv) > 4 else "/tmp/office-store-program/crates/stored_offices/out/stored_offices").resolve()
 LOOKS = 10 * ACTS
 
-# In the order in which an act runs them: a look into the book, six reads, and three writes.
+# In the order in which an act runs them: a look into the book, six reads, and the writes, behind another look at the unit and its suggestions.
+# The first act moves the tally.
 STATEMENTS = re.findall(r'"((?:SELECT|INSERT|DELETE) [^"]*)"', (TOP / "tests" / "store" / "bare.rt.txt").read_text())
-RECORD, READS, WRITES = STATEMENTS[0], STATEMENTS[1:7], STATEMENTS[7:]
-VALUES = [("de",), (), ("ann",), ("de", "Hello"), ("Hello",), ("de", "Hello")]
+RECORD, READS, (PUT_RECORD, TALLY, PUT_TALLY, PUT_UNIT, CLEAR) = STATEMENTS[0], STATEMENTS[1:7], STATEMENTS[7:]
+UNIT = ("main", "de", "Hello")
+VALUES = [("main", "de"), (), ("ann",), UNIT, ("main", "Hello"), UNIT]
 
 
 def ran(work, path, count):
@@ -63,14 +65,20 @@ def translate(db, n):
     number = "%08x-0000-4000-8000-%012x" % (n, n)
     content = '{"act":"translate","caller":"ann","forms":["Hallo %d"],"id":"Hello","lang":"de","seen":%d}' % (n, n)
     body = '{"revision":%d,"state":"translated"}' % (n + 1)
-    unit = ("de", "Hello", None, '["Hallo %d"]' % n, 2, 0, n + 1, "[]", "[null,null,null]")
+    unit = (*UNIT, None, '["Hallo %d"]' % n, 2, 0, n + 1, "[]", "[null,null,null]")
     db.execute("BEGIN")
     db.execute(RECORD, (number,)).fetchall()
     db.execute("COMMIT")
     look(db)
     db.execute("BEGIN")
-    for text, values in zip(WRITES, ((number, content, 200, body), unit, ("de", "Hello"))):
-        db.execute(text, values)
+    db.execute(PUT_RECORD, (number, content, 200, body))
+    db.execute(READS[3], UNIT).fetchall()
+    db.execute(READS[5], UNIT).fetchall()
+    if n == 1:
+        db.execute(TALLY, ("main", "de")).fetchall()
+        db.execute(PUT_TALLY, ("main", "de", 0, 0, 1, 0, 0, 0, 0))
+    db.execute(PUT_UNIT, unit)
+    db.execute(CLEAR, UNIT)
     db.execute("COMMIT")
 
 

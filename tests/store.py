@@ -5,7 +5,7 @@
 
 The program runs the rows of tests/store/rows.txt in files, one for each office, and a few requests more. Of each file, once it is
 closed and without the log beside it: SQLite finds it whole, its references held, its schema that of the tables as they are written down
-here, and its rows those that the rows of the program tell. A run that is killed has to leave a file of which as much holds. Each
+here, its rows those that the rows of the program tell, and the sums and tallies that are kept what counting gives. A run that is killed has to leave a file of which as much holds. Each
 statement of the crates on SQLite that reads or removes finds its rows by a key, and those that the bench runs by themselves are the same as
 the tables'. Prints what fails, and last how much was looked at; the status is 1 if anything failed.
 """
@@ -35,33 +35,48 @@ SCHEMA = {
         [],
         [],
     ),
-    "template": (
-        [("place", "INTEGER", 0, 1), ("key", "TEXT", 1, 0), ("plural", "TEXT", 0, 0)]
+    "domain": ([("name", "TEXT", 1, 1)], [], []),
+    "d_template": (
+        [("domain", "TEXT", 1, 1), ("place", "INTEGER", 1, 2), ("key", "TEXT", 1, 0), ("plural", "TEXT", 0, 0)]
         + [(it, "TEXT", 1, 0) for it in ("extracted", "refs", "flags")],
-        [["key"]],
+        [["domain", "key"]],
         [],
     ),
-    "language": ([("lang", "TEXT", 1, 1), ("header", "TEXT", 1, 0), ("plural", "TEXT", 1, 0)], [], []),
-    "unit": (
-        [("lang", "TEXT", 1, 1), ("key", "TEXT", 1, 2), ("plural", "TEXT", 0, 0), ("forms", "TEXT", 1, 0)]
+    "d_language": ([("domain", "TEXT", 1, 1), ("lang", "TEXT", 1, 2), ("header", "TEXT", 1, 0), ("plural", "TEXT", 1, 0)], [], []),
+    "d_unit": (
+        [("domain", "TEXT", 1, 1), ("lang", "TEXT", 1, 2), ("key", "TEXT", 1, 3), ("plural", "TEXT", 0, 0), ("forms", "TEXT", 1, 0)]
         + [(it, "INTEGER", 1, 0) for it in ("state", "obsolete", "revision")]
         + [(it, "TEXT", 1, 0) for it in ("comment", "previous")],
         [],
         [],
     ),
-    "suggestion": (
-        [("number", "TEXT", 1, 1), ("lang", "TEXT", 1, 0), ("key", "TEXT", 1, 0), ("place", "INTEGER", 1, 0)]
+    "d_suggestion": (
+        [("number", "TEXT", 1, 1), ("domain", "TEXT", 1, 0), ("lang", "TEXT", 1, 0), ("key", "TEXT", 1, 0), ("place", "INTEGER", 1, 0)]
         + [("suggester", "TEXT", 1, 0), ("forms", "TEXT", 1, 0)],
-        [["lang", "key", "place"]],
+        [["domain", "lang", "key", "place"]],
         [
             ("record", ["number"], ["number"], "NO ACTION"),
-            ("unit", ["lang", "key"], ["lang", "key"], "CASCADE"),
+            ("d_unit", ["domain", "lang", "key"], ["domain", "lang", "key"], "CASCADE"),
         ],
     ),
-    "vote": (
+    "d_vote": (
         [("number", "TEXT", 1, 1), ("voter", "TEXT", 1, 2), ("value", "INTEGER", 1, 0)],
         [],
-        [("suggestion", ["number"], ["number"], "CASCADE")],
+        [("d_suggestion", ["number"], ["number"], "CASCADE")],
+    ),
+    "d_vote_sum": (
+        [("number", "TEXT", 1, 1), ("sum", "INTEGER", 1, 0)],
+        [],
+        [("d_suggestion", ["number"], ["number"], "CASCADE")],
+    ),
+    "d_tally": (
+        [("domain", "TEXT", 1, 1), ("lang", "TEXT", 1, 2)]
+        + [
+            (it, "INTEGER", 1, 0)
+            for it in ("untranslated", "needs_editing", "translated", "approved", "read_only", "suggestions", "obsolete")
+        ],
+        [],
+        [],
     ),
     "record": (
         [("number", "TEXT", 1, 1), ("content", "TEXT", 1, 0), ("status", "INTEGER", 1, 0), ("body", "TEXT", 1, 0)],
@@ -75,28 +90,32 @@ REFUSED = [
     "UPDATE team SET role = 0",
     "UPDATE team SET role = 4",
     "UPDATE policy SET one = 2",
-    "INSERT INTO policy VALUES (2, 1, 0, 0, 0, 0, 0, 0)",
-    "UPDATE unit SET state = 4",
-    "UPDATE unit SET state = -1",
-    "UPDATE unit SET obsolete = 2",
-    "UPDATE unit SET revision = 'one'",
+    "INSERT INTO policy VALUES (2, 3, 0, 0, 0, 0, 0, 0)",
+    "UPDATE d_unit SET state = 4",
+    "UPDATE d_unit SET state = -1",
+    "UPDATE d_unit SET obsolete = 2",
+    "UPDATE d_unit SET revision = 'one'",
     "UPDATE team SET role = NULL",
-    "INSERT INTO suggestion VALUES ('unrecorded', 'de', 'Hello', 7000, 'ann', '[]')",
-    "INSERT INTO vote VALUES ('no suggestion', 'ann', 1)",
+    "INSERT INTO d_suggestion VALUES ('unrecorded', 'main', 'de', 'Hello', 7000, 'ann', '[]')",
+    "INSERT INTO d_vote VALUES ('no suggestion', 'ann', 1)",
+    "INSERT INTO d_vote_sum VALUES ('no suggestion', 1)",
+    "INSERT INTO domain VALUES ('main')",
 ]
 # The same of rows that refer to one another; the first of these make them.
 WITH_VOTE = [
     "INSERT INTO record VALUES ('n', '{}', 200, '{}')",
-    "INSERT INTO suggestion VALUES ('n', 'de', 'Hello', 7000, 'ann', '[]')",
-    "INSERT INTO vote VALUES ('n', 'ann', 1)",
+    "INSERT INTO d_suggestion VALUES ('n', 'main', 'de', 'Hello', 7000, 'ann', '[]')",
+    "INSERT INTO d_vote VALUES ('n', 'ann', 1)",
+    "INSERT INTO d_vote_sum VALUES ('n', 2)",
 ]
 REFUSED_WITH_VOTE = [
-    "UPDATE vote SET value = 0",
-    "UPDATE vote SET value = 2",
-    "INSERT INTO vote VALUES ('n', 'ann', -1)",
+    "UPDATE d_vote SET value = 0",
+    "UPDATE d_vote SET value = 2",
+    "INSERT INTO d_vote VALUES ('n', 'ann', -1)",
+    "INSERT INTO d_vote_sum VALUES ('n', 3)",
     "INSERT INTO record VALUES ('n', '{}', 200, '{}')",
     "DELETE FROM record WHERE number = 'n'",
-    "INSERT INTO suggestion VALUES ('n', 'de', 'Hello', 8000, 'ann', '[]')",
+    "INSERT INTO d_suggestion VALUES ('n', 'main', 'de', 'Hello', 8000, 'ann', '[]')",
 ]
 
 HEADER = '[[],[],[],[],[null,null,null],"Content-Type: text/plain; charset=UTF-8\\nPlural-Forms: nplurals=2; plural=n != 1;\\n"]'
@@ -160,7 +179,7 @@ def look_at_schema(looks, name, db):
         keys = sorted((origin, unique_, partial, columns_of_index(db, it)) for it, unique_, origin, partial in indexes)
         primary = [it[0] for it in sorted((it for it in columns if it[3]), key=lambda it: it[3])]
         # an integer that is the primary key is the rowid, and has no index
-        wanted = [] if table in ("policy", "template") else [("pk", 1, 0, primary)]
+        wanted = [] if table == "policy" else [("pk", 1, 0, primary)]
         looks.same("keys", f"{at}, keys", keys, sorted(wanted + [("u", 1, 0, it) for it in unique]))
         collations = [row[0] for it in indexes for row in rows(db, "SELECT coll FROM pragma_index_xinfo(?)", it[0])]
         looks.same("collations", f"{at}, collations", sorted(set(collations)), ["BINARY"] if collations else [])
@@ -186,8 +205,8 @@ def look_at_bounds(looks, name, db):
         for text in texts:
             looks.same("bounds", f"{name}: {text}, refused", is_refused(db, text), True)
         if before:
-            looks.same("bounds", f"{name}: a unit with a suggestion, kept", is_refused(db, "DELETE FROM unit"), False)
-            left = rows(db, "SELECT number FROM suggestion WHERE number = 'n' UNION ALL SELECT number FROM vote WHERE number = 'n'")
+            looks.same("bounds", f"{name}: a unit with a suggestion, kept", is_refused(db, "DELETE FROM d_unit"), False)
+            left = [it for table in ("d_suggestion", "d_vote", "d_vote_sum") for it in rows(db, f"SELECT number FROM {table} WHERE number = 'n'")]
             looks.same("bounds", f"{name}: what stays of a suggestion whose unit goes", left, [])
         db.execute("ROLLBACK")
 
@@ -195,6 +214,33 @@ def look_at_bounds(looks, name, db):
 def look_whole(looks, name, db):
     looks.same("whole files", f"{name}: integrity", rows(db, "PRAGMA integrity_check"), [("ok",)])
     looks.same("held references", f"{name}: references", rows(db, "PRAGMA foreign_key_check"), [])
+
+
+# What the votes on each suggestion come to, and what each language counts: an obsolete unit as obsolete alone, another as read-only where its
+# entry has that flag and else by its state, and the suggestions on units that aren't obsolete.
+SUMS = """
+SELECT number, 1 + (SELECT coalesce(sum(value), 0) FROM d_vote WHERE d_vote.number = d_suggestion.number) FROM d_suggestion ORDER BY 1
+"""
+TALLIES = """
+WITH seen AS (
+  SELECT domain, lang, key, obsolete, CASE WHEN obsolete THEN 5 WHEN EXISTS (
+    SELECT 1 FROM d_template, json_each(d_template.flags) AS flag
+    WHERE d_template.domain = d_unit.domain AND d_template.key = d_unit.key AND flag.value = 'read-only') THEN 4 ELSE state END AS shown
+  FROM d_unit)
+SELECT domain, lang, %s,
+  (SELECT count(*) FROM d_suggestion JOIN seen USING (domain, lang, key) WHERE d_suggestion.domain = d_language.domain
+    AND d_suggestion.lang = d_language.lang AND NOT seen.obsolete),
+  (SELECT count(*) FROM seen WHERE seen.domain = d_language.domain AND seen.lang = d_language.lang AND seen.obsolete)
+FROM d_language ORDER BY 1, 2
+""" % ", ".join(
+    f"(SELECT count(*) FROM seen WHERE seen.domain = d_language.domain AND seen.lang = d_language.lang AND shown = {state})" for state in range(5)
+)
+
+
+def look_at_figures(looks, name, db):
+    """The sums and tallies that are kept are what counting gives; nothing of the program counts here."""
+    looks.same("kept sums", f"{name}: sums", rows(db, "SELECT number, sum FROM d_vote_sum ORDER BY 1"), rows(db, SUMS))
+    looks.same("kept tallies", f"{name}: tallies", rows(db, "SELECT * FROM d_tally ORDER BY 1, 2"), rows(db, TALLIES))
 
 
 def counts(db):
@@ -226,7 +272,17 @@ def is_by_key(text, step):
     return bool(re.match(r"SEARCH \w+ USING (COVERING INDEX|INDEX|INTEGER PRIMARY KEY)\b", step))
 
 
-def look_at_plans(looks, db):
+def all_tables():
+    """A database with the tables of both forms, as a file has them that was converted: some statements read the old ones."""
+    db = sqlite3.connect(":memory:")
+    for path in STATEMENTS:
+        for text in texts_of(path, "CREATE"):
+            db.execute(text)
+    return db
+
+
+def look_at_plans(looks):
+    db = all_tables()
     for path in STATEMENTS:
         for text in texts_of(path, "SELECT|DELETE"):
             steps = plan(db, text)
@@ -260,7 +316,8 @@ def look_at_rows(looks, folder):
         look_whole(looks, path.name, db)
         look_at_schema(looks, path.name, db)
         looks.same("numbers of rows", f"{path.name}: rows", counts(db), told)
-        if "unit" in told:
+        look_at_figures(looks, path.name, db)
+        if "d_unit" in told:
             look_at_bounds(looks, path.name, db)
         db.close()
 
@@ -300,16 +357,24 @@ REQUESTS = [
 # What the tables hold then.
 WANTED = {
     "team": [("ann", 1), ("root", 3)],
-    "policy": [(1, 1, 0, 0, 0, 0, 0, 0)],
-    "template": [(0, "Hello", None, "[]", "[]", "[]")],
-    "language": [("de", HEADER, "nplurals=2; plural=n != 1;")],
-    "unit": [("de", "Hello", None, '["Hallo"]', 2, 0, 3, '["a note","„another\\""]', NONE)],
-    "suggestion": [
-        (number(3), "de", "Hello", 0, "ann", '["Moin"]'),
-        (number(9), "de", "Hello", 1, "root", '["\\"Tag\\"\\n"]'),
+    "policy": [(1, 3, 0, 0, 0, 0, 0, 0)],
+    "domain": [("main",)],
+    "d_template": [("main", 0, "Hello", None, "[]", "[]", "[]")],
+    "d_language": [("main", "de", HEADER, "nplurals=2; plural=n != 1;")],
+    "d_unit": [("main", "de", "Hello", None, '["Hallo"]', 2, 0, 3, '["a note","„another\\""]', NONE)],
+    "d_suggestion": [
+        (number(3), "main", "de", "Hello", 0, "ann", '["Moin"]'),
+        (number(9), "main", "de", "Hello", 1, "root", '["\\"Tag\\"\\n"]'),
     ],
-    "vote": [],
+    "d_vote": [],
+    "d_vote_sum": [(number(3), 1), (number(9), 1)],
+    "d_tally": [("main", "de", 0, 0, 1, 0, 0, 2, 0)],
 }
+
+
+def ordered(table):
+    """Its first columns, two where it has them."""
+    return ", ".join(str(at + 1) for at in range(min(2, len(SCHEMA[table][0]))))
 
 
 def look_at_values(looks, folder):
@@ -325,9 +390,10 @@ def look_at_values(looks, folder):
     db = alone(folder / "values.db", folder)
     looks.same("runs", "requests, in a file", ended, (0, told % (counts(db), len(lines) + 1), ""))
     for table, wanted in {**WANTED, "record": records}.items():
-        looks.same("tables of values", f"values.db: {table}", rows(db, f"SELECT * FROM {table} ORDER BY 1, 2"), wanted)
+        looks.same("tables of values", f"values.db: {table}", rows(db, f"SELECT * FROM {table} ORDER BY {ordered(table)}"), wanted)
     look_whole(looks, "values.db", db)
-    look_at_plans(looks, db)
+    look_at_figures(looks, "values.db", db)
+    look_at_plans(looks)
     db.close()
 
 
@@ -340,11 +406,11 @@ def look_at_bench(looks, folder):
         looks.same("runs", work, (status, bool(re.fullmatch(r"%d \d+\n" % count, told)), faults), (0, True, ""))
         db = alone(path, folder)
         look_whole(looks, path.name, db)
-        found[work] = {table: rows(db, f"SELECT * FROM {table} ORDER BY 1, 2") for table in SCHEMA}
+        found[work] = {table: rows(db, f"SELECT * FROM {table} ORDER BY {ordered(table)}") for table in SCHEMA}
         db.close()
     looks.same("tables of values", "acts, records", len(found["acts"]["record"]), count)
-    unit = ("de", "Hello", None, '["Hallo %d"]' % count, 2, 0, count + 1, "[]", NONE)
-    looks.same("tables of values", "acts, unit", found["acts"]["unit"], [unit])
+    unit = ("main", "de", "Hello", None, '["Hallo %d"]' % count, 2, 0, count + 1, "[]", NONE)
+    looks.same("tables of values", "acts, unit", found["acts"]["d_unit"], [unit])
     for table in SCHEMA:
         looks.same("tables of values", f"acts beside bare: {table}", found["bare"][table], found["acts"][table])
         looks.same("tables of values", f"views beside reads: {table}", found["reads"][table], found["views"][table])
@@ -364,8 +430,9 @@ def look_after_kill(looks, folder, seconds):
     look_whole(looks, path.name, db)
     records = rows(db, "SELECT count(*) FROM record")[0][0]
     looks.same("killed runs", f"{path.name}: some acts were committed", records > 0, True)
-    unit = ("de", "Hello", None, '["Hallo %d"]' % records, 2, 0, records + 1, "[]", NONE)
-    looks.same("killed runs", f"{path.name}: unit of {records} acts", rows(db, "SELECT * FROM unit"), [unit])
+    unit = ("main", "de", "Hello", None, '["Hallo %d"]' % records, 2, 0, records + 1, "[]", NONE)
+    looks.same("killed runs", f"{path.name}: unit of {records} acts", rows(db, "SELECT * FROM d_unit"), [unit])
+    look_at_figures(looks, path.name, db)
     db.close()
 
 

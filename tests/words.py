@@ -21,6 +21,7 @@ PROGRAM = TOP / "crates" / "cli" / "out" / "cli"
 PAGE = TOP / "share" / "man" / "man1" / "office.1"
 BASH = TOP / "share" / "bash-completion" / "completions" / "office"
 ZSH = TOP / "share" / "zsh" / "site-functions" / "_office"
+NUMBER = "0197f6a4-5d2e-7c31-8e2a-4b7f0c9d1e55"
 # Words, and the status that they end with.
 WORDS = [
     (["--help"], 0),
@@ -43,6 +44,17 @@ WORDS = [
     (["export", "--store", "/nowhere/office.db", "--domain", "Docs", "--lang", "de"], 2),
     (["export", "--store", "/nowhere/office.db", "--domain", "", "--lang", "de"], 2),
     (["export", "--store", "/nowhere/office.db", "--domain", "--lang", "de"], 2),
+    (["records", "--help"], 0),
+    (["records"], 2),
+    (["records", "--after", NUMBER], 2),
+    (["records", "--store", "/nowhere/office.db"], 1),
+    (["records", "--store", "/nowhere/office.db", "--after", NUMBER], 1),
+    (["records", "--store", "/nowhere/office.db", "--after"], 2),
+    (["records", "--store", "/nowhere/office.db", "--after", ""], 2),
+    (["records", "--store", "/nowhere/office.db", "--after", "1"], 2),
+    (["records", "--store", "/nowhere/office.db", "--after", NUMBER.upper()], 2),
+    (["records", "--store", "/nowhere/office.db", "--after", NUMBER.replace("-", "")], 2),
+    (["records", "--store", "/nowhere/office.db", "--after", NUMBER, "--after", NUMBER], 2),
     (["deliver", "--store", "/nowhere/office.db"], 1),
     (["serve", "-h"], 0),
     (["serve", "--store", "/nowhere/office.db", "--port", "8080"], 2),
@@ -114,6 +126,7 @@ TOLD = [
     (["export", "--store", "/nowhere/office.db", "--lang", "de"], "store fault 2", ["in use by another program", "isn't there", "no database"]),
     (["init", "--store", "{made}", "--manager", "root"], "store: exists", ["an office already"]),
     (["export", "--store", "{empty}", "--lang", "de"], "store fault 3", ["no office's"]),
+    (["records", "--store", "{made}", "--after", NUMBER], "records fault 1", ["No record", "that number"]),
     (["deliver", "--export", "xx"], "export fault 1", ["no such domain or language"]),
     (["deliver", "--demo", "--export", "de", "--domain", "docs"], "export fault 1", ["no such domain or language"]),
     (["send", "--port", "1", "--file", "/nowhere/requests", "--tries", "1"], "file fault", ["can't be read"]),

@@ -45,6 +45,8 @@
 //!   file deliver; LINES -> X          delivers the lines
 //!   file deliver export LANG; LINES -> X    and then exports the language
 //!   file export LANG -> X             exports a language
+//!   file records -> X                 lists its records in the order in which it took them
+//!   file records NUMBER -> X          lists those behind the record of this number
 //!   file unit LANG|ID -> X            a unit as callers see it; a context stands behind a further bar
 //!   file sql; TEXT                    statements that some other tool runs on the file
 //!   file spoil; TEXT -> X             the same on a copy, to which the line `<hallo>` is then delivered, and which is exported: both come

@@ -57,7 +57,11 @@ fn fault_of(error: &Error) -> OpenFault {
 fn in_open_file(rt: &HostRuntime, path: &str, work: Work<'_>) -> u8 {
     match Connection::open(rt, path) {
         Ok(connection) => {
-            let Closed { status, connection } = done(rt, connection, work);
+            let Closed {
+                status,
+                stopped: _,
+                connection,
+            } = done(rt, connection, work);
             match connection.close() {
                 Ok(()) => told_closed(rt, work, status),
                 Err(_) => store_fault(rt, OpenFault::Disk),

@@ -69,6 +69,7 @@ fn asked_status(rt: &HostRuntime, asked: &Asked<'_>) -> io::Result<u8> {
             options.store,
             Work::Export(&options.domain, &options.lang),
         )),
+        Asked::Records(options) => Ok(in_file(rt, options.store, Work::Records(options))),
         Asked::Serve(options) => Ok(in_file(rt, options.store, Work::Serve(options))),
         Asked::Send(options) => send_file(rt, options),
         Asked::Plural(options) => plural_standard(rt, options),

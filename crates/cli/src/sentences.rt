@@ -1,7 +1,7 @@
 //! What the faults mean that the program tells by numbers.
 
 /// What a line that tells a fault begins with, up to ` at N`, and what the fault means.
-const SENTENCES: [(&str, &str); 27] = [
+const SENTENCES: [(&str, &str); 31] = [
     ("store fault 1", "There was no memory to open the office."),
     (
         "store fault 2",
@@ -57,6 +57,19 @@ const SENTENCES: [(&str, &str); 27] = [
     (
         "export fault 5",
         "The text would have more than 9,000,000,000,000,000 bytes.",
+    ),
+    (
+        "records fault 1",
+        "No record of the office has that number.",
+    ),
+    ("records fault 2", "The output couldn't be written."),
+    (
+        "records fault 3",
+        "There was no memory. The lines are cut short.",
+    ),
+    (
+        "records fault 4",
+        "The disk failed. The lines are cut short.",
     ),
     (
         "plural fault 1",

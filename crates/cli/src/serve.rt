@@ -5,7 +5,7 @@ use crate::faults::Faults;
 use crate::words::Serve;
 use crate::{DONE, store_fault};
 use commands::FAILED;
-use file_commands::{Closed, Unopened, open_desk};
+use file_commands::{Closed, Unopened, close_desk, open_desk};
 use office::Desk;
 use sockets::serve_next;
 use sqlite::{Alter, Connection};
@@ -24,11 +24,11 @@ pub(crate) fn serve_opened<S: Alter + Drop>(
     match open_desk(rt.alloc(), connection) {
         Ok(mut desk) => {
             let status = serve_port(rt, &mut desk, options.port, options.connections);
-            let connection = desk.into_tables().into_connection();
-            Closed { status, connection }
+            close_desk(desk, status)
         }
         Err(Unopened { fault, connection }) => Closed {
             status: store_fault(rt, fault),
+            stopped: false,
             connection,
         },
     }

@@ -150,6 +150,26 @@ pub(crate) const EXPORT: Subcommand = Subcommand {
     behind: MAN_PAGE,
 };
 
+pub(crate) const RECORDS: Subcommand = Subcommand {
+    name: "records",
+    about: "Prints number and status of each record as a line of JSON, in the order in which the office took them",
+    words: &[
+        Word {
+            name: "store",
+            called: "FILE",
+            value: Value::NeededText,
+            help: "The file that the office is in",
+        },
+        Word {
+            name: "after",
+            called: "NUMBER",
+            value: Value::Text,
+            help: "Prints those behind the record of this number alone",
+        },
+    ],
+    behind: MAN_PAGE,
+};
+
 pub(crate) const SERVE: Subcommand = Subcommand {
     name: "serve",
     about: "Serves an office over HTTP on 127.0.0.1, one connection after another",
@@ -229,7 +249,7 @@ const CANON: Subcommand = Subcommand {
     behind: KINDS,
 };
 
-const SUBCOMMANDS: [Subcommand; 7] = [INIT, DELIVER, EXPORT, SERVE, SEND, PLURAL, CANON];
+const SUBCOMMANDS: [Subcommand; 8] = [INIT, DELIVER, EXPORT, RECORDS, SERVE, SEND, PLURAL, CANON];
 
 const VERSION: &str = "0.2.0-dev";
 

@@ -1,14 +1,16 @@
 //! The words of the command line.
 
 use crate::subcommands::{
-    DELIVER, EXPORT, INIT, PLURAL, SEND, SERVE, Subcommand, command_of, office_command,
+    DELIVER, EXPORT, INIT, PLURAL, RECORDS, SEND, SERVE, Subcommand, command_of, office_command,
 };
 use clap::error::ErrorKind;
 use clap::{ArgMatches, Command, Error};
 use commands::{AtLost, FAILED};
+use sql_columns::number_from;
 use std::alloc::{AllocError, Global};
 use tables::Start;
 use units::{Lang, Name};
+use uuid::Uuid;
 
 /// What the words ask for.
 #[derive(Drop)]
@@ -16,6 +18,7 @@ pub(crate) enum Asked<'a> {
     Init(Init<'a>),
     Deliver(Deliver<'a>),
     Export(Export<'a>),
+    Records(Records<'a>),
     Serve(Serve<'a>),
     Send(SendFile<'a>),
     Plural(Plural<'a>),
@@ -50,6 +53,13 @@ pub(crate) struct Export<'a> {
     pub(crate) store: &'a str,
     pub(crate) domain: Name,
     pub(crate) lang: Lang,
+}
+
+/// The options of `records`: the file, and the number of the record behind which the records are wanted.
+#[derive(Drop)]
+pub(crate) struct Records<'a> {
+    pub(crate) store: &'a str,
+    pub(crate) after: Option<Uuid>,
 }
 
 /// The options of `serve`: the file that the office is in, the port, and how many connections are served.
@@ -96,6 +106,7 @@ fn asked_of<'a>(alloc: Global, matches: &ArgMatches<'a>) -> Result<Asked<'a>, Er
         Some(("init", found)) => init_options(alloc, found),
         Some(("deliver", found)) => deliver_options(alloc, found),
         Some(("export", found)) => export_options(alloc, found),
+        Some(("records", found)) => records_options(alloc, found),
         Some(("serve", found)) => serve_options(alloc, found),
         Some(("send", found)) => send_options(alloc, found),
         Some(("plural", found)) => plural_options(alloc, found),
@@ -203,6 +214,9 @@ const NO_NAME: &str =
 const NO_LANG: &str =
     "a LANG is 2 to 16 ASCII letters, digits, `_`, `-` and `@`, the first of them a letter";
 
+const NO_REQUEST: &str =
+    "a NUMBER is that of a request: 36 characters, hyphenated and in lower case";
+
 /// What is wrong with a value of a subcommand, whose usage begins so.
 fn wrong_value<'a>(
     subcommand: Result<Command<'a>, AllocError>,
@@ -253,6 +267,27 @@ fn export_options<'a>(alloc: Global, found: &ArgMatches<'a>) -> Result<Asked<'a>
         store: found.get_str("store").unwrap_or(""),
         domain,
         lang,
+    }))
+}
+
+/// The request's number that is written so.
+fn number_of(alloc: Global, text: &str) -> Result<Uuid, Error> {
+    match number_from(text) {
+        Ok(number) => Ok(number),
+        Err(_) => {
+            Err(or_memory(wrong_value(command_of(alloc, RECORDS), "office records", NO_REQUEST)))
+        }
+    }
+}
+
+fn records_options<'a>(alloc: Global, found: &ArgMatches<'a>) -> Result<Asked<'a>, Error> {
+    let after = match found.get_str("after") {
+        Some(text) => Some(number_of(alloc, text)?),
+        None => None,
+    };
+    Ok(Asked::Records(Records {
+        store: found.get_str("store").unwrap_or(""),
+        after,
     }))
 }
 

@@ -2,15 +2,16 @@
 ghost use Rattle.std.specs.Prelude.{◌≡◌, false};
 
 use crate::serve::serve_opened;
-use crate::words::{Deliver, Serve};
+use crate::words::{Deliver, Records, Serve};
 use crate::{DONE, second_output};
 use commands::{FAILED, Input, Output};
-use file_commands::{Closed, deliver_store, export_store, init_store, say_ready};
+use file_commands::{Closed, deliver_store, export_store, init_store, records_store, say_ready};
 use sqlite::{Alter, Connection};
 use std::io::BufWriter;
 use std::rt::HostRuntime;
 use tables::Start;
 use units::{Lang, Name};
+use uuid::Uuid;
 
 /// What is done to the office in a database.
 #[derive(Clone, Copy)]
@@ -21,6 +22,8 @@ pub(crate) enum Work<'a> {
     Deliver(&'a Deliver<'a>),
     /// The domain's language is exported.
     Export(&'a Name, &'a Lang),
+    /// The records behind that of a number are listed, or all.
+    Records(&'a Records<'a>),
     /// It is served on a port.
     Serve(&'a Serve<'a>),
 }
@@ -52,6 +55,7 @@ pub(crate) fn done<S: Alter + Drop>(
         Work::Make(start) => make(rt, connection, start),
         Work::Deliver(options) => deliver(rt, connection, options),
         Work::Export(domain, lang) => export(rt, connection, domain, lang),
+        Work::Records(options) => records(rt, connection, options.after),
         Work::Serve(options) => serve_opened(rt, connection, options),
     }
 }
@@ -60,6 +64,15 @@ fn make<S: Alter + Drop>(rt: &HostRuntime, connection: Connection<S>, start: &St
     requires { connection.in_transaction ≡ false }
 {
     init_store(rt.alloc(), connection, start, &mut second_output(rt))
+}
+
+/// The connection handed back, where there was no memory for the work.
+fn unworked<S: Alter + Drop>(connection: Connection<S>) -> Closed<S> {
+    Closed {
+        status: FAILED,
+        stopped: false,
+        connection,
+    }
 }
 
 fn deliver<S: Alter + Drop>(
@@ -80,10 +93,7 @@ fn deliver<S: Alter + Drop>(
             options.export.as_ref(),
             options.at_lost,
         ),
-        Err(_) => Closed {
-            status: FAILED,
-            connection,
-        },
+        Err(_) => unworked(connection),
     }
 }
 
@@ -104,9 +114,25 @@ fn export<S: Alter + Drop>(
             &mut Output::new(buffer),
             &mut second_output(rt),
         ),
-        Err(_) => Closed {
-            status: FAILED,
+        Err(_) => unworked(connection),
+    }
+}
+
+fn records<S: Alter + Drop>(
+    rt: &HostRuntime,
+    connection: Connection<S>,
+    after: Option<Uuid>,
+) -> Closed<S>
+    requires { connection.in_transaction ≡ false }
+{
+    match BufWriter::new(rt.alloc(), rt.stdout()) {
+        Ok(buffer) => records_store(
+            rt.alloc(),
             connection,
-        },
+            after,
+            &mut Output::new(buffer),
+            &mut second_output(rt),
+        ),
+        Err(_) => unworked(connection),
     }
 }

@@ -6,3 +6,4 @@ pub mod LostLines
 pub mod DeliverLines
 pub mod Gathering
 pub mod StdStreams
+pub mod RecordLines

@@ -5,9 +5,10 @@
 //! - `export`: the PO text of a language, and what is told of it on the second output (`export_text`)
 //! - `canon`: `office canon` (`canon_text`)
 //! - `plural`: `office plural` (`plural_lines`)
+//! - `record`: the line of a record (`send_record`)
 //! - `streams`, `numbers`: readers and writers of std as streams of bytes (`Input`, `Output`); numbers in lines
 //!
-//! Specs: `DeliverLines`, `LostLines`, `TextLines`, `ExportLines`, `CanonText`, `PluralLines`; `Gathering` and `StdStreams` are the
+//! Specs: `DeliverLines`, `LostLines`, `TextLines`, `ExportLines`, `CanonText`, `PluralLines`, `RecordLines`; `Gathering` and `StdStreams` are the
 //! code's own steps and streams.
 #![tactic(auto)]
 
@@ -18,10 +19,12 @@ mod export;
 mod lines;
 mod numbers;
 mod plural;
+mod record;
 mod streams;
 
 pub use canon::canon_text;
 pub use deliver::{AtLost, deliver_lines};
-pub use export::{FAILED, export_text};
+pub use export::{DONE, FAILED, export_text};
 pub use plural::plural_lines;
+pub use record::send_record;
 pub use streams::{Input, Output};

@@ -1,5 +1,5 @@
 //! What is told where an office's tables can't be had.
-ghost use Rattle.std.specs.Prelude.{◌≡◌, [], codes};
+ghost use Rattle.std.specs.Prelude.{◌≡◌, false, [], codes, OnOk};
 ghost use Rattle.po_write.specs.Sending.{Sends};
 ghost use Rattle.office.specs.Writers.{writer_at};
 ghost use Rattle.file_commands.specs.Faults.{store_fault_line, TellsLine};
@@ -11,7 +11,8 @@ use store_sql::OpenFault;
 
 /// Hands on what the writer holds back.
 pub(crate) fn hand_on<W: ByteSink>(w: &mut W) -> Result<(), SinkFault>
-    ensures { Sends W.taken W.failed w.old w.new [] result }
+    ensures sent { Sends W.taken W.failed w.old w.new [] result }
+    ensures handed_on { OnOk result (W.holds_back w.new ≡ false) }
 {
     w.flush()
 }

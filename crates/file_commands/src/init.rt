@@ -43,10 +43,12 @@ pub fn init_store<S: Alter + Drop, E: ByteSink>(
     match SqliteTables::create(connection, alloc, start) {
         Ok(tables) => Closed {
             status: DONE,
+            stopped: false,
             connection: tables.into_connection(),
         },
         Err((fault, connection)) => Closed {
             status: tell_store_fault(e, fault),
+            stopped: false,
             connection,
         },
     }

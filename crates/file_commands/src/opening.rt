@@ -1,17 +1,22 @@
 //! An office's desk over a database, and its connection handed back.
 ghost use Rattle.std.specs.Prelude.{◌≡◌, false, IfOk, IfErr};
-ghost use Rattle.file_commands.specs.Opening.{IsOpened, IsUnopened};
-ghost use Rattle.store_sql.specs.Tables.{connection_of};
+ghost use Rattle.sqlite.specs.Held.{state};
+ghost use Rattle.file_commands.specs.Opening.{IsOpened, IsUnopened, IsClosed};
+ghost use Rattle.store_sql.specs.Kept.{is_stopped};
+ghost use Rattle.store_sql.specs.Tables.{held_by, connection_of};
 
 use office::Desk;
 use sqlite::{Alter, Connection};
 use std::alloc::Global;
 use store_sql::{OpenFault, SqliteTables};
+use tables::Tables;
 
-/// Work on the office in a database that is done: the exit status, and the connection, handed back.
+/// Work on the office in a database that is done: the exit status, whether a failure of the disk stopped the tables, and the connection,
+/// handed back.
 #[derive(Drop)]
 pub struct Closed<S: Alter> {
     pub status: u8,
+    pub stopped: bool,
     pub connection: Connection<S>,
 }
 
@@ -22,10 +27,11 @@ pub struct Unopened<S: Alter> {
     pub connection: Connection<S>,
 }
 
-/// The desk of the office in a database, as its rows stand.
+/// The desk of the office in a database, as its rows stand. Tables of the first form are converted: those by domains are made beside them,
+/// with the same office, in one transaction.
 ///
-/// On a fault the connection is handed back with its rows as before: `Foreign` where they are no office's in the first form of its tables,
-/// with its book, and why; `Memory` where a growth was refused, `Disk` where the disk failed.
+/// On a fault the connection is handed back with its rows as before: `Foreign` where they are no office's with its book, in a form
+/// that is known, and why; `Memory` where a growth was refused, `Disk` where the disk failed.
 pub fn open_desk<S: Alter + Drop>(
     alloc: Global,
     connection: Connection<S>,
@@ -40,10 +46,19 @@ pub fn open_desk<S: Alter + Drop>(
     }
 }
 
-/// The connection of a desk that is closed.
-pub(crate) fn close_desk<S: Alter + Drop>(desk: Desk<SqliteTables<S>>) -> Connection<S>
-    ensures held { result ≡ connection_of S.Store desk }
-    ensures between { result.in_transaction ≡ false }
+/// Closes a desk whose work ended with a status.
+pub fn close_desk<S: Alter + Drop>(desk: Desk<SqliteTables<S>>, status: u8) -> Closed<S>
+    ensures held { result.connection ≡ connection_of S.Store desk }
+    ensures stopped { result.stopped ≡ is_stopped S.Store (held_by S.Store desk) }
+    ensures status { result.status ≡ status }
+    ensures between { result.connection.in_transaction ≡ false }
+    ensures closed { IsClosed (state S.Store result.connection) }
 {
-    desk.into_tables().into_connection()
+    let tables = desk.into_tables();
+    let stopped = tables.stopped();
+    Closed {
+        status,
+        stopped,
+        connection: tables.into_connection(),
+    }
 }

@@ -1,73 +1,104 @@
 -- An office that was read keeps the rules with the book of the rows, or doesn't.
-use Rattle.std.proofs.Common.{◌≡◌, Result, Ok, Err, IfOk, IfErr, OnOk, MatchResult, sym, subst, arith}
+use Rattle.std.proofs.Common.{◌≡◌, Result, Ok, Err, IfOk, IfErr, OnOk, MatchResult, refl, sym, subst, arith}
 use Rattle.sqlite.specs.Effect.{Database}
 use Rattle.sqlite.specs.State.{State, HasCleanDisk}
 use Rattle.request_book.specs.Book.{OfficeWithBook}
 use Rattle.deliveries.specs.OfficeRules.{KeepsRules}
-use Rattle.office_maps.specs.declared.office_maps.OfficeMaps.{OfficeMaps}
 use Rattle.office_maps.specs.OfficeIn.{office_in}
 use Rattle.units.specs.Office.{Office}
-use Rattle.sql_schema.specs.Whole.{IsLookUp}
-use Rattle.sql_meaning.specs.Meaning.{book_in, meaning_in, AreNumbered}
+use Rattle.sql_schema.specs.Whole.{IsIdleOver, IsLookUp}
+use Rattle.sql_meaning.specs.Meaning.{book_in, meaning_for, own_rows, AreNumbered}
 use Rattle.sql_adoption.specs.declared.faults.OpenFault.{OpenFault}
 use Rattle.sql_adoption.specs.declared.faults.OpenFault.TheVariants.{Memory, Disk, Foreign, Exists}
 use Rattle.sql_adoption.specs.declared.faults.Mismatch.TheVariants.{OtherTables, OtherForm, UnreadRow, BrokenRules}
 use Rattle.sql_adoption.specs.declared.office_read.ReadOffice.{ReadOffice}
-use Rattle.sql_adoption.specs.Adoption.{AreContents, StandForBook, IsAdoptedAs, Refuses}
-use Rattle.sql_adoption.specs.Reading.{IsReadOf, KeepsBook, RefusesWith, RefusesBook, RefusesKept}
-use Rattle.sql_adoption.proofs.Looked.{looked_on, looked_in_vain, both_looked, looked_same}
-use Rattle.sql_schema.specs.Layouts.{rows_named}
+use Rattle.sql_adoption.specs.Adoption.{AreContents, StandForBook, IsAdoptedAs, Lacks, Refuses}
+use Rattle.sql_adoption.proofs.LaidOut.{one_form}
+use Rattle.sql_adoption.specs.Tables.{form_told}
+use Rattle.sql_adoption.specs.declared.office_tables.Form as told
+use Rattle.sql_adoption.specs.declared.tested.Adopted.{Adopted}
+use Rattle.sql_adoption.specs.Reading.{IsReadOf, KeepsBook, RefusesWith, RefusesOf, RefusesBook, RefusesKept}
+use Rattle.sql_adoption.proofs.Looked.{idle_still, looked_on, looked_in_vain, both_looked, looked_same}
+use Rattle.sql_schema.specs.Layouts.{Form, HasLayoutOf, NamedRows, rows_named}
 
--- where the rules were tested
-pub book_is_kept : {X E : Type 0} (r : Result X E) (office : Office) (db : Database) → StandForBook (rows_named db) → AreNumbered (rows_named db) → AreContents (rows_named db) → OnOk r (KeepsRules (record { office = office; book = book_in (rows_named db) }))
-    → IfOk r (λ _. KeepsBook office db)
-book_is_kept (Ok x) office db stand numbered contents rules = record { stand = stand; numbered = numbered; contents = contents; rules = rules }
-book_is_kept (Err e) office db stand numbered contents rules = tt
+module _ (form : Form) where
+  -- where the rules were tested
+  pub book_is_kept : {X E : Type 0} (r : Result X E) (office : Office) (db : Database) → StandForBook (own_rows form (rows_named db)) → AreNumbered (own_rows form (rows_named db))
+      → AreContents (own_rows form (rows_named db)) → OnOk r (KeepsRules (record { office = office; book = book_in (own_rows form (rows_named db)) })) → IfOk r (λ _. KeepsBook form office db)
+  book_is_kept (Ok x) office db stand numbered contents rules = record { stand = stand; numbered = numbered; contents = contents; rules = rules }
+  book_is_kept (Err e) office db stand numbered contents rules = tt
 
--- why a book, or an office with it, isn't kept
-pub book_refused : (office : Office) (db : Database) (fault : OpenFault) → RefusesBook db fault → RefusesKept office db fault
-book_refused office db (Foreign UnreadRow) h = h
-book_refused office db (Foreign BrokenRules) h = absurd h
-book_refused office db (Foreign OtherForm) h = absurd h
-book_refused office db (Foreign OtherTables) h = absurd h
-book_refused office db Exists h = absurd h
-book_refused office db Memory h = tt
-book_refused office db Disk h = tt
+  -- why a book, or an office with it, isn't kept
+  pub book_refused : (office : Office) (db : Database) (fault : OpenFault) → RefusesBook form db fault → RefusesKept form office db fault
+  book_refused office db (Foreign UnreadRow) h = h
+  book_refused office db (Foreign BrokenRules) h = absurd h
+  book_refused office db (Foreign OtherForm) h = absurd h
+  book_refused office db (Foreign OtherTables) h = absurd h
+  book_refused office db Exists h = absurd h
+  book_refused office db Memory h = tt
+  book_refused office db Disk h = tt
 
-pub rules_refused : (office : Office) (db : Database) (fault : OpenFault) → RefusesWith (record { office = office; book = book_in (rows_named db) }) fault → RefusesKept office db fault
-rules_refused office db (Foreign UnreadRow) h = absurd h
-rules_refused office db (Foreign BrokenRules) h = h
-rules_refused office db (Foreign OtherForm) h = absurd h
-rules_refused office db (Foreign OtherTables) h = absurd h
-rules_refused office db Exists h = absurd h
-rules_refused office db Memory h = tt
-rules_refused office db Disk h = tt
+  pub rules_refused : (office : Office) (db : Database) (fault : OpenFault) → RefusesWith (record { office = office; book = book_in (own_rows form (rows_named db)) }) fault → RefusesKept form office db fault
+  rules_refused office db (Foreign UnreadRow) h = absurd h
+  rules_refused office db (Foreign BrokenRules) h = h
+  rules_refused office db (Foreign OtherForm) h = absurd h
+  rules_refused office db (Foreign OtherTables) h = absurd h
+  rules_refused office db Exists h = absurd h
+  rules_refused office db Memory h = tt
+  rules_refused office db Disk h = tt
 
--- the office alone
-module _ (old mid new : State) (read : ReadOffice) (one : IsLookUp {E = OpenFault} old mid (Ok read) IsReadOf) where
+-- the rows stay those of a form's tables
+pub read_idle : (form : told.Form) (old mid : State) (read : ReadOffice) → IsIdleOver (form_told form) old → IsLookUp {E = OpenFault} old mid (Ok read) (IsReadOf (form_told form))
+    → IsIdleOver (form_told form) mid
+read_idle form old mid read idle one = idle_still old mid (Ok read) (IsReadOf (form_told form)) idle one
+
+-- the office with its languages
+module _ (form : told.Form) (old mid new : State) (read : ReadOffice) (one : IsLookUp {E = OpenFault} old mid (Ok read) (IsReadOf (form_told form))) where
+  abbrev own : Database → NamedRows
+  own db = own_rows (form_told form) (rows_named db)
+
   abbrev with_book : Database → OfficeWithBook
-  with_book db = record { office = office_in read.maps; book = book_in (rows_named db) }
+  with_book db = record { office = office_in read.maps; book = book_in (own db) }
 
-  meant : (db : Database) → IsReadOf db read → with_book db ≡ meaning_in (rows_named db)
-  meant db is = λ i. record { office = is.office i; book = book_in (rows_named db) }
+  meant : (db : Database) → IsReadOf (form_told form) db read → with_book db ≡ meaning_for (form_told form) (rows_named db)
+  meant db is = λ i. record { office = is.office i; book = book_in (own db) }
 
-  adopted_as : (db : Database) → IsReadOf db read → KeepsBook (office_in read.maps) db → IsAdoptedAs db read.maps
-  adopted_as db is kept = record {
-    office = is.office;
-    rows = record { form = is.form; office = is.stand; book = kept.stand; numbered = kept.numbered; contents = kept.contents; rules = subst KeepsRules (meant db is) kept.rules };
-  }
+  -- what is answered
+  abbrev pub Answered : Adopted
+  Answered = record { form = form; maps = read.maps; langs = read.langs }
 
-  pub office_adopted : {U : Type 0} (kept : Result U OpenFault) (r : Result OfficeMaps OpenFault) → IsLookUp mid new kept (λ db _. KeepsBook (office_in read.maps) db)
-      → MatchResult kept (λ _. r ≡ Ok read.maps) (λ fault. r ≡ Err fault) → IsLookUp old new r IsAdoptedAs
+  abbrev pub IsAnswer : Database → Adopted → Type 0
+  IsAnswer db adopted = (adopted.form ≡ form) × IsAdoptedAs db adopted
+
+  adopted_as : (db : Database) → IsReadOf (form_told form) db read → KeepsBook (form_told form) (office_in read.maps) db → IsAnswer db Answered
+  adopted_as db is kept = (
+    refl,
+    record {
+      office = is.office;
+      langs = is.langs;
+      rows = record {
+        told = is.told;
+        alone = is.alone;
+        office = is.stand;
+        book = kept.stand;
+        numbered = kept.numbered;
+        contents = kept.contents;
+        rules = subst KeepsRules (meant db is) kept.rules;
+      };
+    },
+  )
+
+  pub office_adopted : {U : Type 0} (kept : Result U OpenFault) (r : Result Adopted OpenFault) → IsLookUp mid new kept (λ db _. KeepsBook (form_told form) (office_in read.maps) db)
+      → MatchResult kept (λ _. r ≡ Ok Answered) (λ fault. r ≡ Err fault) → IsLookUp old new r IsAnswer
   office_adopted (Ok u) r two is =
-      subst (λ s. IsLookUp old new s IsAdoptedAs) (sym is)
-      (looked_on old new {E = OpenFault} u (Ok read.maps) _ IsAdoptedAs (both_looked old mid new read (Ok u) IsReadOf (λ db _. KeepsBook (office_in read.maps) db) one two)
+      subst (λ s. IsLookUp old new s IsAnswer) (sym is)
+      (looked_on old new {E = OpenFault} u (Ok Answered) _ IsAnswer (both_looked old mid new read (Ok u) (IsReadOf (form_told form)) (λ db _. KeepsBook (form_told form) (office_in read.maps) db) one two)
       (λ early was_open both. adopted_as old.now both.0 both.1))
   office_adopted (Err f) r two is =
-      subst (λ s. IsLookUp old new s IsAdoptedAs) (sym is)
-      (looked_in_vain old new (Err f) f _ IsAdoptedAs (both_looked old mid new read (Err f) IsReadOf (λ db _. KeepsBook (office_in read.maps) db) one two))
+      subst (λ s. IsLookUp old new s IsAnswer) (sym is)
+      (looked_in_vain old new (Err f) f _ IsAnswer (both_looked old mid new read (Err f) (IsReadOf (form_told form)) (λ db _. KeepsBook (form_told form) (office_in read.maps) db) one two))
 
-  refused_with : (db : Database) → IsReadOf db read → (fault : OpenFault) → RefusesKept (office_in read.maps) db fault → Refuses db fault
+  refused_with : (db : Database) → IsReadOf (form_told form) db read → (fault : OpenFault) → RefusesKept (form_told form) (office_in read.maps) db fault → RefusesOf (form_told form) db fault
   refused_with db is (Foreign UnreadRow) h = λ stand. h stand.1
   refused_with db is (Foreign BrokenRules) h = λ rules. h (subst KeepsRules (sym (meant db is)) rules)
   refused_with db is (Foreign OtherForm) h = absurd h
@@ -76,11 +107,25 @@ module _ (old mid new : State) (read : ReadOffice) (one : IsLookUp {E = OpenFaul
   refused_with db is Memory h = tt
   refused_with db is Disk h = tt
 
-  pub office_refused : {U : Type 0} (kept : Result U OpenFault) (r : Result OfficeMaps OpenFault) → IsLookUp mid new kept (λ db _. KeepsBook (office_in read.maps) db)
-      → IfErr kept (λ fault. HasCleanDisk new → RefusesKept (office_in read.maps) mid.now fault)
-      → MatchResult kept (λ _. r ≡ Ok read.maps) (λ fault. r ≡ Err fault) → IfErr r (λ fault. HasCleanDisk new → Refuses old.now fault)
-  office_refused (Ok u) r two h is = subst (λ s. IfErr s (λ fault. HasCleanDisk new → Refuses old.now fault)) (sym is) tt
-  office_refused (Err f) r two h is = subst (λ s. IfErr s (λ fault. HasCleanDisk new → Refuses old.now fault)) (sym is) (λ clean.
+  pub office_refused : {U : Type 0} (kept : Result U OpenFault) (r : Result Adopted OpenFault) → IsLookUp mid new kept (λ db _. KeepsBook (form_told form) (office_in read.maps) db)
+      → IfErr kept (λ fault. HasCleanDisk new → RefusesKept (form_told form) (office_in read.maps) mid.now fault)
+      → MatchResult kept (λ _. r ≡ Ok Answered) (λ fault. r ≡ Err fault) → IfErr r (λ fault. HasCleanDisk new → RefusesOf (form_told form) old.now fault)
+  office_refused (Ok u) r two h is = subst (λ s. IfErr s (λ fault. HasCleanDisk new → RefusesOf (form_told form) old.now fault)) (sym is) tt
+  office_refused (Err f) r two h is = subst (λ s. IfErr s (λ fault. HasCleanDisk new → RefusesOf (form_told form) old.now fault)) (sym is) (λ clean.
       let before : HasCleanDisk mid = omega (arith, clean, two.survives.clean) in
-      let same = looked_same old mid new read (Err f) IsReadOf (λ db _. KeepsBook (office_in read.maps) db) one two clean in
-      refused_with old.now (one.answer before) f (subst (λ db. RefusesKept (office_in read.maps) db f) same (h clean)))
+      let same = looked_same old mid new read (Err f) (IsReadOf (form_told form)) (λ db _. KeepsBook (form_told form) (office_in read.maps) db) one two clean in
+      refused_with old.now (one.answer before) f (subst (λ db. RefusesKept (form_told form) (office_in read.maps) db f) same (h clean)))
+
+-- why tables of a form are refused, whatever their form
+pub refused_so : (form : Form) (db : Database) → HasLayoutOf form db → (fault : OpenFault) → RefusesOf form db fault → Refuses db fault
+refused_so form db has (Foreign OtherTables) h = absurd h
+refused_so form db has (Foreign OtherForm) h = (form, has, h)
+refused_so form db has (Foreign UnreadRow) h = (form, has, h)
+refused_so form db has (Foreign BrokenRules) h = (form, has, h)
+refused_so form db has Exists h = absurd h
+refused_so form db has Memory h = tt
+refused_so form db has Disk h = tt
+
+-- what tables of one form lack, they lack in whichever form they are found to have
+pub lacks_own : (P : Form → Type 0) (db : Database) (form : Form) → HasLayoutOf form db → Lacks P db → ¬ P form
+lacks_own P db form has lacks holds = lacks.2 (subst P (one_form db.schema form lacks.0 has lacks.1) holds)

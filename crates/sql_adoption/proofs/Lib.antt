@@ -5,9 +5,14 @@ pub mod Langs
 pub mod Stand
 pub mod Read
 pub mod Kept
-pub mod Adopted
+pub mod AsItWas
 pub mod Parts
 pub mod Looks
 pub mod RowidTests
 pub mod RowidQueries
 pub mod WholeTest
+pub mod LaidOut
+pub mod LayoutsTold
+pub mod OwnRows
+pub mod MainAlone
+pub mod ReadAlone

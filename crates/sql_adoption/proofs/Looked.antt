@@ -1,10 +1,13 @@
 -- What stands behind look-ups: an answer read off another, and one look-up after the other.
-use Rattle.std.proofs.Common.{◌≡◌, Result, Ok, Err, IfOk, IfErr, OnOk, IsTrue, sym, subst, ◌∙◌, arith}
+use Rattle.std.proofs.Common.{◌≡◌, true, Result, Ok, Err, IfOk, IfErr, OnOk, IsTrue, refl, sym, subst, ◌∙◌, arith}
 use Rattle.sqlite.specs.Effect.{Database}
 use Rattle.sqlite.specs.State.{State, HasCleanDisk}
 use Rattle.sqlite.proofs.StateLemmas.{survives_then}
-use Rattle.sql_schema.specs.Inside.{AreOfficeTables}
-use Rattle.sql_schema.specs.Whole.{IsIdle, IsLookUp}
+use Rattle.sql_schema.specs.Layouts.{Form}
+use Rattle.sqlite.specs.Held.{Held, state}
+use Rattle.sqlite_trees.specs.declared.store.Store as store
+use Rattle.sql_schema.specs.Inside.{AreOfficeTablesOf, IsSteadyOver}
+use Rattle.sql_schema.specs.Whole.{IsIdleOver, IsLookUp}
 
 on_ok : {X E : Type 0} {C : Type 0} (r : Result X E) → C → OnOk r C
 on_ok (Ok x) h = h
@@ -37,18 +40,18 @@ module _ (old new : State) {A B E F : Type 0} where
   pub looked_in_vain : (r : Result A E) (f : F) (P : Database → A → Type 0) (Q : Database → B → Type 0) → IsLookUp old new r P → IsLookUp old new (Err f) Q
   looked_in_vain r f P Q it = record { answer = λ clean. tt; same = it.same; is_open = λ clean. tt; ended = it.ended; survives = it.survives }
 
--- the rows stay those of the eight tables
-pub idle_still : (old new : State) {A E : Type 0} (r : Result A E) (P : Database → A → Type 0) → IsIdle old → IsLookUp old new r P → IsIdle new
-idle_still old new r P idle it = record {
+-- the rows stay those of an office's tables
+pub idle_still : {form : Form} (old new : State) {A E : Type 0} (r : Result A E) (P : Database → A → Type 0) → IsIdleOver form old → IsLookUp old new r P → IsIdleOver form new
+idle_still {form} old new r P idle it = record {
   ready = λ clean is_open.
       let early : HasCleanDisk old = omega (arith, clean, it.survives.clean) in
       let same = it.same clean is_open in
-      subst AreOfficeTables (sym same.now) (idle.ready early same.was_open);
+      subst (AreOfficeTablesOf form) (sym same.now) (idle.ready early same.was_open);
   settled = λ clean is_open. let same = it.same clean is_open in same.now ∙ sym same.committed;
 }
 
 -- what a look-up saw, where it answers
-pub looked_ready : (old new : State) {A E : Type 0} (x : A) (P : Database → A → Type 0) → IsIdle old → IsLookUp {E = E} old new (Ok x) P → HasCleanDisk new → AreOfficeTables old.now
+pub looked_ready : {form : Form} (old new : State) {A E : Type 0} (x : A) (P : Database → A → Type 0) → IsIdleOver form old → IsLookUp {E = E} old new (Ok x) P → HasCleanDisk new → AreOfficeTablesOf form old.now
 looked_ready old new x P idle it clean =
     let early : HasCleanDisk old = omega (arith, clean, it.survives.clean) in
     idle.ready early (it.same clean (it.is_open clean)).was_open
@@ -74,3 +77,7 @@ module _ (a b c : State) {A B E F : Type 0} (x : A) (r : Result B F) (P : Databa
         let first = one.same (before clean) left.0 in
         (first.was_open, subst (λ (d : Database). db ≡ d.trees) first.now left.1)) one.survives two.survives;
   }
+
+-- a transaction that has begun over an office's tables
+pub steady_begun : {S : Type 0} (g : store.Ghosts S) {form : Form} (old begun : Held S) → begun ≡ record old { in_transaction = true } → IsIdleOver form (state g old) → IsSteadyOver form (state g begun)
+steady_begun g {form} old begun begins idle = subst (λ h. IsSteadyOver form (state g h)) (sym begins) (record { inside = λ clean. refl; ready = idle.ready })

@@ -2,10 +2,13 @@
 use Rattle.std.proofs.Common.{◌≡◌, inl, ℕ, zero, suc, ◌+◌, ◌<◌, ◌≤◌, List, [], ◌∷◌, map, filter, take, get_or, length, codes, Bor, Bool, true, false, Result, None, Ok, Err, IsTrue, All, refl, sym, ap, subst, ◌∙◌, arith}
 use Rattle.std.proofs.Math.Path.{fun_ext}
 use Rattle.std.specs.Bool.{Decides}
+use Rattle.std.specs.List.{AllByRecursion}
+use Rattle.sqlite_rules.proofs.ListLemmas.{all_has, all_from, some_has, some_from}
+use Rattle.sql_laws.proofs.RowMaps.{texts_are_one, text_ties_itself}
 use Rattle.std.specs.Result.{IsErr}
 use Rattle.std.specs.List.Sorted.{IsPermutation}
 use Rattle.std.proofs.lemmas.Bool.{false≢true}
-use Rattle.std.proofs.lemmas.List.{take_all, get_or-map, length-map}
+use Rattle.std.proofs.lemmas.List.{take_all}
 use Rattle.std.proofs.lemmas.List.Elements.{All-from_recursion, recursion_from_All, All-more, All-get_or}
 use Rattle.sqlite.specs.declared.types.Value.TheVariants.{Null}
 use Rattle.sqlite.specs.Order.{Row}
@@ -24,24 +27,24 @@ use Rattle.sql_laws.specs.ApartRows.{AreApart}
 use Rattle.sql_laws.specs.PlainQueries.{passes, shows}
 use Rattle.sql_laws.proofs.PlainQueries.{ordered_permuted}
 use Rattle.sql_laws.proofs.OrderedQueries.{answers_in_order}
-use Rattle.sql_schema.specs.Inside.{AreTables}
+use Rattle.sql_schema.specs.Inside.{AreTablesOf}
 use Rattle.sql_schema.specs.Keys.{columns}
 use Rattle.sql_schema.proofs.Queries.{rows_read, shows_columns}
 use Rattle.sql_adoption.specs.Looks.{IsOver, IsLook, HasSchema}
 use Rattle.sql_adoption.specs.RisingRows.{ShowsRowids, are_rising}
-use Rattle.sql_adoption.specs.RowidQueries.{IsRowidQuery}
+use Rattle.sql_adoption.specs.RowidQueries.{IsRowidQuery, AskAll}
 use Rattle.sql_adoption.proofs.Looks.{looks_inside, look_mapped, over_next}
 use Rattle.sql_adoption.proofs.RowidTests.{rowids_told}
-use Rattle.sql_schema.specs.Layouts.{made_new, schema_of, placed, NamedRows, rows_named}
-use Rattle.sql_schema.proofs.Layouts.{all_tables, record_placed, team_placed, policy_placed, template_placed, language_placed, unit_placed, suggestion_placed, vote_placed, each_table}
-use Rattle.sql_schema.specs.Schema.{record_table, team_table, policy_table, template_table, language_table, unit_table, suggestion_table, vote_table, office_tables}
+use Rattle.sql_schema.specs.Layouts.{Form, for_main, by_domain, made_new, made_last, from_first, from_second, own_tables, is_named, schema_of, placed, NamedRows, rows_named}
+use Rattle.sql_schema.proofs.Layouts.{record_placed, team_placed, policy_placed, template_placed, language_placed, unit_placed, suggestion_placed, vote_placed, domain_placed, d_template_placed, d_language_placed, d_unit_placed, d_suggestion_placed, d_vote_placed, d_vote_sum_placed, d_tally_placed}
+use Rattle.sql_schema.specs.Schema.{record_table, team_table, policy_table, template_table, language_table, unit_table, suggestion_table, vote_table, domain_table, d_template_table, d_language_table, d_unit_table, d_suggestion_table, d_vote_table, d_vote_sum_table, d_tally_table}
 
 all_pass : (rows : List Row) → filter (passes [] []) rows ≡ rows
 all_pass [] = refl
 all_pass (row ∷ rows) = ap (λ more. row ∷ more) (all_pass rows)
 
-module _ (text : List ℕ) (table : Table) (query : IsRowidQuery text table) (old new : State) (rows : List Row) where
-  shows_rowids : HasSchema old.now → Shown text [] old new rows → ShowsRowids table.name old.now rows
+module _ {form : Form} (text : List ℕ) (table : Table) (query : IsRowidQuery form text table) (old new : State) (rows : List Row) where
+  shows_rowids : HasSchema form old.now → Shown text [] old new rows → ShowsRowids table.name old.now rows
   shows_rowids has h =
       let layout = has.schema.0 in
       let tree = (placed layout table).tree in
@@ -57,89 +60,136 @@ module _ (text : List ℕ) (table : Table) (query : IsRowidQuery text table) (ol
       }
 
 -- what the test of the rows tells of the table
-pub apart_told : (text : List ℕ) (table : Table) → IsRowidQuery text table → (old new : State) (rows : List Row) (apart : Bool) → IsOver HasSchema old → (HasCleanDisk new → Shown text [] old new rows)
+pub apart_told : {form : Form} (text : List ℕ) (table : Table) → IsRowidQuery form text table → (old new : State) (rows : List Row) (apart : Bool) → IsOver (HasSchema form) old → (HasCleanDisk new → Shown text [] old new rows)
     → Survives old new (λ _. ⊥) → apart ≡ are_rising None rows → IsLook {E = Error} old new (Ok apart) (λ db a. Decides a (AreApart (rows_named db table.name)))
-apart_told text table query old new rows apart over shown survives is =
+apart_told {form} text table query old new rows apart over shown survives is =
     look_mapped old new apart apart (λ db a. (a ≡ are_rising None rows) → Decides a (AreApart (rows_named db table.name))) (λ db a. Decides a (AreApart (rows_named db table.name))) (λ db tells. tells is)
-    (looks_inside text [] old new HasSchema (λ db has. subst (λ s. IsPlain (understood s text)) (sym has.schema.1) (query has.schema.0).plain) (λ (a : Bool). rows)
+    (looks_inside text [] old new (HasSchema form) (λ db has. subst (λ s. IsPlain (understood s text)) (sym has.schema.1) (query has.schema.0).plain) (λ (a : Bool). rows)
     (λ db a. (a ≡ are_rising None rows) → Decides a (AreApart (rows_named db table.name))) (λ a has h e. rowids_told table.name old.now rows (shows_rowids text table query old new rows has h) a e) (Ok apart) over shown (λ _. tt) survives)
 
-record_is : IsRowidQuery (codes "SELECT rowid FROM record ORDER BY rowid") record_table
+pub record_is : {form : Form} → IsRowidQuery form (codes "SELECT rowid FROM record ORDER BY rowid") record_table
 unfolding understood everything
 record_is made_new = record { names = _; is_placed = record_placed made_new; asks = refl; own_tables = refl; plain = (refl, refl) }
+record_is made_last = record { names = _; is_placed = record_placed made_last; asks = refl; own_tables = refl; plain = (refl, refl) }
+record_is from_first = record { names = _; is_placed = record_placed from_first; asks = refl; own_tables = refl; plain = (refl, refl) }
+record_is from_second = record { names = _; is_placed = record_placed from_second; asks = refl; own_tables = refl; plain = (refl, refl) }
 
-team_is : IsRowidQuery (codes "SELECT rowid FROM team ORDER BY rowid") team_table
+pub team_is : {form : Form} → IsRowidQuery form (codes "SELECT rowid FROM team ORDER BY rowid") team_table
 unfolding understood everything
 team_is made_new = record { names = _; is_placed = team_placed made_new; asks = refl; own_tables = refl; plain = (refl, refl) }
+team_is made_last = record { names = _; is_placed = team_placed made_last; asks = refl; own_tables = refl; plain = (refl, refl) }
+team_is from_first = record { names = _; is_placed = team_placed from_first; asks = refl; own_tables = refl; plain = (refl, refl) }
+team_is from_second = record { names = _; is_placed = team_placed from_second; asks = refl; own_tables = refl; plain = (refl, refl) }
 
-policy_is : IsRowidQuery (codes "SELECT rowid FROM policy ORDER BY rowid") policy_table
+pub policy_is : {form : Form} → IsRowidQuery form (codes "SELECT rowid FROM policy ORDER BY rowid") policy_table
 unfolding understood everything
 policy_is made_new = record { names = _; is_placed = policy_placed made_new; asks = refl; own_tables = refl; plain = (refl, refl) }
+policy_is made_last = record { names = _; is_placed = policy_placed made_last; asks = refl; own_tables = refl; plain = (refl, refl) }
+policy_is from_first = record { names = _; is_placed = policy_placed from_first; asks = refl; own_tables = refl; plain = (refl, refl) }
+policy_is from_second = record { names = _; is_placed = policy_placed from_second; asks = refl; own_tables = refl; plain = (refl, refl) }
 
-template_is : IsRowidQuery (codes "SELECT rowid FROM template ORDER BY rowid") template_table
+pub template_is : IsRowidQuery for_main (codes "SELECT rowid FROM template ORDER BY rowid") template_table
 unfolding understood everything
 template_is made_new = record { names = _; is_placed = template_placed made_new; asks = refl; own_tables = refl; plain = (refl, refl) }
 
-language_is : IsRowidQuery (codes "SELECT rowid FROM language ORDER BY rowid") language_table
+pub language_is : IsRowidQuery for_main (codes "SELECT rowid FROM language ORDER BY rowid") language_table
 unfolding understood everything
 language_is made_new = record { names = _; is_placed = language_placed made_new; asks = refl; own_tables = refl; plain = (refl, refl) }
 
-unit_is : IsRowidQuery (codes "SELECT rowid FROM unit ORDER BY rowid") unit_table
+pub unit_is : IsRowidQuery for_main (codes "SELECT rowid FROM unit ORDER BY rowid") unit_table
 unfolding understood everything
 unit_is made_new = record { names = _; is_placed = unit_placed made_new; asks = refl; own_tables = refl; plain = (refl, refl) }
 
-suggestion_is : IsRowidQuery (codes "SELECT rowid FROM suggestion ORDER BY rowid") suggestion_table
+pub suggestion_is : IsRowidQuery for_main (codes "SELECT rowid FROM suggestion ORDER BY rowid") suggestion_table
 unfolding understood everything
 suggestion_is made_new = record { names = _; is_placed = suggestion_placed made_new; asks = refl; own_tables = refl; plain = (refl, refl) }
 
-vote_is : IsRowidQuery (codes "SELECT rowid FROM vote ORDER BY rowid") vote_table
+pub vote_is : IsRowidQuery for_main (codes "SELECT rowid FROM vote ORDER BY rowid") vote_table
 unfolding understood everything
 vote_is made_new = record { names = _; is_placed = vote_placed made_new; asks = refl; own_tables = refl; plain = (refl, refl) }
 
+pub domain_is : IsRowidQuery by_domain (codes "SELECT rowid FROM domain ORDER BY rowid") domain_table
+unfolding understood everything
+domain_is made_last = record { names = _; is_placed = domain_placed made_last; asks = refl; own_tables = refl; plain = (refl, refl) }
+domain_is from_first = record { names = _; is_placed = domain_placed from_first; asks = refl; own_tables = refl; plain = (refl, refl) }
+domain_is from_second = record { names = _; is_placed = domain_placed from_second; asks = refl; own_tables = refl; plain = (refl, refl) }
+
+pub d_template_is : IsRowidQuery by_domain (codes "SELECT rowid FROM d_template ORDER BY rowid") d_template_table
+unfolding understood everything
+d_template_is made_last = record { names = _; is_placed = d_template_placed made_last; asks = refl; own_tables = refl; plain = (refl, refl) }
+d_template_is from_first = record { names = _; is_placed = d_template_placed from_first; asks = refl; own_tables = refl; plain = (refl, refl) }
+d_template_is from_second = record { names = _; is_placed = d_template_placed from_second; asks = refl; own_tables = refl; plain = (refl, refl) }
+
+pub d_language_is : IsRowidQuery by_domain (codes "SELECT rowid FROM d_language ORDER BY rowid") d_language_table
+unfolding understood everything
+d_language_is made_last = record { names = _; is_placed = d_language_placed made_last; asks = refl; own_tables = refl; plain = (refl, refl) }
+d_language_is from_first = record { names = _; is_placed = d_language_placed from_first; asks = refl; own_tables = refl; plain = (refl, refl) }
+d_language_is from_second = record { names = _; is_placed = d_language_placed from_second; asks = refl; own_tables = refl; plain = (refl, refl) }
+
+pub d_unit_is : IsRowidQuery by_domain (codes "SELECT rowid FROM d_unit ORDER BY rowid") d_unit_table
+unfolding understood everything
+d_unit_is made_last = record { names = _; is_placed = d_unit_placed made_last; asks = refl; own_tables = refl; plain = (refl, refl) }
+d_unit_is from_first = record { names = _; is_placed = d_unit_placed from_first; asks = refl; own_tables = refl; plain = (refl, refl) }
+d_unit_is from_second = record { names = _; is_placed = d_unit_placed from_second; asks = refl; own_tables = refl; plain = (refl, refl) }
+
+pub d_suggestion_is : IsRowidQuery by_domain (codes "SELECT rowid FROM d_suggestion ORDER BY rowid") d_suggestion_table
+unfolding understood everything
+d_suggestion_is made_last = record { names = _; is_placed = d_suggestion_placed made_last; asks = refl; own_tables = refl; plain = (refl, refl) }
+d_suggestion_is from_first = record { names = _; is_placed = d_suggestion_placed from_first; asks = refl; own_tables = refl; plain = (refl, refl) }
+d_suggestion_is from_second = record { names = _; is_placed = d_suggestion_placed from_second; asks = refl; own_tables = refl; plain = (refl, refl) }
+
+pub d_vote_is : IsRowidQuery by_domain (codes "SELECT rowid FROM d_vote ORDER BY rowid") d_vote_table
+unfolding understood everything
+d_vote_is made_last = record { names = _; is_placed = d_vote_placed made_last; asks = refl; own_tables = refl; plain = (refl, refl) }
+d_vote_is from_first = record { names = _; is_placed = d_vote_placed from_first; asks = refl; own_tables = refl; plain = (refl, refl) }
+d_vote_is from_second = record { names = _; is_placed = d_vote_placed from_second; asks = refl; own_tables = refl; plain = (refl, refl) }
+
+pub d_vote_sum_is : IsRowidQuery by_domain (codes "SELECT rowid FROM d_vote_sum ORDER BY rowid") d_vote_sum_table
+unfolding understood everything
+d_vote_sum_is made_last = record { names = _; is_placed = d_vote_sum_placed made_last; asks = refl; own_tables = refl; plain = (refl, refl) }
+d_vote_sum_is from_first = record { names = _; is_placed = d_vote_sum_placed from_first; asks = refl; own_tables = refl; plain = (refl, refl) }
+d_vote_sum_is from_second = record { names = _; is_placed = d_vote_sum_placed from_second; asks = refl; own_tables = refl; plain = (refl, refl) }
+
+pub d_tally_is : IsRowidQuery by_domain (codes "SELECT rowid FROM d_tally ORDER BY rowid") d_tally_table
+unfolding understood everything
+d_tally_is made_last = record { names = _; is_placed = d_tally_placed made_last; asks = refl; own_tables = refl; plain = (refl, refl) }
+d_tally_is from_first = record { names = _; is_placed = d_tally_placed from_first; asks = refl; own_tables = refl; plain = (refl, refl) }
+d_tally_is from_second = record { names = _; is_placed = d_tally_placed from_second; asks = refl; own_tables = refl; plain = (refl, refl) }
+
 -- ---- one table after another
 
-abbrev pub rowid_texts : List (List ℕ)
-rowid_texts =
-    codes "SELECT rowid FROM record ORDER BY rowid" ∷ codes "SELECT rowid FROM team ORDER BY rowid" ∷ codes "SELECT rowid FROM policy ORDER BY rowid" ∷ codes "SELECT rowid FROM template ORDER BY rowid"
-    ∷ codes "SELECT rowid FROM language ORDER BY rowid" ∷ codes "SELECT rowid FROM unit ORDER BY rowid" ∷ codes "SELECT rowid FROM suggestion ORDER BY rowid" ∷ codes "SELECT rowid FROM vote ORDER BY rowid" ∷ []
+no_query : Bor (List ℕ)
+no_query = record { ref_ptr = (0, 0); now = [] }
 
-text_asks : (k : ℕ) → k < 8 → IsRowidQuery (get_or rowid_texts k []) (get_or office_tables k record_table)
-text_asks zero low = record_is
-text_asks (suc zero) low = team_is
-text_asks (suc (suc zero)) low = policy_is
-text_asks (suc (suc (suc zero))) low = template_is
-text_asks (suc (suc (suc (suc zero)))) low = language_is
-text_asks (suc (suc (suc (suc (suc zero))))) low = unit_is
-text_asks (suc (suc (suc (suc (suc (suc zero)))))) low = suggestion_is
-text_asks (suc (suc (suc (suc (suc (suc (suc zero))))))) low = vote_is
-text_asks (suc (suc (suc (suc (suc (suc (suc (suc k)))))))) low = absurd (omega arith)
+pub asks_at : (form : Form) (queries : List (Bor (List ℕ))) (tables : List Table) (n : ℕ) → AskAll form queries tables → n < length queries
+    → IsRowidQuery form (get_or queries n (record { ref_ptr = (0, 0); now = [] })).now (get_or tables n record_table)
+asks_at form [] tables n asks low = absurd (omega (arith, low))
+asks_at form (q ∷ queries) [] n asks low = absurd asks
+asks_at form (q ∷ queries) (t ∷ tables) zero asks low = asks.0
+asks_at form (q ∷ queries) (t ∷ tables) (suc n) asks low = asks_at form queries tables n asks.1 (omega (arith, low))
 
--- The code has these texts.
-pub record AreRowidTexts (queries : List (Bor (List ℕ))) : Type 0 where
-  pub are : map (λ q. q.now) queries ≡ rowid_texts
-
-pub query_at : (queries : List (Bor (List ℕ))) (k : ℕ) → AreRowidTexts queries → k < 8 → IsRowidQuery (get_or queries k (record { ref_ptr = (0, 0); now = [] })).now (get_or office_tables k record_table)
-query_at queries k texts low =
-    let eight : length queries ≡ 8 = sym (length-map queries (λ (q : Bor (List ℕ)). q.now)) ∙ ap length texts.are in
-    subst (λ text. IsRowidQuery text (get_or office_tables k record_table))
-    (ap (λ l. get_or l k []) (sym texts.are) ∙ get_or-map (λ (q : Bor (List ℕ)). q.now) queries k (record { ref_ptr = (0, 0); now = [] }) [] (omega (arith, low, eight))) (text_asks k low)
+pub as_many : (form : Form) (queries : List (Bor (List ℕ))) (tables : List Table) → AskAll form queries tables → length queries ≡ length tables
+as_many form [] [] asks = refl
+as_many form [] (t ∷ tables) asks = absurd asks
+as_many form (q ∷ queries) [] asks = absurd asks
+as_many form (q ∷ queries) (t ∷ tables) asks = ap suc (as_many form queries tables asks.1)
 
 -- the tables so far have their rowids apart
-abbrev pub FirstApart : ℕ → NamedRows → Type 0
-FirstApart n tables = All (λ (t : Table). AreApart (tables t.name)) (take n office_tables)
+abbrev pub FirstApart : List Table → ℕ → NamedRows → Type 0
+FirstApart tables n rows = All (λ (t : Table). AreApart (rows t.name)) (take n tables)
 
 -- What is known between two tables: nothing has changed, and if something was read the connection is open.
-pub record HasLooked (a b : State) (n : ℕ) : Type 0 where
-  pub over : IsOver HasSchema b
-  pub apart : HasCleanDisk b → FirstApart n (rows_named a.now)
+pub record HasLooked (form : Form) (tables : List Table) (a b : State) (n : ℕ) : Type 0 where
+  pub over : IsOver (HasSchema form) b
+  pub apart : HasCleanDisk b → FirstApart tables n (rows_named a.now)
   pub same : HasCleanDisk b → b.now ≡ a.now
   pub is_open : HasCleanDisk b → 0 < n → IsTrue b.is_open
   pub committed : HasCleanDisk b → b.committed ≡ a.committed
   pub kept : HasCleanDisk b → KeepsCommit a b
   pub survives : Survives a b (λ _. ⊥)
 
-pub nothing_looked : (a : State) → IsOver HasSchema a → HasLooked a a 0
-nothing_looked a over = record {
+pub nothing_looked : (form : Form) (tables : List Table) (a : State) → IsOver (HasSchema form) a → HasLooked form tables a a 0
+nothing_looked form tables a over = record {
   over = over;
   apart = λ clean. All-from_recursion (λ (t : Table). AreApart (rows_named a.now t.name)) [] tt;
   same = λ clean. refl;
@@ -156,9 +206,9 @@ nothing_looked a over = record {
   };
 }
 
-module _ (a b c : State) (n : ℕ) (low : n < 8) (so_far : HasLooked a b n) where
+module _ (form : Form) (tables : List Table) (a b c : State) (n : ℕ) (low : n < length tables) (so_far : HasLooked form tables a b n) where
   abbrev This : Database → Bool → Type 0
-  This db apart = Decides apart (AreApart (rows_named db (get_or office_tables n record_table).name))
+  This db apart = Decides apart (AreApart (rows_named db (get_or tables n record_table).name))
 
   early : Survives b c (λ _. ⊥) → HasCleanDisk c → HasCleanDisk b
   early end clean = omega (arith, end.clean)
@@ -172,12 +222,12 @@ module _ (a b c : State) (n : ℕ) (low : n < 8) (so_far : HasLooked a b n) wher
   survives_on : Survives b c (λ _. ⊥) → Survives a c (λ _. ⊥)
   survives_on = survives_then a b c _ _ (λ _. ⊥) (λ _ db none. none) (λ _ db none. none) so_far.survives
 
-  pub this_apart : (apart : Bool) → apart ≡ true → IsLook {E = Error} b c (Ok apart) This → HasLooked a c (n + 1)
+  pub this_apart : (apart : Bool) → apart ≡ true → IsLook {E = Error} b c (Ok apart) This → HasLooked form tables a c (n + 1)
   this_apart apart is two = record {
-    over = over_next b c _ _ HasSchema HasSchema (λ db has told. has) so_far.over two;
+    over = over_next b c _ _ (HasSchema form) (HasSchema form) (λ db has told. has) so_far.over two;
     apart = λ clean.
         let here = subst (λ db. This db apart) (so_far.same (early two.survives clean)) (two.answer clean) in
-        All-more (λ (t : Table). AreApart (rows_named a.now t.name)) office_tables n record_table low (so_far.apart (early two.survives clean)) (here.0 is);
+        All-more (λ (t : Table). AreApart (rows_named a.now t.name)) tables n record_table low (so_far.apart (early two.survives clean)) (here.0 is);
     same = λ clean. two.same clean ∙ so_far.same (early two.survives clean);
     is_open = λ clean some. (two.stays clean).is_open;
     committed = λ clean. (two.stays clean).committed ∙ so_far.committed (early two.survives clean);
@@ -185,13 +235,13 @@ module _ (a b c : State) (n : ℕ) (low : n < 8) (so_far : HasLooked a b n) wher
     survives = survives_on two.survives;
   }
 
-  pub this_not : (apart : Bool) → apart ≡ false → IsLook {E = Error} b c (Ok apart) This → IsLook {E = Error} a c (Ok false) (λ db apart. Decides apart (AreTables (rows_named db)))
+  pub this_not : (apart : Bool) → apart ≡ false → IsLook {E = Error} b c (Ok apart) This → IsLook {E = Error} a c (Ok false) (λ db apart. Decides apart (All (λ (t : Table). AreApart (rows_named db t.name)) tables))
   this_not apart is two = record {
     answer = λ clean.
         let here = subst (λ db. This db apart) (so_far.same (early two.survives clean)) (two.answer clean) in (
           λ e. absurd (false≢true e),
-          λ all. absurd (false≢true (sym is ∙ here.1 (All-get_or (λ (t : Table). AreApart (rows_named a.now t.name)) office_tables n record_table low
-              (All-from_recursion (λ (t : Table). AreApart (rows_named a.now t.name)) office_tables (each_table (rows_named a.now) all))))),
+          λ all. absurd (false≢true (sym is ∙ here.1 (All-get_or (λ (t : Table). AreApart (rows_named a.now t.name)) tables n record_table low
+              all))),
         );
     same = λ clean. two.same clean ∙ so_far.same (early two.survives clean);
     stays = λ clean. record { inside = (two.stays clean).inside; is_open = (two.stays clean).is_open; committed = (two.stays clean).committed ∙ so_far.committed (early two.survives clean) };
@@ -203,14 +253,35 @@ module _ (a b c : State) (n : ℕ) (low : n < 8) (so_far : HasLooked a b n) wher
   this_unread e (Ok y) Q is two = absurd (let none = is in cc)
   this_unread e (Err f) Q is two = record { answer = λ clean. tt; same = λ clean. tt; stays = λ clean. tt; kept = keeps_on two.survives two.kept; survives = survives_on two.survives }
 
-pub all_apart : (a b : State) (n : ℕ) → 8 ≤ n → HasLooked a b n → IsLook {E = Error} a b (Ok true) (λ db apart. Decides apart (AreTables (rows_named db)))
-all_apart a b n past so_far = record {
+pub all_apart : (form : Form) (tables : List Table) (a b : State) (n : ℕ) → length tables ≤ n → 0 < length tables → HasLooked form tables a b n
+    → IsLook {E = Error} a b (Ok true) (λ db apart. Decides apart (All (λ (t : Table). AreApart (rows_named db t.name)) tables))
+all_apart form tables a b n past some so_far = record {
   answer = λ clean. (
-    λ e. all_tables (rows_named a.now) (recursion_from_All (λ (t : Table). AreApart (rows_named a.now t.name)) office_tables (subst (All (λ (t : Table). AreApart (rows_named a.now t.name))) (take_all n office_tables past) (so_far.apart clean))),
+    λ e. subst (All (λ (t : Table). AreApart (rows_named a.now t.name))) (take_all n tables past) (so_far.apart clean),
     λ all. refl,
   );
   same = so_far.same;
-  stays = λ clean. record { inside = so_far.over.inside clean; is_open = so_far.is_open clean (omega (arith, past)); committed = so_far.committed clean };
+  stays = λ clean. record { inside = so_far.over.inside clean; is_open = so_far.is_open clean (omega (arith, past, some)); committed = so_far.committed clean };
   kept = so_far.kept;
   survives = so_far.survives;
 }
+
+-- ---- the tables of a form
+
+-- the rows of each of a form's tables are apart where those of the names of these are
+all_own : (form : Form) (rows : NamedRows) → AllByRecursion (λ (t : Table). AreApart (rows t.name)) (own_tables form) → AreTablesOf form rows
+all_own form rows each name own =
+    let it = some_has (is_named name) (own_tables form) own in
+    subst (λ n. AreApart (rows n)) (texts_are_one it.0.name name it.2) (all_has (λ (t : Table). AreApart (rows t.name)) (own_tables form) it.0 each it.1)
+
+each_own : (form : Form) (rows : NamedRows) → AreTablesOf form rows → AllByRecursion (λ (t : Table). AreApart (rows t.name)) (own_tables form)
+each_own form rows all =
+    all_from (λ (t : Table). AreApart (rows t.name)) (own_tables form) (λ t there. all t.name (some_from (is_named t.name) (own_tables form) t there (text_ties_itself t.name)))
+
+pub tables_told : (form : Form) (a b : State) (r : Result Bool Error) → IsLook a b r (λ db apart. Decides apart (All (λ (t : Table). AreApart (rows_named db t.name)) (own_tables form)))
+    → IsLook a b r (λ db apart. Decides apart (AreTablesOf form (rows_named db)))
+tables_told form a b (Ok apart) it = look_mapped a b apart apart _ _ (λ db tells. (
+  λ e. all_own form (rows_named db) (recursion_from_All (λ (t : Table). AreApart (rows_named db t.name)) (own_tables form) (tells.0 e)),
+  λ all. tells.1 (All-from_recursion (λ (t : Table). AreApart (rows_named db t.name)) (own_tables form) (each_own form (rows_named db) all)),
+)) it
+tables_told form a b (Err e) it = record { answer = λ clean. tt; same = it.same; stays = it.stays; kept = it.kept; survives = it.survives }

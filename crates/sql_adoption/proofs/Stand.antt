@@ -8,115 +8,114 @@ use Rattle.std.proofs.lemmas.List.Elements.{recursion_from_All, All-from_recursi
 use Rattle.std.proofs.lemmas.List.Sorted.{IsPermutation-sym}
 use Rattle.sqlite.specs.declared.types.Value.TheVariants.{Int}
 use Rattle.sqlite.specs.Order.{Row}
-use Rattle.sqlite.specs.Effect.{Database}
 use Rattle.sqlite_rules.specs.Lists.{Has}
 use Rattle.sqlite_rules.proofs.ListLemmas.{all_has, all_from, test_has, test_from}
 use Rattle.sql_laws.proofs.RemovedRows.{to_mapped, from_mapped, has_permuted}
 use Rattle.po_text.specs.Valid.{IsValid}
-use Rattle.sql_statements.specs.Answers.{ShowsPolicy}
-use Rattle.sql_schema.specs.Inside.{AreOfficeTables}
+use Rattle.sql_statements.specs.Answers.{ShowsPolicyIn}
 use Rattle.sql_schema.specs.Keys.{columns, row_number}
-use Rattle.sql_schema.proofs.RowNumbers.{one_row_number}
-use Rattle.sql_statements.specs.Tables.{ShowsTable}
-use Rattle.sql_statements.specs.WholeOffice.{ShowsWholeOffice}
+use Rattle.sql_meaning.specs.Values.{integer_of}
+use Rattle.sql_meaning.specs.RowKeys.{AreOfficeRows}
+use Rattle.sql_statements.specs.Tables.{ShowsTableIn}
+use Rattle.sql_statements.specs.WholeOffice.{ShowsWholeOfficeIn}
 use Rattle.sql_statements.specs.declared.whole_office.WholeOffice.{WholeOffice}
-use Rattle.sql_meaning.proofs.WholeOffice.{whole_office}
+use Rattle.sql_meaning.proofs.WholeOffice.{whole_rows}
 use Rattle.units.specs.Project.{Project}
-use Rattle.sql_statements.specs.RecordTable.{ShowsRecords}
-use Rattle.sql_decoding.specs.RowTests.{AreOfficeRows, is_policy_row}
+use Rattle.sql_statements.specs.RecordTable.{ShowsRecordsIn}
+use Rattle.sql_decoding.specs.RowTests.{AreOfficeRows as ReadRows, is_policy_row}
 use Rattle.sql_adoption.specs.BookShown.{IsRecordRow}
 use Rattle.sql_adoption.specs.Adoption.{Each, AreContents, StandForOffice, StandForBook}
-use Rattle.sql_schema.specs.Layouts.{rows_named}
+use Rattle.sql_schema.specs.Layouts.{NamedRows}
 
 -- ---- a table
 
-module _ (db : Database) (name : List ℕ) (places order : List ℕ) (rows : List Row) (shows : ShowsTable name places order db rows) where
+module _ (tables : NamedRows) (name : List ℕ) (places order : List ℕ) (rows : List Row) (shows : ShowsTableIn name places order tables rows) where
   abbrev shown : List Row
-  shown = map (columns places) (rows_named db name)
+  shown = map (columns places) (tables name)
 
   -- a row of the table is shown
-  pub is_shown : (row : Row) → Has (rows_named db name) row → Has rows (columns places row)
-  is_shown row there = has_permuted rows shown (columns places row) (IsPermutation-sym shown rows shows.all) (to_mapped (columns places) (rows_named db name) row there)
+  pub is_shown : (row : Row) → Has (tables name) row → Has rows (columns places row)
+  is_shown row there = has_permuted rows shown (columns places row) (IsPermutation-sym shown rows shows.all) (to_mapped (columns places) (tables name) row there)
 
   -- what is shown is a row of the table
-  pub was_there : (row : Row) → Has rows row → (r : Row) × Has (rows_named db name) r × (row ≡ columns places r)
-  was_there row here = from_mapped (columns places) (rows_named db name) row (has_permuted shown rows row shows.all here)
+  pub was_there : (row : Row) → Has rows row → (r : Row) × Has (tables name) r × (row ≡ columns places r)
+  was_there row here = from_mapped (columns places) (tables name) row (has_permuted shown rows row shows.all here)
 
   module _ (test : Row → Bool) where
-    pub each_stands : list_all test rows ≡ true → Each name places test (rows_named db)
+    pub each_stands : list_all test rows ≡ true → Each name places test tables
     each_stands stand row there = test_has test rows (columns places row) stand (is_shown row there)
 
-    pub all_stand : Each name places test (rows_named db) → list_all test rows ≡ true
+    pub all_stand : Each name places test tables → list_all test rows ≡ true
     all_stand each = test_from test rows (λ row here.
         let was = was_there row here in
         ap test was.2 ∙ each was.0 was.1)
 
 -- ---- the policy
 
-module _ (db : Database) (found : Option Row) (shows : ShowsPolicy db found) where
-  policy_stands : AreOfficeTables db → option_map_or is_policy_row found true ≡ true → (row : Row) → Has (rows_named db (codes "policy")) row → row_number row ≡ Int (pos 1)
+module _ (tables : NamedRows) (found : Option Row) (shows : ShowsPolicyIn tables found) where
+  policy_stands : AreOfficeRows tables → option_map_or is_policy_row found true ≡ true → (row : Row) → Has (tables (codes "policy")) row → row_number row ≡ Int (pos 1)
       → IsTrue (is_policy_row (columns (2 ∷ 3 ∷ 4 ∷ 5 ∷ 6 ∷ 7 ∷ 8 ∷ []) row))
   policy_stands office stands row there first = by found refl
     where
       by : (o : Option Row) → found ≡ o → IsTrue (is_policy_row (columns (2 ∷ 3 ∷ 4 ∷ 5 ∷ 6 ∷ 7 ∷ 8 ∷ []) row))
       by (Some seen) is =
-          let it = subst (ShowsPolicy db) is shows in
-          let same = one_row_number (rows_named db (codes "policy")) (office.tables (codes "policy") refl) row it.0 there it.1 (first ∙ sym it.2) in
+          let it = subst (ShowsPolicyIn tables) is shows in
+          let same = office.keyed.one_policy row it.0 there it.1 (ap integer_of (first ∙ sym it.2)) in
           ap (λ r. is_policy_row (columns (2 ∷ 3 ∷ 4 ∷ 5 ∷ 6 ∷ 7 ∷ 8 ∷ []) r)) same ∙ ap is_policy_row it.3 ∙ ap (λ o. option_map_or is_policy_row o true) (sym is) ∙ stands
-      by None is = absurd (subst (ShowsPolicy db) is shows row there first)
+      by None is = absurd (subst (ShowsPolicyIn tables) is shows row there first)
 
-  policy_shown_stands : ((row : Row) → Has (rows_named db (codes "policy")) row → row_number row ≡ Int (pos 1) → IsTrue (is_policy_row (columns (2 ∷ 3 ∷ 4 ∷ 5 ∷ 6 ∷ 7 ∷ 8 ∷ []) row)))
+  policy_shown_stands : ((row : Row) → Has (tables (codes "policy")) row → row_number row ≡ Int (pos 1) → IsTrue (is_policy_row (columns (2 ∷ 3 ∷ 4 ∷ 5 ∷ 6 ∷ 7 ∷ 8 ∷ []) row)))
       → option_map_or is_policy_row found true ≡ true
   policy_shown_stands stands = by found refl
     where
       by : (o : Option Row) → found ≡ o → option_map_or is_policy_row found true ≡ true
       by (Some seen) is =
-          let it = subst (ShowsPolicy db) is shows in
+          let it = subst (ShowsPolicyIn tables) is shows in
           ap (λ o. option_map_or is_policy_row o true) is ∙ ap is_policy_row (sym it.3) ∙ stands it.0 it.1 it.2
       by None is = ap (λ o. option_map_or is_policy_row o true) is
 
 -- ---- the office
 
-module _ (db : Database) (office : AreOfficeTables db) (rows : WholeOffice) (shows : ShowsWholeOffice db rows) where
-  pub office_stands : AreOfficeRows rows → StandForOffice (rows_named db)
+module _ (tables : NamedRows) (office : AreOfficeRows tables) (rows : WholeOffice) (shows : ShowsWholeOfficeIn tables rows) where
+  pub office_stands : ReadRows rows → StandForOffice tables
   office_stands stand = record {
-    members = each_stands db _ _ _ _ shows.office.team _ stand.members;
-    policy = policy_stands db rows.office.policy shows.office.policy office stand.policy;
-    entries = each_stands db _ _ _ _ shows.office.template _ stand.template.each;
-    template = subst IsValid (ap (λ (p : Project). p.template) (whole_office db office rows shows)) stand.template.valid;
-    languages = each_stands db _ _ _ _ shows.office.languages _ stand.languages;
-    units = each_stands db _ _ _ _ shows.units.units _ (and_parts _ _ stand.units).1;
-    suggestions = each_stands db _ _ _ _ shows.units.suggestions _ (and_parts _ _ (and_parts _ _ stand.units).0).1;
-    votes = each_stands db _ _ _ _ shows.units.votes _ (and_parts _ _ (and_parts _ _ stand.units).0).0;
+    members = each_stands tables _ _ _ _ shows.office.team _ stand.members;
+    policy = policy_stands tables rows.office.policy shows.office.policy office stand.policy;
+    entries = each_stands tables _ _ _ _ shows.office.template _ stand.template.each;
+    template = subst IsValid (ap (λ (p : Project). p.template) (whole_rows tables office rows shows)) stand.template.valid;
+    languages = each_stands tables _ _ _ _ shows.office.languages _ stand.languages;
+    units = each_stands tables _ _ _ _ shows.units.units _ (and_parts _ _ stand.units).1;
+    suggestions = each_stands tables _ _ _ _ shows.units.suggestions _ (and_parts _ _ (and_parts _ _ stand.units).0).1;
+    votes = each_stands tables _ _ _ _ shows.units.votes _ (and_parts _ _ (and_parts _ _ stand.units).0).0;
   }
 
-  pub rows_stand : StandForOffice (rows_named db) → AreOfficeRows rows
+  pub rows_stand : StandForOffice tables → ReadRows rows
   rows_stand stand = record {
-    members = all_stand db _ _ _ _ shows.office.team _ stand.members;
-    policy = policy_shown_stands db rows.office.policy shows.office.policy stand.policy;
+    members = all_stand tables _ _ _ _ shows.office.team _ stand.members;
+    policy = policy_shown_stands tables rows.office.policy shows.office.policy stand.policy;
     template = record {
-      each = all_stand db _ _ _ _ shows.office.template _ stand.entries;
-      valid = subst IsValid (sym (ap (λ (p : Project). p.template) (whole_office db office rows shows))) stand.template;
+      each = all_stand tables _ _ _ _ shows.office.template _ stand.entries;
+      valid = subst IsValid (sym (ap (λ (p : Project). p.template) (whole_rows tables office rows shows))) stand.template;
     };
-    languages = all_stand db _ _ _ _ shows.office.languages _ stand.languages;
-    units = and_from _ _ (and_from _ _ (all_stand db _ _ _ _ shows.units.votes _ stand.votes) (all_stand db _ _ _ _ shows.units.suggestions _ stand.suggestions))
-        (all_stand db _ _ _ _ shows.units.units _ stand.units);
+    languages = all_stand tables _ _ _ _ shows.office.languages _ stand.languages;
+    units = and_from _ _ (and_from _ _ (all_stand tables _ _ _ _ shows.units.votes _ stand.votes) (all_stand tables _ _ _ _ shows.units.suggestions _ stand.suggestions))
+        (all_stand tables _ _ _ _ shows.units.units _ stand.units);
   }
 
 -- ---- the book
 
-module _ (db : Database) (rows : List Row) (shows : ShowsRecords db rows) where
-  pub all_contents : All IsRecordRow rows → AreContents (rows_named db)
+module _ (tables : NamedRows) (rows : List Row) (shows : ShowsRecordsIn tables rows) where
+  pub all_contents : All IsRecordRow rows → AreContents tables
   all_contents stand row there =
-      IsRecordRow.content (all_has IsRecordRow rows _ (recursion_from_All IsRecordRow rows stand) (is_shown db _ _ _ rows shows row there))
+      IsRecordRow.content (all_has IsRecordRow rows _ (recursion_from_All IsRecordRow rows stand) (is_shown tables _ _ _ rows shows row there))
 
-  pub book_stands : All IsRecordRow rows → StandForBook (rows_named db)
+  pub book_stands : All IsRecordRow rows → StandForBook tables
   book_stands stand = record {
-    records = λ row there. IsRecordRow.stands (all_has IsRecordRow rows _ (recursion_from_All IsRecordRow rows stand) (is_shown db _ _ _ rows shows row there));
+    records = λ row there. IsRecordRow.stands (all_has IsRecordRow rows _ (recursion_from_All IsRecordRow rows stand) (is_shown tables _ _ _ rows shows row there));
     contents = all_contents stand;
   }
 
-  pub records_stand : StandForBook (rows_named db) → All IsRecordRow rows
+  pub records_stand : StandForBook tables → All IsRecordRow rows
   records_stand stand = All-from_recursion IsRecordRow rows (all_from IsRecordRow rows (λ row here.
-      let was = was_there db (codes "record") (2 ∷ 3 ∷ 4 ∷ 1 ∷ []) (3 ∷ []) rows shows row here in
+      let was = was_there tables (codes "record") (2 ∷ 3 ∷ 4 ∷ 1 ∷ []) (3 ∷ []) rows shows row here in
       subst IsRecordRow (sym was.2) (record { stands = stand.records was.0 was.1; content = stand.contents was.0 was.1 })))

@@ -10,7 +10,6 @@ use Rattle.sqlite.specs.declared.types.Value.{Value}
 use Rattle.sqlite.specs.declared.types.Value.TheVariants.{Null, Int, Real, Text as Words, Blob}
 use Rattle.sqlite.specs.Order.{Row, column}
 use Rattle.sqlite_value.specs.Order.{bytes}
-use Rattle.sqlite.specs.Effect.{Database}
 use Rattle.sqlite_rules.proofs.ListLemmas.{all_has}
 use Rattle.sql_laws.specs.RowMaps.{OneEach}
 use Rattle.sql_laws.proofs.RemovedRows.{to_mapped, has_permuted}
@@ -19,16 +18,15 @@ use Rattle.request_book.specs.Words.{number_text}
 use Rattle.sql_columns.specs.Readings.{number_read}
 use Rattle.sql_columns.proofs.Readers.{number_written}
 use Rattle.sql_schema.specs.Keys.{text_at, first_text, columns}
-use Rattle.sql_schema.specs.Inside.{AreOfficeTables}
-use Rattle.sql_schema.proofs.TableRows.{one_record}
+use Rattle.sql_meaning.specs.RowKeys.{AreOfficeRows}
 use Rattle.sql_meaning.specs.Meaning.{AreNumbered, number_at, recorded_in, book_in}
 use Rattle.sql_meaning.specs.Shown.{shown_record}
 use Rattle.sql_meaning.proofs.Books.{same_texts}
 use Rattle.sql_meaning.proofs.ShownMaps.{map_is, inserted_answers}
-use Rattle.sql_statements.specs.RecordTable.{ShowsRecords}
+use Rattle.sql_statements.specs.RecordTable.{ShowsRecordsIn}
 use Rattle.sql_decoding.specs.RowTests.{text_passes, is_number}
 use Rattle.sql_adoption.specs.BookShown.{book_shown, IsRecordRow}
-use Rattle.sql_schema.specs.Layouts.{rows_named}
+use Rattle.sql_schema.specs.Layouts.{NamedRows}
 
 -- a column that holds a number's text
 some_number : (p : Text → Bool) (o : Option Text) → option_map_or p o false ≡ true → IsSome o
@@ -57,19 +55,19 @@ named row some = number_written (first_text row) (number_at 1 row) (own (number_
 abbrev shown : Row → Row
 shown = columns (2 ∷ 3 ∷ 4 ∷ 1 ∷ [])
 
-module _ (db : Database) (rows : List Row) (shows : ShowsRecords db rows) (stand : All IsRecordRow rows) where
-  pub all_numbered : AreNumbered (rows_named db)
+module _ (tables : NamedRows) (rows : List Row) (shows : ShowsRecordsIn tables rows) (stand : All IsRecordRow rows) where
+  pub all_numbered : AreNumbered tables
   all_numbered row there =
       is_numbered (shown row) (all_has IsRecordRow rows (shown row) (recursion_from_All IsRecordRow rows stand)
-      (has_permuted rows (map shown (rows_named db (codes "record"))) (shown row) (IsPermutation-sym (map shown (rows_named db (codes "record"))) rows shows.all) (to_mapped shown (rows_named db (codes "record")) row there)))
+      (has_permuted rows (map shown (tables (codes "record"))) (shown row) (IsPermutation-sym (map shown (tables (codes "record"))) rows shows.all) (to_mapped shown (tables (codes "record")) row there)))
 
-  one_number : AreOfficeTables db → OneEach (number_at 1) (rows_named db (codes "record"))
+  one_number : AreOfficeRows tables → OneEach (number_at 1) (tables (codes "record"))
   one_number office r s in_r in_s e =
-      one_record db office.schema office.sound (office.tables (codes "record") refl) r s in_r in_s
+      office.keyed.one_record r s in_r in_s
       (named r (all_numbered r in_r) ∙ (ap number_text e ∙ sym (named s (all_numbered s in_s))))
 
-  pub whole_book : AreOfficeTables db → book_in (rows_named db) ≡ book_shown rows
+  pub whole_book : AreOfficeRows tables → book_in tables ≡ book_shown rows
   whole_book office =
-      map_is text_cmp nat_list_cmp_total same_texts (number_at 1) recorded_in shown (number_at 3) shown_record (rows_named db (codes "record")) rows
+      map_is text_cmp nat_list_cmp_total same_texts (number_at 1) recorded_in shown (number_at 3) shown_record (tables (codes "record")) rows
       (λ r there. refl) (λ r there. refl) shows.all (book_shown rows) (one_number office)
       (inserted_answers text_cmp nat_list_cmp_total same_texts (number_at 3) shown_record rows)

@@ -1,5 +1,5 @@
 -- What is asked of rows that are adopted as an office's with its book, and why they are refused. This project's own rule.
-use Rattle.std.specs.Prelude.{◌≡◌, ◌⊎◌, ⊤, ℕ, Bool, List, [], ◌∷◌, false, pos, IsTrue, codes}
+use Rattle.std.specs.Prelude.{◌≡◌, ◌⊎◌, ⊤, ℕ, ℤ, Bool, List, [], ◌∷◌, false, pos, IsTrue, codes}
 use Rattle.sqlite.specs.declared.types.Value.TheVariants.{Int}
 use Rattle.sqlite.specs.Order.{Row, column}
 use Rattle.sqlite.specs.Effect.{Database}
@@ -8,23 +8,35 @@ use Rattle.sqlite.specs.State.{State, HasCleanDisk}
 use Rattle.sqlite_rules.specs.Lists.{Has}
 use Rattle.deliveries.specs.MainAlone.{main_alone}
 use Rattle.deliveries.specs.OfficeRules.{KeepsRules}
-use Rattle.office_maps.specs.declared.office_maps.OfficeMaps.{OfficeMaps}
+use Rattle.office_rules.specs.Given.{AreAll}
 use Rattle.office_maps.specs.OfficeIn.{office_in}
 use Rattle.po_text.specs.Valid.{IsValid}
 use Rattle.sql_schema.specs.Keys.{text_at, row_number, columns}
-use Rattle.sql_schema.specs.Whole.{IsIdle}
-use Rattle.sql_adoption.specs.Found.{HoldsOffice}
-use Rattle.sql_meaning.specs.Meaning.{template_in, meaning_in, project_of_rows, AreNumbered}
+use Rattle.sql_schema.specs.Whole.{IsIdleOver}
+use Rattle.sql_adoption.specs.Found.{HoldsOfficeOf, HoldsOffice}
+use Rattle.sql_adoption.specs.Tables.{form_told}
+use Rattle.sql_adoption.specs.declared.tested.Adopted.{Adopted}
+use Rattle.sql_meaning.specs.Meaning.{template_in, headers_in, meaning_for, own_rows, project_of_rows, AreNumbered, IsMainAlone, HoldsOneDomain}
 use Rattle.sql_decoding.specs.RowTests.{is_member_row, is_policy_row, is_entry_row, is_language_row, is_unit_row, is_suggestion_row, is_vote_row, is_record_row}
 use Rattle.request_book.specs.Contents.{IsContent}
 use Rattle.sql_adoption.specs.declared.faults.OpenFault.{OpenFault}
 use Rattle.sql_adoption.specs.declared.faults.OpenFault.TheVariants.{Foreign, Exists}
 use Rattle.sql_adoption.specs.declared.faults.Mismatch.TheVariants.{OtherTables, OtherForm, UnreadRow, BrokenRules}
-use Rattle.sql_schema.specs.Layouts.{NamedRows, rows_named}
+use Rattle.sql_schema.specs.Layouts.{Form, for_main, by_domain, HasLayoutOf, NamedRows, rows_named}
 
--- The tables have their first form: the policy's row says so.
-abbrev pub HasFirstForm : Database → Type 0
-HasFirstForm db = (row : Row) × Has (rows_named db (codes "policy")) row × (row_number row ≡ Int (pos 1)) × (column row 2 ≡ Int (pos 1))
+-- the number of the schema, which tells the form of the tables
+abbrev pub schema_number : Form → ℤ
+schema_number for_main = pos 1
+schema_number by_domain = pos 3
+
+-- the policy's row says which form the tables have
+abbrev pub TellsForm : Form → NamedRows → Type 0
+TellsForm form tables = (row : Row) × Has (tables (codes "policy")) row × (row_number row ≡ Int (pos 1)) × (column row 2 ≡ Int (schema_number form))
+
+-- all rows of tables by domains are those of `main`
+abbrev pub HoldsMainAlone : Form → NamedRows → Type 0
+HoldsMainAlone for_main tables = ⊤
+HoldsMainAlone by_domain tables = IsMainAlone tables × HoldsOneDomain tables
 
 -- each record's content is that of some request
 abbrev pub AreContents : NamedRows → Type 0
@@ -58,25 +70,31 @@ pub record StandForBook (tables : NamedRows) : Type 0 where
   pub records : Each (codes "record") (2 ∷ 3 ∷ 4 ∷ 1 ∷ []) is_record_row tables
   pub contents : AreContents tables
 
--- The rows are those of an office with its book, in the first form of the tables.
-pub record IsAdopted (db : Database) : Type 0 where
-  pub form : HasFirstForm db
-  pub office : StandForOffice (rows_named db)
-  pub book : StandForBook (rows_named db)
-  pub numbered : AreNumbered (rows_named db)
-  pub contents : AreContents (rows_named db)
-  pub rules : KeepsRules (meaning_in (rows_named db))
+-- The rows are those of an office with its book, in a form of the tables, and of no domain but `main`.
+pub record IsAdoptedOf (form : Form) (db : Database) : Type 0 where
+  pub told : TellsForm form (rows_named db)
+  pub alone : HoldsMainAlone form (rows_named db)
+  pub office : StandForOffice (own_rows form (rows_named db))
+  pub book : StandForBook (own_rows form (rows_named db))
+  pub numbered : AreNumbered (own_rows form (rows_named db))
+  pub contents : AreContents (own_rows form (rows_named db))
+  pub rules : KeepsRules (meaning_for form (rows_named db))
 
--- in maps, the office of the rows is this: `main` is its one domain
-pub record IsAdoptedAs (db : Database) (maps : OfficeMaps) : Type 0 where
-  pub office : office_in maps ≡ main_alone (project_of_rows (rows_named db))
-  pub rows : IsAdopted db
+-- in the form that the tables have
+abbrev pub IsAdopted : Database → Type 0
+IsAdopted db = (form : Form) × HoldsOfficeOf form db × IsAdoptedOf form db
+
+-- in maps, the office of the rows is this, `main` is its one domain, and all its languages are here
+pub record IsAdoptedAs (db : Database) (adopted : Adopted) : Type 0 where
+  pub office : office_in adopted.maps ≡ main_alone (project_of_rows (own_rows (form_told adopted.form) (rows_named db)))
+  pub langs : AreAll (headers_in (own_rows (form_told adopted.form) (rows_named db))) adopted.langs.items
+  pub rows : IsAdoptedOf (form_told adopted.form) db
 
 -- An open connection between transactions over such rows, and their office in maps.
-pub record IsAdoptedIn (s : State) (maps : OfficeMaps) : Type 0 where
+pub record IsAdoptedIn (s : State) (office : Adopted) : Type 0 where
   pub is_open : HasCleanDisk s → IsTrue s.is_open
-  pub idle : IsIdle s
-  pub adopted : HasCleanDisk s → IsAdoptedAs s.now maps
+  pub idle : IsIdleOver (form_told office.form) s
+  pub adopted : HasCleanDisk s → IsAdoptedAs s.now office
 
 -- A connection between transactions that shows and has committed what it did, unless it is shut; a stop leaves what it left before, or the
 -- rows that were shown.
@@ -89,11 +107,15 @@ pub record StaysAsItWas (old new : State) : Type 0 where
   pub stops : HasCleanDisk new → (db : Trees) → new.may_leave db → old.may_leave db ⊎ (db ≡ old.now.trees)
   pub limit : new.step_limit ≡ old.step_limit
 
+-- The tables are an office's in some form, and of that this isn't so.
+abbrev pub Lacks : (Form → Type 0) → Database → Type 0
+Lacks P db = (form : Form) × HasLayoutOf form db × ¬ P form
+
 -- What is true of rows that are refused so. Of want of memory and of a failed disk nothing is said; that an office is there refuses nothing.
 abbrev pub Refuses : Database → OpenFault → Type 0
 Refuses db (Foreign OtherTables) = ¬ HoldsOffice db
-Refuses db (Foreign OtherForm) = ¬ HasFirstForm db
-Refuses db (Foreign UnreadRow) = ¬ (StandForOffice (rows_named db) × StandForBook (rows_named db))
-Refuses db (Foreign BrokenRules) = ¬ KeepsRules (meaning_in (rows_named db))
+Refuses db (Foreign OtherForm) = Lacks (λ form. TellsForm form (rows_named db) × HoldsMainAlone form (rows_named db)) db
+Refuses db (Foreign UnreadRow) = Lacks (λ form. StandForOffice (own_rows form (rows_named db)) × StandForBook (own_rows form (rows_named db))) db
+Refuses db (Foreign BrokenRules) = Lacks (λ form. KeepsRules (meaning_for form (rows_named db))) db
 Refuses db Exists = ⊥
 Refuses db _ = ⊤

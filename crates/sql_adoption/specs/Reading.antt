@@ -1,5 +1,5 @@
 -- What the readers of rows that are to be adopted answer. Only inner clauses and proofs cite this file.
-use Rattle.std.specs.Prelude.{◌≡◌, ◌⊎◌, ◌↔◌, ⊤, ℕ, pos, Option, Some}
+use Rattle.std.specs.Prelude.{◌≡◌, ◌⊎◌, ◌↔◌, ◌<◌, ⊤, ℕ, List, length, Option, Some, All}
 use Rattle.std.specs.BTreeMap.{BTreeMap}
 use Rattle.sqlite.specs.declared.error.Error.{Error}
 use Rattle.sqlite.specs.declared.error.Error.TheVariants.{SqliteFailure}
@@ -11,12 +11,14 @@ use Rattle.po_text.specs.Texts.{Text}
 use Rattle.tables.specs.declared.faults.Lost.{Lost}
 use Rattle.tables.specs.declared.faults.Lost.TheVariants as lost
 use Rattle.units.specs.Project.{Project}
-use Rattle.units.specs.Office.{Office}
+use Rattle.units.specs.Office.{Office, main}
 use Rattle.request_book.specs.Book.{OfficeWithBook}
 use Rattle.deliveries.specs.MainAlone.{main_alone}
 use Rattle.deliveries.specs.OfficeRules.{KeepsRules}
 use Rattle.office_maps.specs.OfficeIn.{office_in}
-use Rattle.sql_meaning.specs.Meaning.{project_of_rows, book_in, AreNumbered}
+use Rattle.sql_schema.specs.Keys.{text_at}
+use Rattle.sql_meaning.specs.Meaning.{project_of_rows, headers_in, book_in, AreNumbered, own_rows, meaning_for}
+use Rattle.sql_statements.specs.declared.owners.Owners.{Owners}
 use Rattle.sql_statements.specs.declared.whole_office.WholeOffice.{WholeOffice}
 use Rattle.sql_meaning.specs.OfficeShown.{headers_shown, project_shown}
 use Rattle.sql_decoding.specs.RowTests.{AreOfficeRows}
@@ -25,8 +27,8 @@ use Rattle.sql_adoption.specs.declared.faults.OpenFault.{OpenFault}
 use Rattle.sql_adoption.specs.declared.faults.OpenFault.TheVariants.{Memory, Disk, Foreign, Exists}
 use Rattle.sql_adoption.specs.declared.faults.Mismatch.TheVariants.{OtherTables, OtherForm, UnreadRow, BrokenRules}
 use Rattle.sql_adoption.specs.declared.office_read.ReadOffice.{ReadOffice}
-use Rattle.sql_adoption.specs.Adoption.{HasFirstForm, AreContents, StandForOffice, StandForBook}
-use Rattle.sql_schema.specs.Layouts.{rows_named}
+use Rattle.sql_adoption.specs.Adoption.{schema_number, TellsForm, HoldsMainAlone, AreContents, StandForOffice, StandForBook}
+use Rattle.sql_schema.specs.Layouts.{Form, rows_named}
 
 -- ---- faults
 
@@ -40,11 +42,26 @@ abbrev pub unread : Lost → OpenFault
 unread lost.Memory = Memory
 unread lost.Disk = Foreign UnreadRow
 
--- ---- the office
+-- ---- the form
+
+-- rows that show one column, whose text is `main`
+abbrev pub AreMain : List Row → Type 0
+AreMain rows = All (λ row. text_at 0 row ≡ main) rows
+
+-- `main` alone is shown as a domain, and as that of each row
+pub record ShowMainAlone (owners : Owners) : Type 0 where
+  pub some : 0 < length owners.domains.items
+  pub domains : AreMain owners.domains.items
+  pub template : AreMain owners.template.items
+  pub languages : AreMain owners.languages.items
+  pub units : AreMain owners.units.items
+  pub suggestions : AreMain owners.suggestions.items
 
 -- what the policy's row shows
-abbrev pub ShowsFirstForm : Option Row → Type 0
-ShowsFirstForm found = (row : Row) × (found ≡ Some row) × (column row 0 ≡ Int (pos 1))
+abbrev pub ShowsForm : Form → Option Row → Type 0
+ShowsForm form found = (row : Row) × (found ≡ Some row) × (column row 0 ≡ Int (schema_number form))
+
+-- ---- the office
 
 -- the office of `main` alone that all rows show, which stand for values, and all its languages
 pub record IsOfRows (rows : WholeOffice) (read : ReadOffice) : Type 0 where
@@ -52,13 +69,13 @@ pub record IsOfRows (rows : WholeOffice) (read : ReadOffice) : Type 0 where
   pub langs : AreAll (headers_shown rows.office.languages.items) read.langs.items
   pub stand : AreOfficeRows rows
 
-abbrev pub RefusesRows : WholeOffice → OpenFault → Type 0
-RefusesRows rows (Foreign OtherForm) = ¬ ShowsFirstForm rows.office.policy
-RefusesRows rows (Foreign UnreadRow) = ¬ AreOfficeRows rows
-RefusesRows rows (Foreign BrokenRules) = ⊥
-RefusesRows rows (Foreign OtherTables) = ⊥
-RefusesRows rows Exists = ⊥
-RefusesRows rows _ = ⊤
+abbrev pub RefusesRows : Form → WholeOffice → OpenFault → Type 0
+RefusesRows form rows (Foreign OtherForm) = ¬ ShowsForm form rows.office.policy
+RefusesRows form rows (Foreign UnreadRow) = ¬ AreOfficeRows rows
+RefusesRows form rows (Foreign BrokenRules) = ⊥
+RefusesRows form rows (Foreign OtherTables) = ⊥
+RefusesRows form rows Exists = ⊥
+RefusesRows form rows _ = ⊤
 
 -- `main` is its one domain, and the languages are all here
 pub record HoldsMain (read : ReadOffice) : Type 0 where
@@ -66,27 +83,38 @@ pub record HoldsMain (read : ReadOffice) : Type 0 where
   pub alone : office_in read.maps ≡ main_alone project
   pub langs : AreAll project.headers read.langs.items
 
--- the office of tables in their first form
-pub record IsReadOf (db : Database) (read : ReadOffice) : Type 0 where
-  pub form : HasFirstForm db
-  pub stand : StandForOffice (rows_named db)
-  pub office : office_in read.maps ≡ main_alone (project_of_rows (rows_named db))
+-- the office of tables whose policy tells their form
+pub record IsReadOf (form : Form) (db : Database) (read : ReadOffice) : Type 0 where
+  pub told : TellsForm form (rows_named db)
+  pub alone : HoldsMainAlone form (rows_named db)
+  pub stand : StandForOffice (own_rows form (rows_named db))
+  pub office : office_in read.maps ≡ main_alone (project_of_rows (own_rows form (rows_named db)))
+  pub langs : AreAll (headers_in (own_rows form (rows_named db))) read.langs.items
+
+-- what is true of the rows of tables of a form that are refused so
+abbrev pub RefusesOf : Form → Database → OpenFault → Type 0
+RefusesOf form db (Foreign OtherTables) = ⊥
+RefusesOf form db (Foreign OtherForm) = ¬ (TellsForm form (rows_named db) × HoldsMainAlone form (rows_named db))
+RefusesOf form db (Foreign UnreadRow) = ¬ (StandForOffice (own_rows form (rows_named db)) × StandForBook (own_rows form (rows_named db)))
+RefusesOf form db (Foreign BrokenRules) = ¬ KeepsRules (meaning_for form (rows_named db))
+RefusesOf form db Exists = ⊥
+RefusesOf form db _ = ⊤
 
 -- ---- the book
 
 -- the statuses of all records, whose numbers and contents stand for some
-pub record AreStatusesIn (db : Database) (statuses : BTreeMap Text ℕ) : Type 0 where
-  pub statuses_are : AreStatusesOf (book_in (rows_named db)) statuses
-  pub stand : StandForBook (rows_named db)
-  pub numbered : AreNumbered (rows_named db)
-  pub contents : AreContents (rows_named db)
+pub record AreStatusesIn (form : Form) (db : Database) (statuses : BTreeMap Text ℕ) : Type 0 where
+  pub statuses_are : AreStatusesOf (book_in (own_rows form (rows_named db))) statuses
+  pub stand : StandForBook (own_rows form (rows_named db))
+  pub numbered : AreNumbered (own_rows form (rows_named db))
+  pub contents : AreContents (own_rows form (rows_named db))
 
 -- an office keeps the rules with the book of the rows
-pub record KeepsBook (office : Office) (db : Database) : Type 0 where
-  pub stand : StandForBook (rows_named db)
-  pub numbered : AreNumbered (rows_named db)
-  pub contents : AreContents (rows_named db)
-  pub rules : KeepsRules (record { office = office; book = book_in (rows_named db) })
+pub record KeepsBook (form : Form) (office : Office) (db : Database) : Type 0 where
+  pub stand : StandForBook (own_rows form (rows_named db))
+  pub numbered : AreNumbered (own_rows form (rows_named db))
+  pub contents : AreContents (own_rows form (rows_named db))
+  pub rules : KeepsRules (record { office = office; book = book_in (own_rows form (rows_named db)) })
 
 -- what is true of an office with its book that is refused so
 abbrev pub RefusesWith : OfficeWithBook → OpenFault → Type 0
@@ -98,15 +126,15 @@ RefusesWith with_book Exists = ⊥
 RefusesWith with_book _ = ⊤
 
 -- what is true of a book's rows that are refused so
-abbrev pub RefusesBook : Database → OpenFault → Type 0
-RefusesBook db (Foreign UnreadRow) = ¬ StandForBook (rows_named db)
-RefusesBook db (Foreign BrokenRules) = ⊥
-RefusesBook db (Foreign OtherForm) = ⊥
-RefusesBook db (Foreign OtherTables) = ⊥
-RefusesBook db Exists = ⊥
-RefusesBook db _ = ⊤
+abbrev pub RefusesBook : Form → Database → OpenFault → Type 0
+RefusesBook form db (Foreign UnreadRow) = ¬ StandForBook (own_rows form (rows_named db))
+RefusesBook form db (Foreign BrokenRules) = ⊥
+RefusesBook form db (Foreign OtherForm) = ⊥
+RefusesBook form db (Foreign OtherTables) = ⊥
+RefusesBook form db Exists = ⊥
+RefusesBook form db _ = ⊤
 
 -- what is true of an office and of a book's rows that are refused so together
-abbrev pub RefusesKept : Office → Database → OpenFault → Type 0
-RefusesKept office db (Foreign UnreadRow) = ¬ StandForBook (rows_named db)
-RefusesKept office db fault = RefusesWith (record { office = office; book = book_in (rows_named db) }) fault
+abbrev pub RefusesKept : Form → Office → Database → OpenFault → Type 0
+RefusesKept form office db (Foreign UnreadRow) = ¬ StandForBook (own_rows form (rows_named db))
+RefusesKept form office db fault = RefusesWith (record { office = office; book = book_in (own_rows form (rows_named db)) }) fault

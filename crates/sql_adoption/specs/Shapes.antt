@@ -6,16 +6,13 @@ use Rattle.sqlite.specs.declared.types.Value.TheVariants.{Null}
 use Rattle.sqlite.specs.Kind.{Kind}
 use Rattle.sqlite.specs.Kind.TheVariants.{Integer, Text}
 use Rattle.sqlite_schema.specs.declared.schema.Column.{Column}
-use Rattle.sqlite_schema.specs.declared.schema.Index.{Index}
 use Rattle.sqlite_schema.specs.declared.schema.Reference.{Reference}
 use Rattle.sqlite_schema.specs.declared.schema.Action.{Action}
 use Rattle.sqlite_schema.specs.declared.schema.Action.TheVariants.{NoAction, Cascade}
-use Rattle.sqlite_value.specs.Keys.{plain}
 use Rattle.sql_schema.specs.Schema.{text_column, nullable_column, int_column, rowid_column}
 use Rattle.sql_adoption.specs.declared.shapes.ColumnShape.{ColumnShape}
 use Rattle.sql_adoption.specs.declared.shapes.ColumnShape.TheVariants as shape
 use Rattle.sql_adoption.specs.declared.shapes.ReferenceShape.{ReferenceShape}
-use Rattle.sql_adoption.specs.declared.shapes.IndexShape.{IndexShape}
 
 abbrev pub binary : Collation
 binary = Binary
@@ -53,6 +50,3 @@ reference_of shape = record {
   on_update = NoAction;
   is_deferred = false;
 }
-
-abbrev pub index_of : IndexShape → Index
-index_of shape = record { name = shape.name.now; tree = shape.tree; table = shape.table; columns = shape.columns.now; order = plain; is_unique = true }

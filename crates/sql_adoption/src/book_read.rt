@@ -5,7 +5,8 @@ ghost use Rattle.sqlite.specs.State.{HasCleanDisk};
 ghost use Rattle.request_book.specs.Book.{Book};
 ghost use Rattle.deliveries.specs.OfficeRules.{KeepsRules};
 ghost use Rattle.office_maps.specs.OfficeIn.{office_in};
-ghost use Rattle.sql_schema.specs.Whole.{IsIdle, IsLookUp};
+ghost use Rattle.sql_schema.specs.Layouts.{Form};
+ghost use Rattle.sql_schema.specs.Whole.{IsIdleOver, IsLookUp};
 ghost use Rattle.office_rules.specs.Given.{AreStatusesOf};
 ghost use Rattle.sql_adoption.specs.Reading.{AreStatusesIn, HoldsMain, KeepsBook, RefusesWith, RefusesBook, RefusesKept};
 
@@ -26,9 +27,8 @@ fn read_statuses<S: Alter>(
     alloc: Global,
 ) -> Result<BTreeMap<Uuid, u16>, OpenFault>
     requires autocommit { connection.old.in_transaction ≡ false }
-    requires idle { IsIdle (state S.Store connection.old) }
-    ensures found { IsLookUp (state S.Store connection.old) (state S.Store connection.new) result AreStatusesIn }
-    ensures refused { IfErr result (λ fault. HasCleanDisk (state S.Store connection.new) → RefusesBook (state S.Store connection.old).now fault) }
+    ensures found { (form : Form) → IsIdleOver form (state S.Store connection.old) → IsLookUp (state S.Store connection.old) (state S.Store connection.new) result (AreStatusesIn form) }
+    ensures refused { (form : Form) → IsIdleOver form (state S.Store connection.old) → IfErr result (λ fault. HasCleanDisk (state S.Store connection.new) → RefusesBook form (state S.Store connection.old).now fault) }
 {
     let rows = look_up_records(connection)?;
     match statuses_in(alloc, rows.as_slice()) {
@@ -77,10 +77,9 @@ pub fn keep_book<S: Alter>(
     read: &ReadOffice,
 ) -> Result<(), OpenFault>
     requires autocommit { connection.old.in_transaction ≡ false }
-    requires idle { IsIdle (state S.Store connection.old) }
     requires holds { HoldsMain read.now }
-    ensures found { IsLookUp (state S.Store connection.old) (state S.Store connection.new) result (λ db _. KeepsBook (office_in read.now.maps) db) }
-    ensures refused { IfErr result (λ fault. HasCleanDisk (state S.Store connection.new) → RefusesKept (office_in read.now.maps) (state S.Store connection.old).now fault) }
+    ensures found { (form : Form) → IsIdleOver form (state S.Store connection.old) → IsLookUp (state S.Store connection.old) (state S.Store connection.new) result (λ db _. KeepsBook form (office_in read.now.maps) db) }
+    ensures refused { (form : Form) → IsIdleOver form (state S.Store connection.old) → IfErr result (λ fault. HasCleanDisk (state S.Store connection.new) → RefusesKept form (office_in read.now.maps) (state S.Store connection.old).now fault) }
 {
     let statuses = read_statuses(connection, alloc)?;
     keep_rules(alloc, read, &statuses)

@@ -5,13 +5,14 @@
 //!
 //! Tables:
 //!
-//! - `shapes`, `table_checks`, `office_tables`: the eight tables, told by constants
+//! - `shapes`, `table_checks`, `table_shapes`, `office_tables`: the tables of each layout, told by constants
 //! - `rowids`: whether the rowids of each table are integers, no two the same
-//! - `offices`: a transaction that tells whether a connection's tables are those
+//! - `offices`: a transaction that tells whether a connection's tables are those, and of which form
 //!
 //! Rows:
 //!
-//! - `look_ups`, `statuses`: all records, and their statuses
+//! - `look_ups`: what is read of them, each in a transaction; `main_alone`: whether all are of `main`
+//! - `statuses`: the statuses of all records
 //! - `office_read`, `book_read`: the office, and its book
 //! - `tested`: all that is asked (`adopted_office`)
 //! - `faults`: why an office's tables can't be had (`OpenFault`, `Mismatch`)
@@ -24,6 +25,7 @@
 mod book_read;
 mod faults;
 mod look_ups;
+mod main_alone;
 mod office_read;
 mod office_tables;
 mod offices;
@@ -31,7 +33,9 @@ mod rowids;
 mod shapes;
 mod statuses;
 mod table_checks;
+mod table_shapes;
 mod tested;
 
 pub use faults::{Mismatch, OpenFault};
-pub use tested::adopted_office;
+pub use office_tables::Form;
+pub use tested::{Adopted, adopted_office};

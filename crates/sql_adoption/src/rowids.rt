@@ -1,19 +1,21 @@
 //! Whether the rowids of each table are integers, no two the same.
-ghost use Rattle.std.specs.Prelude.{◌≡◌, ◌↔◌, true, None};
+ghost use Rattle.std.specs.Prelude.{◌≡◌, ◌↔◌, ◌<◌, true, None, List, length, All};
 ghost use Rattle.sqlite.specs.Held.{state};
 ghost use Rattle.sqlite.specs.Order.{column};
 ghost use Rattle.sqlite.specs.Table.{Table};
 ghost use Rattle.sql_laws.specs.ApartRows.{AreApart};
-ghost use Rattle.sql_schema.specs.Inside.{AreTables};
+ghost use Rattle.sql_schema.specs.Inside.{AreTablesOf};
 ghost use Rattle.sql_adoption.specs.Looks.{IsOver, IsLook, HasSchema};
 ghost use Rattle.sql_adoption.specs.RisingRows as spec;
-ghost use Rattle.sql_adoption.specs.RowidQueries.{IsRowidQuery};
-ghost use Rattle.sql_schema.specs.Layouts.{rows_named};
+ghost use Rattle.sql_adoption.specs.RowidQueries.{IsRowidQuery, AskAll};
+ghost use Rattle.sql_schema.specs.Layouts.{Form as FormOf, rows_named};
+ghost use Rattle.sql_adoption.specs.Tables.{form_told};
 
+use crate::office_tables::Form;
 use sqlite::types::ValueRef;
 use sqlite::{Alter, Error, Row, Transaction};
 
-/// The rowids of each table, upwards.
+/// The rowids of each of the eight tables, upwards.
 const ROWIDS: [&str; 8] = [
     "SELECT rowid FROM record ORDER BY rowid",
     "SELECT rowid FROM team ORDER BY rowid",
@@ -23,6 +25,21 @@ const ROWIDS: [&str; 8] = [
     "SELECT rowid FROM unit ORDER BY rowid",
     "SELECT rowid FROM suggestion ORDER BY rowid",
     "SELECT rowid FROM vote ORDER BY rowid",
+];
+
+/// The rowids of each table of an office by domains, upwards.
+const ROWIDS_BY_DOMAIN: [&str; 11] = [
+    "SELECT rowid FROM record ORDER BY rowid",
+    "SELECT rowid FROM team ORDER BY rowid",
+    "SELECT rowid FROM policy ORDER BY rowid",
+    "SELECT rowid FROM domain ORDER BY rowid",
+    "SELECT rowid FROM d_template ORDER BY rowid",
+    "SELECT rowid FROM d_language ORDER BY rowid",
+    "SELECT rowid FROM d_unit ORDER BY rowid",
+    "SELECT rowid FROM d_suggestion ORDER BY rowid",
+    "SELECT rowid FROM d_vote ORDER BY rowid",
+    "SELECT rowid FROM d_vote_sum ORDER BY rowid",
+    "SELECT rowid FROM d_tally ORDER BY rowid",
 ];
 
 /// The integer that a row shows first.
@@ -70,9 +87,8 @@ fn are_rising(rows: &[Row]) -> bool
 
 /// Whether the rowids that a query shows are integers, no two the same.
 fn is_apart<S: Alter>(tx: &mut Transaction<'_, S>, query: &str) -> Result<bool, Error>
-    requires over { IsOver HasSchema (state S.Store tx.old.conn.now) }
     ensures same_reference { tx.new.conn.ghost_name ≡ tx.old.conn.ghost_name }
-    ensures found { (table : Table) → IsRowidQuery query.now table
+    ensures found { (form : FormOf) (table : Table) → IsOver (HasSchema form) (state S.Store tx.old.conn.now) → IsRowidQuery form query.now table
         → IsLook (state S.Store tx.old.conn.now) (state S.Store tx.new.conn.now) result
         (λ db apart. (apart ≡ true) ↔ AreApart (rows_named db table.name)) }
 {
@@ -80,17 +96,33 @@ fn is_apart<S: Alter>(tx: &mut Transaction<'_, S>, query: &str) -> Result<bool, 
     Ok(are_rising(&rows))
 }
 
-/// Whether the rowids of each of the eight tables are integers, no two the same.
-pub(crate) fn are_tables_apart<S: Alter>(tx: &mut Transaction<'_, S>) -> Result<bool, Error>
-    requires over { IsOver HasSchema (state S.Store tx.old.conn.now) }
+/// Whether the rowids of the tables that these queries ask for are integers, no two of a table the same.
+fn are_apart<S: Alter>(tx: &mut Transaction<'_, S>, queries: &[&str]) -> Result<bool, Error>
     ensures same_reference { tx.new.conn.ghost_name ≡ tx.old.conn.ghost_name }
-    ensures found { IsLook (state S.Store tx.old.conn.now) (state S.Store tx.new.conn.now) result
-        (λ db apart. (apart ≡ true) ↔ AreTables (rows_named db)) }
+    ensures found { (form : FormOf) (tables : List Table) → IsOver (HasSchema form) (state S.Store tx.old.conn.now) → AskAll form queries.now tables → 0 < length tables
+        → IsLook (state S.Store tx.old.conn.now) (state S.Store tx.new.conn.now) result
+        (λ db apart. (apart ≡ true) ↔ All (λ table. AreApart (rows_named db table.name)) tables) }
 {
-    for query in &ROWIDS {
+    for query in queries {
         if !is_apart(tx, query)? {
             return Ok(false);
         }
     }
     Ok(true)
+}
+
+/// Whether the rowids of each table of an office of this form are integers, no two of a table the same.
+pub(crate) fn are_tables_apart<S: Alter>(
+    tx: &mut Transaction<'_, S>,
+    form: Form,
+) -> Result<bool, Error>
+    requires over { IsOver (HasSchema (form_told form)) (state S.Store tx.old.conn.now) }
+    ensures same_reference { tx.new.conn.ghost_name ≡ tx.old.conn.ghost_name }
+    ensures found { IsLook (state S.Store tx.old.conn.now) (state S.Store tx.new.conn.now) result
+        (λ db apart. (apart ≡ true) ↔ AreTablesOf (form_told form) (rows_named db)) }
+{
+    match form {
+        Form::ForMain => are_apart(tx, &ROWIDS),
+        Form::ByDomain => are_apart(tx, &ROWIDS_BY_DOMAIN),
+    }
 }

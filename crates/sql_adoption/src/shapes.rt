@@ -4,7 +4,7 @@ ghost use Rattle.sqlite.specs.declared.types.Value.TheVariants.{Null};
 ghost use Rattle.sql_adoption.specs.Shapes as spec;
 
 use sqlite_items::Items;
-use sqlite_schema::schema::{Action, Column, Index, Kind, Reference};
+use sqlite_schema::schema::{Action, Column, Kind, Reference};
 use sqlite_value::keys::{Collation, Order};
 use sqlite_value::value::{Bytes, Value};
 
@@ -194,25 +194,5 @@ impl Shape for ReferenceShape {
 #[derive(Clone, Copy)]
 pub struct IndexShape {
     pub name: &'static str,
-    pub tree: u32,
-    pub table: u32,
     pub columns: &'static [usize],
-}
-
-impl Shape for IndexShape {
-    type Part = Index;
-
-    ghost use Rattle.sql_adoption.specs.Shapes.{index_of};
-
-    ghost part = { index_of };
-
-    fn fits(&self, found: &Index) -> bool {
-        let named = found.name.as_slice() == self.name.as_bytes();
-        let placed = found.tree == self.tree;
-        let owned = found.table == self.table;
-        let columns = found.columns.as_slice() == self.columns;
-        let plain = found.order.digits == 0;
-        let unique = found.is_unique;
-        named && placed && owned && columns && plain && unique
-    }
 }

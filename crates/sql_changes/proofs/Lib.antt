@@ -8,7 +8,9 @@ pub mod PolicyCommits
 pub mod AddedSuggestions
 pub mod UnitCommits
 pub mod PlannedUnits
+pub mod PlansCover
 pub mod LanguageCommits
 pub mod Template
 pub mod TemplateCommits
 pub mod DomainCommits
+pub mod MainSteps

@@ -159,3 +159,8 @@ template_put es old new ready empty made plain =
 pub entries_spare : (place : ℕ) (es : List Entry) (old new : NamedRows) → PutsEntries place es old new → Spares (codes "template") old new
 entries_spare place [] old new is = spares_same (codes "template") old new is
 entries_spare place (e ∷ more) old new (mid, put, rest) = spares_both (codes "template") old mid new put.0.0.others (entries_spare (place + 1) more mid new rest)
+
+-- what entries leave is as a schema asks
+pub entries_ready : (place : ℕ) (es : List Entry) (old new : NamedRows) → AreOfficeRows old → PutsEntries place es old new → AreOfficeRows new
+entries_ready place [] old new ready is = subst AreOfficeRows (sym is) ready
+entries_ready place (e ∷ more) old new ready (mid, put, rest) = entries_ready (place + 1) more mid new put.0.1 rest

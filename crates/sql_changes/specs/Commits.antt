@@ -1,4 +1,4 @@
--- What a commit of a change of an office makes of rows by the names of their tables: its request's record, whose number is 16 bytes, and the rows that the change
+-- What a commit of a change of an office makes of the rows that `main` sees, by the names of their tables: its request's record, whose number is 16 bytes, and the rows that the change
 -- writes.
 use Rattle.std.specs.Prelude.{◌≡◌, ℕ, ◌+◌, ℤ, pos, Bool, true, false, List, [], ◌∷◌, Option, Some, None, unwrap_or, codes}
 use Rattle.sqlite.specs.declared.types.Value.TheVariants.{Null, Int, Text as Words}
@@ -28,7 +28,7 @@ use Rattle.sql_schema.specs.Rows.{text_or_null}
 use Rattle.sql_meaning.specs.Cells.{record_cells}
 use Rattle.sql_changes.specs.UnitWrites.{LeavesRows, WritesNumberedUnit, WritesUnits, WritesPlansBack}
 use Rattle.sql_schema.specs.Layouts.{NamedRows}
-use Rattle.sql_meaning.specs.RowChanges.{TakesIn, EmptiesIn, UnapprovesIn}
+use Rattle.sql_meaning.specs.RowChanges.{TakesIn, UnapprovesIn}
 
 abbrev pub PutsNumberedRecord : Record → NamedRows → NamedRows → Type 0
 PutsNumberedRecord row old new = PutsIn (codes "record") first_text (HoldsValues (record_cells row)) old new × IsNumber row.number
@@ -45,10 +45,10 @@ MakesRole row name role = Then (PutsNumberedRecord row) (WritesRole name (role_n
 
 -- ---- the policy
 
--- its rowid 1, whose column is null, the first form of the tables, and the six values
+-- its rowid 1, whose column is null, the third form of the tables, and the six values
 abbrev pub policy_row : Policy → Row
 policy_row policy =
-    Int (pos 1) ∷ Null ∷ Int (pos 1) ∷ Int (flag_number policy.reviews) ∷ Int (flag_number policy.guests_suggest) ∷ Int (flag_number policy.voting) ∷ Int (pos policy.accept_at)
+    Int (pos 1) ∷ Null ∷ Int (pos 3) ∷ Int (flag_number policy.reviews) ∷ Int (flag_number policy.guests_suggest) ∷ Int (flag_number policy.voting) ∷ Int (pos policy.accept_at)
     ∷ Int (flag_number policy.placeholders) ∷ Int (flag_number policy.line_ends) ∷ []
 
 abbrev pub PutsPolicy : Policy → NamedRows → NamedRows → Type 0
@@ -90,7 +90,7 @@ MakesLanguage row lang language plan = Then (PutsNumberedRecord row) (WritesLang
 
 -- ---- a template
 
--- its rowid is the entry's place, and the column of that name is null
+-- as `main` sees it: its rowid is the entry's place, and the column of that name is null
 abbrev pub entry_row : ℕ → Entry → Row
 entry_row place entry =
     Int (pos place) ∷ Null ∷ Words (key_text (key_of entry)) ∷ text_or_null entry.plural ∷ Words (texts_text entry.extracted) ∷ Words (texts_text entry.references) ∷ Words (texts_text entry.flags) ∷ []
@@ -108,12 +108,9 @@ PutsEntries place (entry ∷ more) old new = Then (PutsEntry place entry) (PutsE
 abbrev pub PutsTemplate : List Entry → NamedRows → NamedRows → Type 0
 PutsTemplate entries = Then (LeavesRows (TakesIn (codes "template") (λ row. true))) (PutsEntries 0 entries)
 
--- the units of plans in the place of all that are there
-abbrev pub WritesPlans : List LanguagePlan → NamedRows → NamedRows → Type 0
-WritesPlans plans = Then (LeavesRows EmptiesIn) (WritesPlansBack plans)
-
+-- and the units of plans over those that are there
 abbrev pub WritesTemplate : List Entry → List LanguagePlan → NamedRows → NamedRows → Type 0
-WritesTemplate entries plans = Then (PutsTemplate entries) (WritesPlans plans)
+WritesTemplate entries plans = Then (PutsTemplate entries) (WritesPlansBack plans)
 
 unfoldable pub MakesTemplate : Record → List Entry → List LanguagePlan → NamedRows → NamedRows → Type 0
 MakesTemplate row entries plans = Then (PutsNumberedRecord row) (WritesTemplate entries plans)

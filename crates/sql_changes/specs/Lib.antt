@@ -1,2 +1,3 @@
+pub mod OnMain
 pub mod UnitWrites
 pub mod Commits

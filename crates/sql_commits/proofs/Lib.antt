@@ -1,5 +1,8 @@
 pub mod WritesInTurn
 pub mod PlannedWrites
+pub mod PolicyTurns
+pub mod TallyRows
+pub mod UnitTallied
 pub mod WholeTransactions
 pub mod ActsWritten
 pub mod ActsMeant

@@ -1,7 +1,7 @@
 -- Writes that leave rows as a schema asks, and units and entries that are written one after the other.
-use Rattle.std.proofs.Common.{◌≡◌, ℕ, ◌+◌, ◌<◌, ℤ, pos, List, [], ◌∷◌, ◌++◌, length, take, get_or, Option, Some, Result, Ok, Err, OnOk, unwrap_or, refl, sym, ap, subst, ◌∙◌, arith, codes}
+use Rattle.std.proofs.Common.{◌≡◌, ℕ, ◌+◌, ◌<◌, ℤ, pos, List, [], ◌∷◌, ◌++◌, length, take, get_or, Option, Some, Result, unwrap_or, refl, sym, ap, subst, ◌∙◌, arith, codes}
 use Rattle.std.proofs.lemmas.List.{take_more, length-take, append_assoc}
-use Rattle.sqlite.specs.declared.types.Value.TheVariants.{Null, Int, Text as Words}
+use Rattle.sqlite.specs.declared.types.Value.TheVariants.{Int, Text as Words}
 use Rattle.sqlite.specs.State.{State}
 use Rattle.po_text.specs.declared.entry.Entry.{Entry}
 use Rattle.po_text.specs.Texts.{Text}
@@ -9,59 +9,45 @@ use Rattle.units.specs.Rules.{plural_field}
 use Rattle.units.specs.Units.{key_of, key_text}
 use Rattle.units.specs.declared.unit.Unit.{Unit}
 use Rattle.deliveries.specs.ProjectActs.{LanguagePlan}
-use Rattle.sql_columns.specs.Written.{texts_text, header_text}
-use Rattle.sql_schema.specs.Inside.{IsInside, PutsIn, OnRows, HoldsValues}
-use Rattle.sql_schema.specs.Layouts.{NamedRows, rows_named}
-use Rattle.sql_meaning.proofs.OfficeRows.{office_rows}
-use Rattle.sql_schema.specs.Keys.{first_text, row_number}
-use Rattle.sql_schema.specs.Rows.{text_or_null}
-use Rattle.sql_changes.specs.Commits.{language_cells, entry_row, PutsEntry, PutsEntries}
+use Rattle.sql_columns.specs.Numbers.{state_number, flag_number}
+use Rattle.sql_columns.specs.Written.{texts_text, previous_text, header_text}
+use Rattle.sql_schema.specs.Inside.{IsInsideOf, PutsRow, PutsIn, HoldsValues}
+use Rattle.sql_schema.specs.Layouts.{by_domain, NamedRows}
+use Rattle.sql_meaning.proofs.DomainOfficeRows.{domain_rows}
+use Rattle.sql_schema.specs.Keys.{key_texts, first_text, first_three, row_number, domain_place}
+use Rattle.sql_schema.specs.Rows.{text_or_null, d_unit_row}
+use Rattle.sql_changes.specs.Commits.{PutsNumberedRecord, PutsPolicy, policy_row, language_cells, entry_row, PutsEntry, PutsEntries}
 use Rattle.sql_changes.specs.UnitWrites.{LeavesRows, WritesPlanned, WritesUnits, WritesUnitsBack, WritesPlansBack}
-use Rattle.sql_commits.proofs.WritesInTurn.{on_ok}
-use Rattle.sql_meaning.specs.RowKeys.{AreOfficeRows}
+use Rattle.sql_commits.proofs.WritesInTurn.{write_left}
+use Rattle.sqlite.specs.Order.{Row}
+use Rattle.units.specs.declared.unit.Policy.{Policy}
+use Rattle.request_book.specs.Acts.{IsNumber}
+use Rattle.request_book.specs.Words.{number_text}
+use Rattle.request_book.specs.declared.book.Record.{Record}
+use Rattle.sql_meaning.specs.Cells.{record_cells, unit_cells}
+use Rattle.sql_changes.proofs.MainSteps.{on_main_as, record_on_main, policy_on_main, language_on_main, entry_on_main}
+use Rattle.units.specs.Office.{main}
+use Rattle.sqlite.specs.Effect.{Database}
+use Rattle.sql_changes.specs.OnMain.{OnMain}
 
 -- ---- the rows are as a schema asks
 
-on_both : {X E : Type 0} (A B : Type 0) (r : Result X E) → OnOk r A → OnOk r B → OnOk r (A × B)
-on_both A B (Ok x) a b = (a, b)
-on_both A B (Err e) a b = tt
-
 module _ (a b : State) {A E : Type 0} (r : Result A E) (Makes : NamedRows → NamedRows → Type 0) where
-  abbrev Made : Type 0
-  Made = OnRows (LeavesRows Makes) a.now b.now
-
-  pub leaves_rows : IsInside a b r (OnRows Makes) → IsInside a b r (OnRows (LeavesRows Makes))
-  leaves_rows it = record {
-    made = λ clean. on_both (OnRows Makes a.now b.now) (AreOfficeRows (rows_named b.now)) r (it.made clean) (on_ok r (office_rows b.now) (it.ready clean));
-    ready = it.ready;
-    stays = it.stays;
-    kept = it.kept;
-    survives = it.survives;
-  }
+  pub leaves_rows : IsInsideOf by_domain a b r (OnMain Makes) → IsInsideOf by_domain a b r (OnMain (LeavesRows Makes))
+  leaves_rows = write_left a b r (OnMain Makes) (OnMain (LeavesRows Makes)) (λ ready. on_main_as Makes (LeavesRows Makes) (λ made. (made, domain_rows b.now ready main)))
 
   -- and what is known of the value that is written
-  pub leaves_with : (F : Type 0) → F → IsInside a b r (OnRows Makes) → IsInside a b r (OnRows (λ old new. LeavesRows Makes old new × F))
-  leaves_with F fact it = record {
-    made = λ clean. on_ok r (λ (made : Made). (made, fact)) ((leaves_rows it).made clean);
-    ready = it.ready;
-    stays = it.stays;
-    kept = it.kept;
-    survives = it.survives;
-  }
+  pub leaves_with : (F : Type 0) → F → IsInsideOf by_domain a b r (OnMain Makes) → IsInsideOf by_domain a b r (OnMain (λ old new. LeavesRows Makes old new × F))
+  leaves_with F fact = write_left a b r (OnMain Makes) (OnMain (λ old new. LeavesRows Makes old new × F)) (λ ready. on_main_as Makes (λ old new. LeavesRows Makes old new × F) (λ made. ((made, domain_rows b.now ready main), fact)))
 
   -- two facts
-  pub leaves_with_both : (F G : Type 0) → F → G → IsInside a b r (OnRows Makes) → IsInside a b r (OnRows (λ old new. LeavesRows Makes old new × F × G))
-  leaves_with_both F G first second it = record {
-    made = λ clean. on_ok r (λ (made : Made). (made, first, second)) ((leaves_rows it).made clean);
-    ready = it.ready;
-    stays = it.stays;
-    kept = it.kept;
-    survives = it.survives;
-  }
+  pub leaves_with_both : (F G : Type 0) → F → G → IsInsideOf by_domain a b r (OnMain Makes) → IsInsideOf by_domain a b r (OnMain (λ old new. LeavesRows Makes old new × F × G))
+  leaves_with_both F G first second =
+      write_left a b r (OnMain Makes) (OnMain (λ old new. LeavesRows Makes old new × F × G)) (λ ready. on_main_as Makes (λ old new. LeavesRows Makes old new × F × G) (λ made. ((made, domain_rows b.now ready main), first, second)))
 
 -- ---- one more at the end
 
-units_more : (lang : Text) (units : List Unit) (unit : Unit) (old mid new : NamedRows) → WritesUnits lang units old mid → WritesPlanned lang unit mid new → WritesUnits lang (units ++ unit ∷ []) old new
+pub units_more : (lang : Text) (units : List Unit) (unit : Unit) (old mid new : NamedRows) → WritesUnits lang units old mid → WritesPlanned lang unit mid new → WritesUnits lang (units ++ unit ∷ []) old new
 units_more lang [] unit old mid new is one = (new, subst (λ d. WritesPlanned lang unit d new) is one, refl)
 units_more lang (first ∷ more) unit old mid new (next, put, rest) one = (next, put, units_more lang more unit next mid new rest one)
 
@@ -122,16 +108,37 @@ plans_all all left old new none (done, is, written) = subst (λ ps. WritesPlansB
 
 -- ---- what is written, by the columns that are given
 
-pub language_told : (lang code column rule : Text) (header : Entry) (old new : NamedRows) → code ≡ lang → column ≡ header_text header → rule ≡ unwrap_or (plural_field (Some header)) []
-    → PutsIn (codes "language") first_text (HoldsValues (Words code ∷ Words column ∷ Words rule ∷ [])) old new → PutsIn (codes "language") first_text (HoldsValues (language_cells lang header)) old new
-language_told lang code column rule header old new is_code is_column is_rule put =
-    let same : Words code ∷ Words column ∷ Words rule ∷ [] ≡ language_cells lang header = cc in
-    subst (λ cells. PutsIn (codes "language") first_text (HoldsValues cells) old new) same put
+pub language_told : (domain lang code column rule : Text) (header : Entry) (old new : Database) → domain ≡ main → code ≡ lang → column ≡ header_text header → rule ≡ unwrap_or (plural_field (Some header)) []
+    → PutsRow (codes "d_language") (key_texts (1 ∷ 2 ∷ [])) (HoldsValues (Words domain ∷ Words code ∷ Words column ∷ Words rule ∷ [])) old new
+    → OnMain (PutsIn (codes "language") first_text (HoldsValues (language_cells lang header))) old new
+language_told domain lang code column rule header old new is_main is_code is_column is_rule put =
+    let same : Words domain ∷ Words code ∷ Words column ∷ Words rule ∷ [] ≡ Words main ∷ language_cells lang header = cc in
+    language_on_main (subst (λ cells. PutsRow (codes "d_language") (key_texts (1 ∷ 2 ∷ [])) (HoldsValues cells) old new) same put)
 
-pub entry_told : (place : ℕ) (at : ℤ) (key extracted references flags : Text) (plural : Option Text) (entry : Entry) (old new : NamedRows) → at ≡ pos place → key ≡ key_text (key_of entry) → plural ≡ entry.plural
-    → extracted ≡ texts_text entry.extracted → references ≡ texts_text entry.references → flags ≡ texts_text entry.flags
-    → PutsIn (codes "template") row_number (λ row. row ≡ Int at ∷ Null ∷ Words key ∷ text_or_null plural ∷ Words extracted ∷ Words references ∷ Words flags ∷ []) old new
-    → PutsIn (codes "template") row_number (λ row. row ≡ entry_row place entry) old new
-entry_told place at key extracted references flags plural entry old new is_at is_key is_plural is_extracted is_references is_flags put =
-    let same : Int at ∷ Null ∷ Words key ∷ text_or_null plural ∷ Words extracted ∷ Words references ∷ Words flags ∷ [] ≡ entry_row place entry = cc in
-    subst (λ cells. PutsIn (codes "template") row_number (λ row. row ≡ cells) old new) same put
+pub entry_told : (domain : Text) (place : ℕ) (at : ℤ) (key extracted references flags : Text) (plural : Option Text) (entry : Entry) (old new : Database) → domain ≡ main → at ≡ pos place → key ≡ key_text (key_of entry)
+    → plural ≡ entry.plural → extracted ≡ texts_text entry.extracted → references ≡ texts_text entry.references → flags ≡ texts_text entry.flags
+    → PutsRow (codes "d_template") domain_place (HoldsValues (Words domain ∷ Int at ∷ Words key ∷ text_or_null plural ∷ Words extracted ∷ Words references ∷ Words flags ∷ [])) old new
+    → OnMain (PutsIn (codes "template") row_number (λ row. row ≡ entry_row place entry)) old new
+entry_told domain place at key extracted references flags plural entry old new is_main is_at is_key is_plural is_extracted is_references is_flags put =
+    let same : Words domain ∷ Int at ∷ Words key ∷ text_or_null plural ∷ Words extracted ∷ Words references ∷ Words flags ∷ []
+    ≡ Words main ∷ Int (pos place) ∷ Words (key_text (key_of entry)) ∷ text_or_null entry.plural ∷ Words (texts_text entry.extracted) ∷ Words (texts_text entry.references) ∷ Words (texts_text entry.flags) ∷ [] = cc in
+    entry_on_main (subst (λ cells. PutsRow (codes "d_template") domain_place (HoldsValues cells) old new) same put)
+
+pub record_told : (row : Record) (number content body : Text) (status : ℤ) (old new : Database) → number ≡ number_text row.number → content ≡ row.content → status ≡ pos row.reply.status → body ≡ row.reply.body
+    → IsNumber row.number → PutsRow (codes "record") first_text (HoldsValues (Words number ∷ Words content ∷ Int status ∷ Words body ∷ [])) old new → OnMain (PutsNumberedRecord row) old new
+record_told row number content body status old new is_number is_content is_status is_body valid put =
+    let same : Words number ∷ Words content ∷ Int status ∷ Words body ∷ [] ≡ record_cells row = cc in
+    on_main_as (PutsIn (codes "record") first_text (HoldsValues (record_cells row))) (PutsNumberedRecord row) (λ made. (made, valid))
+    (record_on_main (subst (λ cells. PutsRow (codes "record") first_text (HoldsValues cells) old new) same put))
+
+pub policy_told : (policy : Policy) (row : Row) (old new : Database) → row ≡ policy_row policy → PutsRow (codes "policy") row_number (λ r. r ≡ row) old new → OnMain (PutsPolicy policy) old new
+policy_told policy row old new is put = policy_on_main (subst (λ cells. PutsRow (codes "policy") row_number (λ r. r ≡ cells) old new) is put)
+
+pub unit_told : (domain lang key : Text) (plural : Option Text) (forms : Text) (stored obsolete revision : ℤ) (comment previous : Text) (unit : Unit) (old new : Database) → domain ≡ main → key ≡ key_text unit.key
+    → plural ≡ unit.plural → forms ≡ texts_text unit.forms → stored ≡ state_number unit.state → obsolete ≡ flag_number unit.obsolete → revision ≡ pos unit.revision → comment ≡ texts_text unit.comment
+    → previous ≡ previous_text unit.previous
+    → PutsRow (codes "d_unit") first_three (HoldsValues (d_unit_row domain lang key plural forms stored obsolete revision comment previous)) old new
+    → PutsRow (codes "d_unit") first_three (HoldsValues (Words main ∷ unit_cells lang unit)) old new
+unit_told domain lang key plural forms stored obsolete revision comment previous unit old new is_main is_key is_plural are_forms is_stored is_obsolete is_revision is_comment is_previous put =
+    subst (λ (cells : Row). PutsRow (codes "d_unit") first_three (HoldsValues cells) old new)
+    (λ i. d_unit_row (is_main i) lang (is_key i) (is_plural i) (are_forms i) (is_stored i) (is_obsolete i) (is_revision i) (is_comment i) (is_previous i)) put

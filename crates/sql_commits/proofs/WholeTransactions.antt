@@ -9,24 +9,25 @@ use Rattle.sqlite.specs.declared.error.Error.{Error}
 use Rattle.sqlite.specs.declared.error.Error.TheVariants.{SqliteFailure}
 use Rattle.sqlite.specs.declared.error.ErrorCode.TheVariants.{TransactionState}
 use Rattle.sqlite_trees.specs.declared.store.Store as store
-use Rattle.sql_schema.specs.Inside.{AreOfficeTables, IsInside}
-use Rattle.sql_schema.specs.Whole.{IsIdle, IsCommit}
+use Rattle.sql_schema.specs.Inside.{AreOfficeTablesOf, IsInsideOf}
+use Rattle.sql_schema.specs.Whole.{IsIdleOver, IsCommitOf}
 use Rattle.sql_schema.proofs.Whole.{committed, fails_writing, stops_writing}
 use Rattle.sql_commits.specs.Ends.{Finishes}
+use Rattle.sql_schema.specs.Layouts.{by_domain}
 
 -- the same transaction, with another error
 told_as : {A B E F : Type 0} {S : Type 0} (g : store.Ghosts S) (old last : Held S) (e : E) (f : F) (Makes : Database → Database → Type 0)
-    → IsCommit {A = A} (state g old) (state g last) (Err e) Makes → IsCommit {A = B} (state g old) (state g last) (Err f) Makes
+    → IsCommitOf {A = A} by_domain (state g old) (state g last) (Err e) Makes → IsCommitOf {A = B} by_domain (state g old) (state g last) (Err f) Makes
 told_as g old last e f Makes it = record { made = λ clean. tt; same = it.same; was_open = it.was_open; is_open = λ clean. tt; ended = it.ended; survives = it.survives }
 
-module _ {S : Type 0} (g : store.Ghosts S) (old mid last : Held S) (Makes : Database → Database → Type 0) (idle : IsIdle (state g old)) (ended : (state g last).in_transaction ≡ false) where
+module _ {S : Type 0} (g : store.Ghosts S) (old mid last : Held S) (Makes : Database → Database → Type 0) (idle : IsIdleOver by_domain (state g old)) (ended : (state g last).in_transaction ≡ false) where
   abbrev IsWritten : {A E : Type 0} → Result A E → Type 0
-  IsWritten written = IsInside (state g (record old { in_transaction = true })) (state g mid) written Makes
+  IsWritten written = IsInsideOf by_domain (state g (record old { in_transaction = true })) (state g mid) written Makes
 
-  all : {A E : Type 0} (x : A) → IsWritten {E = E} (Ok x) → HasCleanDisk (state g mid) → IsTrue (state g old).is_open × Makes (state g old).now (state g mid).now × AreOfficeTables (state g mid).now
+  all : {A E : Type 0} (x : A) → IsWritten {E = E} (Ok x) → HasCleanDisk (state g mid) → IsTrue (state g old).is_open × Makes (state g old).now (state g mid).now × AreOfficeTablesOf by_domain (state g mid).now
   all x it clean = ((it.kept clean).was_open (it.stays clean).is_open, it.made clean, it.ready clean)
 
-  ends : {A B E F : Type 0} (written : Result A E) (result : Result B F) → IsWritten written → Finishes g mid last written result → IsCommit (state g old) (state g last) result Makes
+  ends : {A B E F : Type 0} (written : Result A E) (result : Result B F) → IsWritten written → Finishes g mid last written result → IsCommitOf by_domain (state g old) (state g last) result Makes
   ends {E} (Ok x) (Ok y) it end =
       let whole = committed g old mid last idle it.kept it.survives y ended end.commits end.left Makes (all {E = E} x it) in
       record { made = whole.made; same = whole.same; was_open = whole.was_open; is_open = whole.is_open; ended = whole.ended; survives = whole.survives }
@@ -38,11 +39,11 @@ module _ {S : Type 0} (g : store.Ghosts S) (old mid last : Held S) (Makes : Data
       told_as {A = B} {B = B} g old last cause f Makes (stops_writing g old mid last idle it.kept it.survives cause ended end.undone.0 end.undone.1 {A = B} Makes)
 
 -- from what its beginning makes of the connection
-pub finishes : {S : Type 0} (g : store.Ghosts S) (old begun last : Held S) → begun ≡ record old { in_transaction = true } → IsIdle (state g old) → (state g last).in_transaction ≡ false
+pub finishes : {S : Type 0} (g : store.Ghosts S) (old begun last : Held S) → begun ≡ record old { in_transaction = true } → IsIdleOver by_domain (state g old) → (state g last).in_transaction ≡ false
     → (Makes : Database → Database → Type 0) → {mid : Held S} {A B E F : Type 0} {written : Result A E} {result : Result B F}
-    → Finishes g mid last written result → IsInside (state g begun) (state g mid) written Makes → IsCommit (state g old) (state g last) result Makes
+    → Finishes g mid last written result → IsInsideOf by_domain (state g begun) (state g mid) written Makes → IsCommitOf by_domain (state g old) (state g last) result Makes
 finishes g old begun last begins idle ended Makes {mid} {written} {result} end inside =
-    ends g old mid last Makes idle ended written result (subst (λ h. IsInside (state g h) (state g mid) written Makes) begins inside) end
+    ends g old mid last Makes idle ended written result (subst (λ h. IsInsideOf by_domain (state g h) (state g mid) written Makes) begins inside) end
 
 -- what a commit says where it succeeds
 abbrev Commits : State → State → Type 0

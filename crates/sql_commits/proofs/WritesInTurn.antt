@@ -2,7 +2,7 @@
 use Rattle.std.proofs.Common.{◌≡◌, inl, inr, ℕ, ℤ, pos, ◌+◌, List, [], ◌∷◌, ◌++◌, length, map, take, get_or, ◌<◌, Some, w64, to_z, of_z, Result, Ok, Err, OnOk, IsTrue, refl, sym, ap, subst, ◌∙◌, arith, codes}
 use Rattle.std.proofs.lemmas.List.{take_more, length-take, map-append}
 use Rattle.std.specs.FinMap as maps
-use Rattle.std.specs.Prelude.{MatchResult, IsErrAnd}
+use Rattle.std.specs.Prelude.{⊤, MatchResult, IsErrAnd}
 use Rattle.sqlite.specs.declared.types.Value.TheVariants.{Int, Text as Words}
 use Rattle.sqlite.specs.Effect.{Database}
 use Rattle.sqlite.specs.Order.{Row}
@@ -13,28 +13,43 @@ use Rattle.units.specs.Units.{key_text}
 use Rattle.units.specs.declared.unit.Suggestion.{Suggestion}
 use Rattle.units.specs.declared.unit.Unit.{Unit}
 use Rattle.request_book.specs.Words.{number_text}
+use Rattle.sql_columns.specs.Numbers.{role_number}
 use Rattle.sql_columns.specs.Written.{texts_text}
 use Rattle.sql_schema.specs.Keys.{first_text, first_texts}
 use Rattle.sql_meaning.specs.Cells.{unit_cells, suggestion_cells, vote_cells}
+use Rattle.units.specs.declared.unit.Role.{Role}
+use Rattle.units.specs.declared.unit.Role.TheVariants.{Guest, Translator, Reviewer, Manager}
 use Rattle.units.specs.declared.votes.VoteValue.{VoteValue}
 use Rattle.units.specs.declared.votes.VoteValue.TheVariants.{For, Against}
 use Rattle.request_book.specs.Acts.{IsNumber, vote_number}
-use Rattle.sql_schema.specs.Inside.{IsSteady, IsInside, HoldsValues, Then, PutsIn}
+use Rattle.sql_schema.specs.Inside.{IsSteadyOver, IsInsideOf, HoldsValues, Then, PutsIn}
 use Rattle.sql_schema.proofs.Sequences.{writes_both}
 use Rattle.sql_meaning.specs.Written.{PutsRows}
 use Rattle.sql_changes.specs.UnitWrites.{HaveNumbers, AddsSuggestion, AddsSuggestions, AddsNumberedSuggestion, AddsNumberedSuggestions, WritesNumberedUnit}
-use Rattle.sql_schema.specs.Layouts.{NamedRows}
+use Rattle.sql_schema.specs.Layouts.{by_domain, NamedRows}
 use Rattle.sql_meaning.specs.RowChanges.{AddsIn, ClearsIn}
+use Rattle.sqlite_rules.specs.Lists.{Has}
+use Rattle.units.specs.Office.{main}
+use Rattle.sql_schema.specs.Inside.{AreOfficeTablesOf, IsReadOf, PutsRow}
+use Rattle.sql_schema.specs.Keys.{text_at}
+use Rattle.sql_schema.specs.Layouts.{rows_named}
+use Rattle.sql_schema.proofs.Layouts.{names_differ}
+use Rattle.sql_statements.specs.Added.{AddsRow}
+use Rattle.sql_meaning.specs.Meaning.{main_rows}
+use Rattle.sql_changes.specs.OnMain.{OnMain}
+use Rattle.sql_changes.proofs.MainSteps.{on_main_then, spares_last, nothing_made, suggestion_on_main, sum_on_main, vote_on_main}
+use Rattle.sql_commits.specs.Figures.{PutsSum}
+use Rattle.sql_commits.specs.Votes.{AddsSummed, PutsVotesOn}
 
 module _ (a b : State) where
   -- a write that succeeded, with another result, and what it made told in other words
-  pub write_told : {A B E F : Type 0} (x : A) (y : B) (P Q : Database → Database → Type 0) → (P a.now b.now → Q a.now b.now) → IsInside {E = E} a b (Ok x) P → IsInside {E = F} a b (Ok y) Q
+  pub write_told : {A B E F : Type 0} (x : A) (y : B) (P Q : Database → Database → Type 0) → (P a.now b.now → Q a.now b.now) → IsInsideOf {E = E} by_domain a b (Ok x) P → IsInsideOf {E = F} by_domain a b (Ok y) Q
   write_told x y P Q tells it = record { made = λ clean. tells (it.made clean); ready = it.ready; stays = it.stays; kept = it.kept; survives = it.survives }
 
   -- a write whose error is told as another, and what it made told in other words
   pub write_mapped : {A E F : Type 0} (r : Result A E) (told : Result A F) (Tells : E → F → Type 0) (P Q : Database → Database → Type 0)
-      → MatchResult r (λ x. told ≡ Ok x) (λ e. IsErrAnd told (Tells e)) → (P a.now b.now → Q a.now b.now) → IsInside a b r P → IsInside a b told Q
-  write_mapped {A} {E} {F} (Ok x) told Tells P Q is tells it = subst (λ t. IsInside a b t Q) (sym is) (write_told {A = A} {B = A} {E = E} {F = F} x x P Q tells it)
+      → MatchResult r (λ x. told ≡ Ok x) (λ e. IsErrAnd told (Tells e)) → (P a.now b.now → Q a.now b.now) → IsInsideOf by_domain a b r P → IsInsideOf by_domain a b told Q
+  write_mapped {A} {E} {F} (Ok x) told Tells P Q is tells it = subst (λ t. IsInsideOf by_domain a b t Q) (sym is) (write_told {A = A} {B = A} {E = E} {F = F} x x P Q tells it)
   write_mapped (Err e) (Ok x) Tells P Q is tells it = absurd is
   write_mapped (Err e) (Err f) Tells P Q is tells it = record { made = λ clean. tt; ready = λ clean. tt; stays = λ clean. tt; kept = it.kept; survives = it.survives }
 
@@ -53,7 +68,7 @@ module _ (a : State) where
   }
 
   -- nothing to write
-  pub nothing_put : {A E : Type 0} (x : A) (P : Database → Database → Type 0) → IsSteady a → (HasCleanDisk a → IsTrue a.is_open) → P a.now a.now → IsInside {E = E} a a (Ok x) P
+  pub nothing_put : {A E : Type 0} (x : A) (P : Database → Database → Type 0) → IsSteadyOver by_domain a → (HasCleanDisk a → IsTrue a.is_open) → P a.now a.now → IsInsideOf {E = E} by_domain a a (Ok x) P
   nothing_put x P steady is_open made = record {
     made = λ clean. made;
     ready = λ clean. steady.ready clean (is_open clean);
@@ -67,13 +82,41 @@ on_ok (Ok x) f h = f h
 on_ok (Err e) f h = h
 
 -- what a write made, told in other words
-pub write_as : (a b : State) {A E : Type 0} (r : Result A E) (P Q : Database → Database → Type 0) → (P a.now b.now → Q a.now b.now) → IsInside a b r P → IsInside a b r Q
+pub write_as : (a b : State) {A E : Type 0} (r : Result A E) (P Q : Database → Database → Type 0) → (P a.now b.now → Q a.now b.now) → IsInsideOf by_domain a b r P → IsInsideOf by_domain a b r Q
 write_as a b r P Q tells it = record { made = λ clean. on_ok r tells (it.made clean); ready = it.ready; stays = it.stays; kept = it.kept; survives = it.survives }
+
+module _ (a b : State) where
+  -- what a write made, told by what the tables are before it and after it
+  pub write_over : {A E : Type 0} (r : Result A E) (P Q : Database → Database → Type 0) → IsSteadyOver by_domain a
+      → (AreOfficeTablesOf by_domain a.now → AreOfficeTablesOf by_domain b.now → P a.now b.now → Q a.now b.now) → IsInsideOf by_domain a b r P → IsInsideOf by_domain a b r Q
+  write_over (Ok x) P Q steady tells it = record {
+    made = λ clean. tells (steady.ready (omega (arith, clean, it.survives.clean)) ((it.kept clean).was_open (it.stays clean).is_open)) (it.ready clean) (it.made clean);
+    ready = it.ready;
+    stays = it.stays;
+    kept = it.kept;
+    survives = it.survives;
+  }
+  write_over (Err e) P Q steady tells it = record { made = λ clean. tt; ready = λ clean. tt; stays = λ clean. tt; kept = it.kept; survives = it.survives }
+
+  -- and with it what the tables were
+  pub write_ready : {A E : Type 0} (r : Result A E) (P : Database → Database → Type 0) → IsSteadyOver by_domain a → IsInsideOf by_domain a b r P
+      → IsInsideOf by_domain a b r (λ before after. AreOfficeTablesOf by_domain before × P before after)
+  write_ready r P steady = write_over r P (λ before after. AreOfficeTablesOf by_domain before × P before after) steady (λ ready after made. (ready, made))
+
+  -- by what they are after it
+  pub write_left : {A E : Type 0} (r : Result A E) (P Q : Database → Database → Type 0)
+      → (AreOfficeTablesOf by_domain b.now → P a.now b.now → Q a.now b.now) → IsInsideOf by_domain a b r P → IsInsideOf by_domain a b r Q
+  write_left (Ok x) P Q tells it = record { made = λ clean. tells (it.ready clean) (it.made clean); ready = it.ready; stays = it.stays; kept = it.kept; survives = it.survives }
+  write_left (Err e) P Q tells it = record { made = λ clean. tt; ready = λ clean. tt; stays = λ clean. tt; kept = it.kept; survives = it.survives }
+
+  -- a query writes nothing
+  pub write_read : {A B E F : Type 0} (x : A) (y : B) (IsAnswer : Database → A → Type 0) → IsReadOf {E = E} by_domain a b (Ok x) IsAnswer → IsInsideOf {E = F} by_domain a b (Ok y) (λ old new. new ≡ old)
+  write_read x y IsAnswer it = record { made = λ clean. it.same clean; ready = it.ready; stays = it.stays; kept = it.kept; survives = it.survives }
 
 module _ (a b c : State) where
   -- a write after a write, and what both made told in other words
   pub write_then : {A B E F : Type 0} (x : A) (r : Result B F) (P Q R : Database → Database → Type 0) → (P a.now b.now → Q b.now c.now → R a.now c.now)
-      → IsInside {E = E} a b (Ok x) P → IsInside b c r Q → IsInside a c r R
+      → IsInsideOf {E = E} by_domain a b (Ok x) P → IsInsideOf by_domain b c r Q → IsInsideOf by_domain a c r R
   write_then {A} {B} {E} {F} x r P Q R tells one two =
       let both = writes_both a b c {E = F} x r P Q (write_told a b {F = F} x x P P (λ made. made) one) two in
       record {
@@ -109,6 +152,12 @@ pub vote_through : (vote : VoteValue) → to_z w64 (of_z w64 (vote_number (Some 
 vote_through For = refl
 vote_through Against = refl
 
+pub role_through : (role : Role) (column : ℤ) → Some column ≡ role_number role → to_z w64 (of_z w64 column) ≡ column
+role_through Guest column is = absurd (let no = is in cc)
+role_through Translator column is = let same : column ≡ pos 1 = cc in subst (λ z. to_z w64 (of_z w64 z) ≡ z) (sym same) refl
+role_through Reviewer column is = let same : column ≡ pos 2 = cc in subst (λ z. to_z w64 (of_z w64 z) ≡ z) (sym same) refl
+role_through Manager column is = let same : column ≡ pos 3 = cc in subst (λ z. to_z w64 (of_z w64 z) ≡ z) (sym same) refl
+
 pub puts_vote_next : (number voter : Text) (value : ℤ) (votes : List (Text × VoteValue)) (i : ℕ) (vote : Text × VoteValue) (old mid new : NamedRows)
     → i < length votes → vote ≡ get_or votes i vote → voter ≡ vote.0 → value ≡ vote_number (Some vote.1)
     → PutsRows (codes "vote") first_texts (map (vote_cells number) (take i votes)) old mid
@@ -133,6 +182,40 @@ adds_suggestion_next lang key ss i s old mid new within is front put =
 
 -- ---- what is written, by the columns that are given
 
+pub adds_summed : (number domain lang key : Text) (at sum : ℤ) (place : ℕ) (suggester again forms : Text) (old mid new : Database) → domain ≡ main → at ≡ pos place → again ≡ suggester → AreOfficeTablesOf by_domain old
+    → AddsRow (codes "d_suggestion") first_text (HoldsValues (Words number ∷ Words domain ∷ Words lang ∷ Words key ∷ Int at ∷ Words again ∷ Words forms ∷ [])) old mid
+    → PutsSum number sum mid new → AddsSummed number lang key place suggester forms old new
+adds_summed number domain lang key at sum place suggester again forms old mid new is_main is_at is_again ready added summed =
+    let same : Words number ∷ Words domain ∷ Words lang ∷ Words key ∷ Int at ∷ Words again ∷ Words forms ∷ [] ≡ Words number ∷ Words main ∷ Words lang ∷ Words key ∷ Int (pos place) ∷ Words suggester ∷ Words forms ∷ [] = cc in
+    let own = subst (λ cells. AddsRow (codes "d_suggestion") first_text (HoldsValues cells) old mid) same added in (
+      spares_last (λ rows. ⊤) (AddsIn (codes "suggestion") first_text (HoldsValues (Words number ∷ Words lang ∷ Words key ∷ Int (pos place) ∷ Words suggester ∷ Words forms ∷ [])))
+          (suggestion_on_main ready own) (sum_on_main summed),
+      (
+        own.puts.row,
+        subst (λ rows. Has rows own.puts.row) (sym (summed.others (codes "d_suggestion") (names_differ refl))) own.puts.put.here,
+        ap (text_at 2) own.puts.is_row.1,
+        ap first_text own.puts.is_row.1,
+      ),
+    )
+
+-- one vote more
+pub puts_vote_on : (number voter : Text) (value : ℤ) (votes : List (Text × VoteValue)) (i : ℕ) (vote : Text × VoteValue) (old mid new : Database)
+    → i < length votes → vote ≡ get_or votes i vote → voter ≡ vote.0 → value ≡ vote_number (Some vote.1)
+    → PutsVotesOn number (take i votes) old mid → PutsRow (codes "d_vote") first_texts (HoldsValues (Words number ∷ Words voter ∷ Int value ∷ [])) mid new
+    → PutsVotesOn number (take (i + 1) votes) old new
+puts_vote_on number voter value votes i vote old mid new within is is_voter is_value front put has =
+    let before = front has in
+    let s = before.1 in
+    let one = vote_on_main put s.0 s.1 s.2 (ap first_text put.is_row.1 ∙ sym s.3) in (
+      on_main_then (PutsRows (codes "vote") first_texts (map (vote_cells number) (take i votes))) (PutsIn (codes "vote") first_texts (HoldsValues (Words number ∷ Words voter ∷ Int value ∷ [])))
+          (PutsRows (codes "vote") first_texts (map (vote_cells number) (take (i + 1) votes)))
+          (puts_vote_next number voter value votes i vote (main_rows (rows_named old)) (main_rows (rows_named mid)) (main_rows (rows_named new)) within is is_voter is_value) before.0 one,
+      (s.0, subst (λ rows. Has rows s.0) (sym (put.others (codes "d_suggestion") (names_differ refl))) s.1, s.2, s.3),
+    )
+
+pub no_votes_on : (number : Text) (db : Database) → PutsVotesOn number [] db db
+no_votes_on number db has = (nothing_made db, has)
+
 pub adds_numbered_suggestion : (lang key number again suggester forms : Text) (at : ℤ) (place : ℕ) (s : Suggestion) (old mid new : NamedRows)
     → number ≡ number_text s.number → again ≡ number_text s.number → suggester ≡ s.suggester → forms ≡ texts_text s.forms → at ≡ pos place → IsNumber s.number
     → AddsIn (codes "suggestion") first_text (HoldsValues (Words number ∷ Words lang ∷ Words key ∷ Int at ∷ Words suggester ∷ Words forms ∷ [])) old mid
@@ -154,3 +237,14 @@ writes_numbered_unit lang key key_all unit ss old mid new is_key is_key_all are 
     let gone = subst (λ k. ClearsIn lang k mid next) is_key cleared in
     let put = subst (λ k. AddsNumberedSuggestions lang k unit.suggestions next new) is_key_all (subst (λ xs. AddsNumberedSuggestions lang key_all xs next new) are all) in
     (mid, row, (next, gone, put))
+
+-- a suggestion with its sum, and the votes on it
+pub adds_on_main : (lang key number again forms : Text) (place : ℕ) (s : Suggestion) (old mid new : Database)
+    → number ≡ number_text s.number → again ≡ number_text s.number → forms ≡ texts_text s.forms → IsNumber s.number
+    → AddsSummed number lang key place s.suggester forms old mid → PutsVotesOn again (maps.entries s.votes) mid new → OnMain (AddsNumberedSuggestion lang key place s) old new
+adds_on_main lang key number again forms place s old mid new is_number is_again is_forms valid added votes =
+    let on = subst (λ n. PutsVotesOn n (maps.entries s.votes) mid new) (is_again ∙ sym is_number) votes in
+    on_main_then (AddsIn (codes "suggestion") first_text (HoldsValues (Words number ∷ Words lang ∷ Words key ∷ Int (pos place) ∷ Words s.suggester ∷ Words forms ∷ [])))
+    (PutsRows (codes "vote") first_texts (map (vote_cells number) (maps.entries s.votes))) (AddsNumberedSuggestion lang key place s)
+    (adds_numbered_suggestion lang key number number s.suggester forms (pos place) place s (main_rows (rows_named old)) (main_rows (rows_named mid)) (main_rows (rows_named new)) is_number is_number refl is_forms refl valid)
+    added.0 (on added.1).0

@@ -1,4 +1,4 @@
--- What a commit makes of the rows of the tables, which hold the domain `main` alone: of an act on a unit its record, and its unit's new view, if it
+-- What a commit makes of the rows that `main` sees, of tables by domains that hold `main` alone: of an act on a unit its record, and its unit's new view, if it
 -- has one and the unit is in `main`; of an act on the office its record, and its change, if it has one and this isn't about another domain.
 use Rattle.std.specs.Prelude.{Option, Some, None}
 use Rattle.sqlite.specs.Effect.{Database}
@@ -9,14 +9,15 @@ use Rattle.deliveries.specs.declared.values.Change.{Change}
 use Rattle.deliveries.specs.declared.values.Change.TheVariants.{OneRole, NewPolicy, NewDomain, InDomain}
 use Rattle.sql_changes.specs.Commits.{PutsNumberedRecord, WritesRecordAndUnit, MakesRole, MakesPolicy, MakesIn, MakesDomainChange}
 use Rattle.sql_schema.specs.Layouts.{NamedRows}
-use Rattle.sql_schema.specs.Inside.{OnRows}
+use Rattle.sql_meaning.specs.RowChanges.{HaveNextIn}
+use Rattle.sql_changes.specs.OnMain.{OnMainWhere, OnMain}
 
 abbrev pub MakesActRows : Record → Text → Text → Option UnitView → NamedRows → NamedRows → Type 0
 MakesActRows row domain lang None = PutsNumberedRecord row
 MakesActRows row domain lang (Some view) = MakesIn domain row (WritesRecordAndUnit row lang view.unit)
 
 abbrev pub MakesAct : Record → Text → Text → Option UnitView → Database → Database → Type 0
-MakesAct row domain lang view = OnRows (MakesActRows row domain lang view)
+MakesAct row domain lang view = OnMain (MakesActRows row domain lang view)
 
 -- the commit of a new domain never succeeds
 abbrev pub MakesOneChange : Record → Change → NamedRows → NamedRows → Type 0
@@ -29,5 +30,6 @@ abbrev pub MakesChangeRows : Record → Option Change → NamedRows → NamedRow
 MakesChangeRows row None = PutsNumberedRecord row
 MakesChangeRows row (Some change) = MakesOneChange row change
 
+-- where 64 bits hold the revision after that of each approved unit
 abbrev pub MakesChange : Record → Option Change → Database → Database → Type 0
-MakesChange row change = OnRows (MakesChangeRows row change)
+MakesChange row change = OnMainWhere HaveNextIn (MakesChangeRows row change)

@@ -1,9 +1,12 @@
-//! Whole transactions, one for acts on a unit and one for acts on the office. The tables hold the domain `main` alone.
+//! Whole transactions, one for acts on a unit and one for acts on the office. The tables, which have a column for a domain, hold `main` alone.
 ghost use Rattle.std.specs.Prelude.{◌≡◌, IsTrue, false};
 ghost use Rattle.sqlite.specs.Held.{state};
 ghost use Rattle.sqlite.specs.State.{HasCleanDisk};
-ghost use Rattle.sql_schema.specs.Inside.{IsSteady, IsInside, OnRows};
-ghost use Rattle.sql_schema.specs.Whole.{IsIdle, IsCommit};
+ghost use Rattle.sql_schema.specs.Layouts.{by_domain};
+ghost use Rattle.sql_schema.specs.Inside.{IsSteadyOver, IsInsideOf};
+ghost use Rattle.sql_schema.specs.Whole.{IsIdleOver, IsCommitOf};
+ghost use Rattle.sql_meaning.specs.RowChanges.{HaveNextIn};
+ghost use Rattle.sql_changes.specs.OnMain.{OnMainWhere, OnMain};
 ghost use Rattle.sql_changes.specs.UnitWrites.{WritesNumberedUnit};
 ghost use Rattle.sql_commits.specs.Acts.{MakesAct, MakesChange};
 ghost use Rattle.sql_commits.specs.Changes.{WritesDomainChange, WritesIn, WritesChange};
@@ -12,6 +15,7 @@ use crate::languages::write_language;
 use crate::policies::write_policy;
 use crate::records::put_record_of;
 use crate::roles::write_role;
+use crate::tallies::move_tally;
 use crate::templates::write_template;
 use crate::transactions::finish;
 use crate::unit_writes::write_unit;
@@ -21,10 +25,10 @@ use sql_decoding::{Failure, is_main};
 use sqlite::{Alter, Connection, Transaction};
 use std::alloc::Global;
 use tables::Lost;
-use units::{Lang, Name, Unit, UnitView};
+use units::{Lang, Name, UnitView};
 
 /// Records a request and writes the unit's new view, if it has one and its domain is `main`: its row and its suggestions, in the place of
-/// those that are there.
+/// those that are there, the suggestions' sums, and its language's tally.
 pub fn commit_act<S: Alter>(
     connection: &mut Connection<S>,
     alloc: Global,
@@ -34,8 +38,8 @@ pub fn commit_act<S: Alter>(
     view: &Option<UnitView>,
 ) -> Result<(), Failure>
     requires autocommit { connection.old.in_transaction ≡ false }
-    requires idle { IsIdle (state S.Store connection.old) }
-    ensures committed { IsCommit (state S.Store connection.old) (state S.Store connection.new) result (MakesAct row.now domain.now lang.now view.now) }
+    requires idle { IsIdleOver by_domain (state S.Store connection.old) }
+    ensures committed { IsCommitOf by_domain (state S.Store connection.old) (state S.Store connection.new) result (MakesAct row.now domain.now lang.now view.now) }
 {
     let mut tx = connection.transaction();
     let put = put_record_and_view(&mut tx, alloc, row, domain, lang, view);
@@ -51,41 +55,57 @@ fn put_record_and_view<S: Alter>(
     lang: &Lang,
     view: &Option<UnitView>,
 ) -> Result<(), Failure>
-    requires steady { IsSteady (state S.Store tx.old.conn.now) }
+    requires steady { IsSteadyOver by_domain (state S.Store tx.old.conn.now) }
     ensures same_reference { tx.new.conn.ghost_name ≡ tx.old.conn.ghost_name }
-    ensures put { IsInside (state S.Store tx.old.conn.now) (state S.Store tx.new.conn.now) result (MakesAct row.now domain.now lang.now view.now) }
+    ensures put { IsInsideOf by_domain (state S.Store tx.old.conn.now) (state S.Store tx.new.conn.now) result (MakesAct row.now domain.now lang.now view.now) }
 {
     put_record_of(tx, alloc, row)?;
     match view {
-        Some(view) => write_unit_in(tx, alloc, domain, lang, &view.unit),
+        Some(view) => write_view_in(tx, alloc, domain, lang, view),
         None => Ok(()),
     }
 }
 
-/// Writes a unit of `main`; of another domain nothing.
-fn write_unit_in<S: Alter>(
+/// Writes a unit's new view in `main`; in another domain nothing.
+fn write_view_in<S: Alter>(
     tx: &mut Transaction<'_, S>,
     alloc: Global,
     domain: &Name,
     lang: &Lang,
-    unit: &Unit,
+    view: &UnitView,
 ) -> Result<(), Failure>
-    requires steady { IsSteady (state S.Store tx.old.conn.now) }
+    requires steady { IsSteadyOver by_domain (state S.Store tx.old.conn.now) }
     requires open { HasCleanDisk (state S.Store tx.old.conn.now) → IsTrue (state S.Store tx.old.conn.now).is_open }
     ensures same_reference { tx.new.conn.ghost_name ≡ tx.old.conn.ghost_name }
-    ensures put { IsInside (state S.Store tx.old.conn.now) (state S.Store tx.new.conn.now) result (OnRows (WritesIn domain.now (WritesNumberedUnit lang.now unit.now))) }
+    ensures put { IsInsideOf by_domain (state S.Store tx.old.conn.now) (state S.Store tx.new.conn.now) result (OnMain (WritesIn domain.now (WritesNumberedUnit lang.now view.now.unit))) }
 {
     if is_main(domain) {
-        write_unit(tx, alloc, lang, unit)
+        write_view(tx, alloc, lang, view)
     } else {
         Ok(())
     }
 }
 
+/// Writes a unit's new view in `main`, and moves its language's tally.
+fn write_view<S: Alter>(
+    tx: &mut Transaction<'_, S>,
+    alloc: Global,
+    lang: &Lang,
+    view: &UnitView,
+) -> Result<(), Failure>
+    requires steady { IsSteadyOver by_domain (state S.Store tx.old.conn.now) }
+    requires open { HasCleanDisk (state S.Store tx.old.conn.now) → IsTrue (state S.Store tx.old.conn.now).is_open }
+    ensures same_reference { tx.new.conn.ghost_name ≡ tx.old.conn.ghost_name }
+    ensures put { IsInsideOf by_domain (state S.Store tx.old.conn.now) (state S.Store tx.new.conn.now) result (OnMain (WritesNumberedUnit lang.now view.now.unit)) }
+{
+    move_tally(tx, alloc, lang, view)?;
+    write_unit(tx, alloc, lang, &view.unit)
+}
+
 /// Records a request and writes what its act on the office changes, if it changes anything. A change of another domain than `main` writes
 /// nothing behind the record: there is no other.
 ///
-/// The tables have no place for a new domain. It is refused as want of memory is, and nothing is written: no act asks for one.
+/// A new domain is refused as want of memory is, and nothing is written: no act asks for one.
 pub fn commit_change<S: Alter>(
     connection: &mut Connection<S>,
     alloc: Global,
@@ -93,8 +113,8 @@ pub fn commit_change<S: Alter>(
     change: &Option<Change>,
 ) -> Result<(), Failure>
     requires autocommit { connection.old.in_transaction ≡ false }
-    requires idle { IsIdle (state S.Store connection.old) }
-    ensures committed { IsCommit (state S.Store connection.old) (state S.Store connection.new) result (MakesChange row.now change.now) }
+    requires idle { IsIdleOver by_domain (state S.Store connection.old) }
+    ensures committed { IsCommitOf by_domain (state S.Store connection.old) (state S.Store connection.new) result (MakesChange row.now change.now) }
 {
     let mut tx = connection.transaction();
     let put = put_record_and_change(&mut tx, alloc, row, change);
@@ -108,9 +128,9 @@ fn put_record_and_change<S: Alter>(
     row: &Record,
     change: &Option<Change>,
 ) -> Result<(), Failure>
-    requires steady { IsSteady (state S.Store tx.old.conn.now) }
+    requires steady { IsSteadyOver by_domain (state S.Store tx.old.conn.now) }
     ensures same_reference { tx.new.conn.ghost_name ≡ tx.old.conn.ghost_name }
-    ensures put { IsInside (state S.Store tx.old.conn.now) (state S.Store tx.new.conn.now) result (MakesChange row.now change.now) }
+    ensures put { IsInsideOf by_domain (state S.Store tx.old.conn.now) (state S.Store tx.new.conn.now) result (MakesChange row.now change.now) }
 {
     put_record_of(tx, alloc, row)?;
     match change {
@@ -119,16 +139,16 @@ fn put_record_and_change<S: Alter>(
     }
 }
 
-/// Writes a change of the office. For a new domain there is no place, as where memory is wanted.
+/// Writes a change of the office. A new domain is refused, as where memory is wanted.
 fn write_change<S: Alter>(
     tx: &mut Transaction<'_, S>,
     alloc: Global,
     change: &Change,
 ) -> Result<(), Failure>
-    requires steady { IsSteady (state S.Store tx.old.conn.now) }
+    requires steady { IsSteadyOver by_domain (state S.Store tx.old.conn.now) }
     requires open { HasCleanDisk (state S.Store tx.old.conn.now) → IsTrue (state S.Store tx.old.conn.now).is_open }
     ensures same_reference { tx.new.conn.ghost_name ≡ tx.old.conn.ghost_name }
-    ensures put { IsInside (state S.Store tx.old.conn.now) (state S.Store tx.new.conn.now) result (OnRows (WritesChange change.now)) }
+    ensures put { IsInsideOf by_domain (state S.Store tx.old.conn.now) (state S.Store tx.new.conn.now) result (OnMainWhere HaveNextIn (WritesChange change.now)) }
 {
     match change {
         Change::OneRole(name, role) => {
@@ -147,10 +167,10 @@ fn write_change_in<S: Alter>(
     domain: &Name,
     change: &DomainChange,
 ) -> Result<(), Failure>
-    requires steady { IsSteady (state S.Store tx.old.conn.now) }
+    requires steady { IsSteadyOver by_domain (state S.Store tx.old.conn.now) }
     requires open { HasCleanDisk (state S.Store tx.old.conn.now) → IsTrue (state S.Store tx.old.conn.now).is_open }
     ensures same_reference { tx.new.conn.ghost_name ≡ tx.old.conn.ghost_name }
-    ensures put { IsInside (state S.Store tx.old.conn.now) (state S.Store tx.new.conn.now) result (OnRows (WritesIn domain.now (WritesDomainChange change.now))) }
+    ensures put { IsInsideOf by_domain (state S.Store tx.old.conn.now) (state S.Store tx.new.conn.now) result (OnMain (WritesIn domain.now (WritesDomainChange change.now))) }
 {
     if is_main(domain) {
         write_domain_change(tx, alloc, change)
@@ -165,16 +185,25 @@ fn write_domain_change<S: Alter>(
     alloc: Global,
     change: &DomainChange,
 ) -> Result<(), Failure>
-    requires steady { IsSteady (state S.Store tx.old.conn.now) }
+    requires steady { IsSteadyOver by_domain (state S.Store tx.old.conn.now) }
     ensures same_reference { tx.new.conn.ghost_name ≡ tx.old.conn.ghost_name }
-    ensures put { IsInside (state S.Store tx.old.conn.now) (state S.Store tx.new.conn.now) result (OnRows (WritesDomainChange change.now)) }
+    ensures put { IsInsideOf by_domain (state S.Store tx.old.conn.now) (state S.Store tx.new.conn.now) result (OnMain (WritesDomainChange change.now)) }
 {
     match change {
-        DomainChange::NewLanguage(lang, language, plan, _) => {
-            write_language(tx, alloc, lang, &language.header, plan.units.as_slice())
-        }
-        DomainChange::NewTemplate(template, plans, _) => {
-            write_template(tx, alloc, template.entries(), plans.as_slice())
-        }
+        DomainChange::NewLanguage(lang, language, plan, tally) => write_language(
+            tx,
+            alloc,
+            lang,
+            &language.header,
+            plan.units.as_slice(),
+            *tally,
+        ),
+        DomainChange::NewTemplate(template, plans, tallies) => write_template(
+            tx,
+            alloc,
+            template.entries(),
+            plans.as_slice(),
+            tallies.as_slice(),
+        ),
     }
 }

@@ -3,7 +3,9 @@ ghost use Rattle.std.specs.Prelude.{◌≡◌, ◌<◌, ◌^◌, IfOk, IsTrue};
 ghost use Rattle.sqlite.specs.Held.{state};
 ghost use Rattle.sqlite.specs.State.{HasCleanDisk};
 ghost use Rattle.units.specs.Units.{key_text, key_of};
-ghost use Rattle.sql_schema.specs.Inside.{IsSteady, IsInside, OnRows};
+ghost use Rattle.sql_schema.specs.Layouts.{by_domain};
+ghost use Rattle.sql_schema.specs.Inside.{IsSteadyOver, IsInsideOf};
+ghost use Rattle.sql_changes.specs.OnMain.{OnMain};
 ghost use Rattle.sql_changes.specs.Commits.{PutsEntry, PutsEntries};
 ghost use Rattle.sql_commits.specs.Columns.{columns_of_entry};
 
@@ -11,9 +13,10 @@ use po_text::{Entry, Text};
 use sql_columns::{plural_column, texts_column};
 use sql_decoding::Failure;
 use sql_keepable::entry_key_fits;
-use sql_statements::template::put_entry as put_entry_row;
+use sql_statements::domain_template::put_domain_entry;
 use sqlite::{Alter, Transaction};
 use std::alloc::{AllocError, Global};
+use units::Name;
 
 /// Writes entries, from the first place on.
 pub fn put_entries<S: Alter>(
@@ -21,10 +24,10 @@ pub fn put_entries<S: Alter>(
     alloc: Global,
     entries: &[Entry],
 ) -> Result<(), Failure>
-    requires steady { IsSteady (state S.Store tx.old.conn.now) }
+    requires steady { IsSteadyOver by_domain (state S.Store tx.old.conn.now) }
     requires open { HasCleanDisk (state S.Store tx.old.conn.now) → IsTrue (state S.Store tx.old.conn.now).is_open }
     ensures same_reference { tx.new.conn.ghost_name ≡ tx.old.conn.ghost_name }
-    ensures put { IsInside (state S.Store tx.old.conn.now) (state S.Store tx.new.conn.now) result (OnRows (PutsEntries 0 entries.now)) }
+    ensures put { IsInsideOf by_domain (state S.Store tx.old.conn.now) (state S.Store tx.new.conn.now) result (OnMain (PutsEntries 0 entries.now)) }
 {
     for (place, entry) in entries.iter().enumerate() {
         put_entry(tx, alloc, place, entry)?;
@@ -73,14 +76,16 @@ fn put_entry<S: Alter>(
     entry: &Entry,
 ) -> Result<(), Failure>
     requires fits { place < 2 ^ 63 }
-    requires steady { IsSteady (state S.Store tx.old.conn.now) }
+    requires steady { IsSteadyOver by_domain (state S.Store tx.old.conn.now) }
     ensures same_reference { tx.new.conn.ghost_name ≡ tx.old.conn.ghost_name }
-    ensures put { IsInside (state S.Store tx.old.conn.now) (state S.Store tx.new.conn.now) result (OnRows (PutsEntry place entry.now)) }
+    ensures put { IsInsideOf by_domain (state S.Store tx.old.conn.now) (state S.Store tx.new.conn.now) result (OnMain (PutsEntry place entry.now)) }
 {
     entry_key_fits(entry);
     let columns = columns_of(alloc, entry)?;
-    put_entry_row(
+    let domain = Name::main_domain();
+    put_domain_entry(
         tx,
+        domain.as_str(),
         place as i64,
         columns.key.as_str(),
         plural_column(&entry.plural),

@@ -2,49 +2,63 @@
 ghost use Rattle.std.specs.Prelude.{◌≡◌, [], unwrap_or, Some};
 ghost use Rattle.sqlite.specs.Held.{state};
 ghost use Rattle.units.specs.Rules.{plural_field};
-ghost use Rattle.sql_schema.specs.Inside.{IsSteady, IsInside, OnRows};
+ghost use Rattle.sql_schema.specs.Layouts.{by_domain};
+ghost use Rattle.sql_schema.specs.Inside.{IsSteadyOver, IsInsideOf};
+ghost use Rattle.sql_changes.specs.OnMain.{OnMain};
 ghost use Rattle.sql_changes.specs.Commits.{PutsLanguage, WritesLanguage};
 
 use crate::planned_units::write_units;
+use crate::tallies::put_tally_of;
+use deliveries::Tally;
 use po_text::Entry;
 use sql_columns::{header_column, rule_column};
 use sql_decoding::Failure;
 use sql_keepable::language_fits;
-use sql_statements::languages::put_language;
+use sql_statements::domain_languages::put_domain_language;
 use sqlite::{Alter, Transaction};
 use std::alloc::Global;
-use units::{Lang, Unit};
+use units::{Lang, Name, Unit};
 
-/// Writes a language, which must be new, with its units.
+/// Writes a language, which must be new, with its units and their tally.
 pub fn write_language<S: Alter>(
     tx: &mut Transaction<'_, S>,
     alloc: Global,
     lang: &Lang,
     header: &Entry,
     units: &[Unit],
+    tally: Tally,
 ) -> Result<(), Failure>
-    requires steady { IsSteady (state S.Store tx.old.conn.now) }
+    requires steady { IsSteadyOver by_domain (state S.Store tx.old.conn.now) }
     ensures same_reference { tx.new.conn.ghost_name ≡ tx.old.conn.ghost_name }
-    ensures put { IsInside (state S.Store tx.old.conn.now) (state S.Store tx.new.conn.now) result (OnRows (WritesLanguage lang.now header.now units.now)) }
+    ensures put { IsInsideOf by_domain (state S.Store tx.old.conn.now) (state S.Store tx.new.conn.now) result (OnMain (WritesLanguage lang.now header.now units.now)) }
 {
     put_language_of(tx, alloc, lang, header)?;
-    write_units(tx, alloc, lang, units)
+    write_units(tx, alloc, lang, units)?;
+    put_tally_of(tx, lang, tally)
 }
 
 /// Writes a language's row.
-fn put_language_of<S: Alter>(
+pub fn put_language_of<S: Alter>(
     tx: &mut Transaction<'_, S>,
     alloc: Global,
     lang: &Lang,
     header: &Entry,
 ) -> Result<(), Failure>
-    requires steady { IsSteady (state S.Store tx.old.conn.now) }
+    requires steady { IsSteadyOver by_domain (state S.Store tx.old.conn.now) }
     ensures same_reference { tx.new.conn.ghost_name ≡ tx.old.conn.ghost_name }
-    ensures put { IsInside (state S.Store tx.old.conn.now) (state S.Store tx.new.conn.now) result (OnRows (PutsLanguage lang.now header.now)) }
+    ensures put { IsInsideOf by_domain (state S.Store tx.old.conn.now) (state S.Store tx.new.conn.now) result (OnMain (PutsLanguage lang.now header.now)) }
 {
     language_fits(lang, header);
     let column = header_column(alloc, header)?;
-    put_language(tx, lang.as_str(), column.as_str(), rule_text(header)).map_err(Failure::from)
+    let domain = Name::main_domain();
+    put_domain_language(
+        tx,
+        domain.as_str(),
+        lang.as_str(),
+        column.as_str(),
+        rule_text(header),
+    )
+    .map_err(Failure::from)
 }
 
 /// The value of a header's field `Plural-Forms`, empty where it has none.

@@ -1,12 +1,17 @@
-//! Whole transactions that write: a request's record and what its act changes, or neither. The tables hold the domain
-//! `main` alone: of another domain's act the record is written.
+//! Whole transactions that write: a request's record and what its act changes, with the sums of votes and the tallies
+//! that are kept, or neither. The tables, which have a column for a domain, hold `main` alone: of another domain's act
+//! the record is written.
 //!
 //! - `acts`: the transactions: for acts on a unit (`commit_act`), and for acts on the office (`commit_change`)
 //! - `records`, `roles`, `policies`, `languages`, `templates`, `entries`, `unit_writes`, `planned_units`: what is
 //!   written
+//! - `tallies`: how many units of each language are in each state
 //! - `transactions`: how a transaction ends
 //!
-//! The spec `Acts` says what a commit makes of the tables; `Changes`, `Columns` and `Ends` are for inner functions.
+//! A conversion of tables of an earlier form writes by the same functions.
+//!
+//! The spec `Acts` says what a commit makes of the tables; `Changes`, `Columns`, `Votes`,
+//! `Figures` and `Ends` are for inner functions.
 #![tactic(auto)]
 
 mod acts;
@@ -16,8 +21,15 @@ mod planned_units;
 mod policies;
 mod records;
 mod roles;
+mod tallies;
 mod templates;
 mod transactions;
 mod unit_writes;
 
 pub use acts::{commit_act, commit_change};
+pub use entries::put_entries;
+pub use languages::put_language_of;
+pub use planned_units::write_planned;
+pub use policies::put_policy_of;
+pub use tallies::put_tally_of;
+pub use transactions::finish;

@@ -1,7 +1,9 @@
 //! A member's role.
 ghost use Rattle.std.specs.Prelude.{◌≡◌};
 ghost use Rattle.sqlite.specs.Held.{state};
-ghost use Rattle.sql_schema.specs.Inside.{IsSteady, IsInside, OnRows};
+ghost use Rattle.sql_schema.specs.Layouts.{by_domain};
+ghost use Rattle.sql_schema.specs.Inside.{IsSteadyOver, IsInsideOf};
+ghost use Rattle.sql_changes.specs.OnMain.{OnMain};
 ghost use Rattle.sql_columns.specs.Numbers.{role_number};
 ghost use Rattle.sql_changes.specs.Commits.{WritesRole};
 
@@ -16,9 +18,9 @@ pub fn write_role<S: Alter>(
     name: &str,
     role: Role,
 ) -> Result<(), Error>
-    requires steady { IsSteady (state S.Store tx.old.conn.now) }
+    requires steady { IsSteadyOver by_domain (state S.Store tx.old.conn.now) }
     ensures same_reference { tx.new.conn.ghost_name ≡ tx.old.conn.ghost_name }
-    ensures put { IsInside (state S.Store tx.old.conn.now) (state S.Store tx.new.conn.now) result (OnRows (WritesRole name.now (role_number role))) }
+    ensures put { IsInsideOf by_domain (state S.Store tx.old.conn.now) (state S.Store tx.new.conn.now) result (OnMain (WritesRole name.now (role_number role))) }
 {
     match role_column(role) {
         Some(column) => set_member(tx, name, column),

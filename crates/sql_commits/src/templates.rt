@@ -1,34 +1,39 @@
 //! A new template.
 ghost use Rattle.std.specs.Prelude.{◌≡◌};
 ghost use Rattle.sqlite.specs.Held.{state};
-ghost use Rattle.sql_schema.specs.Inside.{IsSteady, IsInside, OnRows};
+ghost use Rattle.sql_schema.specs.Layouts.{by_domain};
+ghost use Rattle.sql_schema.specs.Inside.{IsSteadyOver, IsInsideOf};
+ghost use Rattle.sql_changes.specs.OnMain.{OnMain};
 ghost use Rattle.sql_changes.specs.Commits.{WritesTemplate};
 
 use crate::entries::put_entries;
 use crate::planned_units::write_plans_back;
+use crate::tallies::put_tallies;
+use deliveries::Tally;
 use po_text::Entry;
 use sql_decoding::Failure;
-use sql_statements::template::empty_template;
-use sql_statements::units::empty_units;
+use sql_statements::domain_template::empty_domain_template;
 use sqlite::{Alter, Transaction};
 use std::alloc::Global;
 use template_update::Plan;
-use units::Lang;
+use units::{Lang, Name};
 
-/// Writes a template, and in each language the units of its plan. All entries and units are taken out and written anew, also those
-/// that stay as they are.
+/// Writes a template, and in each language the units of its plan and their tally. All entries are taken out and written anew, also those
+/// that stay as they are; units are written over those that are there.
 pub fn write_template<S: Alter>(
     tx: &mut Transaction<'_, S>,
     alloc: Global,
     entries: &[Entry],
     plans: &[(Lang, Plan)],
+    tallies: &[(Lang, Tally)],
 ) -> Result<(), Failure>
-    requires steady { IsSteady (state S.Store tx.old.conn.now) }
+    requires steady { IsSteadyOver by_domain (state S.Store tx.old.conn.now) }
     ensures same_reference { tx.new.conn.ghost_name ≡ tx.old.conn.ghost_name }
-    ensures put { IsInside (state S.Store tx.old.conn.now) (state S.Store tx.new.conn.now) result (OnRows (WritesTemplate entries.now plans.now)) }
+    ensures put { IsInsideOf by_domain (state S.Store tx.old.conn.now) (state S.Store tx.new.conn.now) result (OnMain (WritesTemplate entries.now plans.now)) }
 {
-    empty_template(tx)?;
+    let domain = Name::main_domain();
+    empty_domain_template(tx, domain.as_str())?;
     put_entries(tx, alloc, entries)?;
-    empty_units(tx)?;
-    write_plans_back(tx, alloc, plans)
+    write_plans_back(tx, alloc, plans)?;
+    put_tallies(tx, tallies)
 }

@@ -1,14 +1,18 @@
 //! A unit inside a transaction: its row, its suggestions, and the votes on them.
-ghost use Rattle.std.specs.Prelude.{◌≡◌, ◌<◌, ◌^◌, IfOk, IsTrue, map, codes};
+ghost use Rattle.std.specs.Prelude.{◌≡◌, ◌<◌, ◌^◌, ◌∷◌, IfOk, IsTrue, codes};
 ghost use Rattle.std.specs.FinMap as maps;
 ghost use Rattle.sqlite.specs.Held.{state};
 ghost use Rattle.sqlite.specs.State.{HasCleanDisk};
-ghost use Rattle.sql_schema.specs.Inside.{IsSteady, IsInside, OnRows, PutsRow, HoldsValues};
-ghost use Rattle.sql_schema.specs.Keys.{first_texts};
-ghost use Rattle.sql_meaning.specs.Cells.{unit_cells, vote_cells};
-ghost use Rattle.sql_meaning.specs.Written.{PutsRows};
+ghost use Rattle.sql_schema.specs.Layouts.{by_domain};
+ghost use Rattle.sql_schema.specs.Inside.{IsSteadyOver, IsInsideOf, PutsRow, HoldsValues};
+ghost use Rattle.sql_schema.specs.Keys.{first_three};
+ghost use Rattle.sql_changes.specs.OnMain.{OnMain};
+ghost use Rattle.sqlite.specs.declared.types.Value.TheVariants.{Text as Words};
+ghost use Rattle.units.specs.Office.{main};
+ghost use Rattle.sql_meaning.specs.Cells.{unit_cells};
 ghost use Rattle.sql_changes.specs.UnitWrites.{AddsNumberedSuggestion, AddsNumberedSuggestions, WritesNumberedUnit};
 ghost use Rattle.sql_commits.specs.Columns.{columns_of_unit};
+ghost use Rattle.sql_commits.specs.Votes.{AddsSummed, PutsVotesOn};
 
 use po_text::Text;
 use sql_columns::{
@@ -16,12 +20,13 @@ use sql_columns::{
     state_column, texts_column, vote_column,
 };
 use sql_decoding::Failure;
-use sql_statements::suggestions::{add_suggestion as add_suggestion_row, clear_suggestions};
-use sql_statements::units::put_unit;
-use sql_statements::votes::put_vote;
-use sqlite::{Alter, Transaction};
+use sql_statements::domain_suggestions::{add_domain_suggestion, clear_domain_suggestions};
+use sql_statements::domain_units::put_domain_unit;
+use sql_statements::domain_votes::put_domain_vote;
+use sql_statements::vote_sums::put_sum;
+use sqlite::{Alter, Error, Transaction};
 use std::alloc::{AllocError, Global};
-use units::{Lang, Suggestion, Unit, Votes};
+use units::{Lang, Name, Suggestion, Unit, Votes};
 
 /// Writes a unit: its row in the place of the one that is there, and its suggestions in the place of those that are there.
 pub fn write_unit<S: Alter>(
@@ -30,9 +35,9 @@ pub fn write_unit<S: Alter>(
     lang: &Lang,
     unit: &Unit,
 ) -> Result<(), Failure>
-    requires steady { IsSteady (state S.Store tx.old.conn.now) }
+    requires steady { IsSteadyOver by_domain (state S.Store tx.old.conn.now) }
     ensures same_reference { tx.new.conn.ghost_name ≡ tx.old.conn.ghost_name }
-    ensures put { IsInside (state S.Store tx.old.conn.now) (state S.Store tx.new.conn.now) result (OnRows (WritesNumberedUnit lang.now unit.now)) }
+    ensures put { IsInsideOf by_domain (state S.Store tx.old.conn.now) (state S.Store tx.new.conn.now) result (OnMain (WritesNumberedUnit lang.now unit.now)) }
 {
     let columns = columns_of(alloc, unit)?;
     write_columns(tx, alloc, lang.as_str(), unit, &columns)
@@ -67,12 +72,13 @@ fn write_columns<S: Alter>(
     columns: &UnitColumns,
 ) -> Result<(), Failure>
     requires columns { columns.now ≡ columns_of_unit unit.now }
-    requires steady { IsSteady (state S.Store tx.old.conn.now) }
+    requires steady { IsSteadyOver by_domain (state S.Store tx.old.conn.now) }
     ensures same_reference { tx.new.conn.ghost_name ≡ tx.old.conn.ghost_name }
-    ensures put { IsInside (state S.Store tx.old.conn.now) (state S.Store tx.new.conn.now) result (OnRows (WritesNumberedUnit lang.now unit.now)) }
+    ensures put { IsInsideOf by_domain (state S.Store tx.old.conn.now) (state S.Store tx.new.conn.now) result (OnMain (WritesNumberedUnit lang.now unit.now)) }
 {
     put_row(tx, lang, unit, columns)?;
-    clear_suggestions(tx, lang, columns.key.as_str())?;
+    let domain = Name::main_domain();
+    clear_domain_suggestions(tx, domain.as_str(), lang, columns.key.as_str())?;
     add_suggestions(
         tx,
         alloc,
@@ -90,13 +96,15 @@ fn put_row<S: Alter>(
     columns: &UnitColumns,
 ) -> Result<(), Failure>
     requires columns { columns.now ≡ columns_of_unit unit.now }
-    requires steady { IsSteady (state S.Store tx.old.conn.now) }
+    requires steady { IsSteadyOver by_domain (state S.Store tx.old.conn.now) }
     ensures same_reference { tx.new.conn.ghost_name ≡ tx.old.conn.ghost_name }
-    ensures put { IsInside (state S.Store tx.old.conn.now) (state S.Store tx.new.conn.now) result
-        (PutsRow (codes "unit") first_texts (HoldsValues (unit_cells lang.now unit.now))) }
+    ensures put { IsInsideOf by_domain (state S.Store tx.old.conn.now) (state S.Store tx.new.conn.now) result
+        (PutsRow (codes "d_unit") first_three (HoldsValues (Words main ∷ unit_cells lang.now unit.now))) }
 {
-    put_unit(
+    let domain = Name::main_domain();
+    put_domain_unit(
         tx,
+        domain.as_str(),
         lang,
         columns.key.as_str(),
         plural_column(&unit.plural),
@@ -118,10 +126,10 @@ fn add_suggestions<S: Alter>(
     key: &str,
     suggestions: &[Suggestion],
 ) -> Result<(), Failure>
-    requires steady { IsSteady (state S.Store tx.old.conn.now) }
+    requires steady { IsSteadyOver by_domain (state S.Store tx.old.conn.now) }
     requires open { HasCleanDisk (state S.Store tx.old.conn.now) → IsTrue (state S.Store tx.old.conn.now).is_open }
     ensures same_reference { tx.new.conn.ghost_name ≡ tx.old.conn.ghost_name }
-    ensures put { IsInside (state S.Store tx.old.conn.now) (state S.Store tx.new.conn.now) result (OnRows (AddsNumberedSuggestions lang.now key.now suggestions.now)) }
+    ensures put { IsInsideOf by_domain (state S.Store tx.old.conn.now) (state S.Store tx.new.conn.now) result (OnMain (AddsNumberedSuggestions lang.now key.now suggestions.now)) }
 {
     for (place, suggestion) in suggestions.iter().enumerate() {
         add_suggestion(tx, alloc, lang, key, place, suggestion)?;
@@ -129,7 +137,7 @@ fn add_suggestions<S: Alter>(
     Ok(())
 }
 
-/// Adds a suggestion, whose number must be new, and the votes on it.
+/// Adds a suggestion, whose number must be new, its sum, and the votes on it.
 fn add_suggestion<S: Alter>(
     tx: &mut Transaction<'_, S>,
     alloc: Global,
@@ -139,38 +147,68 @@ fn add_suggestion<S: Alter>(
     suggestion: &Suggestion,
 ) -> Result<(), Failure>
     requires fits { place < 2 ^ 63 }
-    requires steady { IsSteady (state S.Store tx.old.conn.now) }
+    requires steady { IsSteadyOver by_domain (state S.Store tx.old.conn.now) }
     ensures same_reference { tx.new.conn.ghost_name ≡ tx.old.conn.ghost_name }
-    ensures put { IsInside (state S.Store tx.old.conn.now) (state S.Store tx.new.conn.now) result (OnRows (AddsNumberedSuggestion lang.now key.now place suggestion.now)) }
+    ensures put { IsInsideOf by_domain (state S.Store tx.old.conn.now) (state S.Store tx.new.conn.now) result (OnMain (AddsNumberedSuggestion lang.now key.now place suggestion.now)) }
 {
     let number = number_column(alloc, suggestion.number)?;
     let forms = forms_column(alloc, &suggestion.forms)?;
-    add_suggestion_row(
+    add_summed(
         tx,
         number.as_str(),
         lang,
         key,
-        place as i64,
-        suggestion.suggester.as_str(),
+        place,
+        suggestion,
         forms.as_str(),
     )?;
     put_votes(tx, number.as_str(), &suggestion.votes)
 }
 
-/// Writes the votes on the suggestion of this number.
+/// Adds the row of a suggestion that has this number and these forms, and its sum.
+fn add_summed<S: Alter>(
+    tx: &mut Transaction<'_, S>,
+    number: &str,
+    lang: &str,
+    key: &str,
+    place: usize,
+    suggestion: &Suggestion,
+    forms: &str,
+) -> Result<(), Error>
+    requires fits { place < 2 ^ 63 }
+    requires steady { IsSteadyOver by_domain (state S.Store tx.old.conn.now) }
+    ensures same_reference { tx.new.conn.ghost_name ≡ tx.old.conn.ghost_name }
+    ensures added { IsInsideOf by_domain (state S.Store tx.old.conn.now) (state S.Store tx.new.conn.now) result
+        (AddsSummed number.now lang.now key.now place suggestion.now.suggester forms.now) }
+{
+    let domain = Name::main_domain();
+    add_domain_suggestion(
+        tx,
+        number,
+        domain.as_str(),
+        lang,
+        key,
+        place as i64,
+        suggestion.suggester.as_str(),
+        forms,
+    )?;
+    put_sum(tx, number, suggestion.votes.sum())
+}
+
+/// Writes the votes on the suggestion of this number, which is there.
 fn put_votes<S: Alter>(
     tx: &mut Transaction<'_, S>,
     number: &str,
     votes: &Votes,
 ) -> Result<(), Failure>
-    requires steady { IsSteady (state S.Store tx.old.conn.now) }
+    requires steady { IsSteadyOver by_domain (state S.Store tx.old.conn.now) }
     requires open { HasCleanDisk (state S.Store tx.old.conn.now) → IsTrue (state S.Store tx.old.conn.now).is_open }
     ensures same_reference { tx.new.conn.ghost_name ≡ tx.old.conn.ghost_name }
-    ensures put { IsInside (state S.Store tx.old.conn.now) (state S.Store tx.new.conn.now) result
-        (OnRows (PutsRows (codes "vote") first_texts (map (vote_cells number.now) (maps.entries votes.now)))) }
+    ensures put { IsInsideOf by_domain (state S.Store tx.old.conn.now) (state S.Store tx.new.conn.now) result
+        (PutsVotesOn number.now (maps.entries votes.now)) }
 {
     for vote in votes.as_slice() {
-        put_vote(tx, number, vote.0.as_str(), vote_column(vote.1))?;
+        put_domain_vote(tx, number, vote.0.as_str(), vote_column(vote.1))?;
     }
     Ok(())
 }

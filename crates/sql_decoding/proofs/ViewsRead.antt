@@ -4,7 +4,6 @@ use Rattle.std.specs.Prelude.{map, unwrap_or}
 use Rattle.std.specs.FinMap as maps
 use Rattle.std.specs.List.{All}
 use Rattle.sqlite.specs.Order.{Row}
-use Rattle.sqlite.specs.Effect.{Database}
 use Rattle.po_text.specs.Texts.{Text}
 use Rattle.po_text.specs.declared.entry.Entry.{Entry}
 use Rattle.plural_expr.specs.Trees.{number}
@@ -21,19 +20,25 @@ use Rattle.deliveries.specs.UnitAccess.{found_of}
 use Rattle.sql_statements.specs.declared.unit_rows.SuggestionRows.{SuggestionRows}
 use Rattle.sql_statements.specs.declared.unit_rows.UnitRows.{UnitRows}
 use Rattle.sql_statements.specs.declared.unit_rows.ViewRows.{ViewRows}
-use Rattle.sql_statements.specs.Answers.{ShowsLanguage, ShowsMember, ShowsPolicy}
-use Rattle.sql_schema.specs.Inside.{AreOfficeTables}
-use Rattle.sql_schema.specs.Keys.{text_at}
+use Rattle.sql_laws.specs.RowMaps.{IsFound}
+use Rattle.sql_statements.specs.Answers.{ShowsPolicyIn}
+use Rattle.sql_schema.specs.Keys.{text_at, first_text, columns}
 use Rattle.sql_statements.specs.UnitRows.{suggestion_of, ShowsVotesOn, ShowsUnitRows, ShowsViewRows}
-use Rattle.sql_schema.proofs.TableRows.{one_member, one_language, one_unit}
 use Rattle.sql_meaning.specs.Meaning.{project_of_rows, headers_in, policy_in, suggestions_in, template_in}
 use Rattle.sql_meaning.specs.Shown.{shown_header, shown_suggestion, shown_unit}
 use Rattle.sql_meaning.proofs.OfficeQueries.{policy_found, entry_found, suggestions_found, votes_found}
 use Rattle.sql_meaning.proofs.Team.{finds_role, finds_header}
 use Rattle.sql_meaning.proofs.Units.{finds_unit}
 use Rattle.sql_decoding.specs.ShownFound.{suggestion_shown, rule_of_header, shown_rule, shown_role, shown_source, shown_view, IsShownWith, IsShownFound}
-use Rattle.sql_schema.specs.Layouts.{rows_named}
-use Rattle.sql_meaning.proofs.OfficeRows.{office_rows}
+use Rattle.sql_schema.specs.Layouts.{NamedRows}
+use Rattle.sql_meaning.specs.RowKeys.{AreOfficeRows}
+
+-- a language's header and plural rule, and a member's role
+abbrev pub ShowsLanguageOf : Text → NamedRows → Option Row → Type 0
+ShowsLanguageOf lang tables found = IsFound first_text (columns (2 ∷ 3 ∷ [])) (tables (codes "language")) lang found
+
+abbrev pub ShowsMemberOf : Text → NamedRows → Option Row → Type 0
+ShowsMemberOf name tables found = IsFound first_text (columns (2 ∷ [])) (tables (codes "team")) name found
 
 -- ---- the plural rule
 
@@ -43,69 +48,69 @@ pub rule_shown : {E : Type 0} (row : Row) (header : Entry) (read : Result Rule E
 rule_shown row header (Err failure) is none = none
 rule_shown row header (Ok rule) is read = sym (ap rule_of_header (sym is) ∙ ap (by_result (λ fault. record { count = 1; tree = number 0 }) (λ r. r)) read)
 
-module _ (db : Database) (office : AreOfficeTables db) where
-  pub header_found : (lang : Text) (found : Option Row) → ShowsLanguage lang db found → maps.get (headers_in (rows_named db)) lang ≡ option_map shown_header found
-  header_found lang found = finds_header (rows_named db) lang found (one_language db office.schema office.sound (office.tables (codes "language") refl))
+module _ (tables : NamedRows) (office : AreOfficeRows tables) where
+  pub header_found : (lang : Text) (found : Option Row) → ShowsLanguageOf lang tables found → maps.get (headers_in tables) lang ≡ option_map shown_header found
+  header_found lang found = finds_header tables lang found office.keyed.one_language
 
-  pub role_found : (name : Text) (found : Option Row) → ShowsMember name db found → role_of (project_of_rows (rows_named db)) name ≡ shown_role found
+  pub role_found : (name : Text) (found : Option Row) → ShowsMemberOf name tables found → role_of (project_of_rows tables) name ≡ shown_role found
   role_found name found shows =
-      ap (λ o. unwrap_or o Guest) (finds_role (rows_named db) name found (one_member db office.schema office.sound (office.tables (codes "team") refl)) shows)
+      ap (λ o. unwrap_or o Guest) (finds_role tables name found office.keyed.one_member shows)
 
-  rule_of_shown : (lang : Text) (language : Row) → ShowsLanguage lang db (Some language) → rule_at (project_of_rows (rows_named db)) lang ≡ shown_rule language
+  rule_of_shown : (lang : Text) (language : Row) → ShowsLanguageOf lang tables (Some language) → rule_at (project_of_rows tables) lang ≡ shown_rule language
   unfolding rule_at
   rule_of_shown lang language shows = ap (λ o. by_result (λ fault. record { count = 1; tree = number 0 }) (λ rule. rule) (rule_in o)) (header_found lang (Some language) shows)
 
   -- ---- the unit
 
-  each_suggestion : (rows : List SuggestionRows) → All (ShowsVotesOn db) rows → map (shown_suggestion (rows_named db)) (map suggestion_of rows) ≡ map suggestion_shown rows
+  each_suggestion : (rows : List SuggestionRows) → All (ShowsVotesOn tables) rows → map (shown_suggestion tables) (map suggestion_of rows) ≡ map suggestion_shown rows
   each_suggestion [] votes = refl
   each_suggestion (r ∷ rows) votes =
-      let first = votes_found (rows_named db) (office_rows db office) (text_at 0 r.suggestion) r.votes.items (votes 0 r (omega arith)) in
+      let first = votes_found tables office (text_at 0 r.suggestion) r.votes.items (votes 0 r (omega arith)) in
       let more = each_suggestion rows (λ k d within. votes (suc k) d (omega (arith, within))) in
       λ i. record (suggestion_shown r) { votes = first i } ∷ more i
 
-  suggestions_shown : (lang : Text) (key : Key) (rows : UnitRows) → ShowsUnitRows lang (key_text key) db rows
-      → suggestions_in (rows_named db) lang (key_text key) ≡ map suggestion_shown rows.suggestions.items
+  suggestions_shown : (lang : Text) (key : Key) (rows : UnitRows) → ShowsUnitRows lang (key_text key) tables rows
+      → suggestions_in tables lang (key_text key) ≡ map suggestion_shown rows.suggestions.items
   suggestions_shown lang key rows shows =
-      suggestions_found (rows_named db) (office_rows db office) lang (key_text key) (map suggestion_of rows.suggestions.items) shows.suggestions.0 shows.suggestions.1 ∙ each_suggestion rows.suggestions.items shows.votes
+      suggestions_found tables office lang (key_text key) (map suggestion_of rows.suggestions.items) shows.suggestions.0 shows.suggestions.1 ∙ each_suggestion rows.suggestions.items shows.votes
 
-  pub view_found : (lang : Text) (key : Key) (rows : UnitRows) → HasStrings key → ShowsUnitRows lang (key_text key) db rows
-      → view_of (project_of_rows (rows_named db)) (lang, key) ≡ shown_view key rows
+  pub view_found : (lang : Text) (key : Key) (rows : UnitRows) → HasStrings key → ShowsUnitRows lang (key_text key) tables rows
+      → view_of (project_of_rows tables) (lang, key) ≡ shown_view key rows
   view_found lang key rows valid shows =
-      let one = one_unit db office.schema office.sound (office.tables (codes "unit") refl) in
-      ap (option_map (λ unit. record { unit = unit; source = entry_of (template_in (rows_named db)) key })) (finds_unit (rows_named db) lang key rows.unit one valid shows.unit) ∙ with_parts rows.unit
+      let one = office.keyed.one_unit in
+      ap (option_map (λ unit. record { unit = unit; source = entry_of (template_in tables) key })) (finds_unit tables lang key rows.unit one valid shows.unit) ∙ with_parts rows.unit
     where
       with_parts : (found : Option Row)
-          → option_map {U = UnitView} (λ unit. record { unit = unit; source = entry_of (template_in (rows_named db)) key }) (option_map (shown_unit key (suggestions_in (rows_named db) lang (key_text key))) found)
+          → option_map {U = UnitView} (λ unit. record { unit = unit; source = entry_of (template_in tables) key }) (option_map (shown_unit key (suggestions_in tables lang (key_text key))) found)
           ≡ option_map (λ unit. record { unit = shown_unit key (map suggestion_shown rows.suggestions.items) unit; source = shown_source key rows.entry }) found
       with_parts None = refl
       with_parts (Some unit) =
           let suggestions = suggestions_shown lang key rows shows in
-          let source = entry_found (rows_named db) (office_rows db office) key rows.entry valid shows.entry in
+          let source = entry_found tables office key rows.entry valid shows.entry in
           λ i. Some (record { unit = shown_unit key (suggestions i) unit; source = source i })
 
   -- ---- all of it
 
-  pub all_found : (lang : Text) (key : Key) (name : Text) (rows : ViewRows) (found : Option ActContext) → HasStrings key → ShowsViewRows lang (key_text key) name db rows
-      → IsShownFound key rows found → found ≡ found_of (project_of_rows (rows_named db)) lang key name
+  pub all_found : (lang : Text) (key : Key) (name : Text) (rows : ViewRows) (found : Option ActContext) → HasStrings key → ShowsViewRows lang (key_text key) name tables rows
+      → IsShownFound key rows found → found ≡ found_of (project_of_rows tables) lang key name
   all_found lang key name rows found valid shows is = by rows.office.language rows.office.policy shows.office.language shows.office.policy is
     where
       with_header : Entry → ActContext
       with_header header = record {
-        rule = rule_at (project_of_rows (rows_named db)) lang;
-        policy = policy_in (rows_named db);
-        role = role_of (project_of_rows (rows_named db)) name;
-        view = view_of (project_of_rows (rows_named db)) (lang, key);
+        rule = rule_at (project_of_rows tables) lang;
+        policy = policy_in tables;
+        role = role_of (project_of_rows tables) name;
+        view = view_of (project_of_rows tables) (lang, key);
       }
 
-      by : (language policy : Option Row) → ShowsLanguage lang db language → ShowsPolicy db policy → IsShownWith key rows language policy found
-          → found ≡ found_of (project_of_rows (rows_named db)) lang key name
+      by : (language policy : Option Row) → ShowsLanguageOf lang tables language → ShowsPolicyIn tables policy → IsShownWith key rows language policy found
+          → found ≡ found_of (project_of_rows tables) lang key name
       by None policy shows_language shows_policy none =
           none ∙ sym (ap (option_map with_header) (header_found lang None shows_language))
       by (Some language) None shows_language shows_policy never = absurd never
       by (Some language) (Some policy) shows_language shows_policy same =
           let rule = rule_of_shown lang language shows_language in
-          let of_policy = policy_found (rows_named db) (office_rows db office) policy shows_policy in
+          let of_policy = policy_found tables office policy shows_policy in
           let role = role_found name rows.office.role shows.office.role in
           let view = view_found lang key rows.unit valid shows.unit in
           same ∙ sym (ap (option_map with_header) (header_found lang (Some language) shows_language) ∙ (λ i. Some (record { rule = rule i; policy = of_policy i; role = role i; view = view i })))

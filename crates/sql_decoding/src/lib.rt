@@ -3,16 +3,17 @@
 //! memory, or exactly where the rows stand for no value. What a failure comes to is said here too.
 //!
 //! - `columns`, `integers`, `texts`: one column, one that is a whole number, and one that is a text
-//! - `records`: a record
+//! - `records`: a record; `record_heads`: its number and its status alone
 //! - `units_read`: a unit with its suggestions and votes, and a template's entry
 //! - `views`: what an act on a unit needs
+//! - `tallies`: how many units of a language are in each state
 //! - `entries_read`: the entries of an export
 //! - `kept_rule`: the plural rule that was read last
 //! - `domains`: whether a domain is `main`, the one that the tables hold (`is_main`)
 //! - `faults`: what a failure comes to: want of memory and a failed disk are told apart
 //!
 //! Specs: `RowTests` (which rows stand for values; `proofs/ColumnsTested` has columns that pass and that don't,
-//! `RowsTold` rows), `ShownFound`, `ShownEntries`, `TablesRead`.
+//! `RowsTold` rows), `ShownFound`, `ShownEntries`, `RecordHeads`, `TablesRead`.
 #![tactic(auto)]
 
 mod columns;
@@ -21,7 +22,9 @@ mod entries_read;
 mod faults;
 mod integers;
 mod kept_rule;
+mod record_heads;
 mod records;
+mod tallies;
 mod texts;
 mod units_read;
 mod views;
@@ -31,6 +34,10 @@ pub use domains::is_main;
 pub use entries_read::{message_in, obsolete_in};
 pub use faults::Failure;
 pub use kept_rule::KeptRule;
+pub use record_heads::{RecordHead, head_in};
 pub use records::record_in;
-pub use units_read::{entry_in, put_vote, suggestion_with, template_entry, unit_with};
+pub use tallies::tally_in;
+pub use units_read::{
+    UnitNumbers, entry_in, put_vote, suggestion_with, template_entry, unit_numbers, unit_with,
+};
 pub use views::{found_in, header_in, policy_in, role_in};

@@ -225,15 +225,16 @@ fn unit_texts(alloc: Global, row: &Row) -> Result<UnitTexts, Failure>
     })
 }
 
-/// Those that are numbers.
+/// The columns of a unit that are numbers.
 #[derive(Drop)]
-struct UnitNumbers {
-    state: UnitState,
-    obsolete: bool,
-    revision: Revision,
+pub struct UnitNumbers {
+    pub state: UnitState,
+    pub obsolete: bool,
+    pub revision: Revision,
 }
 
-fn unit_numbers(row: &Row) -> Result<UnitNumbers, Failure>
+/// The numbers that a unit's row shows.
+pub fn unit_numbers(row: &Row) -> Result<UnitNumbers, Failure>
     ensures shown { IfOk result (λ c. c ≡ record {
       state = values.state_at 2 row.now;
       obsolete = values.flag_at 3 row.now;

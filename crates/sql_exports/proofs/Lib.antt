@@ -8,5 +8,6 @@ pub mod OneOrder
 pub mod Pieces
 pub mod Results
 pub mod RowsInTurn
+pub mod UnitColumns
 pub mod UnitsThere
 pub mod Whole

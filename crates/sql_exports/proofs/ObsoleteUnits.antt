@@ -16,10 +16,8 @@ use Rattle.sqlite.specs.declared.types.Value.{Value}
 use Rattle.sqlite.specs.declared.types.Value.TheVariants.{Null, Int, Real, Text as Words, Blob}
 use Rattle.sqlite.specs.Order.{Row, column, value_cmp}
 use Rattle.sqlite.specs.Tree.{rowid}
-use Rattle.sqlite.specs.Effect.{Database}
 use Rattle.sqlite_value.proofs.OrderLemmas.{value_cmp_total, value_cmp-Text, value_cmp-Int}
 use Rattle.sqlite_trees.specs.Tree.{IsAscending}
-use Rattle.sqlite_rules.specs.Edit.{id_in}
 use Rattle.sqlite_trees.proofs.ListLemmas.{map-map, all-map, filter-map, ascending-filter}
 use Rattle.sqlite_rules.specs.Lists.{Has}
 use Rattle.sqlite_rules.proofs.ListLemmas.{all_has, all_from, has_filtered, has_kept}
@@ -38,19 +36,17 @@ use Rattle.deliveries.specs.ExportedEntries.{obsolete_entry}
 use Rattle.sql_columns.specs.Readings.{key_parts}
 use Rattle.sql_columns.proofs.Keys.{text_of_parts}
 use Rattle.sql_schema.specs.Keys.{text_at, has_text, columns}
-use Rattle.sql_schema.specs.Inside.{AreOfficeTables, IsInOrder}
-use Rattle.sql_schema.proofs.TextKeys.{holds_int}
-use Rattle.sql_schema.proofs.TableRows.{unit_keys, one_unit}
-use Rattle.sql_meaning.specs.Values.{flag_at}
+use Rattle.sql_schema.specs.Inside.{IsInOrder}
+use Rattle.sql_meaning.specs.Values.{flag_at, integer_at}
 use Rattle.sql_meaning.specs.Meaning.{project_of_rows, units_in, unit_of_row, place_of_row}
 use Rattle.sql_meaning.proofs.MapEntries.{true_of, below_has, get_entry, entry_of_get}
 use Rattle.sql_meaning.proofs.Units.{by_place}
-use Rattle.sql_statements.specs.Queries.{ShowsObsolete, is_obsolete_of}
+use Rattle.sql_statements.specs.Queries.{ShowsObsoleteIn, is_obsolete_of}
 use Rattle.sql_decoding.specs.ShownEntries.{obsolete_shown, is_translated_row}
 use Rattle.sql_exports.proofs.OneOrder.{Below, same_list, ascending_mapped, twice}
-use Rattle.sql_schema.specs.Layouts.{rows_named}
-use Rattle.sql_schema.proofs.Layouts.{unit_placed}
-use Rattle.sql_schema.specs.Schema.{unit_table}
+use Rattle.sql_schema.specs.Layouts.{NamedRows}
+use Rattle.sql_meaning.specs.RowKeys.{AreOfficeRows}
+use Rattle.sql_exports.proofs.UnitColumns.{HasUnitColumns}
 
 -- a flag that is set is 1
 flag_one : (v : Value) → flag_at 0 (v ∷ []) ≡ true → v ≡ Int (pos 1)
@@ -155,18 +151,15 @@ rows_rise (r ∷ s ∷ rows) up texts once =
 
 -- ---- both
 
-module _ (db : Database) (office : AreOfficeTables db) (lang : Text) (rows : List Row) (shows : ShowsObsolete lang db rows) where
+module _ (tables : NamedRows) (office : AreOfficeRows tables) (units : HasUnitColumns tables) (lang : Text) (rows : List Row) (shows : ShowsObsoleteIn lang tables rows) where
   abbrev all : List Row
-  all = rows_named db (codes "unit")
+  all = tables (codes "unit")
 
   abbrev obsolete : List Row
   obsolete = filter (is_obsolete_of lang) all
 
   one_each : OneEach place_of_row all
-  one_each r s in_r in_s e = one_unit db office.schema office.sound (office.tables (codes "unit") refl) r s in_r in_s (by_place.back r s tt tt e)
-
-  whole : (row : Row) → Has all row → column row 6 ≡ Int (id_in (column row 6))
-  whole row there = holds_int unit_table unit_placed 5 (codes "obsolete") refl db office.schema office.sound row there refl
+  one_each r s in_r in_s e = office.keyed.one_unit r s in_r in_s (by_place.back r s tt tt e)
 
   -- which rows are obsolete units of the language
   abbrev Holds : Row → Type 0
@@ -176,9 +169,9 @@ module _ (db : Database) (office : AreOfficeTables db) (lang : Text) (rows : Lis
   holds_then row there =
       let was = has_filtered (is_obsolete_of lang) all row there in
       let both = and_parts (has_text 1 lang row) (is_eq (value_cmp (column row 6) (Int (pos 1)))) was.1 in
-      let is = whole row was.0 in
+      let is = units.flags row was.0 in
       let tied : value_cmp (column row 6) (Int (pos 1)) ≡ Equal = (Equal-is _).0 both.1 in
-      let one = int_cmp-IsAntisymmetric (id_in (column row 6)) (pos 1) (sym (value_cmp-Int (id_in (column row 6)) (pos 1)) ∙ ap (λ v. value_cmp v (Int (pos 1))) (sym is) ∙ tied) in
+      let one = int_cmp-IsAntisymmetric (integer_at 6 row) (pos 1) (sym (value_cmp-Int (integer_at 6 row) (pos 1)) ∙ ap (λ v. value_cmp v (Int (pos 1))) (sym is) ∙ tied) in
       (was.0, (texts_are_one (text_at 1 row) lang both.0, is ∙ ap Int one))
 
   then_holds : (row : Row) → Has all row → Holds row → Has obsolete row
@@ -195,13 +188,13 @@ module _ (db : Database) (office : AreOfficeTables db) (lang : Text) (rows : Lis
   shown_texts : HoldsTexts rows
   shown_texts row there =
       let from = shown_from row there in
-      rw from.2 (unit_keys db office.schema office.sound from.0 (holds_then from.0 from.1).0)
+      rw from.2 (units.keys from.0 (holds_then from.0 from.1).0)
 
   shown_once : IsDistinct (eq_by_cmp text_cmp) (map (text_at 5) rows)
   shown_once = IsDistinct-IsPermutation (eq_by_cmp text_cmp) (eq_by_cmp_equiv text_total).symm (map (text_at 5) (map cut obsolete)) (map (text_at 5) rows)
       (IsPermutation-map (text_at 5) (map cut obsolete) rows shows.all)
       (subst (IsDistinct (eq_by_cmp text_cmp)) (sym (map-map (text_at 5) cut obsolete))
-      (each_once obsolete (ascending-filter _ (is_obsolete_of lang) all (office.tables (codes "unit") refl).once) (λ r s in_r in_s e.
+      (each_once obsolete (ascending-filter _ (is_obsolete_of lang) all units.once) (λ r s in_r in_s e.
       let h = holds_then r in_r in
       let k = holds_then s in_s in
       let langs : text_at 1 r ≡ text_at 1 s = h.1.0 ∙ sym k.1.0 in
@@ -213,7 +206,7 @@ module _ (db : Database) (office : AreOfficeTables db) (lang : Text) (rows : Lis
   -- ---- the entries of the office are too
 
   abbrev entries : List (Place × Unit)
-  entries = maps.entries (units_in (rows_named db))
+  entries = maps.entries (units_in tables)
 
   abbrev in_lang : Place × Unit → Bool
   in_lang e = text_eq lang e.0.0
@@ -224,10 +217,10 @@ module _ (db : Database) (office : AreOfficeTables db) (lang : Text) (rows : Lis
   abbrev of_entry : Place × Unit → Text × Entry
   of_entry e = (key_text e.0.1, obsolete_entry e.1)
 
-  row_of : (e : Place × Unit) → Has entries e → (r : Row) × Has all r × (place_of_row r ≡ e.0) × (unit_of_row (rows_named db) r ≡ e.1)
+  row_of : (e : Place × Unit) → Has entries e → (r : Row) × Has all r × (place_of_row r ≡ e.0) × (unit_of_row tables r ≡ e.1)
   row_of e there =
-      subst (IsFound place_of_row (unit_of_row (rows_named db)) all e.0) (get_entry place_cmp place_total (units_in (rows_named db)) e there)
-      (get-found place_cmp place_total place_IsAntisymmetric place_of_row (unit_of_row (rows_named db)) all e.0)
+      subst (IsFound place_of_row (unit_of_row tables) all e.0) (get_entry place_cmp place_total (units_in tables) e there)
+      (get-found place_cmp place_total place_IsAntisymmetric place_of_row (unit_of_row tables) all e.0)
 
   is_read : (e : Place × Unit) → Has entries e → IsRead e.0.1
   is_read e there =
@@ -248,7 +241,7 @@ module _ (db : Database) (office : AreOfficeTables db) (lang : Text) (rows : Lis
 
   own_rise : IsAscending Below (map of_entry own)
   own_rise = ascending_mapped (λ a b. place_cmp a.0 b.0 ≡ Less) Below of_entry own
-      (ascending-filter _ (λ e. in_lang e && e.1.obsolete) entries (rising entries (true_of _ (entries_sorted (units_in (rows_named db))))))
+      (ascending-filter _ (λ e. in_lang e && e.1.obsolete) entries (rising entries (true_of _ (entries_sorted (units_in tables)))))
       (λ a b in_a in_b less.
       let x = own_is a in_a in
       let y = own_is b in_b in
@@ -257,7 +250,7 @@ module _ (db : Database) (office : AreOfficeTables db) (lang : Text) (rows : Lis
   -- ---- they are one
 
   -- a row shows the entry of its place
-  shown_is : (r : Row) (e : Place × Unit) → place_of_row r ≡ e.0 → unit_of_row (rows_named db) r ≡ e.1 → of_shown (cut r) ≡ of_entry e
+  shown_is : (r : Row) (e : Place × Unit) → place_of_row r ≡ e.0 → unit_of_row tables r ≡ e.1 → of_shown (cut r) ≡ of_entry e
   shown_is r e place unit =
       let text : text_at 2 r ≡ key_text e.0.1 = sym (text_of_parts (text_at 2 r)) ∙ ap (λ (p : Place). key_text p.1) place in
       λ i. (text i, obsolete_entry (unit i))
@@ -268,8 +261,8 @@ module _ (db : Database) (office : AreOfficeTables db) (lang : Text) (rows : Lis
       let from = shown_from row.0 row.1 in
       let r = from.0 in
       let holds = holds_then r from.1 in
-      let found = get-is place_cmp place_total place_IsAntisymmetric place_of_row (unit_of_row (rows_named db)) all (place_of_row r) (Some (unit_of_row (rows_named db) r)) one_each (r, holds.0, refl, refl) in
-      let entry = entry_of_get place_cmp place_total place_IsAntisymmetric (units_in (rows_named db)) (place_of_row r) (unit_of_row (rows_named db) r) found in
+      let found = get-is place_cmp place_total place_IsAntisymmetric place_of_row (unit_of_row tables) all (place_of_row r) (Some (unit_of_row tables r)) one_each (r, holds.0, refl, refl) in
+      let entry = entry_of_get place_cmp place_total place_IsAntisymmetric (units_in tables) (place_of_row r) (unit_of_row tables r) found in
       let lang_of : entry.0.0.0 ≡ lang = ap (λ (p : Place). p.0) entry.2 ∙ holds.1.0 in
       let flag_of : entry.0.1.obsolete ≡ true = ap (λ (u : Unit). u.obsolete) entry.3 ∙ ap (λ v. flag_at 0 (v ∷ [])) holds.1.1 in
       let is_own : Has own entry.0 = has_kept (λ f. in_lang f && f.1.obsolete) entries entry.0 entry.1 (and_from _ _ (is_in_lang entry.0 lang_of) flag_of) in
@@ -295,7 +288,7 @@ module _ (db : Database) (office : AreOfficeTables db) (lang : Text) (rows : Lis
   kept entry = not (all_empty entry.forms)
 
   pub obsolete_are : map obsolete_shown (filter is_translated_row rows)
-      ≡ map obsolete_entry (filter (λ unit. unit.obsolete && not (all_empty unit.forms)) (units_of (project_of_rows (rows_named db)) lang))
+      ≡ map obsolete_entry (filter (λ unit. unit.obsolete && not (all_empty unit.forms)) (units_of (project_of_rows tables) lang))
   obsolete_are =
       sym (map-map (λ (x : Text × Entry). x.1) of_shown (filter is_translated_row rows))
       ∙ sym (ap (map (λ (x : Text × Entry). x.1)) (filter-map (λ x. kept x.1) of_shown rows))

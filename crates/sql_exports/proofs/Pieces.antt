@@ -8,8 +8,9 @@ use Rattle.po_text.specs.declared.entry.Entry.{Entry}
 use Rattle.tables.specs.declared.faults.EachFault.{EachFault}
 use Rattle.tables.specs.declared.faults.EachFault.TheVariants.{NoTables, NoSink}
 use Rattle.tables.specs.Sinks.{WasCutShort}
-use Rattle.sql_schema.specs.Inside.{AreOfficeTables}
-use Rattle.sql_schema.specs.Whole.{IsIdle, IsLookUp}
+use Rattle.sql_schema.specs.Inside.{AreOfficeTablesOf}
+use Rattle.sql_schema.specs.Layouts.{by_domain}
+use Rattle.sql_schema.specs.Whole.{IsIdleOver, IsLookUp}
 use Rattle.sql_exports.specs.Handing.{Gives, TookAllBut}
 use Rattle.sql_exports.proofs.Idle.{nothing}
 
@@ -63,7 +64,7 @@ module _ {S R : Type 0} (Took : S → List Entry → S → Type 0) (Refuses : S 
 
 -- ---- look-ups
 
-module _ (old mid : State) {A E : Type 0} (x : A) (P : Database → A → Type 0) (idle : IsIdle old) (first : IsLookUp {E = E} old mid (Ok x) P) where
+module _ (old mid : State) {A E : Type 0} (x : A) (P : Database → A → Type 0) (idle : IsIdleOver by_domain old) (first : IsLookUp {E = E} old mid (Ok x) P) where
   early : HasCleanDisk mid → HasCleanDisk old
   early clean = omega (arith, first.survives.clean)
 
@@ -76,11 +77,11 @@ module _ (old mid : State) {A E : Type 0} (x : A) (P : Database → A → Type 0
   pub same_now : HasCleanDisk mid → mid.now ≡ old.now
   same_now clean = (first.same clean (still_open clean)).now
 
-  pub idle_still : IsIdle mid
+  pub idle_still : IsIdleOver by_domain mid
   idle_still = record {
     ready = λ clean is_open.
         let same = first.same clean is_open in
-        subst AreOfficeTables (sym same.now) (idle.ready (early clean) same.was_open);
+        subst (AreOfficeTablesOf by_domain) (sym same.now) (idle.ready (early clean) same.was_open);
     settled = λ clean is_open. let same = first.same clean is_open in same.now ∙ sym same.committed;
   }
 

@@ -1,4 +1,4 @@
-//! The template's entries, each with its unit, and the obsolete units' entries, each when the next was read.
+//! The entries of a domain's template, each with its unit, and the obsolete units' entries, each when the next was read.
 
 ghost use Rattle.std.specs.Prelude.{◌≡◌, ◌↔◌, ◌∷◌, ⊤, false, IsTrue, List};
 ghost use Rattle.std.specs.List.{filter_map};
@@ -9,14 +9,15 @@ ghost use Rattle.po_text.specs.declared.entry.Entry.{Entry as EntryValue};
 ghost use Rattle.sqlite.specs.declared.error.Error.TheVariants.{SqliteFailure};
 ghost use Rattle.sqlite.specs.declared.error.ErrorCode.TheVariants.{OutOfMemory};
 ghost use Rattle.tables.specs.declared.faults.Lost.TheVariants.{Memory};
-ghost use Rattle.sql_schema.specs.Whole.{IsIdle, IsLookUp};
-ghost use Rattle.sql_statements.specs.Queries.{AreUnits, ShowsMessages, ShowsObsolete};
+ghost use Rattle.sql_schema.specs.Whole.{IsIdleOver, IsLookUp};
+ghost use Rattle.sql_statements.specs.Queries.{AreUnits, ShowsMessagesIn, ShowsObsoleteIn};
 ghost use Rattle.sql_exports.specs.Handing.{GivesAllBut, IsTold};
-ghost use Rattle.sql_schema.specs.Layouts.{rows_named};
+ghost use Rattle.sql_schema.specs.Layouts.{by_domain, rows_named};
+ghost use Rattle.sql_schema.specs.Views.{seen_in};
 
 use crate::entry_rows::{EntryReader, EntryRows};
 use po_text::Entry;
-use sql_statements::queries::{walk_messages, walk_obsolete};
+use sql_statements::domain_queries::{walk_domain_messages, walk_domain_obsolete};
 use sql_streams::WalkFault;
 use sqlite::{Alter, Connection, Error, ErrorCode};
 use tables::{EachFault, EntrySink, Lost};
@@ -41,49 +42,51 @@ fn told<R: Drop>(fault: WalkFault<EachFault<R>>) -> EachFault<R>
     }
 }
 
-/// Hands an entry and then those of the template in order, each with its unit in a language, to a sink, of a connection that is open.
+/// Hands an entry and then those of a domain's template in order, each with its unit in a language, to a sink, of a connection that is open.
 /// The last is held back instead.
-pub(crate) fn hand_messages<S: Alter, R: EntryReader, K: EntrySink>(
+pub(crate) fn hand_messages<'a, S: Alter, R: EntryReader, K: EntrySink>(
     connection: &mut Connection<S>,
-    lang: &str,
+    domain: &'a str,
+    lang: &'a str,
     reader: &R,
     held: &mut Entry,
     sink: &mut K,
 ) -> Result<(), EachFault<K::Refusal>>
     requires autocommit { connection.old.in_transaction ≡ false }
-    requires idle { IsIdle (state S.Store connection.old) }
+    requires idle { IsIdleOver by_domain (state S.Store connection.old) }
     requires is_open { HasCleanDisk (state S.Store connection.old) → IsTrue (state S.Store connection.old).is_open }
-    ensures handed { (unit_of : RowValue → RowValue) (entries : List EntryValue) → AreUnits lang.now (rows_named (state S.Store connection.old).now) unit_of
-        → ((rows : List RowValue) → ShowsMessages unit_of (state S.Store connection.old).now rows → filter_map R.entry rows ≡ entries)
+    ensures handed { (unit_of : RowValue → RowValue) (entries : List EntryValue) → AreUnits lang.now (seen_in domain.now (rows_named (state S.Store connection.old).now)) unit_of
+        → ((rows : List RowValue) → ShowsMessagesIn unit_of (seen_in domain.now (rows_named (state S.Store connection.old).now)) rows → filter_map R.entry rows ≡ entries)
         → HasCleanDisk (state S.Store connection.new) → GivesAllBut K.Took K.Refuses sink.old sink.new (held.old ∷ entries) held.new result }
     ensures looked { IsLookUp (state S.Store connection.old) (state S.Store connection.new) result (λ _ _. ⊤) }
 {
     let mut rows = EntryRows::new(reader, held, sink);
-    match walk_messages(connection, lang, &mut rows) {
+    match walk_domain_messages(connection, domain, lang, &mut rows) {
         Ok(()) => Ok(()),
         Err(fault) => Err(told(fault)),
     }
 }
 
-/// Hands an entry and then those of a language's obsolete units, in the order of their keys, to a sink, of a connection that is open.
+/// Hands an entry and then those of the obsolete units of a domain's language, in the order of their keys, to a sink, of a connection that is open.
 /// Rows that stand for no entry are passed over. The last entry is held back instead.
-pub(crate) fn hand_obsolete<S: Alter, R: EntryReader, K: EntrySink>(
+pub(crate) fn hand_obsolete<'a, S: Alter, R: EntryReader, K: EntrySink>(
     connection: &mut Connection<S>,
-    lang: &str,
+    domain: &'a str,
+    lang: &'a str,
     reader: &R,
     held: &mut Entry,
     sink: &mut K,
 ) -> Result<(), EachFault<K::Refusal>>
     requires autocommit { connection.old.in_transaction ≡ false }
-    requires idle { IsIdle (state S.Store connection.old) }
+    requires idle { IsIdleOver by_domain (state S.Store connection.old) }
     requires is_open { HasCleanDisk (state S.Store connection.old) → IsTrue (state S.Store connection.old).is_open }
     ensures handed { (entries : List EntryValue)
-        → ((rows : List RowValue) → ShowsObsolete lang.now (state S.Store connection.old).now rows → filter_map R.entry rows ≡ entries)
+        → ((rows : List RowValue) → ShowsObsoleteIn lang.now (seen_in domain.now (rows_named (state S.Store connection.old).now)) rows → filter_map R.entry rows ≡ entries)
         → HasCleanDisk (state S.Store connection.new) → GivesAllBut K.Took K.Refuses sink.old sink.new (held.old ∷ entries) held.new result }
     ensures looked { IsLookUp (state S.Store connection.old) (state S.Store connection.new) result (λ _ _. ⊤) }
 {
     let mut rows = EntryRows::new(reader, held, sink);
-    match walk_obsolete(connection, lang, &mut rows) {
+    match walk_domain_obsolete(connection, domain, lang, &mut rows) {
         Ok(()) => Ok(()),
         Err(fault) => Err(told(fault)),
     }

@@ -1,4 +1,4 @@
-//! The entries of a language, handed to a sink as their rows come: one is held back until the next row was read, and
+//! The entries of a domain's language, handed to a sink as their rows come: one is held back until the next row was read, and
 //! no transaction is open while a sink takes one.
 //!
 //! - `header`: a language's header, looked up

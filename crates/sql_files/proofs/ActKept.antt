@@ -1,5 +1,5 @@
 -- The commit of an act on a unit keeps an office's file one: its record, and its unit's new view, if it has one.
-use Rattle.std.proofs.Common.{Bool, true, false, Option, Some, None}
+use Rattle.std.proofs.Common.{◌≡◌, codes, Bool, true, false, Option, Some, None}
 use Rattle.std.specs.Prelude.{IfSome}
 use Rattle.sqlite.specs.Effect.{Database}
 use Rattle.deliveries.specs.OfficeRules.{KeepsRules}
@@ -8,21 +8,39 @@ use Rattle.request_book.specs.declared.book.Record.{Record}
 use Rattle.units.specs.Office.{main, same_domain}
 use Rattle.units.specs.declared.unit.Unit.{Unit}
 use Rattle.units.specs.declared.unit.UnitView.{UnitView}
-use Rattle.sql_schema.specs.Inside.{AreOfficeTables}
-use Rattle.sql_meaning.specs.Meaning.{meaning_in}
+use Rattle.sql_schema.specs.Inside.{AreOfficeTablesOf}
+use Rattle.sql_meaning.specs.Meaning.{main_rows, meaning_in, HoldsOneDomain}
+use Rattle.sql_meaning.proofs.MainBeginnings.{main_stays}
+use Rattle.sql_changes.proofs.MainSteps.{domain_elsewhere}
 use Rattle.sql_changes.specs.Commits.{PutsNumberedRecord, WritesRecordAndUnit, MakesIf}
 use Rattle.sql_commits.specs.Acts.{MakesAct, MakesActRows}
 use Rattle.sql_keepable.specs.Keepable.{IsKeepableUnit}
+use Rattle.sql_adoption.specs.Adoption.{HoldsMainAlone}
 use Rattle.sql_files.specs.Files.{IsKeepable, StandForAll, IsOfficeDatabase}
 use Rattle.sql_files.proofs.RecordKept.{office_kept, form_kept, book_kept}
 use Rattle.sql_files.proofs.UnitKept.{unit_keeps}
-use Rattle.sql_schema.specs.Layouts.{rows_named, NamedRows}
+use Rattle.sql_schema.specs.Layouts.{by_domain, rows_named, NamedRows}
+use Rattle.sql_changes.specs.OnMain.{OnMain}
 
-pub stand_all : (old new : Database) → AreOfficeTables new → KeepsRules (meaning_in (rows_named new)) → IsOfficeDatabase old
-    → (StandForAll (rows_named old) → StandForAll (rows_named new)) → IsOfficeDatabase new
-stand_all old new ready rules file makes =
-    let all = makes (record { form = file.rows.form; office = file.rows.office; book = file.rows.book }) in
-    record { ready = ready; rows = record { form = all.form; office = all.office; book = all.book; rules = rules } }
+-- `main` is still the one domain, and no row is of another
+alone_still : (old new : NamedRows) → HoldsMainAlone by_domain old → HoldsOneDomain new → new (codes "domain") ≡ old (codes "domain") → HoldsMainAlone by_domain new
+alone_still old new alone held same = (main_stays old new same alone.0, held)
+
+pub stand_all : {Makes : NamedRows → NamedRows → Type 0} (old new : Database) → OnMain Makes old new → AreOfficeTablesOf by_domain new → KeepsRules (meaning_in (main_rows (rows_named new))) → IsOfficeDatabase by_domain old
+    → (Makes (main_rows (rows_named old)) (main_rows (rows_named new)) → StandForAll (main_rows (rows_named old)) → StandForAll (main_rows (rows_named new))) → IsOfficeDatabase by_domain new
+stand_all old new it ready rules file makes =
+    let made = it.on file.rows.alone.1 tt in
+    let all = makes made.0 (record { form = file.rows.form_told; office = file.rows.office; book = file.rows.book }) in
+    record {
+      ready = ready;
+      rows = record {
+        form_told = all.form;
+        alone = alone_still (rows_named old) (rows_named new) file.rows.alone made.1 (made.2 (codes "domain") domain_elsewhere);
+        office = all.office;
+        book = all.book;
+        rules = rules;
+      };
+    }
 
 pub record_step : (old new : NamedRows) (row : Record) → PutsNumberedRecord row old new → IsKeepable row → StandForAll old → StandForAll new
 record_step old new row it keepable all = record {
@@ -48,7 +66,11 @@ stand_after_act old new row domain lang None it keepable fits = record_step old 
 stand_after_act old new row domain lang (Some view) it keepable fits =
     in_domain (same_domain domain main) old new row (WritesRecordAndUnit row lang view.unit) it keepable (λ made. unit_after old new row lang view.unit made keepable fits)
 
-pub act_keeps : (old new : Database) (row : Record) (domain lang : Text) (view : Option UnitView) → MakesAct row domain lang view old new → AreOfficeTables new
-    → IsKeepable row → IfSome view (λ v. IsKeepableUnit lang v.unit) → KeepsRules (meaning_in (rows_named new)) → IsOfficeDatabase old → IsOfficeDatabase new
+pub act_keeps : (old new : Database) (row : Record) (domain lang : Text) (view : Option UnitView) → MakesAct row domain lang view old new → AreOfficeTablesOf by_domain new
+    → IsKeepable row → IfSome view (λ v. IsKeepableUnit lang v.unit) → KeepsRules (meaning_in (main_rows (rows_named new))) → IsOfficeDatabase by_domain old → IsOfficeDatabase by_domain new
 act_keeps old new row domain lang view it ready keepable fits rules file =
-    stand_all old new ready rules file (stand_after_act (rows_named old) (rows_named new) row domain lang view it keepable fits)
+    stand_all old new it ready rules file (λ made. stand_after_act (main_rows (rows_named old)) (main_rows (rows_named new)) row domain lang view made keepable fits)
+
+pub record_keeps : (old new : Database) (row : Record) → OnMain (PutsNumberedRecord row) old new → AreOfficeTablesOf by_domain new → IsKeepable row → KeepsRules (meaning_in (main_rows (rows_named new)))
+    → IsOfficeDatabase by_domain old → IsOfficeDatabase by_domain new
+record_keeps old new row it ready keepable rules file = stand_all old new it ready rules file (λ made. record_step (main_rows (rows_named old)) (main_rows (rows_named new)) row made keepable)

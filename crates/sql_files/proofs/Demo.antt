@@ -26,7 +26,7 @@ use Rattle.units.specs.declared.unit.Role.TheVariants.{Translator, Manager}
 use Rattle.sql_columns.specs.Written.{ArePrevious, IsHeaderEntry, texts_text, previous_text, header_text}
 use Rattle.sql_columns.proofs.Readers.{header_found}
 use Rattle.sql_schema.specs.Keys.{first_text, first_texts, row_number, columns}
-use Rattle.sql_meaning.specs.Beginnings.{closed_row, hello_row}
+use Rattle.sql_meaning.specs.Beginnings.{closed_row, hello_row, MakesDemo}
 use Rattle.sql_meaning.specs.Meaning.{project_of_rows, book_in, meaning_in}
 use Rattle.sql_meaning.proofs.Openings.{opens_demo, demo_keeps}
 use Rattle.sql_decoding.specs.RowTests.{is_key, is_policy_row, is_entry_row, is_language_row, is_rule_of}
@@ -34,13 +34,16 @@ use Rattle.sql_decoding.specs.ShownFound.{header_of_column}
 use Rattle.sql_decoding.proofs.ColumnsTested.{text_stands, null_stands, key_stands, header_stands, no_texts_stand, language_stands}
 use Rattle.sql_keepable.specs.Keepable.{IsKeepableUnit}
 use Rattle.office_rules.proofs.MainAlone.{project_keeps}
-use Rattle.sql_files.specs.Files.{HoldsOfficeRows}
+use Rattle.sql_files.specs.Files.{HoldsOfficeRows, StandForAll}
 use Rattle.sql_files.proofs.Puts.{no_row, all_put}
 use Rattle.sql_files.proofs.RoleKept.{member_stands, MemberStands}
 use Rattle.sql_files.proofs.UnitKept.{unit_stands, UnitStands}
 use Rattle.sql_schema.specs.Creation.{HaveNoRows}
 use Rattle.sql_schema.proofs.Layouts.{names_differ}
-use Rattle.sql_schema.specs.Layouts.{NamedRows}
+use Rattle.sql_schema.specs.Layouts.{by_domain, NamedRows, rows_named}
+use Rattle.sqlite.specs.Effect.{Database}
+use Rattle.sql_meaning.specs.Meaning.{main_rows}
+use Rattle.sql_meaning.proofs.MainBeginnings.{demo_in, demo_is_main}
 use Rattle.sql_meaning.specs.BeginningRows.{PutsMemberIn, PutsClosedPolicyIn, PutsDemoEntryIn, PutsDemoLanguageIn, PutsDemoUnitIn, MakesDemoIn}
 
 all_small : (bs : List ℕ) → list_all (λ b. nat_lt b 128) bs ≡ true → All (λ b. b < 128) bs
@@ -161,7 +164,7 @@ module _ (made one two closed hello german last : NamedRows) (empty : HaveNoRows
       all_put first_texts UnitStands (german (codes "unit")) (last (codes "unit")) unit.row unit.put
       (λ x there. no_row (german (codes "unit")) x before there) (subst UnitStands (sym unit.is_row.1) (unit_stands (codes "de") demo_unit unit_fits))
 
-  rows_of_demo : KeepsRules (meaning_in last) → HoldsOfficeRows last
+  rows_of_demo : KeepsRules (meaning_in last) → StandForAll last
   rows_of_demo rules = record {
     form = (policy.row, subst (λ rows. Has rows policy.row) (sym policy_last) policy.put.here, ap row_number policy.is_row, ap (λ r. column r 2) policy.is_row);
     office = record {
@@ -179,10 +182,15 @@ module _ (made one two closed hello german last : NamedRows) (empty : HaveNoRows
       records = λ row there. no_row _ row (none (codes "record") (names_differ refl) (names_differ refl) (names_differ refl) (names_differ refl) (names_differ refl)) there;
       contents = λ row there. no_row _ row (none (codes "record") (names_differ refl) (names_differ refl) (names_differ refl) (names_differ refl) (names_differ refl)) there;
     };
-    rules = rules;
   }
 
-pub demo_rows : (old new : NamedRows) → MakesDemoIn old new → HoldsOfficeRows new
-demo_rows old new (made, empty, ((two, (one, root, ann), (closed, policy, (hello, entry, (german, language, unit)))))) =
-    rows_of_demo made one two closed hello german new empty root ann policy entry language unit
-    (subst KeepsRules (sym (opens_demo old new (made, empty, ((two, (one, root, ann), (closed, policy, (hello, entry, (german, language, unit))))))).0) demo_keeps)
+demo_seen : (old new : NamedRows) → MakesDemoIn old new → KeepsRules (meaning_in new) → StandForAll new
+demo_seen old new (made, empty, ((two, (one, root, ann), (closed, policy, (hello, entry, (german, language, unit)))))) rules =
+    rows_of_demo made one two closed hello german new empty root ann policy entry language unit rules
+
+pub demo_rows : (old new : Database) → MakesDemo old new → HoldsOfficeRows by_domain (rows_named new)
+demo_rows old new made =
+    let it = demo_in old new made in
+    let rules = subst KeepsRules (sym (opens_demo (main_rows (rows_named old)) (main_rows (rows_named new)) it).0) demo_keeps in
+    let all = demo_seen (main_rows (rows_named old)) (main_rows (rows_named new)) it rules in
+    record { form_told = all.form; alone = demo_is_main old new made; office = all.office; book = all.book; rules = rules }

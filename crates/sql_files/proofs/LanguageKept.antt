@@ -21,9 +21,9 @@ use Rattle.deliveries.specs.declared.values.Language.{Language}
 use Rattle.request_book.specs.declared.book.Record.{Record}
 use Rattle.sql_columns.specs.Written.{IsHeaderEntry, header_text}
 use Rattle.sql_columns.proofs.Readers.{header_found, only_same}
-use Rattle.sql_schema.specs.Inside.{Then, AreOfficeTables}
+use Rattle.sql_schema.specs.Inside.{Then, AreOfficeTablesOf}
 use Rattle.sql_schema.specs.Keys.{first_text, columns}
-use Rattle.sql_meaning.specs.Meaning.{header_of_row, headers_in, project_of_rows, book_in, meaning_in}
+use Rattle.sql_meaning.specs.Meaning.{header_of_row, headers_in, project_of_rows, book_in, meaning_in, main_rows}
 use Rattle.sql_changes.specs.Commits.{PutsNumberedRecord, PutsLanguage, WritesLanguage, MakesLanguage}
 use Rattle.sql_changes.specs.UnitWrites.{WritesUnits}
 use Rattle.sql_changes.proofs.PlannedUnits.{units_in_turn}
@@ -36,15 +36,17 @@ use Rattle.sql_files.specs.Files.{IsKeepable, StandForAll, IsOfficeDatabase}
 use Rattle.sql_files.proofs.Puts.{all_put, template_same, form_same, book_same}
 use Rattle.sql_files.proofs.UnitKept.{units_keep}
 use Rattle.sql_files.proofs.ActKept.{stand_all, record_step}
-use Rattle.sql_schema.specs.Layouts.{NamedRows, rows_named}
+use Rattle.sql_schema.specs.Layouts.{by_domain, NamedRows, rows_named}
 use Rattle.sql_schema.proofs.Layouts.{names_differ}
 use Rattle.sql_meaning.specs.RowKeys.{AreOfficeRows}
 use Rattle.sqlite.specs.Effect.{Database}
-use Rattle.sql_meaning.proofs.OfficeRows.{office_rows}
+use Rattle.sql_meaning.proofs.DomainOfficeRows.{domain_rows}
+use Rattle.units.specs.Office.{main}
+use Rattle.sql_changes.specs.OnMain.{OnMain}
 
 -- ---- a language's row
 
-abbrev LanguageStands : Row → Type 0
+abbrev pub LanguageStands : Row → Type 0
 LanguageStands row = IsTrue (is_language_row (columns (2 ∷ 3 ∷ 1 ∷ []) row))
 
 has_field : (field : Option Text) → is_ok (rule_of_field field) ≡ true → option_map_or (bytes_eq (unwrap_or field [])) field false ≡ true
@@ -87,7 +89,7 @@ language_step old new apart languages it =
       book = book_same old new (apart (codes "record") (names_differ refl)) it.book;
     }
 
-put_step : (lang : Text) (header : Entry) → IsKeepableLanguage lang header → IsHeaderEntry header → IsOk (rule_in (Some header)) → (old new : NamedRows) → PutsLanguage lang header old new
+pub put_step : (lang : Text) (header : Entry) → IsKeepableLanguage lang header → IsHeaderEntry header → IsOk (rule_in (Some header)) → (old new : NamedRows) → PutsLanguage lang header old new
     → StandForAll old → StandForAll new
 put_step lang header fits entry fine old new put it =
     let made = put.0.0 in
@@ -124,7 +126,7 @@ pub stand_after_language : (old new : NamedRows) (row : Record) (lang : Text) (l
 unfolding MakesLanguage
 stand_after_language old new row lang language plan it ready keepable fits entry all rules = makes_language old new row lang language.header plan.units it ready keepable fits entry all rules
 
-pub language_keeps : (old new : Database) (row : Record) (lang : Text) (language : Language) (plan : Plan) → MakesLanguage row lang language plan (rows_named old) (rows_named new) → AreOfficeTables new
-    → IsKeepable row → IsKeepableLanguage lang language.header → IsHeaderEntry language.header → AreKeepableUnits lang plan.units → KeepsRules (meaning_in (rows_named new)) → IsOfficeDatabase old → IsOfficeDatabase new
+pub language_keeps : (old new : Database) (row : Record) (lang : Text) (language : Language) (plan : Plan) → OnMain (MakesLanguage row lang language plan) old new → AreOfficeTablesOf by_domain new
+    → IsKeepable row → IsKeepableLanguage lang language.header → IsHeaderEntry language.header → AreKeepableUnits lang plan.units → KeepsRules (meaning_in (main_rows (rows_named new))) → IsOfficeDatabase by_domain old → IsOfficeDatabase by_domain new
 language_keeps old new row lang language plan it ready keepable fits entry all rules file =
-    stand_all old new ready rules file (stand_after_language (rows_named old) (rows_named new) row lang language plan it (office_rows new ready) keepable fits entry all rules)
+    stand_all old new it ready rules file (λ made. stand_after_language (main_rows (rows_named old)) (main_rows (rows_named new)) row lang language plan made (domain_rows new ready main) keepable fits entry all rules)

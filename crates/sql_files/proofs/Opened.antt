@@ -10,19 +10,21 @@ use Rattle.po_text.specs.Texts.{Text}
 use Rattle.po_text.specs.Valid.{IsValid}
 use Rattle.units.specs.Limits.{is_name}
 use Rattle.sql_schema.specs.Keys.{first_text, row_number, columns}
-use Rattle.sql_meaning.specs.Meaning.{meaning_in}
-use Rattle.sql_meaning.specs.Beginnings.{closed_row}
+use Rattle.sql_meaning.specs.Beginnings.{closed_row, MakesOpening}
 use Rattle.sql_meaning.proofs.Openings.{no_template, opens, opening_keeps}
 use Rattle.sql_decoding.specs.RowTests.{is_member_row, is_policy_row}
 use Rattle.sql_decoding.proofs.ColumnsTested.{text_stands}
-use Rattle.sql_files.specs.Files.{HoldsOfficeRows}
+use Rattle.sql_files.specs.Files.{HoldsOfficeRows, StandForAll}
 use Rattle.sql_files.proofs.Puts.{no_row, all_put}
 use Rattle.sql_schema.specs.Creation.{HaveNoRows}
 use Rattle.sql_schema.proofs.Layouts.{names_differ}
-use Rattle.sql_schema.specs.Layouts.{NamedRows}
-use Rattle.sql_meaning.specs.BeginningRows.{PutsMemberIn, PutsClosedPolicyIn, MakesOpeningIn}
+use Rattle.sql_schema.specs.Layouts.{by_domain, NamedRows, rows_named}
+use Rattle.sqlite.specs.Effect.{Database}
+use Rattle.sql_meaning.specs.Meaning.{main_rows}
+use Rattle.sql_meaning.proofs.MainBeginnings.{opening_in, opening_is_main}
+use Rattle.sql_meaning.specs.BeginningRows.{PutsMemberIn, PutsClosedPolicyIn}
 
-nothing_valid : IsValid []
+pub nothing_valid : IsValid []
 nothing_valid = record { each = tt; unique = tt; header = tt }
 
 module _ (name : Text) (named : is_name name ≡ true) (utf8 : IsUtf8 name) (made first last : NamedRows) (empty : HaveNoRows made)
@@ -51,8 +53,8 @@ module _ (name : Text) (named : is_name name ≡ true) (utf8 : IsUtf8 name) (mad
       all_put row_number (λ r. r ≡ closed_row) (first (codes "policy")) (last (codes "policy")) policy.row policy.put
       (λ x there. no_row (first (codes "policy")) x (early (codes "policy") (names_differ refl)) there) policy.is_row
 
-  rows_of_opening : KeepsRules (meaning_in last) → HoldsOfficeRows last
-  rows_of_opening rules = record {
+  rows_of_opening : StandForAll last
+  rows_of_opening = record {
     form = (policy.row, policy.put.here, ap row_number policy.is_row, ap (λ r. column r 2) policy.is_row);
     office = record {
       members = λ row there. one_member row (subst (λ rows. Has rows row) (late (codes "team") (names_differ refl)) there);
@@ -68,9 +70,16 @@ module _ (name : Text) (named : is_name name ≡ true) (utf8 : IsUtf8 name) (mad
       records = λ row there. no_row _ row (none (codes "record") (names_differ refl) (names_differ refl)) there;
       contents = λ row there. no_row _ row (none (codes "record") (names_differ refl) (names_differ refl)) there;
     };
-    rules = rules;
   }
 
-pub opening_rows : (name : Text) → is_name name ≡ true → IsUtf8 name → (old new : NamedRows) → MakesOpeningIn name old new → HoldsOfficeRows new
-opening_rows name named utf8 old new it =
-    rows_of_opening name named utf8 it.0 it.2.0 new it.1 it.2.1 it.2.2 (subst KeepsRules (sym (opens name old new it).0) (opening_keeps name))
+pub opening_rows : (name : Text) → is_name name ≡ true → IsUtf8 name → (old new : Database) → MakesOpening name old new → HoldsOfficeRows by_domain (rows_named new)
+opening_rows name named utf8 old new made =
+    let it = opening_in name old new made in
+    let all = rows_of_opening name named utf8 it.0 it.2.0 (main_rows (rows_named new)) it.1 it.2.1 it.2.2 in
+    record {
+      form_told = all.form;
+      alone = opening_is_main name old new made;
+      office = all.office;
+      book = all.book;
+      rules = subst KeepsRules (sym (opens name (main_rows (rows_named old)) (main_rows (rows_named new)) it).0) (opening_keeps name);
+    }

@@ -20,7 +20,7 @@ use Rattle.units.specs.Orders.{place_total, place_IsAntisymmetric}
 use Rattle.units.specs.declared.unit.Policy.{Policy}
 use Rattle.sql_schema.specs.Keys.{row_number, columns}
 use Rattle.sql_statements.specs.Renewed.{unapproved_row}
-use Rattle.sql_meaning.specs.Meaning.{place_of_row, unit_of_row, units_in, policy_in, project_of_rows, book_in, meaning_in}
+use Rattle.sql_meaning.specs.Meaning.{place_of_row, unit_of_row, units_in, policy_in, project_of_rows, book_in, meaning_in, main_rows}
 use Rattle.sql_meaning.specs.Values.{integer_at, natural, natural_at}
 use Rattle.sql_meaning.proofs.Units.{by_place}
 use Rattle.sql_changes.specs.Commits.{policy_row, PutsPolicy, UnapprovesUnless, MakesPolicy}
@@ -29,24 +29,27 @@ use Rattle.sql_changes.proofs.Policy.{policy_put}
 use Rattle.sql_decoding.specs.RowTests.{integer_passes, holds_integer, natural_passes, is_flag, is_state, has_place, has_unit_numbers, has_unit_texts, is_unit, is_policy_row}
 use Rattle.sql_decoding.proofs.ColumnsTested.{integer_is, flag_stands, natural_stands}
 use Rattle.office_rules.proofs.MainAlone.{project_keeps}
-use Rattle.sql_files.specs.Files.{IsKeepable, StandForAll, TellsFirstForm, IsOfficeDatabase}
+use Rattle.sql_adoption.specs.Adoption.{TellsForm}
+use Rattle.sql_files.specs.Files.{IsKeepable, StandForAll, IsOfficeDatabase}
 use Rattle.sql_files.proofs.Puts.{all_put, template_same, book_same}
 use Rattle.sql_files.proofs.UnitKept.{UnitStands, units_step}
 use Rattle.sql_files.proofs.ActKept.{stand_all, record_step}
-use Rattle.sql_schema.specs.Layouts.{NamedRows, rows_named}
+use Rattle.sql_schema.specs.Layouts.{by_domain, NamedRows, rows_named}
 use Rattle.sql_schema.proofs.Layouts.{names_differ}
 use Rattle.sql_meaning.specs.RowKeys.{AreOfficeRows, HoldsIntegers}
 use Rattle.sql_meaning.specs.RowChanges.{HaveNextIn}
-use Rattle.sql_schema.specs.Inside.{AreOfficeTables}
+use Rattle.sql_schema.specs.Inside.{AreOfficeTablesOf}
 use Rattle.sqlite.specs.Effect.{Database}
-use Rattle.sql_meaning.proofs.OfficeRows.{office_rows}
+use Rattle.sql_meaning.proofs.DomainOfficeRows.{domain_rows}
+use Rattle.units.specs.Office.{main}
+use Rattle.sql_changes.specs.OnMain.{OnMain}
 
 -- ---- the policy's row
 
-abbrev PolicyStands : Row → Type 0
+abbrev pub PolicyStands : Row → Type 0
 PolicyStands row = row_number row ≡ Int (pos 1) → IsTrue (is_policy_row (columns (2 ∷ 3 ∷ 4 ∷ 5 ∷ 6 ∷ 7 ∷ 8 ∷ []) row))
 
-policy_stands : (policy : Policy) → is_accept_at policy.accept_at ≡ true → is_policy_row (columns (2 ∷ 3 ∷ 4 ∷ 5 ∷ 6 ∷ 7 ∷ 8 ∷ []) (policy_row policy)) ≡ true
+pub policy_stands : (policy : Policy) → is_accept_at policy.accept_at ≡ true → is_policy_row (columns (2 ∷ 3 ∷ 4 ∷ 5 ∷ 6 ∷ 7 ∷ 8 ∷ []) (policy_row policy)) ≡ true
 policy_stands policy accepts =
     let shown : Row = columns (2 ∷ 3 ∷ 4 ∷ 5 ∷ 6 ∷ 7 ∷ 8 ∷ []) (policy_row policy) in
     let flag : (at : ℕ) (b : Bool) → column shown at ≡ Int (flag_number b) → holds_integer is_flag at shown ≡ true =
@@ -57,7 +60,7 @@ policy_stands policy accepts =
     (and_from _ _ (integer_is 4 shown (pos policy.accept_at) refl (natural_passes is_accept_at) true (natural_stands is_accept_at (pos policy.accept_at) policy.accept_at accepts refl))
     (and_from _ _ (flag 5 policy.placeholders refl) (flag 6 policy.line_ends refl)))))
 
-policy_step : (old new : NamedRows) → ((t : List ℕ) → t ≢ codes "policy" → new t ≡ old t) → TellsFirstForm new → ((row : Row) → Has (new (codes "policy")) row → PolicyStands row) → StandForAll old → StandForAll new
+policy_step : (old new : NamedRows) → ((t : List ℕ) → t ≢ codes "policy" → new t ≡ old t) → TellsForm by_domain new → ((row : Row) → Has (new (codes "policy")) row → PolicyStands row) → StandForAll old → StandForAll new
 policy_step old new apart form policy it =
     let template = apart (codes "template") (names_differ refl) in
     record {
@@ -144,7 +147,7 @@ module _ (db : NamedRows) (ready : AreOfficeRows db) (rules : KeepsRules (meanin
 
 -- ---- all units
 
-next_revisions : (db : NamedRows) → ((row : Row) → Has (db (codes "unit")) row → UnitStands row) → HaveNextIn db
+pub next_revisions : (db : NamedRows) → ((row : Row) → Has (db (codes "unit")) row → UnitStands row) → HaveNextIn db
 next_revisions db units row there approved = next_fits row (units row there)
 
 module _ (old new : NamedRows) (units : (row : Row) → Has (old (codes "unit")) row → UnitStands row) where
@@ -194,7 +197,7 @@ stand_after_policy old new row policy (mid, recorded, (next, put, made)) ready i
     let whole = subst (HoldsIntegers 0) policies ready.typed.policy_numbers in
     changed_step mid next new policy put made is_ready rules one whole (record_step old mid row recorded keepable all)
 
-pub policy_keeps : (old new : Database) (row : Record) (policy : Policy) → MakesPolicy row policy (rows_named old) (rows_named new) → AreOfficeTables new
-    → IsKeepable row → KeepsRules (meaning_in (rows_named new)) → IsOfficeDatabase old → IsOfficeDatabase new
+pub policy_keeps : (old new : Database) (row : Record) (policy : Policy) → OnMain (MakesPolicy row policy) old new → AreOfficeTablesOf by_domain new
+    → IsKeepable row → KeepsRules (meaning_in (main_rows (rows_named new))) → IsOfficeDatabase by_domain old → IsOfficeDatabase by_domain new
 policy_keeps old new row policy it ready keepable rules file =
-    stand_all old new ready rules file (stand_after_policy (rows_named old) (rows_named new) row policy it (office_rows old file.ready) (office_rows new ready) keepable rules)
+    stand_all old new it ready rules file (λ made. stand_after_policy (main_rows (rows_named old)) (main_rows (rows_named new)) row policy made (domain_rows old file.ready main) (domain_rows new ready main) keepable rules)

@@ -8,9 +8,8 @@ use Rattle.sql_laws.specs.RowMaps.{IsPut, map_of}
 use Rattle.po_text.specs.Valid.{IsValid}
 use Rattle.sql_meaning.specs.Meaning.{entry_of_row, template_in}
 use Rattle.sql_meaning.specs.Values.{integer_at}
-use Rattle.sql_adoption.specs.Adoption.{StandForOffice, StandForBook}
-use Rattle.sql_files.specs.Files.{TellsFirstForm}
-use Rattle.sql_schema.specs.Layouts.{NamedRows}
+use Rattle.sql_adoption.specs.Adoption.{TellsForm, StandForOffice, StandForBook}
+use Rattle.sql_schema.specs.Layouts.{by_domain, NamedRows}
 
 -- a row of none
 pub no_row : {A : Type 0} (rows : List Row) (x : Row) → rows ≡ [] → Has rows x → A
@@ -34,7 +33,7 @@ office_same old new team policy template languages units suggestions votes it = 
   votes = λ row there. it.votes row (subst (λ rows. Has rows row) votes there);
 }
 
-pub form_same : (old new : NamedRows) → new (codes "policy") ≡ old (codes "policy") → TellsFirstForm old → TellsFirstForm new
+pub form_same : (old new : NamedRows) → new (codes "policy") ≡ old (codes "policy") → TellsForm by_domain old → TellsForm by_domain new
 form_same old new same it = (it.0, subst (λ rows. Has rows it.0) (sym same) it.1, it.2, it.3)
 
 pub template_same : (old new : NamedRows) → new (codes "template") ≡ old (codes "template") → IsValid (template_in old) → IsValid (template_in new)

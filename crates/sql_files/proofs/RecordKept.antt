@@ -7,25 +7,21 @@ use Rattle.sqlite.specs.declared.types.Value.TheVariants.{Int, Text as Words}
 use Rattle.sqlite.specs.Order.{Row}
 use Rattle.uuid.specs.Text.{lower}
 use Rattle.uuid.proofs.TextLemmas.{hyphenated_ascii}
-use Rattle.deliveries.specs.OfficeRules.{KeepsRules}
 use Rattle.request_book.specs.Acts.{IsNumber}
 use Rattle.request_book.specs.Words.{number_text}
 use Rattle.request_book.specs.declared.book.Record.{Record}
 use Rattle.po_text.specs.Texts.{Text}
-use Rattle.sql_schema.specs.Inside.{PutsIn, HoldsValues, AreOfficeTables}
+use Rattle.sql_schema.specs.Inside.{PutsIn, HoldsValues}
 use Rattle.sql_schema.specs.Keys.{text_at, first_text, columns}
 use Rattle.sql_meaning.specs.Cells.{record_cells}
-use Rattle.sql_meaning.specs.Meaning.{meaning_in}
-use Rattle.sql_adoption.specs.Adoption.{StandForOffice, StandForBook}
+use Rattle.sql_adoption.specs.Adoption.{TellsForm, StandForOffice, StandForBook}
 use Rattle.request_book.specs.Contents.{IsContent}
-use Rattle.sql_changes.specs.Commits.{PutsNumberedRecord}
 use Rattle.sql_decoding.specs.RowTests.{any_text, is_number, is_status, is_record_row}
 use Rattle.sql_decoding.proofs.ColumnsTested.{text_stands, integer_is, number_stands, natural_stands}
-use Rattle.sql_files.specs.Files.{IsKeepable, TellsFirstForm, IsOfficeDatabase}
+use Rattle.sql_files.specs.Files.{IsKeepable}
 use Rattle.sql_files.proofs.Puts.{all_put, office_same, form_same}
-use Rattle.sql_schema.specs.Layouts.{rows_named, NamedRows}
+use Rattle.sql_schema.specs.Layouts.{by_domain, NamedRows}
 use Rattle.sql_schema.proofs.Layouts.{names_differ}
-use Rattle.sqlite.specs.Effect.{Database}
 
 pub number_utf8 : (number : Text) → IsUtf8 (number_text number)
 number_utf8 number = IsUtf8-from_ascii (number_text number) (hyphenated_ascii lower number (inl refl))
@@ -51,7 +47,7 @@ module _ (old new : NamedRows) (row : Record) (valid : IsNumber row.number) (put
       office_same old new (stays (codes "team") (names_differ refl)) (stays (codes "policy") (names_differ refl)) (stays (codes "template") (names_differ refl))
       (stays (codes "language") (names_differ refl)) (stays (codes "unit") (names_differ refl)) (stays (codes "suggestion") (names_differ refl)) (stays (codes "vote") (names_differ refl)) it
 
-  pub form_kept : TellsFirstForm old → TellsFirstForm new
+  pub form_kept : TellsForm by_domain old → TellsForm by_domain new
   form_kept it = form_same old new (stays (codes "policy") (names_differ refl)) it
 
   pub book_kept : IsKeepable row → StandForBook old → StandForBook new
@@ -61,15 +57,3 @@ module _ (old new : NamedRows) (row : Record) (valid : IsNumber row.number) (put
     contents = all_put first_text (λ r. IsContent (text_at 2 r)) (old (codes "record")) (new (codes "record")) put.row put.put it.contents
         (subst (λ r. IsContent (text_at 2 r)) (sym put.is_row.1) keepable.content);
   }
-
-pub record_keeps : (old new : Database) (row : Record) → PutsNumberedRecord row (rows_named old) (rows_named new) → AreOfficeTables new → IsKeepable row
-    → KeepsRules (meaning_in (rows_named new)) → IsOfficeDatabase old → IsOfficeDatabase new
-record_keeps old new row it ready keepable rules file = record {
-  ready = ready;
-  rows = record {
-    form = form_kept (rows_named old) (rows_named new) row it.1 it.0 file.rows.form;
-    office = office_kept (rows_named old) (rows_named new) row it.1 it.0 file.rows.office;
-    book = book_kept (rows_named old) (rows_named new) row it.1 it.0 keepable file.rows.book;
-    rules = rules;
-  };
-}

@@ -1,28 +1,33 @@
 -- An office's file is adopted, but for want of memory and a failed disk; and what is adopted is one.
 use Rattle.std.proofs.Common.{inl, inr, refl}
 use Rattle.sqlite.specs.Effect.{Database, IsDatabase}
-use Rattle.sql_adoption.specs.Found.{HoldsOffice}
-use Rattle.sql_adoption.specs.Adoption.{Refuses, IsAdopted}
+use Rattle.deliveries.specs.OfficeRules.{KeepsRules}
+use Rattle.sql_schema.specs.Layouts.{Form, rows_named}
+use Rattle.sql_meaning.specs.Meaning.{own_rows, meaning_for}
+use Rattle.sql_adoption.specs.Adoption.{Refuses, TellsForm, HoldsMainAlone, StandForOffice, StandForBook, IsAdopted}
+use Rattle.sql_adoption.proofs.Kept.{lacks_own}
 use Rattle.sql_adoption.specs.declared.faults.OpenFault.{OpenFault}
 use Rattle.sql_adoption.specs.declared.faults.OpenFault.TheVariants.{Memory, Disk, Foreign, Exists}
 use Rattle.sql_adoption.specs.declared.faults.Mismatch.TheVariants.{OtherTables, OtherForm, UnreadRow, BrokenRules}
 use Rattle.sql_files.specs.Files.{IsOfficeDatabase, IsOfficeFile, IsLost}
-use Rattle.sql_files.proofs.Listed.{file_read, file_left}
+use Rattle.sql_files.proofs.Listed.{database_read, file_left}
 
-lost_of : (db : Database) → IsOfficeDatabase db → (fault : OpenFault) → Refuses db fault → IsLost fault
-lost_of db file Memory refused = inl refl
-lost_of db file Disk refused = inr refl
-lost_of db file (Foreign OtherTables) refused = absurd (refused (record { schema = file.ready.schema; tables = file.ready.tables }))
-lost_of db file (Foreign OtherForm) refused = absurd (refused file.rows.form)
-lost_of db file (Foreign UnreadRow) refused = absurd (refused (file.rows.office, file.rows.book))
-lost_of db file (Foreign BrokenRules) refused = absurd (refused file.rows.rules)
-lost_of db file Exists refused = absurd refused
+lost_of : (form : Form) (db : Database) → IsOfficeDatabase form db → (fault : OpenFault) → Refuses db fault → IsLost fault
+lost_of form db file Memory refused = inl refl
+lost_of form db file Disk refused = inr refl
+lost_of form db file (Foreign OtherTables) refused = absurd (refused (form, record { schema = file.ready.schema; tables = file.ready.tables }))
+lost_of form db file (Foreign OtherForm) refused =
+    absurd (lacks_own (λ f. TellsForm f (rows_named db) × HoldsMainAlone f (rows_named db)) db form file.ready.schema refused (file.rows.form_told, file.rows.alone))
+lost_of form db file (Foreign UnreadRow) refused =
+    absurd (lacks_own (λ f. StandForOffice (own_rows f (rows_named db)) × StandForBook (own_rows f (rows_named db))) db form file.ready.schema refused (file.rows.office, file.rows.book))
+lost_of form db file (Foreign BrokenRules) refused = absurd (lacks_own (λ f. KeepsRules (meaning_for f (rows_named db))) db form file.ready.schema refused file.rows.rules)
+lost_of form db file Exists refused = absurd refused
 
 pub lost_alone : (db : Database) → IsDatabase db → IsOfficeFile db.trees → (fault : OpenFault) → Refuses db fault → IsLost fault
-lost_alone db shown file = lost_of db (file_read db shown file)
+lost_alone db shown file = let it = database_read db shown file in lost_of it.0 db it.1
 
-pub adopted_file : (db : Database) → IsDatabase db → HoldsOffice db → IsAdopted db → IsOfficeFile db.trees
-adopted_file db shown holds it = file_left db (record {
+pub adopted_file : (db : Database) → IsDatabase db → IsAdopted db → IsOfficeFile db.trees
+adopted_file db shown (form, holds, it) = file_left form db (record {
   ready = record { schema = holds.schema; sound = shown; tables = holds.tables };
-  rows = record { form = it.form; office = it.office; book = it.book; rules = it.rules };
+  rows = record { form_told = it.told; alone = it.alone; office = it.office; book = it.book; rules = it.rules };
 })

@@ -12,29 +12,30 @@ use Rattle.deliveries.specs.ProjectActs.{LanguagePlan}
 use Rattle.deliveries.specs.OfficeRules.{KeepsRules}
 use Rattle.request_book.specs.declared.book.Record.{Record}
 use Rattle.sql_columns.specs.Written.{texts_text}
-use Rattle.sql_schema.specs.Inside.{Then, AreOfficeTables}
+use Rattle.sql_schema.specs.Inside.{Then, AreOfficeTablesOf}
 use Rattle.sql_schema.specs.Keys.{row_number, columns}
-use Rattle.sql_meaning.specs.Meaning.{template_in, project_of_rows, book_in, meaning_in}
+use Rattle.sql_meaning.specs.Meaning.{template_in, project_of_rows, book_in, meaning_in, main_rows}
 use Rattle.sql_changes.specs.Commits.{PutsNumberedRecord, entry_row, PutsEntries, WritesTemplate, MakesTemplate}
 use Rattle.sql_changes.specs.UnitWrites.{LeavesRows, WritesPlansBack}
 use Rattle.sql_changes.proofs.PlannedUnits.{plans_from_last}
-use Rattle.sql_changes.proofs.Template.{entries_spare}
+use Rattle.sql_changes.proofs.Template.{entries_spare, entries_ready}
 use Rattle.sql_decoding.specs.RowTests.{is_key, are_texts, is_entry_row}
 use Rattle.sql_decoding.proofs.ColumnsTested.{text_stands, key_stands, texts_stand}
 use Rattle.sql_keepable.specs.Keepable.{IsKeepableEntry, AreKeepableEntries, AreKeepablePlans}
 use Rattle.office_rules.proofs.MainAlone.{project_keeps}
 use Rattle.sql_files.specs.Files.{IsKeepable, StandForAll, IsOfficeDatabase}
-use Rattle.sql_files.proofs.Puts.{no_row, all_put, template_same, form_same, book_same}
-use Rattle.sql_files.proofs.UnitKept.{plural_stands, units_step, plans_keep}
+use Rattle.sql_files.proofs.Puts.{all_put, template_same, form_same, book_same}
+use Rattle.sql_files.proofs.UnitKept.{plural_stands, plans_keep}
 use Rattle.sql_files.proofs.ActKept.{stand_all, record_step}
-use Rattle.sql_schema.specs.Layouts.{NamedRows, rows_named}
+use Rattle.sql_schema.specs.Layouts.{by_domain, NamedRows, rows_named}
 use Rattle.sql_schema.proofs.Layouts.{names_differ}
-use Rattle.sql_meaning.specs.RowChanges.{TakesIn, EmptiesIn}
+use Rattle.sql_meaning.specs.RowChanges.{TakesIn}
 use Rattle.sqlite.specs.Effect.{Database}
+use Rattle.sql_changes.specs.OnMain.{OnMain}
 
 -- ---- an entry's row
 
-abbrev EntryStands : Row → Type 0
+abbrev pub EntryStands : Row → Type 0
 EntryStands row = IsTrue (is_entry_row (columns (3 ∷ 4 ∷ 5 ∷ 6 ∷ 2 ∷ 0 ∷ []) row))
 
 entry_stands : (place : ℕ) (entry : Entry) → HasStrings (key_of entry) → IsKeepableEntry entry → is_entry_row (columns (3 ∷ 4 ∷ 5 ∷ 6 ∷ 2 ∷ 0 ∷ []) (entry_row place entry)) ≡ true
@@ -46,7 +47,7 @@ entry_stands place entry strings fits =
     (and_from _ _ (text_stands 2 shown (texts_text entry.references) refl are_texts fits.references_column (texts_stand (texts_text entry.references) entry.references refl))
     (text_stands 3 shown (texts_text entry.flags) refl are_texts fits.flags_column (texts_stand (texts_text entry.flags) entry.flags refl)))))
 
-entries_stand : (place : ℕ) (entries : List Entry) → AreKeepableEntries entries → (old new : NamedRows) → PutsEntries place entries old new
+pub entries_stand : (place : ℕ) (entries : List Entry) → AreKeepableEntries entries → (old new : NamedRows) → PutsEntries place entries old new
     → ((row : Row) → Has (old (codes "template")) row → EntryStands row) → (row : Row) → Has (new (codes "template")) row → EntryStands row
 entries_stand place [] fits old new is each row there = each row (subst (λ (d : NamedRows). Has (d (codes "template")) row) is there)
 entries_stand place (entry ∷ more) fits old new (mid, put, rest) each row there =
@@ -55,7 +56,7 @@ entries_stand place (entry ∷ more) fits old new (mid, put, rest) each row ther
     (all_put row_number EntryStands (old (codes "template")) (mid (codes "template")) made.row made.put each
     (subst EntryStands (sym made.is_row) (entry_stands place entry put.1 (fits entry (inl refl))))) row there
 
-template_step : (old new : NamedRows) → ((t : List ℕ) → t ≢ codes "template" → new t ≡ old t) → IsValid (template_in new) → ((row : Row) → Has (new (codes "template")) row → EntryStands row)
+pub template_step : (old new : NamedRows) → ((t : List ℕ) → t ≢ codes "template" → new t ≡ old t) → IsValid (template_in new) → ((row : Row) → Has (new (codes "template")) row → EntryStands row)
     → StandForAll old → StandForAll new
 template_step old new apart valid entries it =
     let policy = apart (codes "policy") (names_differ refl) in
@@ -74,48 +75,34 @@ template_step old new apart valid entries it =
       book = book_same old new (apart (codes "record") (names_differ refl)) it.book;
     }
 
--- ---- units that are taken away
-
-module _ (old new : NamedRows) (emptied : EmptiesIn old new) where
-  others_stay : (t : List ℕ) → t ≢ codes "unit" → t ≢ codes "suggestion" → t ≢ codes "vote" → new t ≡ old t
-  others_stay t no_unit no_suggestion no_vote = emptied.others t no_unit no_suggestion no_vote
-
-  emptied_step : StandForAll old → StandForAll new
-  emptied_step it =
-      units_step old new others_stay (λ row there. no_row _ row emptied.units there) (λ row there. no_row _ row emptied.suggestions there)
-      (λ row there. no_row _ row emptied.votes there) it
-
 -- ---- the commit
 
-module _ (mid gone next empty after : NamedRows) (entries : List Entry) (plans : List LanguagePlan) (taken : LeavesRows (TakesIn (codes "template") (λ row. true)) mid gone)
-    (put : PutsEntries 0 entries gone next) (emptied : LeavesRows EmptiesIn next empty) (written : WritesPlansBack plans empty after) (rules : KeepsRules (meaning_in after)) where
+module _ (mid gone next after : NamedRows) (entries : List Entry) (plans : List LanguagePlan) (taken : LeavesRows (TakesIn (codes "template") (λ row. true)) mid gone)
+    (put : PutsEntries 0 entries gone next) (written : WritesPlansBack plans next after) (rules : KeepsRules (meaning_in after)) where
   template_stays : after (codes "template") ≡ next (codes "template")
-  template_stays =
-      (plans_from_last plans empty after emptied.1 written).others.template ∙ others_stay next empty emptied.0 (codes "template") (names_differ refl) (names_differ refl) (names_differ refl)
+  template_stays = (plans_from_last plans next after (entries_ready 0 entries gone next taken.1 put) written).others.template
 
   others_spared : (t : List ℕ) → t ≢ codes "template" → next t ≡ mid t
-  others_spared t apart =
-      entries_spare 0 entries gone next put t apart ∙ taken.0.others t apart
+  others_spared t apart = entries_spare 0 entries gone next put t apart ∙ taken.0.others t apart
 
   changed_step : AreKeepableEntries entries → AreKeepablePlans plans → StandForAll mid → StandForAll after
   changed_step fits all it =
-      plans_keep plans all empty after written
-      (emptied_step next empty emptied.0
+      plans_keep plans all next after written
       (template_step mid next others_spared (template_same after next (sym template_stays) (project_keeps (project_of_rows after) (book_in after) rules).template_valid)
-      (entries_stand 0 entries fits gone next put (λ row there. absurd (let no = (taken.0.rows.only row there).1 in cc))) it))
+      (entries_stand 0 entries fits gone next put (λ row there. absurd (let no = (taken.0.rows.only row there).1 in cc))) it)
 
 makes_template : (old new : NamedRows) (row : Record) (entries : List Entry) (plans : List LanguagePlan) → Then (PutsNumberedRecord row) (WritesTemplate entries plans) old new
     → IsKeepable row → AreKeepableEntries entries → AreKeepablePlans plans → KeepsRules (meaning_in new) → StandForAll old → StandForAll new
-makes_template old new row entries plans (mid, recorded, (next, (gone, taken, put), (empty, emptied, written))) keepable fits all rules it =
-    changed_step mid gone next empty new entries plans taken put emptied written rules fits all (record_step old mid row recorded keepable it)
+makes_template old new row entries plans (mid, recorded, (next, (gone, taken, put), written)) keepable fits all rules it =
+    changed_step mid gone next new entries plans taken put written rules fits all (record_step old mid row recorded keepable it)
 
 pub stand_after_template : (old new : NamedRows) (row : Record) (entries : List Entry) (plans : List LanguagePlan) → MakesTemplate row entries plans old new
     → IsKeepable row → AreKeepableEntries entries → AreKeepablePlans plans → KeepsRules (meaning_in new) → StandForAll old → StandForAll new
 unfolding MakesTemplate
 stand_after_template old new row entries plans it keepable fits all rules = makes_template old new row entries plans it keepable fits all rules
 
-pub template_keeps : (old new : Database) (row : Record) (entries : List Entry) (plans : List LanguagePlan) → MakesTemplate row entries plans (rows_named old) (rows_named new) → AreOfficeTables new
-    → IsKeepable row → AreKeepableEntries entries → AreKeepablePlans plans → KeepsRules (meaning_in (rows_named new))
-    → IsOfficeDatabase old → IsOfficeDatabase new
+pub template_keeps : (old new : Database) (row : Record) (entries : List Entry) (plans : List LanguagePlan) → OnMain (MakesTemplate row entries plans) old new → AreOfficeTablesOf by_domain new
+    → IsKeepable row → AreKeepableEntries entries → AreKeepablePlans plans → KeepsRules (meaning_in (main_rows (rows_named new)))
+    → IsOfficeDatabase by_domain old → IsOfficeDatabase by_domain new
 template_keeps old new row entries plans it ready keepable fits all rules file =
-    stand_all old new ready rules file (stand_after_template (rows_named old) (rows_named new) row entries plans it keepable fits all rules)
+    stand_all old new it ready rules file (λ made. stand_after_template (main_rows (rows_named old)) (main_rows (rows_named new)) row entries plans made keepable fits all rules)

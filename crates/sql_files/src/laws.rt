@@ -1,14 +1,13 @@
 //! The laws.
 
 ghost use Rattle.sqlite.specs.Effect.{Database, IsDatabase};
-ghost use Rattle.sql_adoption.specs.Found.{HoldsOffice};
 ghost use Rattle.sql_adoption.specs.Adoption.{Refuses, IsAdopted};
 ghost use Rattle.sql_adoption.specs.declared.faults.OpenFault.{OpenFault};
 ghost use Rattle.std.specs.Prelude.{◌≡◌};
 ghost use Rattle.deliveries.specs.OfficeRules.{KeepsRules};
 ghost use Rattle.request_book.specs.declared.book.Record.{Record};
-ghost use Rattle.sql_schema.specs.Inside.{AreOfficeTables};
-ghost use Rattle.sql_meaning.specs.Meaning.{meaning_in};
+ghost use Rattle.sql_schema.specs.Inside.{AreOfficeTablesOf};
+ghost use Rattle.sql_meaning.specs.Meaning.{main_rows, meaning_in};
 ghost use Rattle.sql_changes.specs.Commits.{PutsNumberedRecord};
 ghost use Rattle.std.specs.Prelude.{true, ⊤, List, Option, Result, IfSome, IsUtf8};
 ghost use Rattle.sqlite.specs.Held.{Held, state};
@@ -17,8 +16,9 @@ ghost use Rattle.units.specs.declared.unit.UnitView.{UnitView};
 ghost use Rattle.sql_commits.specs.Acts.{MakesAct};
 ghost use Rattle.po_text.specs.Texts.{Text};
 ghost use Rattle.units.specs.Limits.{is_name};
-ghost use Rattle.sql_schema.specs.Whole.{IsCommit};
-ghost use Rattle.sql_meaning.specs.BeginningRows.{MakesDemoIn, MakesOpeningIn};
+ghost use Rattle.sql_schema.specs.Whole.{IsCommitOf};
+ghost use Rattle.sql_meaning.specs.Beginnings.{MakesDemo, MakesOpening};
+ghost use Rattle.sql_changes.specs.OnMain.{OnMain};
 ghost use Rattle.sql_files.specs.Files.{HoldsOfficeRows, IsOfficeDatabase, IsOfficeFile, IsKeepable, IsLost, KeepsFile, LeavesFiles, MakesFiles, StandForAll};
 ghost use Rattle.sql_keepable.specs.Keepable.{IsKeepableUnit, AreKeepableUnits, AreKeepablePlans, IsKeepableLanguage, AreKeepableEntries};
 ghost use Rattle.sql_columns.specs.Written.{IsHeaderEntry};
@@ -32,7 +32,7 @@ ghost use Rattle.deliveries.specs.declared.values.Language.{Language};
 ghost use Rattle.template_update.specs.declared.plans.Plan.{Plan};
 ghost use Rattle.po_text.specs.declared.entry.Entry.{Entry};
 ghost use Rattle.deliveries.specs.ProjectActs.{LanguagePlan};
-ghost use Rattle.sql_schema.specs.Layouts.{for_main, Layout, schema_of, NamedRows, rows_named};
+ghost use Rattle.sql_schema.specs.Layouts.{Form, by_domain, Layout, schema_of, NamedRows, rows_named};
 
 use sqlite::Alter;
 
@@ -41,27 +41,27 @@ pub fn adopted_unless_lost()
     ensures { (db : Database) → IsDatabase db → IsOfficeFile db.trees → (fault : OpenFault) → Refuses db fault → IsLost fault }
 {}
 
-/// What is adopted is an office's file.
+/// What is adopted, in whatever form of the tables, is an office's file.
 pub fn whatever_is_adopted()
-    ensures { (db : Database) → IsDatabase db → HoldsOffice db → IsAdopted db → IsOfficeFile db.trees }
+    ensures { (db : Database) → IsDatabase db → IsAdopted db → IsOfficeFile db.trees }
 {}
 
 /// A record alone, put where the rules go on to hold, keeps an office's database one.
 pub fn records_keep_files()
-    ensures { (old new : Database) (row : Record) → PutsNumberedRecord row (rows_named old) (rows_named new) → AreOfficeTables new
-        → IsKeepable row → KeepsRules (meaning_in (rows_named new)) → IsOfficeDatabase old → IsOfficeDatabase new }
+    ensures { (old new : Database) (row : Record) → OnMain (PutsNumberedRecord row) old new → AreOfficeTablesOf by_domain new
+        → IsKeepable row → KeepsRules (meaning_in (main_rows (rows_named new))) → IsOfficeDatabase by_domain old → IsOfficeDatabase by_domain new }
 {}
 
 /// Where what the commit of an act on a unit makes of an office's file is one, the connection keeps it, and a stop leaves one.
 pub fn commits_keep_files<S: Alter>()
-    ensures { (old new : Held S) (r : Result ⊤ Failure) (row : Record) (domain lang : Text) (view : Option UnitView) → IsCommit (state S.Store old) (state S.Store new) r (MakesAct row domain lang view)
+    ensures { (old new : Held S) (r : Result ⊤ Failure) (row : Record) (domain lang : Text) (view : Option UnitView) → IsCommitOf by_domain (state S.Store old) (state S.Store new) r (MakesAct row domain lang view)
         → MakesFiles (MakesAct row domain lang view) (state S.Store old) → KeepsFile (state S.Store old)
         → KeepsFile (state S.Store new) × (LeavesFiles (state S.Store old) → LeavesFiles (state S.Store new)) }
 {}
 
 /// The rows of an opening are an office's.
 pub fn openings_are_rows()
-    ensures { (name : Text) → is_name name ≡ true → IsUtf8 name → (old new : NamedRows) → MakesOpeningIn name old new → HoldsOfficeRows new }
+    ensures { (name : Text) → is_name name ≡ true → IsUtf8 name → (old new : Database) → MakesOpening name old new → HoldsOfficeRows by_domain (rows_named new) }
 {}
 
 /// A unit that is written, with its suggestions and the votes on them, leaves rows that stand for values.
@@ -72,44 +72,44 @@ pub fn units_keep_rows()
 
 /// The commit of an act on a unit, where the rules go on to hold, keeps an office's database one.
 pub fn acts_keep_files()
-    ensures { (old new : Database) (row : Record) (domain lang : Text) (view : Option UnitView) → MakesAct row domain lang view old new → AreOfficeTables new
-        → IsKeepable row → IfSome view (λ v. IsKeepableUnit lang v.unit) → KeepsRules (meaning_in (rows_named new))
-        → IsOfficeDatabase old → IsOfficeDatabase new }
+    ensures { (old new : Database) (row : Record) (domain lang : Text) (view : Option UnitView) → MakesAct row domain lang view old new → AreOfficeTablesOf by_domain new
+        → IsKeepable row → IfSome view (λ v. IsKeepableUnit lang v.unit) → KeepsRules (meaning_in (main_rows (rows_named new)))
+        → IsOfficeDatabase by_domain old → IsOfficeDatabase by_domain new }
 {}
 
 /// The commit of a role, where the rules go on to hold, keeps an office's database one.
 pub fn roles_keep_files()
-    ensures { (old new : Database) (row : Record) (name : Text) (role : Role) → MakesRole row name role (rows_named old) (rows_named new) → AreOfficeTables new
-        → IsKeepable row → is_name name ≡ true → IsUtf8 name → KeepsRules (meaning_in (rows_named new))
-        → IsOfficeDatabase old → IsOfficeDatabase new }
+    ensures { (old new : Database) (row : Record) (name : Text) (role : Role) → OnMain (MakesRole row name role) old new → AreOfficeTablesOf by_domain new
+        → IsKeepable row → is_name name ≡ true → IsUtf8 name → KeepsRules (meaning_in (main_rows (rows_named new)))
+        → IsOfficeDatabase by_domain old → IsOfficeDatabase by_domain new }
 {}
 
 /// The commit of a policy, where the rules go on to hold, keeps an office's database one.
 pub fn policies_keep_files()
-    ensures { (old new : Database) (row : Record) (policy : Policy) → MakesPolicy row policy (rows_named old) (rows_named new) → AreOfficeTables new
-        → IsKeepable row → KeepsRules (meaning_in (rows_named new)) → IsOfficeDatabase old → IsOfficeDatabase new }
+    ensures { (old new : Database) (row : Record) (policy : Policy) → OnMain (MakesPolicy row policy) old new → AreOfficeTablesOf by_domain new
+        → IsKeepable row → KeepsRules (meaning_in (main_rows (rows_named new))) → IsOfficeDatabase by_domain old → IsOfficeDatabase by_domain new }
 {}
 
 /// The commit of a language, where the rules go on to hold, keeps an office's database one.
 pub fn languages_keep_files()
-    ensures { (old new : Database) (row : Record) (lang : Text) (language : Language) (plan : Plan) → MakesLanguage row lang language plan (rows_named old) (rows_named new)
-        → AreOfficeTables new → IsKeepable row → IsKeepableLanguage lang language.header → IsHeaderEntry language.header
-        → AreKeepableUnits lang plan.units → KeepsRules (meaning_in (rows_named new)) → IsOfficeDatabase old → IsOfficeDatabase new }
+    ensures { (old new : Database) (row : Record) (lang : Text) (language : Language) (plan : Plan) → OnMain (MakesLanguage row lang language plan) old new
+        → AreOfficeTablesOf by_domain new → IsKeepable row → IsKeepableLanguage lang language.header → IsHeaderEntry language.header
+        → AreKeepableUnits lang plan.units → KeepsRules (meaning_in (main_rows (rows_named new))) → IsOfficeDatabase by_domain old → IsOfficeDatabase by_domain new }
 {}
 
 /// The commit of a template with the units that are fitted to it, where the rules go on to hold, keeps an office's database one.
 pub fn templates_keep_files()
-    ensures { (old new : Database) (row : Record) (entries : List Entry) (plans : List LanguagePlan) → MakesTemplate row entries plans (rows_named old) (rows_named new)
-        → AreOfficeTables new → IsKeepable row → AreKeepableEntries entries → AreKeepablePlans plans
-        → KeepsRules (meaning_in (rows_named new)) → IsOfficeDatabase old → IsOfficeDatabase new }
+    ensures { (old new : Database) (row : Record) (entries : List Entry) (plans : List LanguagePlan) → OnMain (MakesTemplate row entries plans) old new
+        → AreOfficeTablesOf by_domain new → IsKeepable row → AreKeepableEntries entries → AreKeepablePlans plans
+        → KeepsRules (meaning_in (main_rows (rows_named new))) → IsOfficeDatabase by_domain old → IsOfficeDatabase by_domain new }
 {}
 
 /// An opening of trees that list the tables of a layout reads that schema, however the texts are spelled.
 pub fn listed_schemas_are_read()
-    ensures { (layout : Layout for_main) (db : Database) → IsDatabase db → IsSound (schema_of layout) db.trees → db.schema ≡ schema_of layout }
+    ensures { (form : Form) (layout : Layout form) (db : Database) → IsDatabase db → IsSound (schema_of layout) db.trees → db.schema ≡ schema_of layout }
 {}
 
 /// The rows of the demo are an office's.
 pub fn demos_are_rows()
-    ensures { (old new : NamedRows) → MakesDemoIn old new → HoldsOfficeRows new }
+    ensures { (old new : Database) → MakesDemo old new → HoldsOfficeRows by_domain (rows_named new) }
 {}

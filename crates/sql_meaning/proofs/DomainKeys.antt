@@ -1,5 +1,5 @@
 -- What the schema says of the rows that a domain sees: what it says of the rows of tables without a column for a domain.
-use Rattle.std.proofs.Common.{◌≡◌, ℕ, List, [], ◌∷◌, ◌&&◌, true, refl, sym, ap, ◌∙◌, codes}
+use Rattle.std.proofs.Common.{◌≡◌, ℕ, [], ◌∷◌, ◌&&◌, true, refl, sym, ap, ◌∙◌, codes}
 use Rattle.std.proofs.lemmas.Bool.{and_parts}
 use Rattle.sqlite.specs.declared.types.Value.TheVariants.{Int}
 use Rattle.sqlite.specs.Order.{Row, column}
@@ -18,12 +18,14 @@ use Rattle.sql_schema.specs.Views.{entry_seen, suggestion_seen, is_vote_in, vote
 use Rattle.sql_schema.proofs.Layouts.{d_template_placed, d_suggestion_placed}
 use Rattle.sql_schema.proofs.TextKeys.{one_of_key}
 use Rattle.sql_schema.proofs.TextLists.{AreTextsAt, texts_of_row}
-use Rattle.sql_schema.proofs.DomainRows.{agree_so, d_entry_texts, d_entry_places, d_entry_place_keyed, one_d_language, one_d_unit, one_d_number, d_suggestion_units, d_suggestion_places, d_suggestion_place_keyed, one_d_vote}
+use Rattle.sql_schema.proofs.DomainRows.{agree_so, one_d_entry, d_entry_texts, d_entry_places, d_entry_place_keyed, one_d_language, one_d_unit, one_d_number, d_suggestion_units, d_suggestion_places, d_suggestion_place_keyed, one_d_vote}
+use Rattle.sql_schema.proofs.TableRows.{one_record, one_member}
 use Rattle.sql_schema.proofs.Views.{from_view, to_view, one_seen}
+use Rattle.sql_statements.proofs.SeenChanges.{entry_keys_viewed}
 use Rattle.sql_schema.proofs.DomainViews.{units_viewed, languages_viewed}
 use Rattle.sql_meaning.specs.Values.{integer_of, integer_at}
 use Rattle.sql_meaning.specs.RowKeys.{AreKeyedRows}
-use Rattle.sql_meaning.proofs.DomainColumns.{one_record, one_member, one_policy, one_key}
+use Rattle.sql_meaning.proofs.Rowids.{one_rowid}
 
 -- ---- what a domain sees
 
@@ -95,11 +97,11 @@ module _ (db : Database) (ready : AreOfficeTablesOf by_domain db) (domain : Text
 
   pub are_keyed_rows : AreKeyedRows (seen_in domain (rows_named db))
   are_keyed_rows = record {
-    one_record = one_record db ready;
-    one_member = one_member db ready;
-    one_policy = one_policy db ready;
+    one_record = one_record db ready.schema ready.sound (ready.tables (codes "record") refl);
+    one_member = one_member db ready.schema ready.sound (ready.tables (codes "team") refl);
+    one_policy = one_rowid (rows_named db (codes "policy")) (ready.tables (codes "policy") refl);
     one_entry = one_entry;
-    one_key = one_key db ready domain;
+    one_key = one_seen (entry_keys_viewed domain) (rows_named db (codes "d_template")) (one_d_entry db ready.schema ready.sound (ready.tables (codes "d_template") refl));
     one_language = one_seen (languages_viewed domain) (rows_named db (codes "d_language")) (one_d_language db ready.schema ready.sound (ready.tables (codes "d_language") refl));
     one_unit = one_seen (units_viewed domain) (rows_named db (codes "d_unit")) (one_d_unit db ready.schema ready.sound (ready.tables (codes "d_unit") refl));
     suggested = record { one_number = one_number; one_place = one_place; one_vote = one_vote; has_suggestion = has_suggestion };

@@ -34,7 +34,9 @@ pub mod DomainChanges
 pub mod DomainUnits
 pub mod WrittenAnew
 pub mod DomainClears
-pub mod DomainColumns
 pub mod DomainKeys
 pub mod MainRows
 pub mod DomainAdds
+pub mod DomainOfficeRows
+pub mod DomainSteps
+pub mod MainBeginnings

@@ -47,14 +47,14 @@ pub whole : (place : ℕ) (row : Row) → column row place ≡ Int (id_in (colum
 whole place row is = is ∙ ap Int (sym (ap integer_of is))
 
 -- neither part of a conjunction that isn't false is false
-second_holds : (a b : Bool) → not (is_false (binary by.And (from_truth (Some a)) (from_truth (Some b)))) ≡ true → b ≡ true
+pub second_holds : (a b : Bool) → not (is_false (binary by.And (from_truth (Some a)) (from_truth (Some b)))) ≡ true → b ≡ true
 unfolding binary
 second_holds a true h = refl
 second_holds true false h = absurd cc
 second_holds false false h = absurd cc
 
 -- what a test of a column between two integers says of the second
-pub at_most : (row : Row) (n : ℤ) → column row 5 ≡ Int n → not (is_false (eval (is_between 5 (pos 0) (pos 3)) ([] ∷ row ∷ []))) ≡ true → is_le (int_cmp n (pos 3)) ≡ true
+at_most : (row : Row) (n : ℤ) → column row 5 ≡ Int n → not (is_false (eval (is_between 5 (pos 0) (pos 3)) ([] ∷ row ∷ []))) ≡ true → is_le (int_cmp n (pos 3)) ≡ true
 unfolding binary lib.Ieee.is_nan lib.Ieee.lt
 at_most row n is h = ap is_le (sym (value_cmp-Int n (pos 3))) ∙ second_holds (is_ge (value_cmp (Int n) (Int (pos 0)))) (is_le (value_cmp (Int n) (Int (pos 3)))) (rw is at h)
 

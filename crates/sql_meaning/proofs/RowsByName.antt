@@ -1,4 +1,4 @@
--- What statements make of a database is so of its rows by the names of their tables.
+-- What statements make of a database, they make of its rows by the names of their tables.
 use Rattle.std.proofs.Common.{ℕ, Bool, List}
 use Rattle.sqlite.specs.Order.{Row}
 use Rattle.sqlite.specs.Effect.{Database}
@@ -9,9 +9,6 @@ use Rattle.sql_statements.specs.Added.{AddsRow}
 use Rattle.sql_statements.specs.Emptied.{EmptiesUnits}
 use Rattle.sql_statements.specs.Renewed.{UnapprovesUnits}
 use Rattle.sql_statements.specs.Taken.{TakesRows}
-use Rattle.po_text.specs.Texts.{Text}
-use Rattle.sql_meaning.specs.Beginnings.{MakesOpening, MakesDemo}
-use Rattle.sql_meaning.specs.BeginningRows.{MakesOpeningIn, MakesDemoIn}
 use Rattle.sql_meaning.specs.RowChanges.{AddsIn, TakesIn, EmptiesIn, ClearsIn, UnapprovesIn}
 
 module _ {old new : Database} where
@@ -33,19 +30,3 @@ module _ {old new : Database} where
 
   pub unapproves_in : UnapprovesUnits old new → UnapprovesIn (rows_named old) (rows_named new)
   unapproves_in it next = let made = it next in record { rows = made.rows; others = made.others }
-
--- ---- beginnings
-
-pub opening_in : (name : Text) (old new : Database) → MakesOpening name old new → MakesOpeningIn name (rows_named old) (rows_named new)
-opening_in name old new (made, empty, (first, member, policy)) = (rows_named made, empty, (rows_named first, puts_in member, puts_in policy))
-
-pub demo_in : (old new : Database) → MakesDemo old new → MakesDemoIn (rows_named old) (rows_named new)
-demo_in old new (made, empty, (team, (one, root, ann), (closed, policy, (hello, entry, (german, language, unit))))) = (
-  rows_named made,
-  empty,
-  (
-    rows_named team,
-    (rows_named one, puts_in root, puts_in ann),
-    (rows_named closed, puts_in policy, (rows_named hello, puts_in entry, (rows_named german, puts_in language, puts_in unit))),
-  ),
-)

@@ -7,7 +7,7 @@ use Rattle.sql_schema.specs.Inside.{AreOfficeTables}
 use Rattle.sql_schema.specs.Whole.{IsIdle, IsLookUp}
 use Rattle.sql_meaning.specs.Meaning.{project_of_rows}
 use Rattle.sql_statements.specs.declared.whole_office.WholeOffice.{WholeOffice}
-use Rattle.sql_statements.specs.WholeOffice.{ShowsWholeOfficeIn, ShowsWholeOffice}
+use Rattle.sql_statements.specs.WholeOffice.{ShowsWholeOffice, ShowsWholeOfficeIn}
 use Rattle.sql_meaning.proofs.OfficeRows.{office_rows}
 use Rattle.sql_meaning.specs.OfficeShown.{project_shown}
 use Rattle.sql_meaning.proofs.OfficeTables.{whole_team, whole_policy, whole_headers, whole_template}
@@ -28,7 +28,7 @@ whole_rows tables office rows shows =
 
 -- those of a database
 pub whole_office : (db : Database) → AreOfficeTables db → (rows : WholeOffice) → ShowsWholeOffice db rows → project_shown rows ≡ project_of_rows (rows_named db)
-whole_office db office = whole_rows (rows_named db) (office_rows db office)
+whole_office db office rows shows = whole_rows (rows_named db) (office_rows db office) rows shows
 
 -- what the whole read answers is the project that was committed
 pub office_looked_up : (old new : State) (rows : WholeOffice) → IsIdle old → IsLookUp {E = Error} old new (Ok rows) ShowsWholeOffice → HasCleanDisk new

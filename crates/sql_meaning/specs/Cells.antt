@@ -8,6 +8,7 @@ use Rattle.units.specs.declared.unit.Unit.{Unit}
 use Rattle.units.specs.declared.unit.Suggestion.{Suggestion}
 use Rattle.units.specs.declared.votes.VoteValue.{VoteValue}
 use Rattle.request_book.specs.declared.book.Record.{Record}
+use Rattle.deliveries.specs.declared.tally.Tally.{Tally}
 use Rattle.request_book.specs.Acts.{vote_number}
 use Rattle.request_book.specs.Words.{number_text}
 use Rattle.sql_columns.specs.Numbers.{state_number, flag_number}
@@ -30,3 +31,9 @@ suggestion_cells lang key place s =
 -- on the suggestion of a number's text
 abbrev pub vote_cells : Text → Text × VoteValue → Row
 vote_cells number vote = Words number ∷ Words vote.0 ∷ Int (vote_number (Some vote.1)) ∷ []
+
+-- of a language of a domain
+abbrev pub tally_cells : Text → Text → Tally → Row
+tally_cells domain lang counts =
+    Words domain ∷ Words lang ∷ Int (pos counts.untranslated) ∷ Int (pos counts.needs_editing) ∷ Int (pos counts.translated) ∷ Int (pos counts.approved) ∷ Int (pos counts.read_only)
+    ∷ Int (pos counts.suggestions) ∷ Int (pos counts.obsolete) ∷ []

@@ -12,6 +12,7 @@ use Rattle.units.specs.declared.unit.Suggestion.{Suggestion}
 use Rattle.units.specs.declared.unit.Policy.{Policy}
 use Rattle.units.specs.declared.votes.VoteValue.{VoteValue}
 use Rattle.request_book.specs.Book.{Recorded}
+use Rattle.deliveries.specs.declared.tally.Tally.{Tally}
 use Rattle.sql_columns.specs.Readings.{previous_read, header_read}
 use Rattle.sql_schema.specs.Keys.{text_at}
 use Rattle.sql_meaning.specs.Values.{natural_at, text_or_null_at, texts_at, flag_at, state_at, vote_at}
@@ -72,4 +73,16 @@ shown_policy shown = record {
   accept_at = natural_at 4 shown;
   placeholders = flag_at 5 shown;
   line_ends = flag_at 6 shown;
+}
+
+-- untranslated, needs_editing, translated, approved, read_only, suggestions, obsolete
+abbrev pub shown_tally : Row → Tally
+shown_tally shown = record {
+  approved = natural_at 3 shown;
+  needs_editing = natural_at 1 shown;
+  obsolete = natural_at 6 shown;
+  read_only = natural_at 4 shown;
+  suggestions = natural_at 5 shown;
+  translated = natural_at 2 shown;
+  untranslated = natural_at 0 shown;
 }

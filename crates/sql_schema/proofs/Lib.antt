@@ -8,6 +8,7 @@ pub mod TableRows
 pub mod TextLists
 pub mod DomainRows
 pub mod Parents
+pub mod DomainParents
 pub mod RowNumbers
 pub mod Whole
 pub mod Creations

@@ -33,7 +33,7 @@ use Rattle.sql_schema.proofs.TextKeys.{holds_text, holds_text_or_null, holds_int
 use Rattle.sql_schema.proofs.DomainRows.{d_unit_texts, d_tally_texts}
 use Rattle.sql_statements.specs.DomainRenewed.{is_approved_in_domain, unapproved_in_domain, HaveNextRevisionsInDomains, unapproved_tally, HaveTallySums}
 use Rattle.sql_statements.proofs.Untouched.{none_refers}
-use Rattle.sql_statements.proofs.Renewals.{IsRenewal, RenewsOf, renews_rows}
+use Rattle.sql_statements.proofs.Renewals.{IsRenewal, RenewsOf, RenewsAloneOf, renews_rows, renews_alone_rows}
 use Rattle.sql_statements.proofs.UnitsUnapproved.{plus_one}
 use Rattle.sql_statements.proofs.DomainUnitPuts.{cast_unit}
 use Rattle.sql_statements.proofs.TallyRows.{cast_tally}
@@ -149,6 +149,6 @@ module _ (db : Database) (has : HasLayoutOf by_domain db) (sound : IsDatabase db
       let given : drop 1 (shows [] tally_becomes row) ≡ unapproved_tally row = λ i. column row 0 ∷ column row 1 ∷ column row 2 ∷ column row 3 ∷ column row 4 ∷ plus i ∷ Int (pos 0) ∷ column row 7 ∷ column row 8 ∷ column row 9 ∷ [] in
       ap (cast_row d_tally_table) (given ∙ cells) ∙ cast_tally _ _ _ _ _ _ _ _ _ (Int (id_in (rowid row))) (cast_int (id_in (rowid row))) ∙ sym cells
 
-pub unapproves_tallies : RenewsOf by_domain tallies_text [] (codes "d_tally") (λ row. true) unapproved_tally HaveTallySums
-unapproves_tallies = renews_rows tallies_are [] (λ row. true) unapproved_tally HaveTallySums (λ row. refl) (λ db has sound row there. refl)
+pub unapproves_tallies : RenewsAloneOf by_domain tallies_text [] (codes "d_tally") (λ row. true) unapproved_tally HaveTallySums
+unapproves_tallies = renews_alone_rows tallies_are [] (λ row. true) unapproved_tally HaveTallySums (λ row. refl) (λ db has sound row there. refl)
     (λ db has sound premise row there whole passed. tally_becomes_it db has sound row there whole (premise row there))

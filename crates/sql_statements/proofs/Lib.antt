@@ -22,6 +22,7 @@ pub mod TableTexts
 pub mod OnePassing
 pub mod MessageQuery
 pub mod ObsoleteQuery
+pub mod RecordsInOrder
 pub mod TemplateRows
 pub mod LanguageRows
 pub mod UnitPuts
@@ -49,3 +50,5 @@ pub mod DomainObsolete
 pub mod LookedUp
 pub mod SeenChanges
 pub mod SeenAnswers
+pub mod OwnersRead
+pub mod ViewSeen

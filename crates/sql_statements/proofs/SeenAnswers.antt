@@ -6,21 +6,22 @@ use Rattle.sqlite.specs.Order.{Row}
 use Rattle.sqlite.specs.Effect.{Database}
 use Rattle.sqlite_rules.specs.Lists.{Has}
 use Rattle.sqlite_rules.proofs.ListLemmas.{some_from}
+use Rattle.sql_laws.specs.RowMaps.{IsFound}
 use Rattle.sql_laws.proofs.RowMaps.{texts_are_one, text_ties_itself}
 use Rattle.sql_schema.specs.Layouts.{rows_named}
-use Rattle.sql_schema.specs.Keys.{text_at, first_text, has_text, is_on_unit, columns}
+use Rattle.sql_schema.specs.Keys.{text_at, first_text, second_text, has_text, is_on_unit, columns}
+use Rattle.sql_schema.specs.Inside.{IsInOrder}
 use Rattle.sql_schema.specs.Views.{suggestion_seen, is_vote_in, vote_seen, seen_in}
 use Rattle.sql_schema.proofs.Queries.{filtered_same}
 use Rattle.sql_schema.proofs.Views.{found_seen}
 use Rattle.sql_schema.proofs.DomainViews.{is_text, languages_viewed}
-use Rattle.sql_statements.specs.Answers.{ShowsEntryIn, ShowsLanguageIn, ShowsSuggestionsOfIn, ShowsVotesOnIn}
 use Rattle.sql_statements.specs.DomainCleared.{is_on_domain_unit}
 use Rattle.sql_statements.specs.DomainAnswers.{ShowsDomainEntry, ShowsDomainLanguage, ShowsDomainSuggestions, ShowsDomainVotes}
 use Rattle.sql_statements.proofs.Seen.{mapped_seen, filtered_seen}
 use Rattle.sql_statements.proofs.SeenChanges.{entry_keys_viewed}
 
 pub entry_found_seen : (domain key : List ℕ) (db : Database) (found : Option Row) → ShowsDomainEntry domain key db found
-    → ShowsEntryIn key (seen_in domain (rows_named db)) found
+    → IsFound second_text (columns (3 ∷ 4 ∷ 5 ∷ 6 ∷ [])) (seen_in domain (rows_named db) (codes "template")) key found
 entry_found_seen domain key db found it =
     found_seen (entry_keys_viewed domain) (columns (4 ∷ 5 ∷ 6 ∷ 7 ∷ [])) (columns (3 ∷ 4 ∷ 5 ∷ 6 ∷ [])) (rows_named db (codes "d_template")) (domain ∷ key ∷ []) key
     (λ r e. let name : text_at 1 r ≡ domain = cc in let of_key : text_at 3 r ≡ key = cc in (is_text 1 domain r name, of_key))
@@ -28,7 +29,7 @@ entry_found_seen domain key db found it =
     (λ r. refl) found it
 
 pub language_found_seen : (domain lang : List ℕ) (db : Database) (found : Option Row) → ShowsDomainLanguage domain lang db found
-    → ShowsLanguageIn lang (seen_in domain (rows_named db)) found
+    → IsFound first_text (columns (2 ∷ 3 ∷ [])) (seen_in domain (rows_named db) (codes "language")) lang found
 language_found_seen domain lang db found it =
     found_seen (languages_viewed domain) (columns (3 ∷ 4 ∷ [])) (columns (2 ∷ 3 ∷ [])) (rows_named db (codes "d_language")) (domain ∷ lang ∷ []) lang
     (λ r e. let name : text_at 1 r ≡ domain = cc in let of_lang : text_at 2 r ≡ lang = cc in (is_text 1 domain r name, of_lang))
@@ -36,7 +37,7 @@ language_found_seen domain lang db found it =
     (λ r. refl) found it
 
 pub suggestions_shown_seen : (domain lang key : List ℕ) (db : Database) (rows : List Row) → ShowsDomainSuggestions domain lang key db rows
-    → ShowsSuggestionsOfIn lang key (seen_in domain (rows_named db)) rows
+    → IsPermutation (map (columns (1 ∷ 4 ∷ 5 ∷ 6 ∷ [])) (filter (is_on_unit lang key) (seen_in domain (rows_named db) (codes "suggestion")))) rows × IsInOrder 1 rows
 suggestions_shown_seen domain lang key db rows it =
     let all = rows_named db (codes "d_suggestion") in (
       subst (λ l. IsPermutation l rows)
@@ -60,7 +61,7 @@ module _ (domain number : List ℕ) (db : Database) (suggestion : Row) (there : 
       none true b e = e
       none false b e = refl
 
-  pub votes_shown_seen : (rows : List Row) → ShowsDomainVotes number db rows → ShowsVotesOnIn number (seen_in domain (rows_named db)) rows
+  pub votes_shown_seen : (rows : List Row) → ShowsDomainVotes number db rows → IsPermutation (map (columns (2 ∷ 3 ∷ [])) (filter (has_text 1 number) (seen_in domain (rows_named db) (codes "vote")))) rows
   votes_shown_seen rows it =
       let all = rows_named db (codes "d_vote") in
       let seen = λ (vote : Row). is_vote_in domain (rows_named db (codes "d_suggestion")) vote && has_text 1 number vote in

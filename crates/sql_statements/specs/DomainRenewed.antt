@@ -7,7 +7,7 @@ use Rattle.sqlite_sql.specs.Ops.{fits_i64}
 use Rattle.sqlite_rules.specs.Edit.{id_in}
 use Rattle.sqlite_rules.specs.Lists.{Has}
 use Rattle.sql_schema.specs.Keys.{columns}
-use Rattle.sql_schema.specs.Layouts.{rows_named}
+use Rattle.sql_schema.specs.Layouts.{rows_named, SparesOthers}
 use Rattle.sql_schema.specs.Views.{unit_seen}
 use Rattle.sql_statements.specs.Renewed.{RenewsRows, is_approved_row, unapproved_row}
 
@@ -34,5 +34,6 @@ unapproved_tally row = columns (0 ∷ 1 ∷ 2 ∷ 3 ∷ 4 ∷ []) row ++ Int (id
 abbrev pub HaveTallySums : Database → Type 0
 HaveTallySums db = (row : Row) → Has (rows_named db (codes "d_tally")) row → fits_i64 (id_in (column row 5) +ℤ id_in (column row 6)) ≡ true
 
+-- no tally counts a unit as approved, and whatever the sums, no other table changes
 abbrev pub UnapprovesTallies : Database → Database → Type 0
-UnapprovesTallies old new = HaveTallySums old → RenewsRows (codes "d_tally") (λ row. true) unapproved_tally old new
+UnapprovesTallies old new = SparesOthers (codes "d_tally") (rows_named old) (rows_named new) × (HaveTallySums old → RenewsRows (codes "d_tally") (λ row. true) unapproved_tally old new)

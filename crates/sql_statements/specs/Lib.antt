@@ -3,6 +3,7 @@ pub mod Renewed
 pub mod Added
 pub mod Emptied
 pub mod RecordTable
+pub mod RecordsInOrder
 pub mod Tables
 pub mod WholeOffice
 pub mod Queries
@@ -11,3 +12,5 @@ pub mod UnitRows
 pub mod DomainCleared
 pub mod DomainAnswers
 pub mod DomainRenewed
+pub mod DomainUnitRows
+pub mod Owners

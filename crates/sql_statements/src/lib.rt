@@ -5,18 +5,19 @@
 //! - `domains`, `domain_template`, `domain_languages`, `domain_units`, `domain_suggestions`, `domain_votes`, `vote_sums`,
 //!   `tallies`: tables by domains, one each
 //! - `queries`, `domain_queries`: the join that an export walks, and the obsolete units behind it
+//! - `record_queries`: the records in the order in which the office took them
 //! - `unit_rows`: the rows that a look at a unit shows
 //! - `whole_office`: the rows of all tables, read in one transaction
 //! - `domain_office`: what a domain sees of them
+//! - `owners`: of which domain each row is
 //!
-//! Specs: `Answers`, `DomainAnswers`, `UnitRows`, `Queries`, `Tables`, `RecordTable`, `WholeOffice` are what reads show; `Added`,
-//! `Taken`, `Emptied`, `Renewed`, `DomainRenewed`, `DomainCleared` what becomes of rows. What a domain sees of that is in
-//! `proofs/SeenChanges` and `proofs/SeenAnswers`. A lemma about one table's texts stands in `proofs/` under the
+//! Specs: `Answers`, `DomainAnswers`, `UnitRows`, `Queries`, `Tables`, `RecordTable`, `RecordsInOrder`, `WholeOffice`, `Owners` are what reads show; `Added`,
+//! `Taken`, `Emptied`, `Renewed`, `DomainCleared` what becomes of rows. A lemma about one table's texts stands in `proofs/` under the
 //! table's name (`UnitPuts`, `PolicySet`, `UnitReads`); what INSERT, INSERT with ON CONFLICT, DELETE and UPDATE do to
 //! any table of the office in `Additions`, `Upserts`, `Removals`, `Renewals`.
 //!
 //! A function takes a transaction that is open and leaves it open, but those of `queries`, `domain_queries`,
-//! `whole_office` and `look_up_domain`. What is said of values is said while the disk returns what was written.
+//! `record_queries`, `whole_office` and `look_up_domain`. What is said of values is said while the disk returns what was written.
 #![tactic(auto)]
 
 pub mod domain_languages;
@@ -28,8 +29,10 @@ pub mod domain_units;
 pub mod domain_votes;
 pub mod domains;
 pub mod languages;
+pub mod owners;
 pub mod policy;
 pub mod queries;
+pub mod record_queries;
 pub mod records;
 pub mod suggestions;
 pub mod tallies;

@@ -7,6 +7,7 @@ ghost use Rattle.sql_schema.specs.Inside.{IsSteadyOver, IsInsideOf, PutsRow, Hol
 ghost use Rattle.sql_schema.specs.Keys.{first_text};
 ghost use Rattle.sql_statements.specs.RecordTable.{ShowsRecords};
 ghost use Rattle.sql_statements.specs.Answers.{ShowsRecord};
+ghost use Rattle.sql_statements.specs.RecordsInOrder.{ShowsPlace};
 
 use sqlite::{Alter, Error, Row, Transaction, params};
 
@@ -57,4 +58,17 @@ pub fn find_record<S: Alter>(
         params![number],
     )?;
     Ok(rows.pop())
+}
+
+/// The place of a record in the order in which the office took them, which is its rowid. None, where no record has the number.
+pub fn find_place<S: Alter>(tx: &mut Transaction<'_, S>, number: &str) -> Result<Option<Row>, Error>
+    ensures same_reference { tx.new.conn.ghost_name ≡ tx.old.conn.ghost_name }
+    ensures found { (form : Form) → IsSteadyOver form (state S.Store tx.old.conn.now) → IsReadOf form (state S.Store tx.old.conn.now) (state S.Store tx.new.conn.now) result
+        (ShowsPlace number.now) }
+{
+    let mut places = tx.query_all(
+        "SELECT rowid FROM record WHERE number = ?1",
+        params![number],
+    )?;
+    Ok(places.pop())
 }

@@ -12,14 +12,14 @@ use Rattle.tables.specs.Kept.{IsKept}
 use Rattle.tables.specs.Stops.{Nothing}
 use Rattle.tables.specs.declared.faults.Lost.{Lost}
 use Rattle.tables.specs.declared.faults.Lost.TheVariants.{Disk}
-use Rattle.sql_schema.specs.Inside.{AreOfficeTables}
-use Rattle.sql_schema.specs.Whole.{IsIdle, StaysIdle, IsLookUp, IsCommit}
-use Rattle.sql_meaning.specs.Meaning.{meaning_in, AreNumbered, TreesMean}
+use Rattle.sql_schema.specs.Inside.{AreOfficeTablesOf}
+use Rattle.sql_schema.specs.Whole.{IsIdleOver, StaysIdle, IsLookUp, IsCommitOf}
+use Rattle.sql_meaning.specs.Meaning.{main_rows, meaning_in, AreNumbered, TreesMean}
 use Rattle.sql_files.specs.Files.{MakesFiles}
 use Rattle.sql_files.proofs.Stops.{look_up_keeps, look_up_leaves, commit_keeps, commit_leaves}
-use Rattle.store_sql.specs.Kept.{KeepsOffice, LeavesItsOwn, is_honest, is_whole, means, may_leave, is_stopped}
-use Rattle.sql_schema.specs.Layouts.{rows_named}
-use Rattle.sql_files.proofs.Listed.{database_means_only}
+use Rattle.store_sql.specs.Kept.{KeepsOffice, LeavesItsOwn, LeavesOwnTrees, is_honest, is_whole, means, may_leave, is_stopped}
+use Rattle.sql_schema.specs.Layouts.{by_domain, rows_named}
+use Rattle.sql_files.proofs.Listed.{database_means, database_means_only}
 
 module _ {S : Type 0} (g : store.Ghosts S) where
   -- an open store leaves its last commit, and nothing else
@@ -30,11 +30,17 @@ module _ {S : Type 0} (g : store.Ghosts S) where
   IsLeft = (h : Held S) → IsTrue (state g h).is_open → (state g h).may_leave (state g h).committed.trees
 
   -- what a stop leaves of a connection that isn't shut means what its rows mean
-  pub left_means : (h : Held S) → IsSettled → IsIdle (state g h) → HasCleanDisk (state g h) → IsTrue (state g h).is_open → (meaning : OfficeWithBook)
-      → (trees : Trees) × (state g h).may_leave trees × TreesMean trees meaning → meaning ≡ meaning_in (rows_named (state g h).now)
+  pub left_means : (h : Held S) → IsSettled → IsIdleOver by_domain (state g h) → HasCleanDisk (state g h) → IsTrue (state g h).is_open → (meaning : OfficeWithBook)
+      → (trees : Trees) × (state g h).may_leave trees × TreesMean trees meaning → meaning ≡ meaning_in (main_rows (rows_named (state g h).now))
   left_means h settled idle clean is_open meaning left =
       let same : left.0 ≡ (state g h).now.trees = settled h left.0 is_open left.1 ∙ sym (ap (λ (d : Database). d.trees) (idle.settled clean is_open)) in
-      database_means_only (state g h).now (idle.ready clean is_open) meaning (subst (λ trees. TreesMean trees meaning) same left.2)
+      database_means_only by_domain (state g h).now (idle.ready clean is_open) meaning (subst (λ trees. TreesMean trees meaning) same left.2)
+
+  -- and each of the trees means it
+  pub left_trees : (h : Held S) → IsSettled → IsIdleOver by_domain (state g h) → LeavesOwnTrees (state g h)
+  left_trees h settled idle clean is_open trees left =
+      let same : trees ≡ (state g h).now.trees = settled h trees is_open left ∙ sym (ap (λ (d : Database). d.trees) (idle.settled clean is_open)) in
+      subst (λ t. TreesMean t (meaning_in (main_rows (rows_named (state g h).now)))) (sym same) (database_means by_domain (state g h).now (idle.ready clean is_open))
 
   -- tables that aren't shut leave what they mean
   pub leaves_own : (tables : Held S × (Bool × Bool)) → IsSettled → KeepsOffice (state g tables.0) → LeavesItsOwn g tables
@@ -63,21 +69,21 @@ module _ {S : Type 0} (g : store.Ghosts S) where
       idle = record {
         ready = λ clean is_open.
             let same = looked.same clean is_open in
-            subst AreOfficeTables (sym same.now) (keeps.idle.ready (early clean) same.was_open);
+            subst (AreOfficeTablesOf by_domain) (sym same.now) (keeps.idle.ready (early clean) same.was_open);
         settled = λ clean is_open. let same = looked.same clean is_open in same.now ∙ sym same.committed;
       };
       numbered = λ clean is_open.
           let same = looked.same clean is_open in
-          subst (λ (d : Database). AreNumbered (rows_named d)) (sym same.now) (keeps.numbered (early clean) same.was_open);
+          subst (λ (d : Database). AreNumbered (main_rows (rows_named d))) (sym same.now) (keeps.numbered (early clean) same.was_open);
       rules = λ clean is_open.
           let same = looked.same clean is_open in
-          subst (λ (d : Database). KeepsRules (meaning_in (rows_named d))) (sym same.now) (keeps.rules (early clean) same.was_open);
+          subst (λ (d : Database). KeepsRules (meaning_in (main_rows (rows_named d)))) (sym same.now) (keeps.rules (early clean) same.was_open);
       file = look_up_keeps (state g old) (state g new) r P looked keeps.file;
       leaves = look_up_leaves (state g old) (state g new) r P looked keeps.file keeps.leaves;
     }
 
-    pub means_still : HasCleanDisk (state g new) → IsTrue (state g new).is_open → meaning_in (rows_named (state g new).now) ≡ meaning_in (rows_named (state g old).now)
-    means_still clean is_open = ap (λ (d : Database). meaning_in (rows_named d)) (looked.same clean is_open).now
+    pub means_still : HasCleanDisk (state g new) → IsTrue (state g new).is_open → meaning_in (main_rows (rows_named (state g new).now)) ≡ meaning_in (main_rows (rows_named (state g old).now))
+    means_still clean is_open = ap (λ (d : Database). meaning_in (main_rows (rows_named d))) (looked.same clean is_open).now
 
     -- the result of the call is that of the look-up, or says less; `gone` is its fault where the disk failed
     pub kept_looked_up_or : {B F : Type 0} (gone : F) (s : Result B F) (before after : Bool × Bool) → IsSettled → IsLeft → before.0 ≡ false
@@ -105,9 +111,9 @@ module _ {S : Type 0} (g : store.Ghosts S) where
   -- ---- a transaction that writes
 
   -- the connection keeps its office where the transaction makes what keeps the rules
-  module _ {A E : Type 0} (old new : Held S) (r : Result A E) (Makes : Database → Database → Type 0) (keeps : KeepsOffice (state g old)) (commits : IsCommit (state g old) (state g new) r Makes)
+  module _ {A E : Type 0} (old new : Held S) (r : Result A E) (Makes : Database → Database → Type 0) (keeps : KeepsOffice (state g old)) (commits : IsCommitOf by_domain (state g old) (state g new) r Makes)
       (meaning : OfficeWithBook) (rules : HasCleanDisk (state g old) → KeepsRules meaning)
-      (makes : (db : Database) → HasCleanDisk (state g old) → IsTrue (state g old).is_open → AreOfficeTables db → Makes (state g old).now db → (meaning_in (rows_named db) ≡ meaning) × AreNumbered (rows_named db))
+      (makes : (db : Database) → HasCleanDisk (state g old) → IsTrue (state g old).is_open → AreOfficeTablesOf by_domain db → Makes (state g old).now db → (meaning_in (main_rows (rows_named db)) ≡ meaning) × AreNumbered (main_rows (rows_named db)))
       (files : MakesFiles Makes (state g old)) where
     clean_before : HasCleanDisk (state g new) → HasCleanDisk (state g old)
     clean_before clean = omega (arith, commits.survives.clean)
@@ -116,35 +122,35 @@ module _ {S : Type 0} (g : store.Ghosts S) where
     by_result (Ok x) f h ok err = f ok
     by_result (Err e) f h ok err = h err
 
-    pub means_made : HasCleanDisk (state g new) → OnOk r (meaning_in (rows_named (state g new).now) ≡ meaning)
+    pub means_made : HasCleanDisk (state g new) → OnOk r (meaning_in (main_rows (rows_named (state g new).now)) ≡ meaning)
     means_made clean = on_ok_mapped r (λ is. is) (made_by r (commits.made clean) (commits.is_open clean))
       where
-        made_by : (s : Result A E) → OnOk s (Makes (state g old).now (state g new).now × AreOfficeTables (state g new).now × ((state g new).now ≡ (state g new).committed)) → OnOk s (IsTrue (state g new).is_open)
-            → OnOk s (meaning_in (rows_named (state g new).now) ≡ meaning)
+        made_by : (s : Result A E) → OnOk s (Makes (state g old).now (state g new).now × AreOfficeTablesOf by_domain (state g new).now × ((state g new).now ≡ (state g new).committed)) → OnOk s (IsTrue (state g new).is_open)
+            → OnOk s (meaning_in (main_rows (rows_named (state g new).now)) ≡ meaning)
         made_by (Ok x) made is_open = (makes (state g new).now (clean_before clean) (commits.was_open clean is_open) made.1 made.0).0
         made_by (Err e) made is_open = tt
 
-    pub means_as_before : HasCleanDisk (state g new) → IsTrue (state g new).is_open → OnErr r (meaning_in (rows_named (state g new).now) ≡ meaning_in (rows_named (state g old).now))
+    pub means_as_before : HasCleanDisk (state g new) → IsTrue (state g new).is_open → OnErr r (meaning_in (main_rows (rows_named (state g new).now)) ≡ meaning_in (main_rows (rows_named (state g old).now)))
     means_as_before clean is_open = as_before r (commits.same clean is_open)
       where
-        as_before : (s : Result A E) → OnErr s (StaysIdle (state g old) (state g new)) → OnErr s (meaning_in (rows_named (state g new).now) ≡ meaning_in (rows_named (state g old).now))
+        as_before : (s : Result A E) → OnErr s (StaysIdle (state g old) (state g new)) → OnErr s (meaning_in (main_rows (rows_named (state g new).now)) ≡ meaning_in (main_rows (rows_named (state g old).now)))
         as_before (Ok x) same = tt
-        as_before (Err e) same = ap (λ (d : Database). meaning_in (rows_named d)) same.now
+        as_before (Err e) same = ap (λ (d : Database). meaning_in (main_rows (rows_named d))) same.now
 
     pub keeps_committed : KeepsOffice (state g new)
     keeps_committed = record {
       idle = record {
-        ready = λ clean is_open. by_result r (λ (made : Makes (state g old).now (state g new).now × AreOfficeTables (state g new).now × ((state g new).now ≡ (state g new).committed)). made.1)
-            (λ (same : StaysIdle (state g old) (state g new)). subst AreOfficeTables (sym same.now) (keeps.idle.ready (clean_before clean) same.was_open)) (commits.made clean) (commits.same clean is_open);
-        settled = λ clean is_open. by_result r (λ (made : Makes (state g old).now (state g new).now × AreOfficeTables (state g new).now × ((state g new).now ≡ (state g new).committed)). made.2)
+        ready = λ clean is_open. by_result r (λ (made : Makes (state g old).now (state g new).now × AreOfficeTablesOf by_domain (state g new).now × ((state g new).now ≡ (state g new).committed)). made.1)
+            (λ (same : StaysIdle (state g old) (state g new)). subst (AreOfficeTablesOf by_domain) (sym same.now) (keeps.idle.ready (clean_before clean) same.was_open)) (commits.made clean) (commits.same clean is_open);
+        settled = λ clean is_open. by_result r (λ (made : Makes (state g old).now (state g new).now × AreOfficeTablesOf by_domain (state g new).now × ((state g new).now ≡ (state g new).committed)). made.2)
             (λ (same : StaysIdle (state g old) (state g new)). same.now ∙ sym same.committed) (commits.made clean) (commits.same clean is_open);
       };
-      numbered = λ clean is_open. by_result r (λ (made : Makes (state g old).now (state g new).now × AreOfficeTables (state g new).now × ((state g new).now ≡ (state g new).committed)).
+      numbered = λ clean is_open. by_result r (λ (made : Makes (state g old).now (state g new).now × AreOfficeTablesOf by_domain (state g new).now × ((state g new).now ≡ (state g new).committed)).
           (makes (state g new).now (clean_before clean) (commits.was_open clean is_open) made.1 made.0).1)
-          (λ (same : StaysIdle (state g old) (state g new)). subst (λ (d : Database). AreNumbered (rows_named d)) (sym same.now) (keeps.numbered (clean_before clean) same.was_open)) (commits.made clean) (commits.same clean is_open);
-      rules = λ clean is_open. by_result r (λ (made : Makes (state g old).now (state g new).now × AreOfficeTables (state g new).now × ((state g new).now ≡ (state g new).committed)).
+          (λ (same : StaysIdle (state g old) (state g new)). subst (λ (d : Database). AreNumbered (main_rows (rows_named d))) (sym same.now) (keeps.numbered (clean_before clean) same.was_open)) (commits.made clean) (commits.same clean is_open);
+      rules = λ clean is_open. by_result r (λ (made : Makes (state g old).now (state g new).now × AreOfficeTablesOf by_domain (state g new).now × ((state g new).now ≡ (state g new).committed)).
           subst KeepsRules (sym (makes (state g new).now (clean_before clean) (commits.was_open clean is_open) made.1 made.0).0) (rules (clean_before clean)))
-          (λ (same : StaysIdle (state g old) (state g new)). subst (λ (d : Database). KeepsRules (meaning_in (rows_named d))) (sym same.now) (keeps.rules (clean_before clean) same.was_open)) (commits.made clean) (commits.same clean is_open);
+          (λ (same : StaysIdle (state g old) (state g new)). subst (λ (d : Database). KeepsRules (meaning_in (main_rows (rows_named d)))) (sym same.now) (keeps.rules (clean_before clean) same.was_open)) (commits.made clean) (commits.same clean is_open);
       file = commit_keeps (state g old) (state g new) r Makes commits files keeps.file;
       leaves = commit_leaves (state g old) (state g new) r Makes commits files keeps.file keeps.leaves;
     }
@@ -158,7 +164,7 @@ module _ {S : Type 0} (g : store.Ghosts S) where
       open_still = λ clean. passes (commits.is_open clean);
       stops = λ clean m it. elim (commits.survives.crash clean it.0 it.1) [
         | inl was ↦ inl (it.0, was, it.2)
-        | inr made ↦ inr (made.0, database_means_only made.1 made.3 m (subst (λ trees. TreesMean trees m) made.4 it.2) ∙ (makes made.1 (clean_before clean) made.0 made.3 made.2).0)
+        | inr made ↦ inr (made.0, database_means_only by_domain made.1 made.3 m (subst (λ trees. TreesMean trees m) made.4 it.2) ∙ (makes made.1 (clean_before clean) made.0 made.3 made.2).0)
       ];
       only = λ clean. on_ok_mapped s (λ is_open other it. left_means new settled keeps_committed.idle clean is_open other it) (passes (commits.is_open clean));
       disk = disk;

@@ -1,4 +1,4 @@
-//! What is found in a domain: the tables hold `main` alone, and in another there is nothing.
+//! What is found in a domain: the tables have `main` alone as yet, and in another there is nothing.
 ghost use Rattle.std.specs.Prelude.{◌≡◌, ⊤, false};
 ghost use Rattle.sqlite.specs.Held.{state};
 ghost use Rattle.sqlite.specs.State.{HasCleanDisk};
@@ -6,11 +6,11 @@ ghost use Rattle.units.specs.Office.{project_in};
 ghost use Rattle.deliveries.specs.MainAlone.{main_alone};
 ghost use Rattle.deliveries.specs.UnitAccess.{found_of};
 ghost use Rattle.tables.specs.Entries.{entries_of};
-ghost use Rattle.sql_schema.specs.Whole.{IsIdle, IsLookUp};
-ghost use Rattle.sql_meaning.specs.Meaning.{project_of_rows};
+ghost use Rattle.sql_schema.specs.Whole.{IsIdleOver, IsLookUp};
+ghost use Rattle.sql_meaning.specs.Meaning.{main_rows, project_of_rows};
 ghost use Rattle.sql_exports.specs.Handing.{Gives};
 ghost use Rattle.store_sql.specs.Kept.{KeepsOffice};
-ghost use Rattle.sql_schema.specs.Layouts.{rows_named};
+ghost use Rattle.sql_schema.specs.Layouts.{by_domain, rows_named};
 
 use crate::look_ups::look_up_policy;
 use crate::views::read_view;
@@ -23,9 +23,9 @@ use tables::{EachFault, EntrySink};
 use units::{Key, Lang, Name};
 
 /// Looks at the connection alone: an answer tells that it is still open.
-fn look<S: Alter>(connection: &mut Connection<S>) -> Result<(), Failure>
+pub(crate) fn look<S: Alter>(connection: &mut Connection<S>) -> Result<(), Failure>
     requires autocommit { connection.old.in_transaction ≡ false }
-    requires idle { IsIdle (state S.Store connection.old) }
+    requires idle { IsIdleOver by_domain (state S.Store connection.old) }
     ensures looked { IsLookUp (state S.Store connection.old) (state S.Store connection.new) result (λ _ _. ⊤) }
 {
     let policy = look_up_policy(connection)?;
@@ -47,10 +47,10 @@ pub(crate) fn view_in<S: Alter>(
     requires autocommit { connection.old.in_transaction ≡ false }
     requires keeps { KeepsOffice (state S.Store connection.old) }
     ensures found { IsLookUp (state S.Store connection.old) (state S.Store connection.new) result
-        (λ db r. r ≡ found_of (project_in (main_alone (project_of_rows (rows_named db))) domain.now) lang.now key.now name.now) }
+        (λ db r. r ≡ found_of (project_in (main_alone (project_of_rows (main_rows (rows_named db)))) domain.now) lang.now key.now name.now) }
 {
     if is_main(domain) {
-        return read_view(connection, alloc, lang, key, name, kept);
+        return read_view(connection, alloc, "main", lang, key, name, kept);
     }
     look(connection)?;
     Ok(None)
@@ -67,11 +67,11 @@ pub(crate) fn hand_in<S: Alter, K: EntrySink>(
     requires autocommit { connection.old.in_transaction ≡ false }
     requires keeps { KeepsOffice (state S.Store connection.old) }
     ensures handed { HasCleanDisk (state S.Store connection.new) → Gives K.Took K.Refuses sink.old sink.new
-        (entries_of (project_in (main_alone (project_of_rows (rows_named (state S.Store connection.old).now))) domain.now) lang.now) result }
+        (entries_of (project_in (main_alone (project_of_rows (main_rows (rows_named (state S.Store connection.old).now)))) domain.now) lang.now) result }
     ensures looked { IsLookUp (state S.Store connection.old) (state S.Store connection.new) result (λ _ _. ⊤) }
 {
     if is_main(domain) {
-        return export_entries(connection, alloc, lang, sink);
+        return export_entries(connection, alloc, "main", lang, sink);
     }
     match look(connection) {
         Ok(()) => Ok(()),

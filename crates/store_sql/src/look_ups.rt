@@ -2,19 +2,21 @@
 ghost use Rattle.std.specs.Prelude.{◌≡◌, false};
 ghost use Rattle.sqlite.specs.Held.{state};
 ghost use Rattle.sql_statements.specs.Answers.{ShowsMember, ShowsPolicy, ShowsRecord};
-ghost use Rattle.sql_schema.specs.Inside.{IsSteady, IsRead};
-ghost use Rattle.sql_statements.specs.UnitRows.{ShowsOfficeRows, ShowsUnitRows, ShowsViewRows, ShowsWithVotes, ShowsEachWithVotes};
-ghost use Rattle.sql_schema.specs.Whole.{IsIdle, IsLookUp};
+ghost use Rattle.sql_schema.specs.Inside.{IsSteadyOver, IsReadOf};
+ghost use Rattle.sql_statements.specs.RecordsInOrder.{ShowsPlace};
+ghost use Rattle.sql_statements.specs.DomainUnitRows.{ShowsDomainOfficeRows, ShowsDomainUnitRows, ShowsDomainViewRows, ShowsWithDomainVotes, ShowsEachWithDomainVotes};
+ghost use Rattle.sql_schema.specs.Whole.{IsIdleOver, IsLookUp};
+ghost use Rattle.sql_schema.specs.Layouts.{by_domain};
 
-use sql_statements::languages::find_language;
+use sql_statements::domain_languages::find_domain_language;
+use sql_statements::domain_suggestions::domain_suggestions_of;
+use sql_statements::domain_template::find_domain_entry;
+use sql_statements::domain_units::find_domain_unit;
+use sql_statements::domain_votes::domain_votes_on;
 use sql_statements::policy::find_policy;
-use sql_statements::records::find_record;
-use sql_statements::suggestions::suggestions_of;
+use sql_statements::records::{find_place, find_record};
 use sql_statements::team::find_member;
-use sql_statements::template::find_entry;
 use sql_statements::unit_rows::{OfficeRows, SuggestionRows, UnitRows, ViewRows};
-use sql_statements::units::find_unit;
-use sql_statements::votes::votes_on;
 use sqlite::{Alter, Connection, Error, Row, Transaction};
 
 /// The record of a request. None, where no record has the number.
@@ -23,12 +25,27 @@ pub(crate) fn look_up_record<S: Alter>(
     number: &str,
 ) -> Result<Option<Row>, Error>
     requires autocommit { connection.old.in_transaction ≡ false }
-    requires idle { IsIdle (state S.Store connection.old) }
+    requires idle { IsIdleOver by_domain (state S.Store connection.old) }
     ensures found { IsLookUp (state S.Store connection.old) (state S.Store connection.new) result
         (ShowsRecord number.now) }
 {
     let mut tx = connection.transaction();
     let found = find_record(&mut tx, number)?;
+    tx.commit().and(Ok(found))
+}
+
+/// The place of a record in the order in which the office took them. None, where no record has the number.
+pub(crate) fn look_up_place<S: Alter>(
+    connection: &mut Connection<S>,
+    number: &str,
+) -> Result<Option<Row>, Error>
+    requires autocommit { connection.old.in_transaction ≡ false }
+    requires idle { IsIdleOver by_domain (state S.Store connection.old) }
+    ensures found { IsLookUp (state S.Store connection.old) (state S.Store connection.new) result
+        (ShowsPlace number.now) }
+{
+    let mut tx = connection.transaction();
+    let found = find_place(&mut tx, number)?;
     tx.commit().and(Ok(found))
 }
 
@@ -38,7 +55,7 @@ pub(crate) fn look_up_member<S: Alter>(
     name: &str,
 ) -> Result<Option<Row>, Error>
     requires autocommit { connection.old.in_transaction ≡ false }
-    requires idle { IsIdle (state S.Store connection.old) }
+    requires idle { IsIdleOver by_domain (state S.Store connection.old) }
     ensures found { IsLookUp (state S.Store connection.old) (state S.Store connection.new) result
         (ShowsMember name.now) }
 {
@@ -50,7 +67,7 @@ pub(crate) fn look_up_member<S: Alter>(
 /// The policy. None, where it wasn't written.
 pub(crate) fn look_up_policy<S: Alter>(connection: &mut Connection<S>) -> Result<Option<Row>, Error>
     requires autocommit { connection.old.in_transaction ≡ false }
-    requires idle { IsIdle (state S.Store connection.old) }
+    requires idle { IsIdleOver by_domain (state S.Store connection.old) }
     ensures found { IsLookUp (state S.Store connection.old) (state S.Store connection.new) result
         ShowsPolicy }
 {
@@ -59,18 +76,19 @@ pub(crate) fn look_up_policy<S: Alter>(connection: &mut Connection<S>) -> Result
     tx.commit().and(Ok(found))
 }
 
-/// The rows of the office that a look at a unit takes.
+/// The rows of the office that a look at a unit of a domain takes.
 fn office_part<'a, S: Alter>(
     tx: &mut Transaction<'_, S>,
+    domain: &'a str,
     lang: &'a str,
     name: &'a str,
 ) -> Result<OfficeRows, Error>
-    requires steady { IsSteady (state S.Store tx.old.conn.now) }
+    requires steady { IsSteadyOver by_domain (state S.Store tx.old.conn.now) }
     ensures same_reference { tx.new.conn.ghost_name ≡ tx.old.conn.ghost_name }
-    ensures found { IsRead (state S.Store tx.old.conn.now) (state S.Store tx.new.conn.now) result
-        (ShowsOfficeRows lang.now name.now) }
+    ensures found { IsReadOf by_domain (state S.Store tx.old.conn.now) (state S.Store tx.new.conn.now) result
+        (ShowsDomainOfficeRows domain.now lang.now name.now) }
 {
-    let language = find_language(tx, lang)?;
+    let language = find_domain_language(tx, domain, lang)?;
     let policy = find_policy(tx)?;
     let role = find_member(tx, name)?;
     Ok(OfficeRows {
@@ -85,28 +103,29 @@ fn with_votes<S: Alter>(
     tx: &mut Transaction<'_, S>,
     suggestion: Row,
 ) -> Result<SuggestionRows, Error>
-    requires steady { IsSteady (state S.Store tx.old.conn.now) }
+    requires steady { IsSteadyOver by_domain (state S.Store tx.old.conn.now) }
     ensures same_reference { tx.new.conn.ghost_name ≡ tx.old.conn.ghost_name }
-    ensures found { IsRead (state S.Store tx.old.conn.now) (state S.Store tx.new.conn.now) result
-        (ShowsWithVotes suggestion) }
+    ensures found { IsReadOf by_domain (state S.Store tx.old.conn.now) (state S.Store tx.new.conn.now) result
+        (ShowsWithDomainVotes suggestion) }
 {
     let number = suggestion.get::<String>(0)?;
-    let votes = votes_on(tx, &number)?;
+    let votes = domain_votes_on(tx, &number)?;
     Ok(SuggestionRows { suggestion, votes })
 }
 
-/// The suggestions on a unit, each with the votes on it.
+/// The suggestions on a domain's unit, each with the votes on it.
 fn suggestions_with_votes<'a, S: Alter>(
     tx: &mut Transaction<'_, S>,
+    domain: &'a str,
     lang: &'a str,
     key: &'a str,
 ) -> Result<Vec<SuggestionRows>, Error>
-    requires steady { IsSteady (state S.Store tx.old.conn.now) }
+    requires steady { IsSteadyOver by_domain (state S.Store tx.old.conn.now) }
     ensures same_reference { tx.new.conn.ghost_name ≡ tx.old.conn.ghost_name }
-    ensures found { IsRead (state S.Store tx.old.conn.now) (state S.Store tx.new.conn.now) result
-        (λ db rows. ShowsEachWithVotes lang.now key.now db rows.items) }
+    ensures found { IsReadOf by_domain (state S.Store tx.old.conn.now) (state S.Store tx.new.conn.now) result
+        (λ db rows. ShowsEachWithDomainVotes domain.now lang.now key.now db rows.items) }
 {
-    let suggestions = suggestions_of(tx, lang, key)?;
+    let suggestions = domain_suggestions_of(tx, domain, lang, key)?;
     let mut all = Vec::new(*suggestions.allocator());
     for suggestion in suggestions {
         all.push(with_votes(tx, suggestion)?)?;
@@ -114,20 +133,21 @@ fn suggestions_with_votes<'a, S: Alter>(
     Ok(all)
 }
 
-/// The rows of a unit that a look at it takes.
+/// The rows of a domain's unit that a look at it takes.
 fn unit_part<'a, S: Alter>(
     tx: &mut Transaction<'_, S>,
+    domain: &'a str,
     lang: &'a str,
     key: &'a str,
 ) -> Result<UnitRows, Error>
-    requires steady { IsSteady (state S.Store tx.old.conn.now) }
+    requires steady { IsSteadyOver by_domain (state S.Store tx.old.conn.now) }
     ensures same_reference { tx.new.conn.ghost_name ≡ tx.old.conn.ghost_name }
-    ensures found { IsRead (state S.Store tx.old.conn.now) (state S.Store tx.new.conn.now) result
-        (ShowsUnitRows lang.now key.now) }
+    ensures found { IsReadOf by_domain (state S.Store tx.old.conn.now) (state S.Store tx.new.conn.now) result
+        (ShowsDomainUnitRows domain.now lang.now key.now) }
 {
-    let unit = find_unit(tx, lang, key)?;
-    let entry = find_entry(tx, key)?;
-    let suggestions = suggestions_with_votes(tx, lang, key)?;
+    let unit = find_domain_unit(tx, domain, lang, key)?;
+    let entry = find_domain_entry(tx, domain, key)?;
+    let suggestions = suggestions_with_votes(tx, domain, lang, key)?;
     Ok(UnitRows {
         unit,
         entry,
@@ -135,20 +155,21 @@ fn unit_part<'a, S: Alter>(
     })
 }
 
-/// What a caller sees of a unit: the office's rows, the unit's, and the votes on each of its suggestions.
+/// What a caller sees of a domain's unit: the office's rows, the unit's, and the votes on each of its suggestions.
 pub(crate) fn look_up_view<'a, S: Alter>(
     connection: &mut Connection<S>,
+    domain: &'a str,
     lang: &'a str,
     key: &'a str,
     name: &'a str,
 ) -> Result<ViewRows, Error>
     requires autocommit { connection.old.in_transaction ≡ false }
-    requires idle { IsIdle (state S.Store connection.old) }
+    requires idle { IsIdleOver by_domain (state S.Store connection.old) }
     ensures found { IsLookUp (state S.Store connection.old) (state S.Store connection.new) result
-        (ShowsViewRows lang.now key.now name.now) }
+        (ShowsDomainViewRows domain.now lang.now key.now name.now) }
 {
     let mut tx = connection.transaction();
-    let office = office_part(&mut tx, lang, name)?;
-    let unit = unit_part(&mut tx, lang, key)?;
+    let office = office_part(&mut tx, domain, lang, name)?;
+    let unit = unit_part(&mut tx, domain, lang, key)?;
     tx.commit().and(Ok(ViewRows { office, unit }))
 }

@@ -8,7 +8,7 @@ ghost use Rattle.std.specs.FinMap as maps;
 ghost use Rattle.sqlite.specs.Held.{Held, held_code, state};
 ghost use Rattle.request_book.specs.Book.{row_of, with_record};
 ghost use Rattle.deliveries.specs.UnitAccess.{found_of, with_view_in};
-ghost use Rattle.deliveries.specs.OfficeChanges.{changed_by};
+ghost use Rattle.deliveries.specs.OfficeChanges.{changed_by, IsPossibleChange};
 ghost use Rattle.deliveries.specs.OfficeRules.{KeepsRules};
 ghost use Rattle.request_book.specs.Contents.{IsContent};
 ghost use Rattle.tables.specs.Kept.{IsKept};
@@ -24,27 +24,33 @@ ghost use Rattle.office_maps.specs.OfficeIn.{office_in};
 ghost use Rattle.tables.specs.declared.faults.Lost.TheVariants.{Disk};
 ghost use Rattle.sqlite.specs.State.{HasCleanDisk};
 ghost use Rattle.sql_schema.specs.Schema.{no_schema};
-ghost use Rattle.sql_adoption.specs.Adoption.{Refuses, StaysAsItWas};
+ghost use Rattle.sql_adoption.specs.Adoption.{Refuses};
+ghost use Rattle.sql_conversion.specs.Conversion.{IsGivenBack};
 ghost use Rattle.sql_files.specs.Files.{IsOfficeFile, IsLost, KeepsFile, LeavesFiles};
 ghost use Rattle.sqlite.specs.Effect.{IsDatabase};
 ghost use Rattle.store_sql.specs.Adopting.{AreAdopted};
 ghost use Rattle.store_sql.specs.Faults.{RefusesIn};
-ghost use Rattle.store_sql.specs.Kept.{KeepsOffice, KeepsOwnRules, LeavesItsOwn, IsAtHand, is_honest, is_whole, means, may_leave, is_stopped, is_loaded};
+ghost use Rattle.store_sql.specs.Kept.{KeepsOffice, KeepsOwnRules, LeavesItsOwn, LeavesOwnTrees, IsAtHand, is_honest, is_whole, means, may_leave, is_stopped, is_loaded};
 ghost use Rattle.store_sql.specs.Making.{AreMade, IsHandedBack};
+ghost use Rattle.store_sql.specs.RecordsBehind.{WereHanded};
+ghost use Rattle.store_sql.specs.declared.recorded.HandingFault.TheVariants.{NoTables as Unreadable};
 
 use crate::domains::{hand_in, view_in};
 use crate::keepable_values::{change_fits, record_fits, view_fits};
 use crate::making::make;
+use crate::recorded::{HandingFault, hand_records};
 use crate::records::read_record;
 use crate::views::read_role;
-use crate::whole_office::{forget, keep, let_go, read_office};
+use crate::whole_office::{forget, keep, read_office};
 use deliveries::{ActContext, Change, Tally};
 use office_maps::OfficeMaps;
 use request_book::Record;
-use sql_adoption::{OpenFault, adopted_office};
+use sql_adoption::OpenFault;
 use sql_commits::{commit_act, commit_change};
+use sql_conversion::take_over;
 use sql_decoding::{Failure, KeptRule};
 use sql_keepable::key_fits;
+use sql_streams::RowSink;
 use sqlite::{Alter, Connection};
 use std::alloc::Global;
 use std::marker::Model;
@@ -52,7 +58,7 @@ use tables::{EachFault, EntrySink, Lost, Start, counts_in};
 use units::{Key, Lang, Name, Role, UnitView};
 use uuid::Uuid;
 
-/// A connection to the eight tables of a file, between transactions, and what was read of them.
+/// A connection to an office's tables by domains, between transactions, and what was read of them.
 pub(crate) struct Rows<S: Alter> {
     connection: Connection<S>,
     /// A failure of the disk came: nothing is asked of the connection any more.
@@ -91,7 +97,7 @@ impl<S: Alter + Drop> Drop for Rows<S> {
 }
 
 impl<S: Alter> Rows<S> {
-    /// Makes the eight tables in a database that has none, and the rows of a start, in one transaction: the office of the start, of
+    /// Makes the tables in a database that has none, and the rows of a start, in one transaction: the office of the start, of
     /// which nothing is recorded.
     ///
     /// On a fault the connection is handed back with its rows as before: `Exists` where an office is there already, `Foreign` where
@@ -121,7 +127,8 @@ impl<S: Alter> Rows<S> {
         }
     }
 
-    /// Takes the tables of a connection over as they stand, if they keep the rules. What was read of them into maps is let go.
+    /// Takes the tables of a connection over, if their rows keep the rules: tables by domains as they stand, and those of the first form
+    /// when they are converted.
     pub(crate) fn adopt(
         connection: Connection<S>,
         alloc: Global,
@@ -130,20 +137,17 @@ impl<S: Alter> Rows<S> {
         ensures adopted { IfOk result (AreAdopted S.Store connection) }
         ensures refused { IfErr result (λ refusal. HasCleanDisk (state S.Store refusal.1) → Refuses (state S.Store connection).now refusal.0) }
         ensures again { IfErr result (λ refusal. HasCleanDisk (state S.Store refusal.1) → IsDatabase (state S.Store connection).now → IsOfficeFile (state S.Store connection).now.trees → IsLost refusal.0) }
-        ensures handed_back { IfErr result (λ refusal. StaysAsItWas (state S.Store connection) (state S.Store refusal.1)) }
+        ensures handed_back { IfErr result (λ refusal. IsGivenBack (state S.Store connection) (state S.Store refusal.1)) }
     {
         let mut connection = connection;
-        match adopted_office(&mut connection, alloc) {
-            Ok(maps) => {
-                let_go(alloc, maps);
-                Ok(Rows {
-                    connection,
-                    stopped: false,
-                    alloc,
-                    kept_rule: None,
-                    office: None,
-                })
-            }
+        match take_over(&mut connection, alloc) {
+            Ok(()) => Ok(Rows {
+                connection,
+                stopped: false,
+                alloc,
+                kept_rule: None,
+                office: None,
+            }),
             Err(fault) => Err((fault, connection)),
         }
     }
@@ -154,6 +158,7 @@ impl<S: Alter> Rows<S> {
         ensures between { result.in_transaction ≡ false }
         ensures file { KeepsFile (state S.Store result) }
         ensures leaves { LeavesFiles (state S.Store result) }
+        ensures settled { LeavesOwnTrees (state S.Store result) }
     {
         let Rows {
             connection,
@@ -320,6 +325,29 @@ impl<S: Alter> Rows<S> {
         }
     }
 
+    /// Hands the records behind the record of a number to a sink, in the order in which the office took them; where no number is named, all of
+    /// them. After a fault the sink has taken the first of them.
+    pub(crate) fn each_record<K: RowSink>(
+        &mut self,
+        after: Option<Uuid>,
+        sink: &mut K,
+    ) -> Result<(), HandingFault<K::Refusal>>
+        ensures handed { is_honest S.Store self.new → WereHanded K.Took K.Refuses after (state S.Store self.old.0).now sink.old sink.new result }
+        ensures disk { IfErr result (λ fault. fault ≡ Unreadable Disk → is_stopped S.Store self.new ≡ true) }
+        ensures same { is_honest S.Store self.new → is_whole S.Store self.new → (state S.Store self.new.0).now ≡ (state S.Store self.old.0).now }
+    {
+        if self.stopped {
+            return Err(HandingFault::NoTables(Lost::Disk));
+        }
+        match hand_records(&mut self.connection, self.alloc, after, sink) {
+            Ok(()) => Ok(()),
+            Err(fault) => {
+                forget(self.alloc, &mut self.office);
+                Err(self.unread(fault))
+            }
+        }
+    }
+
     /// How many units of a domain's language callers see in each state; nothing where the domain or its language isn't there.
     pub(crate) fn counts(&mut self, domain: &Name, lang: &Lang) -> Result<Option<Tally>, Lost>
         ensures answer { is_honest S.Store self.new → IfOk result (λ r. r ≡ counts_of (project_in (means S.Store self.old).office domain.now) lang.now) }
@@ -363,13 +391,14 @@ impl<S: Alter> Rows<S> {
     }
 
     /// Writes a request's record and what its act changes, if it changes anything; or neither. The number must be new, the
-    /// content a request's, and what the commit leaves must keep the rules.
+    /// content a request's, the change possible, and what the commit leaves must keep the rules.
     pub(crate) fn commit_office(
         &mut self,
         row: &Record,
         change: &Option<Change>,
     ) -> Result<(), Lost>
         requires content { IsContent row.now.content }
+        requires possible { is_honest S.Store self.old → IsPossibleChange (means S.Store self.old).office change.now }
         requires rules { is_honest S.Store self.old → KeepsRules (record { office = changed_by (means S.Store self.old).office change.now; book = with_record (means S.Store self.old).book row.now }) }
         ensures done { is_honest S.Store self.new → OnOk result (means S.Store self.new ≡ record { office = changed_by (means S.Store self.old).office change.now; book = with_record (means S.Store self.old).book row.now }) }
         ensures same { is_honest S.Store self.new → is_whole S.Store self.new → OnErr result (means S.Store self.new ≡ means S.Store self.old) }
@@ -409,6 +438,18 @@ impl<S: Alter> Rows<S> {
         ensures runs { self.old.1.0 ≡ false → self.new.1.0 ≡ true → result ≡ NoTables Disk }
     {
         if let EachFault::NoTables(Lost::Disk) = &fault {
+            self.stopped = true;
+        }
+        fault
+    }
+
+    /// The same where records were handed out.
+    fn unread<R: Drop>(&mut self, fault: HandingFault<R>) -> HandingFault<R>
+        ensures result { result ≡ fault }
+        ensures connection { self.new.0 ≡ self.old.0 }
+        ensures stops { result ≡ Unreadable Disk → self.new.1.0 ≡ true }
+    {
+        if let HandingFault::NoTables(Lost::Disk) = &fault {
             self.stopped = true;
         }
         fault

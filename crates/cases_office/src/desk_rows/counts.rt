@@ -2,14 +2,17 @@
 use sqlite::{Alter, Connection};
 use std::alloc::Global;
 
-const TABLES: [&str; 8] = [
+const TABLES: [&str; 11] = [
     "team",
     "policy",
-    "template",
-    "language",
-    "unit",
-    "suggestion",
-    "vote",
+    "domain",
+    "d_template",
+    "d_language",
+    "d_unit",
+    "d_suggestion",
+    "d_vote",
+    "d_vote_sum",
+    "d_tally",
     "record",
 ];
 

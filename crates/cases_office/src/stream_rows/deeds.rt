@@ -6,14 +6,15 @@ use crate::stream_rows::streams::{Kept, Streams};
 use crate::stream_rows::table_rows::push_rows;
 use commands::AtLost;
 use file_commands::{
-    Closed, Unopened, deliver_store, export_store, init_store, open_desk, say_ready,
-    tell_store_fault,
+    Closed, Unopened, close_desk, deliver_store, export_store, init_store, open_desk,
+    records_store, say_ready, tell_store_fault,
 };
 use office::Desk;
 use sqlite::{Alter, Connection};
 use std::alloc::Global;
 use tables::{Start, Tables};
 use units::{Lang, Name};
+use uuid::Uuid;
 
 /// What is done to the office in a database, over the streams of a row; it comes to an exit status.
 #[derive(Clone, Copy)]
@@ -24,6 +25,8 @@ pub(crate) enum Deed<'a> {
     Deliver(&'a Name, Option<&'a Lang>),
     /// The domain's language is exported.
     Export(&'a Name, &'a Lang),
+    /// The records behind that of a number are listed, or all.
+    Records(&'a Option<Uuid>),
     /// A unit is kept in the output, as callers see it, by its language's place and its key.
     Unit(&'a str),
     /// Statements run, as some other tool runs them: 0 where they are taken.
@@ -53,6 +56,13 @@ pub(crate) fn done<S: Alter + Drop>(
         Deed::Make(start) => init_store(alloc, connection, start, &mut streams.faults),
         Deed::Deliver(domain, lang) => deliver(alloc, connection, streams, domain, lang),
         Deed::Export(domain, lang) => export(alloc, connection, streams, domain, lang),
+        Deed::Records(after) => records_store(
+            alloc,
+            connection,
+            *after,
+            &mut streams.output,
+            &mut streams.faults,
+        ),
         Deed::Unit(words) => look(alloc, connection, streams, words),
         Deed::Sql(statements) => executed(connection, statements),
         Deed::Rows => read(alloc, connection, streams),
@@ -121,13 +131,11 @@ fn look<S: Alter + Drop>(
     match open_desk(alloc, connection) {
         Ok(mut desk) => {
             let kept = keep_unit(alloc, &mut desk, &mut streams.output, words);
-            Closed {
-                status: status_of(kept.is_some()),
-                connection: desk.into_tables().into_connection(),
-            }
+            close_desk(desk, status_of(kept.is_some()))
         }
         Err(Unopened { fault, connection }) => Closed {
             status: tell_store_fault(&mut streams.faults, fault),
+            stopped: false,
             connection,
         },
     }
@@ -140,7 +148,11 @@ fn status_of(is_done: bool) -> u8 {
 
 fn executed<S: Alter>(mut connection: Connection<S>, statements: &str) -> Closed<S> {
     let status = status_of(connection.execute_batch(statements).is_ok());
-    Closed { status, connection }
+    Closed {
+        status,
+        stopped: false,
+        connection,
+    }
 }
 
 /// Keeps the rows of all tables in an output.
@@ -160,5 +172,9 @@ fn read<S: Alter>(
     streams: &mut Streams<'_>,
 ) -> Closed<S> {
     let status = status_of(keep_rows(alloc, &mut connection, &mut streams.output).is_some());
-    Closed { status, connection }
+    Closed {
+        status,
+        stopped: false,
+        connection,
+    }
 }

@@ -9,6 +9,7 @@ use crate::stream_rows::stage::Stage;
 use crate::stream_rows::streams::Streams;
 use crate::stream_rows::words::{has, word_behind, words_and_text};
 use std::alloc::Global;
+use uuid::Uuid;
 
 /// What a command came to, and the file afterwards.
 #[derive(Drop)]
@@ -40,6 +41,20 @@ fn deliver_or_export(
     }
 }
 
+/// Lists the records of the office in the file, or those behind that of a number.
+fn list(
+    alloc: Global,
+    file: &[u8],
+    streams: &mut Streams<'_>,
+    number: Option<&str>,
+) -> Option<(u8, Vec<u8>)> {
+    let after = match number {
+        Some(text) => Some(Uuid::try_parse(text).ok()?),
+        None => None,
+    };
+    in_file(alloc, file, Deed::Records(&after), streams)
+}
+
 /// Runs the words' command on the file, or looks at a unit of it.
 fn run(
     alloc: Global,
@@ -49,6 +64,9 @@ fn run(
 ) -> Option<(u8, Vec<u8>)> {
     if let Some(place) = words.strip_prefix("unit ") {
         return in_file(alloc, file, Deed::Unit(place), streams);
+    }
+    if has(words, "records") {
+        return list(alloc, file, streams, word_behind(words, "records"));
     }
     match word_behind(words, "init") {
         Some(who) => init(alloc, file, streams, who),

@@ -32,7 +32,11 @@ fn in_files(
     }
     match Connection::open_files(alloc, files, Options::new(1)) {
         Ok(connection) => {
-            let Closed { status, connection } = done(alloc, connection, deed, streams);
+            let Closed {
+                status,
+                stopped: _,
+                connection,
+            } = done(alloc, connection, deed, streams);
             match connection.close_files() {
                 Ok(files) => Some((closed(deed, status, streams), files)),
                 Err((_, store)) => {

@@ -3,15 +3,24 @@ use sqlite::types::ValueRef;
 use sqlite::{Alter, Connection, Row};
 use std::alloc::Global;
 
-const TABLES: [&str; 8] = [
+/// Those of an office, and those that an earlier form has beside.
+const TABLES: [&str; 16] = [
     "team",
     "policy",
+    "domain",
+    "d_template",
+    "d_language",
+    "d_unit",
+    "d_suggestion",
+    "d_vote",
+    "d_vote_sum",
+    "d_tally",
+    "record",
     "template",
     "language",
     "unit",
     "suggestion",
     "vote",
-    "record",
 ];
 
 fn push_value(text: &mut String, value: ValueRef<'_>) -> Option<()> {

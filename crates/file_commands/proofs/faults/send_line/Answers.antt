@@ -8,4 +8,4 @@ returns-in_err-send g c =
 
 pub returns : goal.returns
 returns g c =
-    handed_on (writer_at g.W.ByteSink.taken g.W.ByteSink.failed c.args.w.now) (writer_at g.W.ByteSink.taken g.W.ByteSink.failed c.send.new.w) (writer_at g.W.ByteSink.taken g.W.ByteSink.failed c.hand_on.new.w) c.args.line.now c.hand_on.result c.in_ok-send.ensures c.hand_on.ensures
+    handed_on (writer_at g.W.ByteSink.taken g.W.ByteSink.failed c.args.w.now) (writer_at g.W.ByteSink.taken g.W.ByteSink.failed c.send.new.w) (writer_at g.W.ByteSink.taken g.W.ByteSink.failed c.hand_on.new.w) c.args.line.now c.hand_on.result c.in_ok-send.ensures c.hand_on.ensures.sent

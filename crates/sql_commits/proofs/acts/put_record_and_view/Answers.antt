@@ -1,24 +1,30 @@
 use Rattle.sqlite.specs.Held.{state}
+use Rattle.sql_schema.specs.Layouts.{rows_named}
+use Rattle.sql_meaning.specs.Meaning.{main_rows}
 use Rattle.sql_changes.specs.Commits.{PutsNumberedRecord, WritesRecordAndUnit, MakesIn}
+use Rattle.sql_changes.specs.OnMain.{OnMain}
 use Rattle.sql_changes.specs.UnitWrites.{WritesNumberedUnit}
+use Rattle.sql_changes.proofs.MainSteps.{on_main_then}
 use Rattle.sql_commits.specs.Changes.{WritesIn}
 use Rattle.sql_commits.proofs.ActsWritten.{writes_unit}
 use Rattle.sql_commits.proofs.WritesInTurn.{write_then}
 use Rattle.sql_commits.proofs.acts.put_record_and_view.Goals as goal
-use Rattle.sql_schema.specs.Inside.{OnRows}
-use Rattle.sql_schema.specs.Layouts.{rows_named}
 
 pub returns-in-Some-clause-put : goal.returns-in-Some-clause-put
 returns-in-Some-clause-put g c =
     let old = state g.S.Store c.args.tx.now.conn.now in
     let mid = state g.S.Store c.put_record_of.new.tx.conn.now in
-    let new = state g.S.Store c.write_unit_in.new.tx.conn.now in
+    let new = state g.S.Store c.write_view_in.new.tx.conn.now in
     let row = c.args.row.now in
     let domain = c.args.domain.now in
     let lang = c.args.lang.now in
     let unit = c.in-Some.view.unit in
-    rw c.in-Some.is (write_then old mid new c.in_ok-put_record_of.field-0 c.write_unit_in.result (OnRows (PutsNumberedRecord row)) (OnRows (WritesIn domain (WritesNumberedUnit lang unit))) (OnRows (MakesIn domain row (WritesRecordAndUnit row lang unit)))
-    (λ recorded. writes_unit row (rows_named old.now) (rows_named mid.now) (rows_named new.now) recorded domain lang unit) c.in_ok-put_record_of.ensures.put c.write_unit_in.ensures.put)
+    let Unit = WritesIn domain (WritesNumberedUnit lang unit) in
+    let Whole = MakesIn domain row (WritesRecordAndUnit row lang unit) in
+    rw c.in-Some.is (write_then old mid new c.in_ok-put_record_of.field-0 c.write_view_in.result (OnMain (PutsNumberedRecord row)) (OnMain Unit) (OnMain Whole)
+    (on_main_then (PutsNumberedRecord row) Unit Whole
+    (λ recorded. writes_unit row (main_rows (rows_named old.now)) (main_rows (rows_named mid.now)) (main_rows (rows_named new.now)) recorded domain lang unit))
+    c.in_ok-put_record_of.ensures.put c.write_view_in.ensures.put)
 
 pub returns-in-None-clause-put : goal.returns-in-None-clause-put
 returns-in-None-clause-put g c = rw c.in-None.is c.in_ok-put_record_of.ensures.put

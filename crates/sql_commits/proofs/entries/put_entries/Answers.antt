@@ -1,13 +1,15 @@
-use Rattle.std.proofs.Common.{Ok, ℕ, ◌+◌, take, ◌∙◌, refl}
+use Rattle.std.proofs.Common.{Ok, [], ℕ, ◌+◌, take, ◌∙◌, refl}
 use Rattle.sqlite.specs.Held.{state}
 use Rattle.sqlite.specs.declared.error.Error.{Error}
 use Rattle.sql_decoding.specs.declared.faults.Failure.{Failure}
 use Rattle.sql_changes.specs.Commits.{PutsEntry, PutsEntries}
+use Rattle.sql_changes.proofs.MainSteps.{on_main_then, nothing_on_main}
 use Rattle.sql_commits.proofs.PlannedWrites.{entries_next}
-use Rattle.sql_commits.proofs.WritesInTurn.{write_then, write_told}
+use Rattle.sql_commits.proofs.WritesInTurn.{nothing_put, write_then, write_told}
 use Rattle.sql_commits.proofs.entries.put_entries.Goals as goal
-use Rattle.sql_schema.specs.Inside.{OnRows}
 use Rattle.sql_schema.specs.Layouts.{rows_named}
+use Rattle.sql_changes.specs.OnMain.{OnMain}
+use Rattle.sql_meaning.specs.Meaning.{main_rows}
 
 pub loop-place-preserved : goal.loop-place-preserved
 loop-place-preserved g c =
@@ -16,10 +18,17 @@ loop-place-preserved g c =
     let new = state g.S.Store c.put_entry.new.tx.conn.now in
     let entries = c.args.entries.now in
     let place = c.loop-place.place in
-    let One = OnRows (PutsEntry place c.index-entries-place.result) in (
+    let One = OnMain (PutsEntry place c.index-entries-place.result) in (
       refl,
       c.in_ok-put_entry.ensures.same_reference ∙ c.loop-place.invariant.1,
-      write_then old mid new {A = ℕ} {B = ℕ} {E = Error} {F = Error} 0 (Ok 0) (OnRows (PutsEntries 0 (take place entries))) One (OnRows (PutsEntries 0 (take (place + 1) entries)))
-          (entries_next entries place c.index-entries-place.result (rows_named old.now) (rows_named mid.now) (rows_named new.now) c.loop-place-test.true c.index-entries-place.is)
+      write_then old mid new {A = ℕ} {B = ℕ} {E = Error} {F = Error} 0 (Ok 0) (OnMain (PutsEntries 0 (take place entries))) One (OnMain (PutsEntries 0 (take (place + 1) entries)))
+          (on_main_then (PutsEntries 0 (take place entries)) (PutsEntry place c.index-entries-place.result) (PutsEntries 0 (take (place + 1) entries))
+          (entries_next entries place c.index-entries-place.result (main_rows (rows_named old.now)) (main_rows (rows_named mid.now)) (main_rows (rows_named new.now)) c.loop-place-test.true c.index-entries-place.is))
           c.loop-place.invariant.2 (write_told mid new {E = Failure} c.in_ok-put_entry.field-0 0 One One (λ made. made) c.in_ok-put_entry.ensures.put),
     )
+
+pub loop-place-init : goal.loop-place-init
+loop-place-init g c =
+    let old = state g.S.Store c.args.tx.now.conn.now in
+    let None = PutsEntries 0 [] in
+    (refl, refl, nothing_put old {E = Error} 0 (OnMain None) c.requires.steady c.requires.open (nothing_on_main None old.now refl))

@@ -1,13 +1,15 @@
 use Rattle.std.proofs.Common.{◌≡◌, Ok, ℕ, length, take}
 use Rattle.sqlite.specs.Held.{state}
 use Rattle.sqlite.specs.declared.error.Error.{Error}
-use Rattle.sql_schema.specs.Inside.{IsInside, OnRows}
+use Rattle.sql_schema.specs.Inside.{IsInsideOf}
 use Rattle.sql_changes.specs.Commits.{PutsEntries}
 use Rattle.sql_commits.proofs.entries.put_entries.Given as goal
+use Rattle.sql_changes.specs.OnMain.{OnMain}
+use Rattle.sql_schema.specs.Layouts.{by_domain}
 
 -- the entries so far are written
 abbrev pub invariant-loop-place : goal.invariant-loop-place
 invariant-loop-place g l =
     (l.place-end ≡ length l.entries)
     × (l.tx.conn.ghost_name ≡ l.fn.tx.conn.ghost_name)
-    × IsInside {A = ℕ} {E = Error} (state g.S.Store l.fn.tx.conn.now) (state g.S.Store l.tx.conn.now) (Ok 0) (OnRows (PutsEntries 0 (take l.place l.entries)))
+    × IsInsideOf {A = ℕ} {E = Error} by_domain (state g.S.Store l.fn.tx.conn.now) (state g.S.Store l.tx.conn.now) (Ok 0) (OnMain (PutsEntries 0 (take l.place l.entries)))

@@ -3,22 +3,22 @@ use Rattle.std.proofs.lemmas.Int.{to_z_pos}
 use Rattle.sqlite.specs.Held.{state}
 use Rattle.units.specs.KeyTexts.{HasStrings}
 use Rattle.units.specs.Units.{key_of}
+use Rattle.sql_schema.specs.Inside.{PutsIn}
 use Rattle.sql_schema.specs.Keys.{row_number}
 use Rattle.sql_changes.specs.Commits.{entry_row}
+use Rattle.sql_changes.specs.OnMain.{OnMain}
 use Rattle.sql_commits.proofs.PlannedWrites.{leaves_with, entry_told}
 use Rattle.sql_commits.proofs.WritesInTurn.{write_mapped}
 use Rattle.sql_commits.proofs.entries.put_entry.Goals as goal
-use Rattle.sql_schema.specs.Inside.{PutsIn, OnRows}
-use Rattle.sql_schema.specs.Layouts.{rows_named}
-use Rattle.sql_meaning.proofs.RowsByName.{puts_in}
 
 pub returns-clause-put : goal.returns-clause-put
 returns-clause-put g c =
     let old = state g.S.Store c.args.tx.now.conn.now in
-    let new = state g.S.Store c.put_entry.new.tx.conn.now in
+    let new = state g.S.Store c.put_domain_entry.new.tx.conn.now in
     let entry = c.args.entry.now in
     let place = c.args.place in
     let Puts = PutsIn (codes "template") row_number (λ row. row ≡ entry_row place entry) in
-    let told = entry_told place _ c.as_str.result.now c.as_str-2.result.now c.as_str-3.result.now c.as_str-4.result.now _ entry (rows_named old.now) (rows_named new.now) (to_z_pos w64 place (omega (arith, c.requires.fits)))
-    (search rules) (search rules) (search rules) (search rules) (search rules) in
-    leaves_with old new c.map_err.result Puts (HasStrings (key_of entry)) c.entry_key_fits.ensures.strings (write_mapped old new c.put_entry.result c.map_err.result _ _ (OnRows Puts) c.map_err.ensures.cases (λ put. told (puts_in put)) c.put_entry.ensures.put)
+    let told = entry_told c.as_str.result.now place _ c.as_str-2.result.now c.as_str-3.result.now c.as_str-4.result.now c.as_str-5.result.now _ entry old.now new.now (search rules)
+    (to_z_pos w64 place (omega (arith, c.requires.fits))) (search rules) (search rules) (search rules) (search rules) (search rules) in
+    leaves_with old new c.map_err.result Puts (HasStrings (key_of entry)) c.entry_key_fits.ensures.strings
+    (write_mapped old new c.put_domain_entry.result c.map_err.result _ _ (OnMain Puts) c.map_err.ensures.cases told c.put_domain_entry.ensures.put)

@@ -2,22 +2,21 @@ use Rattle.std.proofs.Common.{◌≡◌, true, rules, codes}
 use Rattle.sqlite.specs.Held.{state}
 use Rattle.po_text.specs.Strings.{is_forms}
 use Rattle.sql_columns.specs.Written.{ArePrevious}
-use Rattle.sql_schema.specs.Inside.{HoldsValues, PutsIn, OnRows}
+use Rattle.sql_schema.specs.Inside.{HoldsValues, PutsIn}
 use Rattle.sql_schema.specs.Keys.{first_text}
 use Rattle.sql_changes.specs.Commits.{language_cells}
+use Rattle.sql_changes.specs.OnMain.{OnMain}
 use Rattle.sql_commits.proofs.PlannedWrites.{leaves_with_both, language_told}
 use Rattle.sql_commits.proofs.WritesInTurn.{write_mapped}
 use Rattle.sql_commits.proofs.languages.put_language_of.Goals as goal
-use Rattle.sql_schema.specs.Layouts.{rows_named}
-use Rattle.sql_meaning.proofs.RowsByName.{puts_in}
 
 pub returns-clause-put : goal.returns-clause-put
 returns-clause-put g c =
     let old = state g.S.Store c.args.tx.now.conn.now in
-    let new = state g.S.Store c.put_language.new.tx.conn.now in
+    let new = state g.S.Store c.put_domain_language.new.tx.conn.now in
     let lang = c.args.lang.now in
     let header = c.args.header.now in
     let Puts = PutsIn (codes "language") first_text (HoldsValues (language_cells lang header)) in
-    let told = language_told lang c.as_str.result.now c.as_str-2.result.now c.rule_text.result.now header (rows_named old.now) (rows_named new.now) (search rules) (search rules) (search rules) in
+    let told = language_told c.as_str.result.now lang c.as_str-2.result.now c.as_str-3.result.now c.rule_text.result.now header old.now new.now (search rules) (search rules) (search rules) (search rules) in
     leaves_with_both old new c.map_err.result Puts (is_forms header.forms ≡ true) (ArePrevious header.previous) c.language_fits.ensures.forms c.language_fits.ensures.previous
-    (write_mapped old new c.put_language.result c.map_err.result _ _ (OnRows Puts) c.map_err.ensures.cases (λ put. told (puts_in put)) c.put_language.ensures.put)
+    (write_mapped old new c.put_domain_language.result c.map_err.result _ _ (OnMain Puts) c.map_err.ensures.cases told c.put_domain_language.ensures.put)

@@ -1,13 +1,17 @@
-use Rattle.std.proofs.Common.{Ok, ℕ, ◌∙◌}
+use Rattle.std.proofs.Common.{refl, sym, append-nil, [], Ok, ℕ, ◌∙◌}
 use Rattle.sqlite.specs.Held.{state}
 use Rattle.sqlite.specs.declared.error.Error.{Error}
 use Rattle.sql_decoding.specs.declared.faults.Failure.{Failure}
 use Rattle.sql_changes.specs.UnitWrites.{WritesPlanned}
+use Rattle.sql_changes.proofs.MainSteps.{on_main_then}
 use Rattle.sql_commits.proofs.PlannedWrites.{UnitsBehind, units_behind}
 use Rattle.sql_commits.proofs.WritesInTurn.{write_then, write_told}
 use Rattle.sql_commits.proofs.planned_units.write_units_back.Goals as goal
-use Rattle.sql_schema.specs.Inside.{OnRows}
 use Rattle.sql_schema.specs.Layouts.{rows_named}
+use Rattle.sql_changes.specs.OnMain.{OnMain}
+use Rattle.sql_meaning.specs.Meaning.{main_rows}
+use Rattle.sql_changes.proofs.MainSteps.{nothing_on_main}
+use Rattle.sql_commits.proofs.WritesInTurn.{nothing_put}
 
 pub loop-last-preserved : goal.loop-last-preserved
 loop-last-preserved g c =
@@ -19,9 +23,16 @@ loop-last-preserved g c =
     let left = c.loop-last.left.now in
     let others = c.in-Some.others.now in
     let last = c.in-Some.last.now in
-    let One = OnRows (WritesPlanned lang last) in (
+    let One = OnMain (WritesPlanned lang last) in (
       c.in_ok-write_planned.ensures.same_reference ∙ c.loop-last.invariant.0,
-      write_then old mid new {A = ℕ} {B = ℕ} {E = Error} {F = Error} 0 (Ok 0) (OnRows (UnitsBehind lang units left)) One (OnRows (UnitsBehind lang units others))
-          (units_behind lang units left others last (rows_named old.now) (rows_named mid.now) (rows_named new.now) c.in-Some.ensures.cases.0) c.loop-last.invariant.1
+      write_then old mid new {A = ℕ} {B = ℕ} {E = Error} {F = Error} 0 (Ok 0) (OnMain (UnitsBehind lang units left)) One (OnMain (UnitsBehind lang units others))
+          (on_main_then (UnitsBehind lang units left) (WritesPlanned lang last) (UnitsBehind lang units others)
+          (units_behind lang units left others last (main_rows (rows_named old.now)) (main_rows (rows_named mid.now)) (main_rows (rows_named new.now)) c.in-Some.ensures.cases.0)) c.loop-last.invariant.1
           (write_told mid new {E = Failure} c.in_ok-write_planned.field-0 0 One One (λ made. made) c.in_ok-write_planned.ensures.put),
     )
+
+pub loop-last-init : goal.loop-last-init
+loop-last-init g c =
+    let old = state g.S.Store c.args.tx.now.conn.now in
+    let None = UnitsBehind c.args.lang.now c.args.units.now c.args.units.now in
+    (refl, nothing_put old {E = Error} 0 (OnMain None) c.requires.steady c.requires.open (nothing_on_main None old.now ([], sym (append-nil c.args.units.now), refl)))

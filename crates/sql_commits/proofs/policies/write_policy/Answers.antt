@@ -1,19 +1,36 @@
-use Rattle.std.proofs.Common.{sym, subst}
+use Rattle.std.proofs.Common.{Ok, sym, subst}
 use Rattle.sqlite.specs.Held.{state}
-use Rattle.sql_schema.specs.Inside.{OnRows}
+use Rattle.sqlite.specs.declared.error.Error.{Error}
 use Rattle.sql_schema.specs.Layouts.{rows_named}
-use Rattle.sql_statements.specs.Renewed.{UnapprovesUnits}
-use Rattle.sql_meaning.proofs.RowsByName.{unapproves_in}
+use Rattle.sql_statements.specs.DomainRenewed.{UnapprovesDomainUnits, UnapprovesTallies}
+use Rattle.sql_meaning.specs.Meaning.{main_rows}
+use Rattle.sql_meaning.specs.RowChanges.{HaveNextIn, UnapprovesIn}
 use Rattle.sql_changes.specs.Commits.{PutsPolicy, UnapprovesUnless, WritesPolicy}
-use Rattle.sql_commits.proofs.WritesInTurn.{write_then}
+use Rattle.sql_changes.specs.OnMain.{OnMainWhere, OnMain}
+use Rattle.sql_changes.proofs.MainSteps.{main_then, main_where, spares_last, units_on_main, tallies_on_main}
+use Rattle.sql_commits.proofs.WritesInTurn.{write_told, write_then}
+use Rattle.sql_commits.proofs.PolicyTurns.{next_behind_policy, stays_reviewed}
 use Rattle.sql_commits.proofs.policies.write_policy.Goals as goal
 
-pub returns-else-policy-clause-put : goal.returns-else-policy-clause-put
-returns-else-policy-clause-put g c =
+pub returns-then-policy-clause-put : goal.returns-then-policy-clause-put
+returns-then-policy-clause-put g c =
     let old = state g.S.Store c.args.tx.now.conn.now in
     let mid = state g.S.Store c.put_policy_of.new.tx.conn.now in
-    let new = state g.S.Store c.unapprove_units.new.tx.conn.now in
     let policy = c.args.policy.now in
-    write_then old mid new c.in_ok-put_policy_of.field-0 c.unapprove_units.result (OnRows (PutsPolicy policy)) UnapprovesUnits (OnRows (WritesPolicy policy))
-    (λ put made. (rows_named mid.now, put, subst (λ reviews. UnapprovesUnless reviews (rows_named mid.now) (rows_named new.now)) (sym c.if-policy.false) (unapproves_in made)))
-    c.in_ok-put_policy_of.ensures.put c.unapprove_units.ensures.unapproved
+    write_told old mid c.in_ok-put_policy_of.field-0 _ (OnMain (PutsPolicy policy)) (OnMainWhere HaveNextIn (WritesPolicy policy)) (stays_reviewed policy old.now mid.now c.if-policy.true) c.in_ok-put_policy_of.ensures.put
+
+pub returns-in_ok-unapprove_domain_units-clause-put : goal.returns-in_ok-unapprove_domain_units-clause-put
+returns-in_ok-unapprove_domain_units-clause-put g c =
+    let old = state g.S.Store c.args.tx.now.conn.now in
+    let mid = state g.S.Store c.put_policy_of.new.tx.conn.now in
+    let next = state g.S.Store c.unapprove_domain_units.new.tx.conn.now in
+    let new = state g.S.Store c.unapprove_tallies.new.tx.conn.now in
+    let policy = c.args.policy.now in
+    let Whole = WritesPolicy policy in
+    let units = write_then old mid next {F = Error} c.in_ok-put_policy_of.field-0 (Ok c.in_ok-unapprove_domain_units.field-0) (OnMain (PutsPolicy policy)) UnapprovesDomainUnits (OnMainWhere HaveNextIn Whole)
+    (λ put made. main_then HaveNextIn (PutsPolicy policy) UnapprovesIn Whole
+    (λ put made. (main_rows (rows_named mid.now), put, subst (λ reviews. UnapprovesUnless reviews (main_rows (rows_named mid.now)) (main_rows (rows_named next.now))) (sym c.if-policy.false) made))
+    (next_behind_policy policy (main_rows (rows_named old.now)) (main_rows (rows_named mid.now))) (main_where HaveNextIn (PutsPolicy policy) put) (units_on_main made))
+    c.in_ok-put_policy_of.ensures.put c.in_ok-unapprove_domain_units.ensures.unapproved in
+    write_then old next new c.in_ok-unapprove_domain_units.field-0 c.unapprove_tallies.result (OnMainWhere HaveNextIn Whole) UnapprovesTallies (OnMainWhere HaveNextIn Whole)
+    (λ whole tallied. spares_last HaveNextIn Whole whole (tallies_on_main tallied)) units c.unapprove_tallies.ensures.unapproved

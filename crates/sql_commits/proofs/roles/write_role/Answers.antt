@@ -1,18 +1,28 @@
-use Rattle.std.proofs.Common.{rules, codes}
+use Rattle.std.proofs.Common.{ℤ, [], ◌∷◌, subst, codes}
 use Rattle.sqlite.specs.Held.{state}
-use Rattle.sql_schema.specs.Inside.{OnRows}
-use Rattle.sql_schema.specs.Keys.{has_text}
-use Rattle.sql_schema.specs.Layouts.{for_main}
+use Rattle.sqlite.specs.declared.types.Value.TheVariants.{Int, Text as Words}
+use Rattle.sql_schema.specs.Inside.{PutsRow, PutsIn, HoldsValues}
+use Rattle.sql_schema.specs.Keys.{first_text, has_text}
+use Rattle.sql_schema.specs.Layouts.{by_domain}
 use Rattle.sql_meaning.specs.RowChanges.{TakesIn}
-use Rattle.sql_meaning.proofs.RowsByName.{takes_in}
-use Rattle.sql_commits.proofs.WritesInTurn.{write_as}
+use Rattle.sql_changes.specs.OnMain.{OnMain}
+use Rattle.sql_changes.proofs.MainSteps.{member_on_main, members_taken_on_main}
+use Rattle.sql_commits.proofs.WritesInTurn.{write_as, role_through}
 use Rattle.sql_commits.proofs.roles.write_role.Goals as goal
 
 pub returns-in-Some-clause-put : goal.returns-in-Some-clause-put
-returns-in-Some-clause-put g c = rw (← c.in-Some.ensures) (search rules)
+returns-in-Some-clause-put g c =
+    let old = state g.S.Store c.args.tx.now.conn.now in
+    let new = state g.S.Store c.set_member.new.tx.conn.now in
+    let name = c.args.name.now in
+    let column = c.in-Some.column in
+    let Member = λ (z : ℤ). HoldsValues (Words name ∷ Int z ∷ []) in
+    rw (← c.in-Some.ensures) (write_as old new c.set_member.result _ (OnMain (PutsIn (codes "team") first_text (Member column)))
+    (λ put. member_on_main (subst (λ z. PutsRow (codes "team") first_text (Member z) old.now new.now) (role_through c.args.role column c.in-Some.ensures) put))
+    (c.set_member.ensures.put by_domain c.requires.steady))
 
 pub returns-in-None-clause-put : goal.returns-in-None-clause-put
 returns-in-None-clause-put g c =
     let old = state g.S.Store c.args.tx.now.conn.now in
     let new = state g.S.Store c.remove_member.new.tx.conn.now in
-    rw (← c.in-None.ensures) (write_as old new c.remove_member.result _ (OnRows (TakesIn (codes "team") (has_text 1 c.args.name.now))) takes_in (c.remove_member.ensures.taken for_main c.requires.steady))
+    rw (← c.in-None.ensures) (write_as old new c.remove_member.result _ (OnMain (TakesIn (codes "team") (has_text 1 c.args.name.now))) members_taken_on_main (c.remove_member.ensures.taken by_domain c.requires.steady))

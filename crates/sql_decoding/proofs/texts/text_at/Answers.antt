@@ -1,4 +1,4 @@
-use Rattle.std.proofs.Common.{false, rules, true, ◌≡◌}
+use Rattle.std.proofs.Common.{rules, ◌≡◌}
 use Rattle.sqlite.specs.declared.types.Value.TheVariants.{Text as Words}
 use Rattle.sqlite.specs.Order.{column}
 use Rattle.sql_decoding.specs.RowTests.{holds_text}

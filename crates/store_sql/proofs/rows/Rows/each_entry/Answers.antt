@@ -11,7 +11,7 @@ use Rattle.tables.specs.Stops.{Nothing}
 use Rattle.tables.specs.declared.faults.EachFault.{EachFault}
 use Rattle.tables.specs.declared.faults.EachFault.TheVariants.{NoTables}
 use Rattle.tables.specs.declared.faults.Lost.TheVariants.{Disk}
-use Rattle.sql_meaning.specs.Meaning.{project_of_rows, meaning_in}
+use Rattle.sql_meaning.specs.Meaning.{main_rows, project_of_rows, meaning_in}
 use Rattle.store_sql.specs.Kept.{is_honest, is_whole, means, may_leave, is_stopped}
 use Rattle.store_sql.proofs.StillKept.{kept_looked_up_or, keeps_still}
 use Rattle.sqlite.specs.Effect.{Database}
@@ -32,8 +32,8 @@ pub returns-in-Err-clause-cut : goal.returns-in-Err-clause-cut
 returns-in-Err-clause-cut g c clean =
     let late : HasCleanDisk (state g.S.Store c.hand_in.new.connection) = subst (λ h. HasCleanDisk (state g.S.Store h)) c.cut_off.ensures.connection clean in
     subst (λ (old : Held g.row.S.Denot × (Bool × Bool)). WasCutShort g.K.EntrySink.Took g.K.EntrySink.Refuses c.args.sink.now c.hand_in.new.sink
-    (entries_of (project_in (main_alone (project_of_rows (rows_named (state g.S.Store old.0).now))) c.args.domain.now) c.args.lang.now) c.cut_off.result) c.self.view_is
-    (subst (WasCutShort g.K.EntrySink.Took g.K.EntrySink.Refuses c.args.sink.now c.hand_in.new.sink (entries_of (project_in (main_alone (project_of_rows (rows_named (state g.S.Store c.self.inside.connection).now))) c.args.domain.now) c.args.lang.now))
+    (entries_of (project_in (main_alone (project_of_rows (main_rows (rows_named (state g.S.Store old.0).now)))) c.args.domain.now) c.args.lang.now) c.cut_off.result) c.self.view_is
+    (subst (WasCutShort g.K.EntrySink.Took g.K.EntrySink.Refuses c.args.sink.now c.hand_in.new.sink (entries_of (project_in (main_alone (project_of_rows (main_rows (rows_named (state g.S.Store c.self.inside.connection).now)))) c.args.domain.now) c.args.lang.now))
     (sym c.cut_off.ensures.result) (c.in-Err.ensures.handed late))
 
 pub invariant_of-self : goal.invariant_of-self
@@ -58,18 +58,18 @@ invariant_of-self-in-Err g c =
 
 pub returns-in-Ok-clause-all : goal.returns-in-Ok-clause-all
 returns-in-Ok-clause-all g c = λ clean.
-    subst (λ (old : Held g.row.S.Denot × (Bool × Bool)). g.K.EntrySink.Took c.args.sink.now (entries_of (project_in (main_alone (project_of_rows (rows_named (state g.S.Store old.0).now))) c.args.domain.now) c.args.lang.now) c.hand_in.new.sink)
+    subst (λ (old : Held g.row.S.Denot × (Bool × Bool)). g.K.EntrySink.Took c.args.sink.now (entries_of (project_in (main_alone (project_of_rows (main_rows (rows_named (state g.S.Store old.0).now)))) c.args.domain.now) c.args.lang.now) c.hand_in.new.sink)
     c.self.view_is (c.in-Ok.ensures.handed clean)
 
 pub returns-in-Ok-clause-same : goal.returns-in-Ok-clause-same
 returns-in-Ok-clause-same g c = λ clean is_open.
     let new = c.hand_in.new.connection in
-    subst (λ t. meaning_in (rows_named (state g.S.Store new).now) ≡ means g.S.Store t) c.self.view_is
-    (ap (λ (db : Database). meaning_in (rows_named db)) (c.in-Ok.ensures.looked.same clean is_open).now)
+    subst (λ t. meaning_in (main_rows (rows_named (state g.S.Store new).now)) ≡ means g.S.Store t) c.self.view_is
+    (ap (λ (db : Database). meaning_in (main_rows (rows_named db))) (c.in-Ok.ensures.looked.same clean is_open).now)
 
 pub returns-in-Err-clause-same : goal.returns-in-Err-clause-same
 returns-in-Err-clause-same g c =
     let new = c.hand_in.new.connection in
-    subst (λ h. HasCleanDisk (state g.S.Store h) → IsTrue (state g.S.Store h).is_open → meaning_in (rows_named (state g.S.Store h).now) ≡ means g.S.Store c.args.self.now) (sym c.cut_off.ensures.connection)
-    (λ clean is_open. subst (λ t. meaning_in (rows_named (state g.S.Store new).now) ≡ means g.S.Store t) c.self.view_is
-    (ap (λ (db : Database). meaning_in (rows_named db)) (c.in-Err.ensures.looked.same clean is_open).now))
+    subst (λ h. HasCleanDisk (state g.S.Store h) → IsTrue (state g.S.Store h).is_open → meaning_in (main_rows (rows_named (state g.S.Store h).now)) ≡ means g.S.Store c.args.self.now) (sym c.cut_off.ensures.connection)
+    (λ clean is_open. subst (λ t. meaning_in (main_rows (rows_named (state g.S.Store new).now)) ≡ means g.S.Store t) c.self.view_is
+    (ap (λ (db : Database). meaning_in (main_rows (rows_named db))) (c.in-Err.ensures.looked.same clean is_open).now))

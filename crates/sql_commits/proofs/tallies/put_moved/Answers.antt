@@ -1,0 +1,18 @@
+use Rattle.std.proofs.Common.{◌≡◌, subst}
+use Rattle.sqlite.specs.Held.{state}
+use Rattle.sql_decoding.specs.declared.faults.Failure.{Failure}
+use Rattle.sql_changes.specs.OnMain.{SparesMain}
+use Rattle.sql_changes.proofs.MainSteps.{tally_on_main}
+use Rattle.sql_commits.specs.Figures.{PutsTally}
+use Rattle.sql_commits.proofs.WritesInTurn.{write_read, write_then}
+use Rattle.sql_commits.proofs.tallies.put_moved.Goals as goal
+
+-- the tally is looked up, and put moved
+pub returns-in_ok-after-in-Some-clause-spares : goal.returns-in_ok-after-in-Some-clause-spares
+returns-in_ok-after-in-Some-clause-spares g c =
+    let old = state g.S.Store c.args.tx.now.conn.now in
+    let mid = state g.S.Store c.find_tally.new.tx.conn.now in
+    let new = state g.S.Store c.put_tally_of.new.tx.conn.now in
+    let looked = write_read old mid {F = Failure} c.in_ok-found.found c.in_ok-found.found _ c.in_ok-found.ensures.found in
+    write_then old mid new c.in_ok-found.found c.put_tally_of.result (λ before after. after ≡ before) (PutsTally c.args.lang.now c.in_ok-after-in-Some.after) SparesMain
+    (λ same put. subst (λ db. SparesMain db new.now) same (tally_on_main put)) looked c.put_tally_of.ensures.put

@@ -1,0 +1,9 @@
+pub mod Begun
+pub mod LanguagesWritten
+pub mod WrittenInTurn
+pub mod LanguagesFound
+pub mod Whole
+pub mod TakenOver
+pub mod NothingThere
+pub mod OldTables
+pub mod OneTransaction

@@ -1,0 +1,46 @@
+use Rattle.std.specs.Prelude.{⊤}
+use Rattle.std.proofs.Common.{refl, ap, Ok, None}
+use Rattle.std.specs.Option.{option_copied}
+use Rattle.sqlite.specs.Held.{state}
+use Rattle.units.specs.Project.{units_of}
+use Rattle.office_maps.specs.OfficeIn.{lent_project}
+use Rattle.sql_decoding.specs.declared.faults.Failure.{Failure}
+use Rattle.sql_meaning.specs.Meaning.{main_rows}
+use Rattle.sql_schema.specs.Layouts.{rows_named}
+use Rattle.sql_changes.specs.Commits.{PutsLanguage}
+use Rattle.sql_changes.specs.OnMain.{OnMain}
+use Rattle.sql_changes.proofs.MainSteps.{on_main_then, on_main_as, spares_last, tally_on_main, nothing_on_main}
+use Rattle.sql_commits.specs.Figures.{PutsTally}
+use Rattle.sql_commits.proofs.WritesInTurn.{nothing_put, write_then, write_as}
+use Rattle.sql_conversion.specs.Conversion.{WritesKept, WritesWhole, WritesThere}
+use Rattle.sql_conversion.proofs.LanguagesFound.{writes_found, writes_none}
+use Rattle.sql_conversion.proofs.writing.write_language_of.Goals as goal
+
+-- its row, its units and their tally
+pub returns-in_ok-tally-in-Some-clause-put : goal.returns-in_ok-tally-in-Some-clause-put
+returns-in_ok-tally-in-Some-clause-put g c =
+    let old = state g.S.Store c.args.tx.now.conn.now in
+    let mid = state g.S.Store c.put_language_of.new.tx.conn.now in
+    let next = state g.S.Store c.write_units_of.new.tx.conn.now in
+    let new = state g.S.Store c.put_tally_of.new.tx.conn.now in
+    let project = lent_project c.args.project.now in
+    let lang = c.args.lang.now in
+    let header = c.in-Some.language.now.header in
+    let units = units_of project lang in
+    let Row = PutsLanguage lang header in
+    let Units = WritesKept lang units in
+    let Whole = WritesWhole lang header units in
+    let written = write_then old mid next {F = Failure} c.in_ok-put_language_of-in-Some.field-0 (Ok c.in_ok-write_units_of-in-Some.field-0) (OnMain Row) (OnMain Units) (OnMain Whole)
+    (on_main_then Row Units Whole (λ first second. ((main_rows (rows_named mid.now), first, second), c.language_fits.ensures))) c.in_ok-put_language_of-in-Some.ensures.put c.in_ok-write_units_of-in-Some.ensures.put in
+    let whole = write_then old next new c.in_ok-write_units_of-in-Some.field-0 c.put_tally_of.result (OnMain Whole) (PutsTally lang c.in_ok-tally-in-Some.tally) (OnMain Whole)
+    (λ whole tallied. spares_last (λ rows. ⊤) Whole whole (tally_on_main tallied)) written c.put_tally_of.ensures.put in
+    write_as old new c.put_tally_of.result (OnMain Whole) (OnMain (WritesThere project lang))
+    (on_main_as Whole (WritesThere project lang) (writes_found c.args.project.now lang c.in-Some.language.now c.get.result c.get.ensures (ap option_copied c.in-Some.is) (main_rows (rows_named old.now)) (main_rows (rows_named new.now)))) whole
+
+-- one that isn't there
+pub returns-in-None-clause-put : goal.returns-in-None-clause-put
+returns-in-None-clause-put g c =
+    let old = state g.S.Store c.args.tx.now.conn.now in
+    let There = WritesThere (lent_project c.args.project.now) c.args.lang.now in
+    nothing_put old {E = Failure} _ (OnMain There) c.requires.steady c.requires.open
+    (nothing_on_main There old.now (writes_none c.args.project.now c.args.lang.now None c.in-None.ensures refl (main_rows (rows_named old.now))))

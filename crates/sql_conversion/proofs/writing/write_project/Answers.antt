@@ -1,0 +1,26 @@
+use Rattle.std.proofs.Common.{◌≡◌, subst, rules}
+use Rattle.sqlite.specs.Held.{state}
+use Rattle.office_maps.specs.OfficeIn.{lent_project}
+use Rattle.sql_meaning.specs.Meaning.{main_rows}
+use Rattle.sql_schema.specs.Layouts.{rows_named}
+use Rattle.sql_changes.specs.Commits.{PutsEntries}
+use Rattle.sql_changes.specs.OnMain.{OnMain}
+use Rattle.sql_changes.proofs.MainSteps.{on_main_then, on_main_as}
+use Rattle.sql_commits.proofs.WritesInTurn.{write_then}
+use Rattle.sql_conversion.specs.Conversion.{WritesEntries, WritesLanguages, WritesProject}
+use Rattle.sql_conversion.proofs.writing.write_project.Goals as goal
+
+-- its template, and its languages
+pub returns-clause-put : goal.returns-clause-put
+returns-clause-put g c =
+    let old = state g.S.Store c.args.tx.now.conn.now in
+    let mid = state g.S.Store c.put_entries.new.tx.conn.now in
+    let new = state g.S.Store c.write_languages.new.tx.conn.now in
+    let project = lent_project c.args.project.now in
+    let langs = c.args.langs.now in
+    let all : c.entries-entries.result.now ≡ project.template = search rules in
+    let Puts = PutsEntries 0 c.entries-entries.result.now in
+    let Entries = WritesEntries project.template in
+    let Languages = WritesLanguages project langs in
+    write_then old mid new c.in_ok-put_entries.field-0 c.write_languages.result (OnMain Puts) (OnMain Languages) (OnMain (WritesProject project langs))
+    (λ puts. on_main_then Entries Languages (WritesProject project langs) (λ entries languages. (main_rows (rows_named mid.now), entries, languages)) (on_main_as Puts Entries (λ put. subst (λ es. WritesEntries es (main_rows (rows_named old.now)) (main_rows (rows_named mid.now))) all (put, c.entries_fit.ensures)) puts)) c.in_ok-put_entries.ensures.put c.write_languages.ensures.put

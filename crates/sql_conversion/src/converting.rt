@@ -1,0 +1,35 @@
+//! The conversion of an office's eight tables to tables by domains: one transaction.
+ghost use Rattle.std.specs.Prelude.{◌≡◌, false, IsTrue};
+ghost use Rattle.sqlite.specs.Held.{state};
+ghost use Rattle.sqlite.specs.State.{HasCleanDisk};
+ghost use Rattle.sql_schema.specs.Layouts.{by_domain};
+ghost use Rattle.sql_schema.specs.Whole.{IsIdle, IsCommitOf};
+ghost use Rattle.sql_adoption.specs.Adoption.{IsAdoptedAs};
+ghost use Rattle.sql_adoption.specs.declared.office_tables.Form.TheVariants.{ForMain};
+ghost use Rattle.sql_conversion.specs.Conversion.{Converts};
+
+use crate::writing::write_anew;
+use sql_adoption::Adopted;
+use sql_commits::finish;
+use sql_decoding::Failure;
+use sqlite::{Alter, Connection};
+use std::alloc::Global;
+
+/// Writes an office that was adopted in the eight tables by domains beside them. What the file means stays.
+///
+/// Where it fails, nothing is changed: `Memory` where a growth was refused, `Disk` where the disk failed.
+pub fn convert<S: Alter>(
+    connection: &mut Connection<S>,
+    alloc: Global,
+    adopted: &Adopted,
+) -> Result<(), Failure>
+    requires autocommit { connection.old.in_transaction ≡ false }
+    requires idle { IsIdle (state S.Store connection.old) }
+    requires form { adopted.now.form ≡ ForMain }
+    requires adopted { HasCleanDisk (state S.Store connection.old) → IsTrue (state S.Store connection.old).is_open → IsAdoptedAs (state S.Store connection.old).now adopted.now }
+    ensures converted { IsCommitOf by_domain (state S.Store connection.old) (state S.Store connection.new) result Converts }
+{
+    let mut tx = connection.transaction();
+    let written = write_anew(&mut tx, alloc, &adopted.maps, adopted.langs.as_slice());
+    finish(tx, written)
+}

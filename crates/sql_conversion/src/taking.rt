@@ -1,0 +1,51 @@
+//! An office's file is taken over, whatever form its tables have.
+ghost use Rattle.std.specs.Prelude.{◌≡◌, false, IfOk, IfErr, OnOk, OnErr};
+ghost use Rattle.sqlite.specs.Held.{state};
+ghost use Rattle.sqlite.specs.State.{HasCleanDisk};
+ghost use Rattle.sql_adoption.specs.Adoption.{IsAdoptedIn, Refuses};
+ghost use Rattle.sql_conversion.specs.Conversion.{IsTakenOver, IsGivenBack};
+
+use crate::converting::convert;
+use sql_adoption::{Adopted, Form, OpenFault, adopted_office};
+use sqlite::{Alter, Connection};
+use std::alloc::Global;
+
+/// Takes over what was adopted: tables without a column for a domain are converted.
+fn converted<S: Alter>(
+    connection: &mut Connection<S>,
+    alloc: Global,
+    adopted: Adopted,
+) -> Result<(), OpenFault>
+    requires autocommit { connection.old.in_transaction ≡ false }
+    requires adopted { IsAdoptedIn (state S.Store connection.old) adopted }
+    ensures taken { OnOk result (IsTakenOver (state S.Store connection.old) (state S.Store connection.new)) }
+    ensures lost { IfErr result (Refuses (state S.Store connection.old).now) }
+    ensures given_back { OnErr result (IsGivenBack (state S.Store connection.old) (state S.Store connection.new)) }
+{
+    match adopted.form {
+        Form::ForMain => {
+            let done = convert(connection, alloc, &adopted).map_err(OpenFault::from);
+            drop(adopted);
+            done
+        }
+        Form::ByDomain => {
+            drop(adopted);
+            Ok(())
+        }
+    }
+}
+
+/// Takes an office's file over: its tables are adopted as they stand, and converted where they have no column for a domain. Behind it they
+/// are tables by domains, that mean what the file meant before.
+///
+/// `Foreign` tells why the tables aren't taken, as of `adopted_office`; then nothing was changed. `Memory` where a growth was refused, `Disk`
+/// where the disk failed: the rows are as before, and a stop leaves what was there, or what the conversion makes, which means the same.
+pub fn take_over<S: Alter>(connection: &mut Connection<S>, alloc: Global) -> Result<(), OpenFault>
+    requires autocommit { connection.old.in_transaction ≡ false }
+    ensures taken { OnOk result (IsTakenOver (state S.Store connection.old) (state S.Store connection.new)) }
+    ensures refused { IfErr result (λ fault. HasCleanDisk (state S.Store connection.new) → Refuses (state S.Store connection.old).now fault) }
+    ensures given_back { OnErr result (IsGivenBack (state S.Store connection.old) (state S.Store connection.new)) }
+{
+    let adopted = adopted_office(connection, alloc)?;
+    converted(connection, alloc, adopted)
+}

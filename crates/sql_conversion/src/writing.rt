@@ -1,0 +1,143 @@
+//! The office of `main`, written by domains inside a transaction, where nothing of it is yet.
+ghost use Rattle.std.specs.Prelude.{◌≡◌, IsTrue};
+ghost use Rattle.sqlite.specs.Held.{state};
+ghost use Rattle.sqlite.specs.State.{HasCleanDisk};
+ghost use Rattle.units.specs.Project.{units_of};
+ghost use Rattle.office_maps.specs.OfficeIn.{lent_project, office_in};
+ghost use Rattle.sql_schema.specs.Layouts.{by_domain};
+ghost use Rattle.sql_schema.specs.Inside.{IsSteady, IsSteadyOver, IsInsideOf};
+ghost use Rattle.sql_changes.specs.OnMain.{OnMain};
+ghost use Rattle.sql_conversion.specs.Conversion.{WritesKept, WritesThere, WritesLanguages, WritesProject, WritesAnew};
+
+use deliveries::Tally;
+use office_maps::{OfficeMaps, Place, ProjectMaps};
+use sql_commits::{put_entries, put_language_of, put_policy_of, put_tally_of, write_planned};
+use sql_decoding::Failure;
+use sql_keepable::{entries_fit, language_fits, unit_fits};
+use sql_schema::make_domain_tables;
+use sql_statements::domains::put_domain;
+use sqlite::{Alter, Transaction};
+use std::alloc::Global;
+use tables::counts_in;
+use units::{Lang, Name};
+
+/// Writes a language's units, in the order of their keys.
+fn write_units_of<S: Alter>(
+    tx: &mut Transaction<'_, S>,
+    alloc: Global,
+    project: &ProjectMaps<'_>,
+    lang: &Lang,
+) -> Result<(), Failure>
+    requires steady { IsSteadyOver by_domain (state S.Store tx.old.conn.now) }
+    requires open { HasCleanDisk (state S.Store tx.old.conn.now) → IsTrue (state S.Store tx.old.conn.now).is_open }
+    ensures same_reference { tx.new.conn.ghost_name ≡ tx.old.conn.ghost_name }
+    ensures put { IsInsideOf by_domain (state S.Store tx.old.conn.now) (state S.Store tx.new.conn.now) result
+        (OnMain (WritesKept lang.now (units_of (lent_project project.now) lang.now))) }
+{
+    let first = Place::first_of(alloc, lang)?;
+    for (place, unit) in project.domain.units.range(first..) {
+        if *lang != place.lang {
+            break;
+        }
+        unit_fits(lang, unit);
+        write_planned(tx, alloc, lang, unit)?;
+    }
+    Ok(())
+}
+
+/// The tally of a language of `main`; of none, where it isn't there.
+fn tally_of(alloc: Global, maps: &OfficeMaps, lang: &Lang) -> Result<Tally, Failure> {
+    match counts_in(alloc, maps, &Name::main_domain(), lang)? {
+        Some(tally) => Ok(tally),
+        None => Ok(Tally::none()),
+    }
+}
+
+/// Writes a language with its units, and the tally of these.
+fn write_language_of<S: Alter>(
+    tx: &mut Transaction<'_, S>,
+    alloc: Global,
+    maps: &OfficeMaps,
+    project: &ProjectMaps<'_>,
+    lang: &Lang,
+) -> Result<(), Failure>
+    requires steady { IsSteadyOver by_domain (state S.Store tx.old.conn.now) }
+    requires open { HasCleanDisk (state S.Store tx.old.conn.now) → IsTrue (state S.Store tx.old.conn.now).is_open }
+    ensures same_reference { tx.new.conn.ghost_name ≡ tx.old.conn.ghost_name }
+    ensures put { IsInsideOf by_domain (state S.Store tx.old.conn.now) (state S.Store tx.new.conn.now) result
+        (OnMain (WritesThere (lent_project project.now) lang.now)) }
+{
+    match project.domain.languages.get(lang) {
+        Some(language) => {
+            language_fits(lang, &language.header);
+            put_language_of(tx, alloc, lang, &language.header)?;
+            write_units_of(tx, alloc, project, lang)?;
+            let tally = tally_of(alloc, maps, lang)?;
+            put_tally_of(tx, lang, tally)
+        }
+        None => Ok(()),
+    }
+}
+
+/// Writes the languages of these codes, each with its units and their tally.
+fn write_languages<S: Alter>(
+    tx: &mut Transaction<'_, S>,
+    alloc: Global,
+    maps: &OfficeMaps,
+    project: &ProjectMaps<'_>,
+    langs: &[Lang],
+) -> Result<(), Failure>
+    requires steady { IsSteadyOver by_domain (state S.Store tx.old.conn.now) }
+    requires open { HasCleanDisk (state S.Store tx.old.conn.now) → IsTrue (state S.Store tx.old.conn.now).is_open }
+    ensures same_reference { tx.new.conn.ghost_name ≡ tx.old.conn.ghost_name }
+    ensures put { IsInsideOf by_domain (state S.Store tx.old.conn.now) (state S.Store tx.new.conn.now) result
+        (OnMain (WritesLanguages (lent_project project.now) langs.now)) }
+{
+    for lang in langs {
+        write_language_of(tx, alloc, maps, project, lang)?;
+    }
+    Ok(())
+}
+
+/// Writes a project's template and the languages of these codes.
+fn write_project<S: Alter>(
+    tx: &mut Transaction<'_, S>,
+    alloc: Global,
+    maps: &OfficeMaps,
+    project: &ProjectMaps<'_>,
+    langs: &[Lang],
+) -> Result<(), Failure>
+    requires steady { IsSteadyOver by_domain (state S.Store tx.old.conn.now) }
+    requires open { HasCleanDisk (state S.Store tx.old.conn.now) → IsTrue (state S.Store tx.old.conn.now).is_open }
+    ensures same_reference { tx.new.conn.ghost_name ≡ tx.old.conn.ghost_name }
+    ensures put { IsInsideOf by_domain (state S.Store tx.old.conn.now) (state S.Store tx.new.conn.now) result
+        (OnMain (WritesProject (lent_project project.now) langs.now)) }
+{
+    let entries = project.domain.template.catalogue.entries();
+    entries_fit(entries);
+    put_entries(tx, alloc, entries)?;
+    write_languages(tx, alloc, maps, project, langs)
+}
+
+/// Makes the tables by domains beside the eight, and writes the office of `main` into them, with the languages of these codes. The policy's
+/// row tells the new form. The other rows of the eight tables stay.
+pub(crate) fn write_anew<S: Alter>(
+    tx: &mut Transaction<'_, S>,
+    alloc: Global,
+    maps: &OfficeMaps,
+    langs: &[Lang],
+) -> Result<(), Failure>
+    requires steady { IsSteady (state S.Store tx.old.conn.now) }
+    ensures same_reference { tx.new.conn.ghost_name ≡ tx.old.conn.ghost_name }
+    ensures put { IsInsideOf by_domain (state S.Store tx.old.conn.now) (state S.Store tx.new.conn.now) result
+        (WritesAnew (office_in maps.now) langs.now) }
+{
+    make_domain_tables(tx)?;
+    let domain = Name::main_domain();
+    put_domain(tx, domain.as_str())?;
+    put_policy_of(tx, &maps.policy)?;
+    match maps.project(&domain) {
+        Some(project) => write_project(tx, alloc, maps, &project, langs),
+        None => Ok(()),
+    }
+}
