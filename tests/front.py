@@ -40,7 +40,7 @@ import uuid
 
 import front_oidc
 import front_servers as servers
-from front_servers import HOST, PROJECT, SECONDS, TOP
+from front_servers import ASKED, HOST, OPENED, PROJECT, SECONDS, TOP
 
 looks = wrong = 0
 PASSWORD = "swordfish"
@@ -576,11 +576,6 @@ def escapes(front, office):
     refused(front, office, "an act's path, as text", given.replace(b"application/json", b"text/plain"), 415, "type")
 
 
-# What a browser says that it takes, where a person opens an address (Firefox, Chromium), and what its scripts and programs say.
-OPENED = ["text/html,application/xhtml+xml,application/xml;q=0.9,*/*;q=0.8", "TEXT/HTML", "image/webp, text/html;q=0.5"]
-ASKED = [None, "*/*", "application/json", "text/plain"]
-
-
 def signed_out_page(front, what, given, challenges=1):
     """A person is told by a page, which leads back to where one signs in."""
     found = told(front, given)
@@ -922,7 +917,7 @@ class Office:
         """Each act that is recorded, with its status; and the revision of each message."""
         with contextlib.closing(sqlite3.connect(self.path)) as db:
             records = db.execute("SELECT number, status FROM record").fetchall()
-            revisions = db.execute("SELECT key, revision FROM unit WHERE lang = 'de'").fetchall()
+            revisions = db.execute("SELECT key, revision FROM d_unit WHERE domain = 'main' AND lang = 'de'").fetchall()
         return collections.Counter(records), dict(revisions)
 
 
