@@ -7,7 +7,9 @@ import subprocess
 import sys
 import time
 
-SECONDS = 30
+from patience import seconds
+
+SECONDS = seconds(30)
 WORDS = (
     "--headless=new",
     "--remote-debugging-pipe",

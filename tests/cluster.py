@@ -39,11 +39,14 @@ MESSAGES = 30
 TABLES = (
     "team ORDER BY name",
     "policy",
-    "template ORDER BY place",
-    "language ORDER BY lang",
-    "unit ORDER BY lang, key",
-    "suggestion ORDER BY number",
-    "vote ORDER BY number, voter",
+    "domain ORDER BY name",
+    "d_template ORDER BY domain, place",
+    "d_language ORDER BY domain, lang",
+    "d_unit ORDER BY domain, lang, key",
+    "d_suggestion ORDER BY number",
+    "d_vote ORDER BY number, voter",
+    "d_vote_sum ORDER BY number",
+    "d_tally ORDER BY domain, lang",
 )
 MALFORMED = (400, b'{"error":"malformed"}')
 

@@ -1,13 +1,14 @@
 #!/usr/bin/env python3
 """Fails each call to the disk of the program in turn, on real files, and looks what is left.
 
-    tests/failing_calls.py [PROGRAM] [--every K] [--minutes M]      (crates/cli/out/cli, each call, no end; wants cc)
+    tests/failing_calls.py [PROGRAM] [--every K] [--minutes M] [--only WORD] [--spoil]      (crates/cli/out/cli, each call, no end; wants cc)
 
-`init`, `deliver`, `export` and `serve` run with one write, sync, truncation, opening or removal failed, the first, the second and so on till none
-is met, by EIO and by ENOSPC, and with a write that takes half its bytes; and with all calls from one on failed. Files are cut at every 512 bytes
-of their log too, and the last 512 are torn. Behind each the file has to be whole for SQLite, each request that was answered there with its reply,
-the next one perhaps, and nothing else; then the same lines by the program get the replies of a disk that works. With `--every K` each K-th is
-tried. The last line is `N failures, C cuts, W wrong`; the status is 1 if anything was wrong.
+`init`, `deliver`, `export`, `serve`, and `deliver` over a file of the first schema, which is converted, run with one write, sync, truncation,
+opening or removal failed, the first, the second and so on till none is met, by EIO and by ENOSPC, and with a write that takes half its bytes; and
+with all calls from one on failed. Files are cut at every 512 bytes of their log too, and the last 512 are torn. Behind each the file has to be
+whole for SQLite, each request that was answered there with its reply, the next one perhaps, and nothing else; then the same lines by the program
+get the replies of a disk that works. With `--every K` each K-th is tried. With `--spoil` a write that fails is taken for done, as by a program that
+doesn't look, which has to be found. The last line is `N failures, C cuts, W wrong`; the status is 1 if anything was wrong.
 """
 import argparse
 import contextlib
@@ -22,6 +23,7 @@ import sys
 import tempfile
 import time
 
+import first_tables
 import serve as serving
 
 TOP = pathlib.Path(__file__).resolve().parent.parent
@@ -45,7 +47,9 @@ REPLIES = [
 DISK = '507 {"error":"disk"}'
 TEXT = HEADER + '\nmsgid "Hello"\nmsgstr "Hallo"\n'
 KINDS = ("pwrite", "sync", "truncate", "open", "unlink")
+LIE = {"FAIL_ERRNO": "0", "FAIL_LIE": "1"}
 WAYS = [{"FAIL_ERRNO": "5"}, {"FAIL_ERRNO": "28"}, {"FAIL_ERRNO": "5", "FAIL_ON": "1"}]
+PROGRAMS = ("init", "deliver", "convert", "export", "serve", "cuts")
 SHORT = {"FAIL_ERRNO": "0", "FAIL_SHORT": "1"}
 
 
@@ -71,7 +75,7 @@ class Trial:
     def run(self, *words, given="", how=None):
         environment = {**os.environ, "ASAN_OPTIONS": "verify_asan_link_order=0:detect_leaks=0", **(how or {})}
         if how:
-            environment |= {"LD_PRELOAD": str(self.library), "FAIL_MET": str(self.met)}
+            environment |= {"LD_PRELOAD": str(self.library), "FAIL_MET": str(self.met), **how}
         done = subprocess.run([self.program, *map(str, words)], input=given.encode(), capture_output=True, timeout=SECONDS, check=False, env=environment)
         return done.returncode, done.stdout.decode(), done.stderr.decode()
 
@@ -94,17 +98,31 @@ class Trial:
         for it in begun.iterdir():
             shutil.copy(it, self.folder)
 
+    def begin_first(self):
+        """An office of the first schema that has taken the first request."""
+        self.begin(1)
+        later = self.folder / "later.db"
+        self.store.rename(later)
+        self.clear()
+        first_tables.make(self.store, later)
+
     def recorded(self, what):
         """The numbers and replies that a copy of the file has, which has to be whole."""
         with tempfile.TemporaryDirectory(dir=self.folder) as name:
             for it in self.folder.glob("office.db*"):
                 shutil.copy(it, name)
-            with contextlib.closing(sqlite3.connect(pathlib.Path(name, "office.db"))) as db:
-                whole = db.execute("PRAGMA integrity_check").fetchall() + db.execute("PRAGMA foreign_key_check").fetchall()
-                if whole != [("ok",)]:
-                    self.say(what, whole[:2])
-                there = db.execute("SELECT count(*) FROM sqlite_schema WHERE name = 'record'").fetchone()[0]
-                return [(it, f"{status} {body}") for it, status, body in db.execute("SELECT number, status, body FROM record ORDER BY rowid")] if there else None
+            try:
+                return self.records_in(what, pathlib.Path(name, "office.db"))
+            except sqlite3.DatabaseError as fault:
+                return self.say(what, fault)
+
+    def records_in(self, what, path):
+        with contextlib.closing(sqlite3.connect(path)) as db:
+            whole = db.execute("PRAGMA integrity_check").fetchall() + db.execute("PRAGMA foreign_key_check").fetchall()
+            if whole != [("ok",)]:
+                self.say(what, whole[:2])
+            there = db.execute("SELECT count(*) FROM sqlite_schema WHERE name = 'record'").fetchone()[0]
+            return [(it, f"{status} {body}") for it, status, body in db.execute("SELECT number, status, body FROM record ORDER BY rowid")] if there else None
 
     def look(self, what, answered):
         """Behind a failure: what was answered is there, perhaps the next, and nothing else; the same lines get the replies that they get."""
@@ -121,7 +139,8 @@ class Trial:
     def init(self, what, how):
         self.clear()
         status, out, faults = self.run("init", "--store", self.store, "--manager", "root", how=how)
-        if (status, out, faults) not in ((0, "ready\n", ""), (1, "", "store fault 2\n")):
+        # (a file that can't be closed is a fault besides)
+        if (status, out, faults) not in ((0, "ready\n", ""), (1, "", "store fault 2\n"), (1, "", "store fault 2\n" * 2)):
             self.say(what, f"{status} {out}{faults}")
         if status:
             again = self.run("init", "--store", self.store, "--manager", "root")
@@ -131,11 +150,18 @@ class Trial:
 
     def deliver(self, what, how):
         self.begin(1)
+        self.deliver_all(what, how)
+
+    def convert(self, what, how):
+        self.begin_first()
+        self.deliver_all(what, how)
+
+    def deliver_all(self, what, how):
         status, out, faults = self.run("deliver", "--store", self.store, given="".join(it + "\n" for it in LINES), how=how)
         said = out.split("\n")[:-1]
         count = next((n for n, it in enumerate(said) if it == DISK), len(said))
-        # (a file that can't be closed is a fault behind the replies)
-        is_told = (status, faults) == (1, "store fault 2\n") or said and (status, faults) == (0, "")
+        # (a file that can't be closed is a fault behind the replies, or behind that of the opening)
+        is_told = (status, faults) in ((1, "store fault 2\n"), (1, "store fault 2\n" * (1 if said else 2))) or said and (status, faults) == (0, "")
         if said not in ([], REPLIES[:count] + [DISK] * (len(LINES) - count)) or not is_told:
             self.say(what, f"{status} {faults} {said}")
         self.look(what, max(count, 1))
@@ -143,7 +169,8 @@ class Trial:
     def export(self, what, how):
         self.begin(3)
         status, out, faults = self.run("export", "--store", self.store, "--lang", "de", how=how)
-        is_done = status == 0 and out == TEXT and faults.startswith(f"bytes {len(TEXT)} ")
+        # (a file that can't be closed is a fault behind the text)
+        is_done = out == TEXT and faults.startswith(f"bytes {len(TEXT)} ") and (status, faults.split("\n")[1:]) in ((0, [""]), (1, ["store fault 2", ""]))
         if not is_done and not (status == 1 and TEXT.startswith(out) and faults in ("store fault 2\n", "export fault 4\n")):
             self.say(what, f"{status} {out}{faults}")
         self.look(what, 3)
@@ -181,10 +208,10 @@ class Trial:
 
     def fail_each(self, name):
         """Each call of a program failed in turn, in each way, till none is met."""
-        for kind in KINDS:
-            for how in [*WAYS, *([SHORT] if kind == "pwrite" else [])]:
+        for kind in KINDS[:1] if self.given.spoil else KINDS:
+            for how in [LIE] if self.given.spoil else [*WAYS, *([SHORT] if kind == "pwrite" else [])]:
                 at = 1
-                while time.monotonic() < self.end:
+                while time.monotonic() < self.end and not (self.given.spoil and self.wrong):
                     self.met.unlink(missing_ok=True)
                     getattr(self, name)(f"{name}, {kind} {at}, {how}", {**how, "FAIL_CALL": kind, "FAIL_N": str(at)})
                     if not self.met.exists():
@@ -228,11 +255,12 @@ def main():
     parser.add_argument("program", nargs="?", type=pathlib.Path, default=TOP / "crates" / "cli" / "out" / "cli")
     parser.add_argument("--every", type=int, default=1)
     parser.add_argument("--minutes", type=float, default=float("inf"))
-    parser.add_argument("--only", choices=("init", "deliver", "export", "serve", "cuts"), action="append")
+    parser.add_argument("--only", choices=PROGRAMS, action="append")
+    parser.add_argument("--spoil", action="store_true")
     given = parser.parse_args()
     with tempfile.TemporaryDirectory(prefix="office-failing-") as name:
         trial = Trial(given.program.resolve(), pathlib.Path(name), given)
-        for it in given.only or ("init", "deliver", "export", "serve", "cuts"):
+        for it in given.only or PROGRAMS:
             trial.cut_each() if it == "cuts" else trial.fail_each(it)
     print(f"{trial.failures} failures, {trial.cuts} cuts, {trial.wrong} wrong")
     return 1 if trial.wrong else 0

@@ -15,7 +15,7 @@ import uuid
 import chromium
 import front_servers as servers
 import identity
-from front_servers import HOST, PROJECT, SECONDS, TOP
+from front_servers import ASKED, HOST, OPENED, PROJECT, SECONDS, TOP
 
 HEADER = 'msgid ""\nmsgstr ""\n"Content-Type: text/plain; charset=UTF-8\\n"\n"Plural-Forms: nplurals=2; plural=n != 1;\\n"\n'
 MESSAGES = ("typed", "saved", "sent")
@@ -39,7 +39,8 @@ class Client:
     def ask(self, path, body=None, follow=False, **headers):
         """The status, the headers and the body of an answer, of the last where redirections are followed."""
         given = {"Content-Type": "application/json"} if body else {"Accept": "text/html"}
-        asked = urllib.request.Request(self.at + path, body, {**given, **{name.replace("_", "-"): it for name, it in headers.items()}})
+        given |= {name.replace("_", "-"): it for name, it in headers.items()}
+        asked = urllib.request.Request(self.at + path, body, {name: it for name, it in given.items() if it is not None})
         try:
             with (self.follows if follow else self.once).open(asked, timeout=30) as answer:
                 return answer.status, answer.headers, answer.read()
@@ -114,14 +115,20 @@ def run(folder, program, same):
 
 
 def not_signed_in(same, client, provider):
-    """The page leads to the provider; what its code and programs ask for is 401, and nothing of it reaches the office."""
+    """A person is led to the provider; what programs and the page's code ask for is 401, and nothing of it reaches the office."""
     for path in ("/caller", "/office.json", "/v1/stats/de", "/v1/export/de"):
         status, headers, body = client.ask(path, X_Forwarded_User="root")
         same(f"nobody, {path}", (status, headers["Content-Type"], body), (401, "application/json", SIGN_IN))
     status, _, body = client.act("sent", 1, X_Forwarded_User="ann", X_Office_Caller="ann")
     same("nobody, an act", (status, body), (401, SIGN_IN))
-    status, headers, _ = client.ask("/")
-    same("nobody, the page", (status, headers["Location"].partition("?")[0]), (302, f"{provider.at}/authorization"))
+    for path in ("/", "/main.js", "/sign-out"):
+        for accept in ASKED:
+            status, headers, body = client.ask(path, Accept=accept)
+            same(f"nobody's program, {path}, {accept}", (status, headers["Content-Type"], body), (401, "application/json", SIGN_IN))
+    for path, leads in (("/", (302, f"{provider.at}/authorization")), ("/sign-out", (303, f"{client.at}/oidc/redirect"))):
+        for accept in OPENED:
+            status, headers, _ = client.ask(path, Accept=accept)
+            same(f"nobody, {path}, {accept}", (status, (headers["Location"] or "").partition("?")[0]), leads)
     status, _, body = client.ask("/", follow=True)
     same("the provider's form", (status, b'id="in"' in body), (200, True))
 
@@ -179,6 +186,18 @@ def signed_out(same, apache, provider):
     for it in kept:
         client.jar.set_cookie(it)
     same("with the cookies of before", client.caller(), (401, SIGN_IN))
+    program_signed_out(same, apache, provider)
+
+
+def program_signed_out(same, apache, provider):
+    """A program that has a session is led to the provider as a browser is, and told at the end that nobody is signed in."""
+    client, provider.person, provider.ended = Client(apache.at), ANN, []
+    client.ask("/", follow=True)
+    same("a program, before it", client.caller(), (200, b'{"caller":"ann"}'))
+    status, headers, body = client.ask("/sign-out", follow=True, Accept="application/json")
+    same("a program's sign-out", (status, headers["Content-Type"], body), (401, "application/json", SIGN_IN))
+    same("the provider is told of a program's", len(provider.ended), 1)
+    same("a program, behind it", client.caller(), (401, SIGN_IN))
 
 
 def runs_out(same, folder, apache, provider):

@@ -11,11 +11,16 @@ import socket
 import subprocess
 import time
 
+from patience import seconds
+
 TOP = pathlib.Path(__file__).resolve().parent.parent
 FRONT = TOP / "share" / "front"
 HOST = "127.0.0.1"
 PROJECT = "example"
-SECONDS = 30
+SECONDS = seconds(30)
+# What a browser says that it takes, where a person opens an address (Firefox, Chromium), and what its scripts and programs say.
+OPENED = ["text/html,application/xhtml+xml,application/xml;q=0.9,*/*;q=0.8", "TEXT/HTML", "image/webp, text/html;q=0.5"]
+ASKED = [None, "*/*", "application/json", "text/plain"]
 
 
 def free_port():

@@ -16,10 +16,11 @@ import time
 import urllib.parse
 
 import front_servers
+from patience import seconds
 
 HOST = front_servers.HOST
 PROJECT = front_servers.PROJECT
-SECONDS = 30
+SECONDS = seconds(30)
 
 
 def number(n):

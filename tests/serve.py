@@ -21,10 +21,12 @@ import tempfile
 import threading
 import time
 
+from patience import seconds
+
 TOP = pathlib.Path(__file__).resolve().parent.parent
 PROGRAM = pathlib.Path(sys.argv[1] if len(sys.argv) > 1 else TOP / "crates" / "cli" / "out" / "cli").resolve()
 HOST = "127.0.0.1"
-SECONDS = 300
+SECONDS = seconds(300)
 
 HEADER = 'msgid ""\nmsgstr ""\n"Content-Type: text/plain; charset=UTF-8\\n"\n"Plural-Forms: nplurals=2; plural=n != 1;\\n"\n'
 HALLO = '{"act":"translate","forms":["Hallo"],"id":"Hello","lang":"de","seen":1}'

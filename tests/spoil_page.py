@@ -14,10 +14,12 @@ import subprocess
 import sys
 import tempfile
 
+from patience import seconds
+
 TOP = pathlib.Path(__file__).resolve().parent.parent
 NEEDED = ("share/web", "share/front", "share/tools", "tools", "docs/example", "docs/FORMATS.md")
-TESTS = ("page.py", "page_office.py", "chromium.py", "front_servers.py")
-SECONDS = 400
+TESTS = ("page.py", "page_office.py", "chromium.py", "front_servers.py", "patience.py")
+SECONDS = seconds(400)
 
 
 @dataclasses.dataclass
@@ -109,7 +111,7 @@ def copied(folder):
         shutil.copy(TOP / "tests" / name, folder / "tests" / name)
     # What doesn't come at once doesn't come.
     waits = folder / "tests" / "chromium.py"
-    waits.write_text(waits.read_text().replace("SECONDS = 30\n", "SECONDS = 8\n"))
+    waits.write_text(waits.read_text().replace("seconds(30)", "seconds(8)"))
 
 
 def passes(program, cases, change=None):

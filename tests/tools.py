@@ -719,7 +719,7 @@ def noted(folder):
     path, place = popt_office(folder), room(folder)
     (place / "export.po").write_text(run("export", "--store", path, "--lang", "de")[1])
     with contextlib.closing(sqlite3.connect(f"file:{path}?mode=ro&immutable=1", uri=True)) as db:
-        rows = db.execute("SELECT json_object('key', key, 'revision', revision) FROM unit WHERE lang = 'de' AND NOT obsolete").fetchall()
+        rows = db.execute("SELECT json_object('key', key, 'revision', revision) FROM d_unit WHERE domain = 'main' AND lang = 'de' AND NOT obsolete").fetchall()
     (place / "revisions").write_text("".join(f"{it}\n" for (it,) in rows))
     edited(place / "export.po", place / "de.po", EDITS)
     words = ["--revisions", place / "revisions", "--caller", "ann", "--requests", place / "requests", "de", place / "export.po", place / "de.po"]

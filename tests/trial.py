@@ -310,7 +310,8 @@ def released(it, files, message):
 
 
 def repository(it):
-    """upstream's bare repository with its release, and a clone of it"""
+    """upstream's bare repository with its release, a clone of it, and a first pull, which changes nothing"""
+    before = {lang: it.run("office", "export", "--store", it.db, "--lang", lang, text=False)[0] for lang in it.langs}
     git(it, "init", "-q", "-b", "main", "upstream", folder=".")
     released(it, it.old, "a release")
     git(it, "clone", "-q", "--bare", "upstream", "bare.git", folder=".")
@@ -319,6 +320,9 @@ def repository(it):
     for name, value in (("user.name", "Our office"), ("user.email", "office@example.org")):
         git(it, "config", name, value, folder="clone")
     (it.folder / "people").write_text(PEOPLE)
+    it.same("a first pull", office_git(it, "pull"), ["taken: the template", "1 taken"])
+    after = {lang: it.run("office", "export", "--store", it.db, "--lang", lang, text=False)[0] for lang in it.langs}
+    it.same("what it changed", [lang for lang in it.langs if before[lang] != after[lang]], [])
     return f"{git(it, 'rev-list', '--count', 'HEAD').strip()} commit"
 
 
@@ -339,6 +343,7 @@ def pushes(it):
     acted = sorted(lang for lang in it.langs if it.acted[lang])
     it.same("who is named", [line for line in log if line.startswith("Ann")], [f"Ann Example, Update the translation into {lang}" for lang in reversed(acted)])
     it.same("once more", office_git(it, "sync"), ["nothing has changed"])
+    it.same("all that was told", [line for line in told[:-1] if not line.startswith("pushed: ")], [])
     in_repository(it, told)
     return f"{told[-1]}, {len(acted)} of ann's"
 
@@ -382,6 +387,8 @@ def next_release(it):
     conflicts = [line for line in told if line.startswith("conflict: ")]
     it.same("conflicts", len(conflicts), 1 if it.both else 0)
     it.same("nothing was left", [line for line in told if line.startswith("not ")], [])
+    come = [] if it.is_full else sorted({path.stem for path in it.new.glob("*.po")} - {path.stem for path in it.old.glob("*.po")})
+    it.langs += come
     with it.served():
         wanted = {key_of(one) for one in messages(utf8(next(it.new.glob("*.pot"))))}
         for lang in it.langs:
@@ -389,7 +396,7 @@ def next_release(it):
             it.same(f"{lang}: the template's messages", {key_of(one) for one in messages(text)} ^ wanted, set())
             if (it.new / f"{lang}.po").exists():
                 upstream(it, lang, entries(text))
-    return told[-1]
+    return f"{told[-1]}; {len(come)} languages come"
 
 
 def upstream(it, lang, office):
@@ -508,7 +515,7 @@ def sent_again(it):
     return f"{len(replies.splitlines())} replies"
 
 
-STEPS = [reads, imports, delivers, [team, exports, counts, translates, uploads], repository, pushes, [both_change], next_release]
+STEPS = [reads, imports, delivers, [team, exports, counts], repository, [translates, uploads], pushes, [both_change], next_release]
 STEPS += [[begins, remembers, suggests, checks], pushes_again, logs, exports_release, sent_again]
 
 

@@ -1,5 +1,6 @@
 /* Preloaded before a program, fails its call number FAIL_N of the kind FAIL_CALL with the error FAIL_ERRNO, and each call of that kind behind it
-   where FAIL_ON is set; with FAIL_SHORT a write takes half its bytes and succeeds. Makes the file FAIL_MET when it does. */
+   where FAIL_ON is set; with FAIL_SHORT a write takes half its bytes and succeeds, with FAIL_LIE it takes none and says that it took all. Makes the
+   file FAIL_MET when it does. */
 #define _GNU_SOURCE
 #include <dlfcn.h>
 #include <errno.h>
@@ -33,6 +34,7 @@ static int fails(const char *kind) {
     ssize_t name(int file, const void *data, size_t size, off_t at) { \
         NEXT(ssize_t (*)(int, const void *, size_t, off_t), #name); \
         if (fails("pwrite")) { \
+            if (getenv("FAIL_LIE")) return (ssize_t)size; \
             if (!getenv("FAIL_SHORT")) return -1; \
             size = size > 1 ? size / 2 : size; \
         } \
