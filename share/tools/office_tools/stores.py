@@ -30,28 +30,55 @@ def free_port():
         return it.getsockname()[1]
 
 
+class Stored(Office):
+    """The office of a file. The program serves one connection, which is this one, and ends behind it: so nobody else reaches the office
+    meanwhile. It gives a connection up on which nothing comes for a minute, as where a tool works long between two questions, and is
+    opened again then."""
+
+    def __init__(self, path, program, caller, domain):
+        super().__init__(urllib.parse.urlsplit(f"http://{HOST}"), caller=caller, tries=2, domain=domain)
+        self.path, self.program, self.process = path, program, None
+
+    def once(self, method, target, body):
+        if self.connection.sock is None:
+            self.open()
+        return super().once(method, target, body)
+
+    def open(self):
+        if self.process:
+            self.process.wait(CLOSING)
+            self.process.stderr.close()
+        port = free_port()
+        words = [self.program, "serve", "--store", str(pathlib.Path(self.path).resolve()), "--port", str(port), "--connections", "1"]
+        try:
+            self.process = subprocess.Popen(words, stdin=subprocess.DEVNULL, stdout=subprocess.DEVNULL, stderr=subprocess.PIPE)
+        except OSError as why:
+            raise Fault(f"{self.program}: {why.strerror}") from None
+        self.connection.sock = connected(port, self.process, self.path)
+
+    def end(self):
+        """Closes the office, which was given up before where it said so."""
+        gone = self.connection.sock is None
+        self.close()
+        if self.process.wait(CLOSING) and not gone:
+            raise Fault(f"{self.path}: {told_by(self.process)}")
+
+
 @contextlib.contextmanager
 def opened(path, program, caller=None, domain=MAIN):
-    """The office of a file, as a client asks it. The program serves one connection, which is this one, and ends behind it: so nobody
-    else reaches the office meanwhile."""
-    port = free_port()
-    words = [program, "serve", "--store", str(pathlib.Path(path).resolve()), "--port", str(port), "--connections", "1"]
+    """The office of a file, as a client asks it."""
+    office = Stored(path, program, caller, domain)
     try:
-        process = subprocess.Popen(words, stdin=subprocess.DEVNULL, stdout=subprocess.DEVNULL, stderr=subprocess.PIPE)
-    except OSError as why:
-        raise Fault(f"{program}: {why.strerror}") from None
-    with process:
-        try:
-            office = Office(urllib.parse.urlsplit(f"http://{HOST}:{port}"), caller=caller, tries=1, domain=domain)
-            office.connection.sock = connected(port, process, path)
-            yield office
-            office.close()
-            if process.wait(CLOSING):
-                raise Fault(f"{path}: {told_by(process)}")
-        except subprocess.TimeoutExpired:
-            raise Fault(f"{path}: {program} doesn't end") from None
-        finally:
-            process.kill()
+        office.open()
+        yield office
+        office.end()
+    except subprocess.TimeoutExpired:
+        raise Fault(f"{path}: {program} doesn't end") from None
+    finally:
+        if office.process:
+            office.process.kill()
+            office.process.wait()
+            office.process.stderr.close()
 
 
 def connected(port, process, path):
