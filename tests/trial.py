@@ -387,7 +387,7 @@ def next_release(it):
     conflicts = [line for line in told if line.startswith("conflict: ")]
     it.same("conflicts", len(conflicts), 1 if it.both else 0)
     it.same("nothing was left", [line for line in told if line.startswith("not ")], [])
-    come = [] if it.is_full else sorted({path.stem for path in it.new.glob("*.po")} - {path.stem for path in it.old.glob("*.po")})
+    come = [] if it.left else sorted({path.stem for path in it.new.glob("*.po")} - {path.stem for path in it.old.glob("*.po")})
     it.langs += come
     with it.served():
         wanted = {key_of(one) for one in messages(utf8(next(it.new.glob("*.pot"))))}
