@@ -14,11 +14,22 @@ CRATES = pathlib.Path(__file__).resolve().parent.parent / "crates"
 ASIDE = "gate-edits"
 
 
+def put_aside(crate):
+    """Puts the edits of inner functions in the place of the gate's, which a crate need not have."""
+    gate = crate / "must-fail"
+    gate.mkdir(exist_ok=True)
+    gate.rename(crate / ASIDE)
+    (crate / "inner-edits").rename(gate)
+
+
 def put_back():
     """Has each folder at its place, also after a run that was killed."""
     for aside in CRATES.glob(f"*/{ASIDE}"):
-        (aside.parent / "must-fail").rename(aside.parent / "inner-edits")
-        aside.rename(aside.parent / "must-fail")
+        gate = aside.parent / "must-fail"
+        gate.rename(aside.parent / "inner-edits")
+        aside.rename(gate)
+        if not any(gate.iterdir()):
+            gate.rmdir()
 
 
 def count_refused(names):
@@ -40,8 +51,7 @@ def main(names):
     edits = sum(len(list(it.glob("inner-edits/*.edit"))) for it in crates)
     try:
         for crate in crates:
-            (crate / "must-fail").rename(crate / ASIDE)
-            (crate / "inner-edits").rename(crate / "must-fail")
+            put_aside(crate)
         refused = count_refused([it.name for it in crates])
     finally:
         put_back()
