@@ -12,24 +12,21 @@ With OTHER, another program over a file of its own, which it made, takes each ro
 Usage: bench/export.py [FOLDER [ENTRIES [ROUNDS [PROGRAM [OTHER]]]]]     (the files are made in FOLDER, which should lie on a disk;
 PROGRAM is crates/cli/out/cli, as ./office has built it, where none is given; wants Linux)
 """
-import contextlib
 import hashlib
 import json
 import pathlib
-import socket
 import statistics
-import subprocess
 import sys
 import tempfile
 import time
 
-TOP = pathlib.Path(__file__).resolve().parent.parent
+from served import HEADER, TOP, kilobytes, made, number, rest_of_answer, talking
+
 FOLDER = sys.argv[1] if len(sys.argv) > 1 else None
 ENTRIES = int(sys.argv[2]) if len(sys.argv) > 2 else 20_000
 ROUNDS = int(sys.argv[3]) if len(sys.argv) > 3 else 5
 PROGRAMS = [pathlib.Path(it).resolve() for it in sys.argv[4:6] or [TOP / "crates" / "cli" / "out" / "cli"]]
 LANGUAGES = ("cs", "de", "fr")
-HEADER = 'msgid ""\nmsgstr ""\n"Content-Type: text/plain; charset=UTF-8\\n"\n"Plural-Forms: nplurals=2; plural=n != 1;\\n"\n'
 
 
 def key(i):
@@ -49,54 +46,11 @@ def language(lang, first):
     return HEADER + entry(0, first) + "".join(entry(i, translation(i, lang)) for i in range(1, ENTRIES))
 
 
-def number(n):
-    return "%08x-0000-4000-8000-%012x" % (n, n)
-
-
 def make(program, path):
     template = "".join(entry(i, "") for i in range(ENTRIES))[1:]
-    requests = [{"act": "template", "po": template}]
-    requests += [{"act": "language", "lang": lang, "po": language(lang, translation(0, lang))} for lang in LANGUAGES]
-    lines = "".join(json.dumps({**it, "caller": "root", "number": number(n)}) + "\n" for n, it in enumerate(requests, 1))
-    subprocess.run([program, "init", "--store", path, "--manager", "root"], check=True, stdout=subprocess.DEVNULL)
-    done = subprocess.run([program, "deliver", "--store", path], input=lines.encode(), check=True, stdout=subprocess.PIPE)
-    if [it[:4] for it in done.stdout.splitlines()] != [b"200 "] * len(requests):
-        raise SystemExit("answered %r" % done.stdout)
-
-
-@contextlib.contextmanager
-def serving(program, path):
-    with socket.socket() as it:
-        it.bind(("127.0.0.1", 0))
-        port = it.getsockname()[1]
-    with subprocess.Popen([program, "serve", "--store", path, "--port", str(port), "--connections", "1"]) as process:
-        try:
-            with connected(port, process) as client:
-                client.setsockopt(socket.IPPROTO_TCP, socket.TCP_NODELAY, 1)
-                yield process.pid, client
-            process.wait(60)
-        finally:
-            if process.poll() is None:
-                process.kill()
-    if process.returncode:
-        raise SystemExit("serve ended with status %d" % process.returncode)
-
-
-def connected(port, process):
-    while process.poll() is None:
-        with contextlib.suppress(ConnectionRefusedError):
-            return socket.create_connection(("127.0.0.1", port))
-        time.sleep(0.01)
-    raise SystemExit("serve ended with status %d" % process.returncode)
-
-
-def answered(reader):
-    """The fields and the body of an answer whose status line was read."""
-    fields = {}
-    for line in iter(reader.readline, b"\r\n"):
-        name, value = line.decode().split(": ", 1)
-        fields[name] = value.rstrip()
-    return fields, reader.read(int(fields["Content-Length"]))
+    acts = [{"act": "template", "po": template}]
+    acts += [{"act": "language", "lang": lang, "po": language(lang, translation(0, lang))} for lang in LANGUAGES]
+    made(program, path, acts)
 
 
 def asked(client, reader, message):
@@ -106,11 +60,8 @@ def asked(client, reader, message):
     status = reader.read(1)
     first = time.monotonic() - start
     status += reader.readline()
-    fields, body = answered(reader)
-    last = time.monotonic() - start
-    if not status.startswith(b"HTTP/1.1 200 "):
-        raise SystemExit("answered %r" % (status + body))
-    return fields, body, first, last
+    fields, body = rest_of_answer(reader, status)
+    return fields, body, first, time.monotonic() - start
 
 
 def translate(client, reader, turn):
@@ -122,19 +73,14 @@ def translate(client, reader, turn):
     return form
 
 
-def kilobytes(pid, field):
-    status = pathlib.Path("/proc/%d/status" % pid).read_text()
-    return next(int(line.split()[1]) for line in status.splitlines() if line.startswith(field + ":"))
-
-
 def measured(program, path, turn):
     """What two exports behind a commit add to the memory, in kB, and the seconds to the first byte and the last of each."""
-    with serving(program, path) as (pid, client), client.makefile("rb") as reader:
+    with talking(program, path) as (process, client), client.makefile("rb") as reader:
         text = language("de", translate(client, reader, turn)).encode()
-        pathlib.Path("/proc/%d/clear_refs" % pid).write_text("5")
-        held = kilobytes(pid, "VmRSS")
+        pathlib.Path("/proc/%d/clear_refs" % process.pid).write_text("5")
+        held = kilobytes(process, "VmRSS")
         exports = [asked(client, reader, b"GET /v1/export/de HTTP/1.1\r\nHost: 127.0.0.1\r\n\r\n") for _ in range(2)]
-        peak = kilobytes(pid, "VmHWM")
+        peak = kilobytes(process, "VmHWM")
     for fields, body, _, _ in exports:
         if body != text or fields["X-Office-SHA256"] != hashlib.sha256(text).hexdigest():
             raise SystemExit("another text than the language's")

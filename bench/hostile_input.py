@@ -15,12 +15,13 @@ Usage: bench/hostile_input.py PROGRAM [OTHER [FOLDER [LANGUAGES [ENTRIES]]]]    
 import json
 import os
 import shutil
-import socket
 import sqlite3
 import subprocess
 import sys
 import tempfile
 import time
+
+from served import HEADER, answered, number, talking
 
 PROGRAMS = sys.argv[1:3]
 FOLDER = sys.argv[3] if len(sys.argv) > 3 else None
@@ -29,7 +30,6 @@ ENTRIES = int(sys.argv[5]) if len(sys.argv) > 5 else 15_000
 ROUNDS = 5
 SUGGESTIONS, VOTES = 49, 9_999
 DIRECTIVES = 16_383
-HEADER = 'msgid ""\nmsgstr ""\n"Content-Type: text/plain; charset=UTF-8\\n"\n"Plural-Forms: nplurals=2; plural=n != 1;\\n"\n'
 POLICY = {"accept_at": 0, "guests_suggest": True, "line_ends": True, "placeholders": True, "reviews": False, "voting": True}
 # The first number of the requests by which an office is measured.
 LATER = 1 << 20
@@ -53,8 +53,7 @@ class Requests:
 
     def line(self, act, caller="root", **fields):
         self.count += 1
-        number = "%08x-0000-4000-8000-%012x" % (self.count, self.count)
-        return json.dumps({"act": act, "caller": caller, "number": number, **fields}, sort_keys=True, separators=(",", ":")) + "\n"
+        return json.dumps({"act": act, "caller": caller, "number": number(self.count), **fields}, sort_keys=True, separators=(",", ":")) + "\n"
 
 
 class Desk:
@@ -137,8 +136,8 @@ def many_votes(path, requests):
     made(path, lines)
 
     def vote(db):
-        for (number,) in db.execute("SELECT number FROM d_suggestion").fetchall():
-            rows = ((number, "v%05d" % i, 1 if i % 2 == 0 else -1) for i in range(VOTES))
+        for (own,) in db.execute("SELECT number FROM d_suggestion").fetchall():
+            rows = ((own, "v%05d" % i, 1 if i % 2 == 0 else -1) for i in range(VOTES))
             db.executemany("INSERT INTO d_vote (number, voter, value) VALUES (?, ?, ?)", rows)
         votes = "SELECT sum(value) FROM d_vote WHERE d_vote.number = d_vote_sum.number"
         db.execute(f"UPDATE d_vote_sum SET sum = 1 + ({votes})")
@@ -178,40 +177,18 @@ def of_many_units(program, path):
     return [min(translations), min(offices), acts[0], min(acts[1:])]
 
 
-def asked(reader):
-    status = reader.readline()
-    if not status.startswith(b"HTTP/1.1 200 "):
-        raise SystemExit("answered %r" % status)
-    for line in iter(reader.readline, b"\r\n"):
-        if line.startswith(b"Content-Length: "):
-            length = int(line[16:])
-    return json.loads(reader.read(length))
-
-
 def looked(program, path, target, right):
     """The seconds of the best of several looks at a unit, which has to be right, and those of the opening."""
-    with socket.socket() as it:
-        it.bind(("127.0.0.1", 0))
-        port = it.getsockname()[1]
     start, times = time.monotonic(), []
-    with subprocess.Popen([program, "serve", "--store", path, "--port", str(port), "--connections", "1"]) as child:
-        while True:
-            try:
-                client = socket.create_connection(("127.0.0.1", port))
-                break
-            except ConnectionRefusedError:
-                if child.poll() is not None:
-                    raise SystemExit("%s serve ended with status %d" % (program, child.returncode)) from None
-                time.sleep(0.01)
+    with talking(program, path) as (_, client), client.makefile("rb") as reader:
         opening = time.monotonic() - start
-        with client, client.makefile("rb") as reader:
-            for _ in range(ROUNDS):
-                start = time.monotonic()
-                client.sendall(b"GET %s HTTP/1.1\r\nHost: 127.0.0.1\r\n\r\n" % target)
-                view = asked(reader)
-                times.append(time.monotonic() - start)
-                if not right(view):
-                    raise SystemExit("a wrong look: %.300s" % json.dumps(view))
+        for _ in range(ROUNDS):
+            start = time.monotonic()
+            client.sendall(b"GET %s HTTP/1.1\r\nHost: 127.0.0.1\r\n\r\n" % target)
+            view = json.loads(answered(reader)[1])
+            times.append(time.monotonic() - start)
+            if not right(view):
+                raise SystemExit("a wrong look: %.300s" % json.dumps(view))
     return min(times), opening
 
 

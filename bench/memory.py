@@ -9,19 +9,15 @@ one. Prints a row for each size: what the office has, its file, and these three 
 Usage: bench/memory.py PROGRAM [FOLDER [LANGUAGESxMESSAGES..]]      (the files are made in FOLDER, up to 1 GB, which should lie on a disk)
 """
 import contextlib
-import http.client
 import json
 import pathlib
 import sqlite3
-import subprocess
 import sys
 import tempfile
-import time
 import uuid
 
-TOP = pathlib.Path(__file__).resolve().parent.parent
-sys.path.insert(0, str(TOP / "tests"))
-import front_servers as servers  # noqa: E402
+import served
+from served import HEADER, asked, kilobytes
 
 SIZES = ((3, 1_000), (10, 5_000), (30, 5_000), (8, 50_000), (32, 20_000), (32, 50_000))
 RECORDS = 20_000
@@ -31,7 +27,6 @@ COPIED = {
     "d_unit": "key, plural, forms, state, obsolete, revision, comment, previous",
     "d_tally": "untranslated, needs_editing, translated, approved, read_only, suggestions, obsolete",
 }
-HEADER = 'msgid ""\nmsgstr ""\n"Content-Type: text/plain; charset=UTF-8\\n"\n"Plural-Forms: nplurals=2; plural=n != 1;\\n"\n\n'
 
 
 def key(n, renamed=False):
@@ -45,19 +40,14 @@ def template(messages, renamed=False):
 def requests(messages):
     texts = "".join(f'msgid "{key(it)}"\nmsgstr "Meldung {it:05} eines Programms, so lang wie die meisten"\n\n' for it in range(messages))
     yield {"act": "template", "po": template(messages)}
-    yield {"act": "language", "lang": "aa", "po": HEADER + texts}
+    yield {"act": "language", "lang": "aa", "po": HEADER + "\n" + texts}
     for n in range(RECORDS):
         yield {"act": "translate", "lang": "aa", "id": key(n % messages), "seen": n // messages + 1, "forms": [f"Fassung {n}"]}
 
 
 def made(program, path, languages, messages):
     """An office of so many languages, all with the rows of the first."""
-    subprocess.run([program, "init", "--store", path, "--manager", "root"], check=True, stdout=subprocess.DEVNULL)
-    lines = "".join(json.dumps({**it, "caller": "root", "number": str(uuid.UUID(int=n + 1))}) + "\n" for n, it in enumerate(requests(messages)))
-    done = subprocess.run([program, "deliver", "--store", path], input=lines, capture_output=True, text=True, check=True)
-    wrong = [it for it in done.stdout.splitlines() if not it.startswith("200 ")]
-    if wrong:
-        raise SystemExit(f"the office was told {wrong[0]}")
+    served.made(program, path, requests(messages))
     with contextlib.closing(sqlite3.connect(path)) as db:
         for n in range(1, languages):
             lang = "a" + chr(97 + n // 26) + chr(97 + n % 26)
@@ -69,30 +59,12 @@ def made(program, path, languages, messages):
 
 def most(process):
     """The most memory that a process ever had, in MB."""
-    status = dict(it.split(":", 1) for it in pathlib.Path(f"/proc/{process.pid}/status").read_text().splitlines())
-    return int(status["VmHWM"].split()[0]) / 1000
-
-
-def asked(port, method, path, act=None):
-    connection = http.client.HTTPConnection(servers.HOST, port, timeout=1_800)
-    connection.request(method, path, json.dumps(act) if act else None, {"X-Office-Caller": "root", "Connection": "close"})
-    answer = connection.getresponse()
-    text = answer.read()
-    connection.close()
-    if answer.status != 200:
-        raise SystemExit(f"{path} was answered {answer.status} {text[:200]}")
-    return text
+    return kilobytes(process, "VmHWM") / 1000
 
 
 def measured(program, path, languages, messages):
     """The most memory behind an opening, behind acts on a unit and questions, and behind a template."""
-    port = servers.free_port()
-    with servers.running([program, "serve", "--store", path, "--port", port, "--connections", "4294967295"]) as process:
-        while process.poll() is None:
-            with contextlib.suppress(ConnectionRefusedError):
-                asked(port, "GET", f"/v1/unit?lang=aa&id={key(1).replace(' ', '+')}")
-                break
-            time.sleep(0.05)
+    with served.served(program, path, f"/v1/unit?lang=aa&id={key(1).replace(' ', '+')}") as (process, port, _):
         opened = most(process)
         asked(port, "GET", "/v1/stats/aa")
         asked(port, "GET", "/v1/export/aa")

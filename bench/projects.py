@@ -11,7 +11,6 @@ Usage: bench/projects.py [FOLDER [COUNT [PROGRAM]]]      (the files are made in 
 crates/cli/out/cli, as ./office has built it)
 """
 import contextlib
-import http.client
 import json
 import pathlib
 import shutil
@@ -22,9 +21,10 @@ import tempfile
 import time
 import uuid
 
-TOP = pathlib.Path(__file__).resolve().parent.parent
-sys.path.insert(0, str(TOP / "tests"))
-import front_servers as servers  # noqa: E402
+import served
+from served import HEADER, TOP, asked, kilobytes
+
+import front_servers as servers
 
 FOLDER = sys.argv[1] if len(sys.argv) > 1 else None
 COUNT = int(sys.argv[2]) if len(sys.argv) > 2 else 50
@@ -32,7 +32,6 @@ PROGRAM = pathlib.Path(sys.argv[3] if len(sys.argv) > 3 else TOP / "crates" / "c
 TIMES = 7
 # Messages, languages, acts.
 SIZES = {"small": (100, 3, 1_000), "middle": (1_000, 10, 10_000), "large": (5_000, 30, 100_000)}
-HEADER = 'msgid ""\nmsgstr ""\n"Content-Type: text/plain; charset=UTF-8\\n"\n"Plural-Forms: nplurals=2; plural=n != 1;\\n"\n\n'
 
 
 def po(messages, form):
@@ -42,7 +41,7 @@ def po(messages, form):
 def requests(messages, languages, acts):
     yield {"act": "template", "po": po(messages, "")}
     for at in range(languages):
-        yield {"act": "language", "lang": f"l{at}", "po": HEADER + po(messages, "Meldung {} eines Programms")}
+        yield {"act": "language", "lang": f"l{at}", "po": HEADER + "\n" + po(messages, "Meldung {} eines Programms")}
     for n in range(acts):
         message, turn = n % messages, n // messages
         act = {"act": "translate", "id": f"message {message} of a program", "lang": "l0", "seen": turn + 1}
@@ -69,45 +68,25 @@ def made(path, messages, languages, acts):
 def memory(process):
     """What a process has in memory, what of it is its own, and the most it had; in MB."""
     rollup = dict(it.split(":") for it in pathlib.Path(f"/proc/{process.pid}/smaps_rollup").read_text().splitlines()[1:])
-    status = dict(it.split(":", 1) for it in pathlib.Path(f"/proc/{process.pid}/status").read_text().splitlines())
-    kilobytes = [rollup["Rss"], f"{sum(int(rollup[it].split()[0]) for it in ('Private_Clean', 'Private_Dirty'))} kB", status["VmHWM"]]
-    return [int(it.split()[0]) / 1000 for it in kilobytes]
+    had = [int(rollup[it].split()[0]) for it in ("Rss", "Private_Clean", "Private_Dirty")]
+    return [it / 1000 for it in (had[0], had[1] + had[2], kilobytes(process, "VmHWM"))]
 
 
-def asked(port, method, path, body=None):
-    connection = http.client.HTTPConnection(servers.HOST, port, timeout=60)
-    connection.request(method, path, body, {"X-Office-Caller": "root", "Connection": "close"})
-    response = connection.getresponse()
-    response.read()
-    connection.close()
-    return response.status
-
-
-@contextlib.contextmanager
-def served(path):
+def serving(path):
     """The process, its port, and the seconds from its start to its first answer."""
-    port = servers.free_port()
-    begun = time.monotonic()
-    with servers.running([PROGRAM, "serve", "--store", path, "--port", str(port), "--connections", "4294967295"]) as process:
-        while process.poll() is None:
-            with contextlib.suppress(ConnectionRefusedError):
-                assert asked(port, "GET", "/v1/stats/l0") == 200
-                yield process, port, time.monotonic() - begun
-                return
-            time.sleep(0.001)
-    raise SystemExit(f"serve ended with status {process.returncode}")
+    return served.served(PROGRAM, path, "/v1/stats/l0")
 
 
 def measured(path, name, messages, languages, acts):
     made(path, messages, languages, acts)
     seconds = []
-    for _ in range(TIMES):
-        with served(path) as (process, port, it):
+    for turn in range(1, TIMES + 1):
+        with serving(path) as (process, port, it):
             seconds.append(it)
             had, own, most = memory(process)
-            translation = {"act": "translate", "id": "message 0 of a program", "lang": "l1", "seen": 1, "forms": ["Neu"]}
+            translation = {"act": "translate", "id": "message 0 of a program", "lang": "l1", "seen": turn, "forms": [f"Neu {turn}"]}
             asked(port, "GET", "/v1/export/l0")
-            asked(port, "POST", f"/v1/requests/{uuid.uuid4()}", json.dumps(translation))
+            asked(port, "POST", f"/v1/requests/{uuid.uuid4()}", translation)
             later = memory(process)[2]
     size = sum(it.stat().st_size for it in path.parent.glob(path.name + "*")) / 1e6
     print(
@@ -125,7 +104,7 @@ def many(folder, path):
         for n in range(COUNT):
             copy = folder / f"copy-{n}.db"
             shutil.copy(path, copy)
-            processes.append(stack.enter_context(served(copy))[0])
+            processes.append(stack.enter_context(serving(copy))[0])
         seconds = time.monotonic() - begun
         own = sum(memory(it)[1] for it in processes)
         print(f"{COUNT} small offices at once, started one after another, copied before: {seconds:.2f} s; {own:.0f} MB of their own together")
@@ -135,7 +114,7 @@ def doors(folder, path):
     for name, make, needs in (("systemd-socket-proxyd", servers.door, "systemd-socket-proxyd"), ("HAProxy", servers.queue, "haproxy")):
         if not servers.program(needs):
             continue
-        with served(path) as (_, port, _), make(folder, folder / f"{needs}.sock", port) as process:
+        with serving(path) as (_, port, _), make(folder, folder / f"{needs}.sock", port) as process:
             asks = ["curl", "-s", "-o", "/dev/null", "--retry", "9", "--unix-socket", folder / f"{needs}.sock"]
             subprocess.run([*asks, "http://office/v1/stats/l0"], check=True)
             had, own, _ = memory(process)

@@ -10,27 +10,21 @@ processor's time is the steadier measure where others use the disk too; in FOLDE
 Usage: bench/serve.py [FOLDER [REQUESTS [ROUNDS [PROGRAM]]]]      (the files are made in FOLDER, which should lie on a disk; crates/cli/out/cli, as
 ./office has built it)
 """
-import contextlib
 import json
 import os
 import pathlib
-import socket
 import subprocess
 import sys
 import tempfile
 import threading
 import time
 
-TOP = pathlib.Path(__file__).resolve().parent.parent
+from served import HEADER, TOP, answered, made, number, processor, talking
+
 FOLDER = sys.argv[1] if len(sys.argv) > 1 else None
 COUNT = int(sys.argv[2]) if len(sys.argv) > 2 else 2_000
 ROUNDS = int(sys.argv[3]) if len(sys.argv) > 3 else 5
 PROGRAM = pathlib.Path(sys.argv[4] if len(sys.argv) > 4 else TOP / "crates" / "cli" / "out" / "cli").resolve()
-HEADER = 'msgid ""\nmsgstr ""\n"Content-Type: text/plain; charset=UTF-8\\n"\n"Plural-Forms: nplurals=2; plural=n != 1;\\n"\n'
-
-
-def number(n):
-    return "%08x-0000-4000-8000-%012x" % (n, n)
 
 
 def act(n):
@@ -48,58 +42,12 @@ def message(n):
 
 
 def office(path):
-    requests = [
+    acts = [
         {"act": "template", "po": 'msgid "Hello"\nmsgstr ""\n'},
         {"act": "language", "lang": "de", "po": HEADER},
         {"act": "team", "name": "ann", "role": "translator"},
     ]
-    lines = "".join(json.dumps({**it, "caller": "root", "number": number(1 << 31 | n)}) + "\n" for n, it in enumerate(requests))
-    subprocess.run([PROGRAM, "init", "--store", path, "--manager", "root"], check=True, stdout=subprocess.DEVNULL)
-    subprocess.run([PROGRAM, "deliver", "--store", path], input=lines.encode(), check=True, stdout=subprocess.DEVNULL)
-
-
-def processor(process):
-    """The seconds of processor that a process has used when it has ended."""
-    _, status, usage = os.wait4(process.pid, 0)
-    process.returncode = os.waitstatus_to_exitcode(status)
-    if process.returncode:
-        raise SystemExit("%s ended with status %d" % (process.args[1], process.returncode))
-    return usage.ru_utime + usage.ru_stime
-
-
-@contextlib.contextmanager
-def serving(path, used):
-    with socket.socket() as it:
-        it.bind(("127.0.0.1", 0))
-        port = it.getsockname()[1]
-    words = [PROGRAM, "serve", "--store", path, "--port", str(port), "--connections", "1"]
-    with subprocess.Popen(words) as process:
-        try:
-            with connected(port, process) as client:
-                client.setsockopt(socket.IPPROTO_TCP, socket.TCP_NODELAY, 1)
-                yield client
-            used.append(processor(process))
-        finally:
-            if process.poll() is None:
-                process.kill()
-
-
-def connected(port, process):
-    while process.poll() is None:
-        with contextlib.suppress(ConnectionRefusedError):
-            return socket.create_connection(("127.0.0.1", port))
-        time.sleep(0.01)
-    raise SystemExit("serve ended with status %d" % process.returncode)
-
-
-def answered(reader):
-    status = reader.readline()
-    if not status.startswith(b"HTTP/1.1 200 "):
-        raise SystemExit("answered %r" % status)
-    for line in iter(reader.readline, b"\r\n"):
-        if line.startswith(b"Content-Length: "):
-            length = int(line[16:])
-    reader.read(length)
+    made(PROGRAM, path, acts, first=1 << 31)
 
 
 def timed(pieces, write, read):
@@ -120,7 +68,7 @@ def timed(pieces, write, read):
 def talked(path, pieces):
     """The seconds of messages on one connection, behind one that opens the office's pages, and those of processor."""
     used = []
-    with serving(path, used) as client, client.makefile("rb") as reader:
+    with talking(PROGRAM, path, used) as (_, client), client.makefile("rb") as reader:
         client.sendall(b"GET /v1/stats/de HTTP/1.1\r\n\r\n")
         answered(reader)
         seconds = timed(pieces, client.sendall, lambda: answered(reader))

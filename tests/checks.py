@@ -22,10 +22,11 @@ import tempfile
 import threading
 import urllib.parse
 
+import looks
 import serve
-import tools
-from serve import HOST, PROGRAM, number, same
-from tools import HEADER, RULE, act, at, ask, between, new_office, records, replies, served, tool
+from looks import HOST, same
+from serve import PROGRAM
+from tools import HEADER, RULE, act, at, ask, between, new_office, records, served, tool
 
 CHECKERS = ("msgfmt", "pofilter", "i18nspector")
 
@@ -491,8 +492,7 @@ def main():
     with tempfile.TemporaryDirectory(prefix="office-checks-") as name:
         for it in (checks, lists_and_tools, suggests, broken, roles, plurals, apertium, services):
             it(room(pathlib.Path(name)))
-    print(f"{serve.looks} looks, {serve.wrong} wrong")
-    return 1 if serve.wrong else 0
+    return looks.told()
 
 
 if __name__ == "__main__":

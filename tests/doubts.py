@@ -41,6 +41,7 @@ import time
 import log_clients as clients
 import log_hosts
 import log_nodes
+from looks import number
 from log_nodes import HOST, NAMES, TOP
 
 PARTS = (
@@ -759,10 +760,6 @@ def patiently(place, message, tries=30):
             break
         time.sleep(1)
     return answer
-
-
-def number(n):
-    return f"00000000-0000-4000-8000-{n:012}"
 
 
 def head(first, *lines):

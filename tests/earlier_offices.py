@@ -11,19 +11,21 @@ message's view shows what is found; what is asked anew is judged by today's rule
 `main` in front, and the sums and the counts that are kept are those that a query counts. A second opening changes nothing. The program is killed at
 random moments while it opens copies: each is as it was then, or converted, and the next opening converts it. EARLIER is a program that
 knows the eight tables alone: it refuses a converted file and leaves it alone. Prints what is otherwise, and last
-`N looks, M wrong; of K kills U left the file as it was`.
+`N looks, M wrong`.
 """
 import http.client
 import json
 import pathlib
 import random
 import shutil
-import socket
 import sqlite3
 import subprocess
 import sys
 import tempfile
 import time
+
+import looks
+from looks import free_port, number, same
 
 TOP = pathlib.Path(__file__).resolve().parent.parent
 PROGRAM = pathlib.Path(sys.argv[1] if len(sys.argv) > 1 else TOP / "crates" / "cli" / "out" / "cli").resolve()
@@ -82,23 +84,11 @@ RULE = "nplurals=2; plural=n != 1;"
 HEADER = [[], [], [], [], [None, None, None], f"Content-Type: text/plain; charset=UTF-8\nPlural-Forms: {RULE}\n"]
 FULL = (409, {"refusal": "full", "rule": 11})
 
-looks = wrong = untouched = 0
-
-
-def same(what, found, wanted):
-    global looks, wrong
-    looks += 1
-    if found != wanted:
-        wrong += 1
-        print(f"{what}:\n  found  {found}\n  wanted {wanted}")
+untouched = 0
 
 
 def compact(value):
     return json.dumps(value, sort_keys=True, separators=(",", ":"), ensure_ascii=False)
-
-
-def number(n):
-    return f"00000000-0000-4000-8000-{n:012}"
 
 
 def translate(n, seen):
@@ -183,11 +173,6 @@ def deliver(path, *requests):
     same("the status, and faults", (done.returncode, done.stderr), (0, b""))
     replies = [line.split(" ", 1) for line in done.stdout.decode().splitlines()]
     return [(int(status), json.loads(body)) for status, body in replies]
-
-
-def free_port():
-    with socket.create_server(("127.0.0.1", 0)) as it:
-        return it.getsockname()[1]
 
 
 def asked(port, target):
@@ -345,8 +330,8 @@ def main():
         change(path, lambda db: write_later_suggestion(db, 3000, 7000))
         done = subprocess.run([PROGRAM, "deliver", "--store", path], input=b"", capture_output=True, timeout=SECONDS)
         same("a suggestion more than there may be", (done.returncode, done.stderr), (1, b"store fault 3\n"))
-    print(f"{looks} looks, {wrong} wrong; of {KILLS // 2} kills {untouched} left the file as it was")
-    return 1 if wrong else 0
+    print(f"of {KILLS // 2} kills {untouched} left the file as it was")
+    return looks.told()
 
 
 if __name__ == "__main__":

@@ -24,7 +24,7 @@ import tempfile
 import time
 
 import first_tables
-import serve as serving
+from looks import HOST, free_port, number
 
 TOP = pathlib.Path(__file__).resolve().parent.parent
 SECONDS = 300
@@ -51,10 +51,6 @@ LIE = {"FAIL_ERRNO": "0", "FAIL_LIE": "1"}
 WAYS = [{"FAIL_ERRNO": "5"}, {"FAIL_ERRNO": "28"}, {"FAIL_ERRNO": "5", "FAIL_ON": "1"}]
 PROGRAMS = ("init", "deliver", "convert", "export", "serve", "cuts")
 SHORT = {"FAIL_ERRNO": "0", "FAIL_SHORT": "1"}
-
-
-def number(n):
-    return f"00000000-0000-4000-8000-{n:012}"
 
 
 LINES = [json.dumps({**it, "caller": "root", "number": number(n)}) for n, it in enumerate(ACTS)]
@@ -177,7 +173,7 @@ class Trial:
 
     def serve(self, what, how):
         self.begin(1)
-        port = serving.free_port()
+        port = free_port()
         words = [self.program, "serve", "--store", str(self.store), "--port", str(port), "--connections", "1"]
         environment = {**os.environ, "ASAN_OPTIONS": "verify_asan_link_order=0:detect_leaks=0", **how, "LD_PRELOAD": str(self.library), "FAIL_MET": str(self.met)}
         with subprocess.Popen(words, stdin=subprocess.DEVNULL, stdout=subprocess.PIPE, stderr=subprocess.PIPE, env=environment) as process:
@@ -190,7 +186,7 @@ class Trial:
 
     def posted(self, port, process):
         """The answers to the requests over one connection."""
-        client, said = http.client.HTTPConnection(serving.HOST, port, timeout=SECONDS), []
+        client, said = http.client.HTTPConnection(HOST, port, timeout=SECONDS), []
         while process.poll() is None:
             try:
                 client.connect()

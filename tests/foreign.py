@@ -18,14 +18,13 @@ import subprocess
 import sys
 import tempfile
 
+import looks
+from looks import number, same
+
 TOP = pathlib.Path(__file__).resolve().parent.parent
 PROGRAM = pathlib.Path(sys.argv[1] if len(sys.argv) > 1 else TOP / "crates" / "cli" / "out" / "cli").resolve()
 
 HEADER = 'msgid ""\nmsgstr ""\n"Content-Type: text/plain; charset=UTF-8\\n"\n"Plural-Forms: nplurals=2; plural=n != 1;\\n"\n'
-
-
-def number(n):
-    return f"00000000-0000-4000-8000-{n:012}"
 
 
 REQUESTS = [
@@ -84,11 +83,7 @@ SPOILT = [
 
 
 def run(words, given=""):
-    try:
-        done = subprocess.run([PROGRAM, *map(str, words)], input=given.encode(), capture_output=True, timeout=60)
-    except subprocess.TimeoutExpired:
-        return None, "", "it didn't end within a minute"
-    return done.returncode, done.stdout.decode(errors="replace"), done.stderr.decode(errors="replace")
+    return looks.run(PROGRAM, *words, given=given, seconds=60)
 
 
 def rows(path):
@@ -107,7 +102,7 @@ def spoil(path, text):
     db.close()
 
 
-def others(folder, office, same):
+def others(folder, office):
     """What is there, and is no regular file: it isn't opened, so that nothing waits for it. A link to a file is that file."""
     fifo, listener, link = folder / "fifo", folder / "socket", folder / "link"
     os.mkfifo(fifo)
@@ -127,7 +122,7 @@ def others(folder, office, same):
 SMALL = 'mount -t tmpfs -o size="$1k" none "$2" && "$0" init --store "$2/new.db" --manager root'
 
 
-def full(folder, office, same):
+def full(folder, office):
     """What is told where an output is full, and where the disk is: a receipt only of a text that was written, and `ready` only of a file that was closed."""
     with open("/dev/full", "w") as out:
         done = subprocess.run([PROGRAM, "export", "--store", office, "--lang", "de"], stdout=out, stderr=subprocess.PIPE, timeout=60)
@@ -145,14 +140,7 @@ def full(folder, office, same):
 
 
 def main():
-    wrong = tried = 0
-
-    def same(what, found, wanted):
-        nonlocal wrong
-        if found != wanted:
-            wrong += 1
-            print(f"{what}: {found}, not {wanted}")
-
+    tried = 0
     with tempfile.TemporaryDirectory() as name:
         folder = pathlib.Path(name)
         office = folder / "office.db"
@@ -192,8 +180,8 @@ def main():
             for words in (["deliver", "--store", path], ["export", "--store", path, "--lang", "de"], ["init", "--store", path, "--manager", "root"]):
                 same(f"{what}, {words[0]}", run(words), (1, "", "store fault 2\n"))
             same(f"{what}: bytes", path.read_bytes(), content)
-        tried += others(folder, office, same)
-        tried += full(folder, office, same)
+        tried += others(folder, office)
+        tried += full(folder, office)
         for what, path in (("no file", folder / "none.db"), ("a folder", folder)):
             tried += 1
             for words in (["deliver", "--store", path], ["export", "--store", path, "--lang", "de"]):
@@ -204,8 +192,8 @@ def main():
         empty.touch()
         same("an empty file", run(["deliver", "--store", empty]), (1, "", "store fault 3\n"))
         same("an empty file, init", run(["init", "--store", empty, "--manager", "root"]), (0, "ready\n", ""))
-    print(f"{tried} files, {wrong} wrong")
-    return 1 if wrong else 0
+    print(f"{tried} files, {looks.wrong} wrong")
+    return 1 if looks.wrong else 0
 
 
 if __name__ == "__main__":

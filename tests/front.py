@@ -40,9 +40,10 @@ import uuid
 
 import front_oidc
 import front_servers as servers
-from front_servers import ASKED, HOST, OPENED, PROJECT, SECONDS, TOP
+import looks
+from front_servers import ASKED, OPENED, PROJECT, SECONDS, TOP
+from looks import HOST, free_port, same
 
-looks = wrong = 0
 PASSWORD = "swordfish"
 LONG_NAME = "a" * 32
 # Logins, and the caller that each stands for; nothing for one that is no caller's name.
@@ -117,14 +118,6 @@ OTHER_ORIGINS = [
     "file://",
     "https://",
 ]
-
-
-def same(what, found, wanted):
-    global looks, wrong
-    looks += 1
-    if found != wanted:
-        wrong += 1
-        print(f"{what}: {str(found)[:300]}, and not {str(wanted)[:300]}", flush=True)
 
 
 # ---- a stand-in for an office
@@ -780,12 +773,12 @@ def by_queue(path, given):
 
 def queue(folder, _):
     """One connection at a time; what breaks is sent again, as it was, where it is at hand whole."""
-    port, path = servers.free_port(), folder / "queue.sock"
+    port, path = free_port(), folder / "queue.sock"
     with servers.queue(folder, path, port):
         late = threading.Timer(1.5, Breaking, (port, ["at once", "in its answer", "behind its head", "at once"]))
         late.start()
         same("the queue, nobody listens at first, and then all breaks", by_queue(path, act("ann")).status, 200)
-    port, path = servers.free_port(), folder / "another.sock"
+    port, path = free_port(), folder / "another.sock"
     with servers.queue(folder, path, port):
         office = Breaking(port, [])
         for broken in ("at once", "in its answer", "behind its head"):
@@ -873,7 +866,7 @@ class Office:
     """The program with an office in a file, which is served, and ended and served again."""
 
     def __init__(self, program, path, requests):
-        self.program, self.path, self.requests, self.port = program, path, requests, servers.free_port()
+        self.program, self.path, self.requests, self.port = program, path, requests, free_port()
 
     @contextlib.contextmanager
     def serving(self, trouble=""):
@@ -1047,9 +1040,9 @@ def look(folder, program):
         status, fault, asked = looked(folder, port, ())
         same("a look without curl", (status != 0, "curl" in fault, asked), (True, True, []))
         path, status = it.asked[0], it.shutdown()
-    same("a look, where nobody listens", looked(folder, servers.free_port()), (0, "", []))
+    same("a look, where nobody listens", looked(folder, free_port()), (0, "", []))
     make_office(program, folder / "office.db", 20)
-    port = servers.free_port()
+    port = free_port()
     # (from a size on, whatever is written to a file fails)
     kilobytes = sum(it.stat().st_size for it in folder.glob("office.db*")) // 1024 + 200
     words = ["bash", "-c", f'trap "" XFSZ; ulimit -f {kilobytes}; exec "$@"', "-", program, "serve", "--store", folder / "office.db"]
@@ -1117,8 +1110,7 @@ def main():
     for it in given.part or parts:
         with tempfile.TemporaryDirectory(prefix="office-front-") as name:
             parts[it](pathlib.Path(name), given.program.resolve())
-    print(f"{looks} looks, {wrong} wrong")
-    return 1 if wrong else 0
+    return looks.told()
 
 
 if __name__ == "__main__":

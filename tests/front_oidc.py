@@ -15,7 +15,8 @@ import uuid
 import chromium
 import front_servers as servers
 import identity
-from front_servers import ASKED, HOST, OPENED, PROJECT, SECONDS, TOP
+from front_servers import ASKED, OPENED, PROJECT, SECONDS, TOP
+from looks import HOST, free_port
 
 HEADER = 'msgid ""\nmsgstr ""\n"Content-Type: text/plain; charset=UTF-8\\n"\n"Plural-Forms: nplurals=2; plural=n != 1;\\n"\n'
 MESSAGES = ("typed", "saved", "sent")
@@ -79,7 +80,7 @@ def records(path):
 @contextlib.contextmanager
 def served(folder, program, **changes):
     """Everything that stands before and behind: the provider, Apache, and the path of the office's file."""
-    path, port = folder / "office.db", servers.free_port()
+    path, port = folder / "office.db", free_port()
     make_office(program, path)
     provider = identity.Provider(folder)
     nginx = servers.Nginx(folder / "nginx", {PROJECT: {}}, TOP / "share" / "web", site="office-behind", office=f"{HOST}:{port}")

@@ -5,31 +5,21 @@ What is written otherwise than shipped is paths, ports and, without TLS, the wor
 import contextlib
 import os
 import pathlib
-import random
 import shutil
 import socket
 import subprocess
 import time
 
+from looks import HOST, free_port
 from patience import seconds
 
 TOP = pathlib.Path(__file__).resolve().parent.parent
 FRONT = TOP / "share" / "front"
-HOST = "127.0.0.1"
 PROJECT = "example"
 SECONDS = seconds(30)
 # What a browser says that it takes, where a person opens an address (Firefox, Chromium), and what its scripts and programs say.
 OPENED = ["text/html,application/xhtml+xml,application/xml;q=0.9,*/*;q=0.8", "TEXT/HTML", "image/webp, text/html;q=0.5"]
 ASKED = [None, "*/*", "application/json", "text/plain"]
-
-
-def free_port():
-    """One below those that the system gives to connections, which are many here."""
-    for port in random.sample(range(20_000, 32_000), 100):
-        with contextlib.suppress(OSError), socket.socket() as it:
-            it.bind((HOST, port))
-            return port
-    raise SystemExit("no port is free")
 
 
 def program(name):

@@ -5,9 +5,10 @@
 
 Servers answer odd bodies, of every route and status; they answer a byte at a time, without an end, or more than anybody reads. Files are pipes,
 devices, folders, and databases whose table is none, or has odd rows. Each kind of control character stands in each field of a server's or a file's
-that a tool prints. A tool has to end by itself, with its status, in lines of its own, without one of these characters and without a traceback.
-Prints what is otherwise than it should be, and last `N looks, M wrong`; the status is 1 if anything was.
+that a tool prints. A tool has to end by itself, with its status, in lines of its own, without one of these characters and without a traceback;
+where it goes wrong by itself the traceback has none either. Nothing in share/tools prints but the one function that escapes them. Prints what is otherwise than it should be, and last `N looks, M wrong`; the status is 1 if anything was.
 """
+import ast
 import contextlib
 import http.server
 import json
@@ -22,8 +23,9 @@ import tempfile
 import threading
 import time
 
-import serve
-from serve import HOST, TOP, free_port, number, same
+import looks
+from looks import HOST, number, same
+from serve import TOP
 
 TOOLS = TOP / "share" / "tools"
 SECONDS = 60
@@ -36,6 +38,24 @@ import office_tools.client, office_tools.files
 office_tools.client.WHOLE, office_tools.client.SILENCE = 1, 30
 office_tools.client.LONGEST = office_tools.files.LONGEST = 200_000
 sys.argv = sys.argv[2:]
+runpy.run_path(sys.argv[0], run_name="__main__")
+"""
+
+# Runs a tool that goes wrong by itself, in its first thread or in another, with the text of $WRONG.
+MISTAKEN = """
+import os, runpy, sys, threading
+sys.dont_write_bytecode = True
+sys.path.insert(0, sys.argv[1])
+import office_tools.client
+def mistaken(*_):
+    raise ValueError(os.environ["WRONG"])
+def in_thread(*_):
+    it = threading.Thread(target=mistaken)
+    it.start()
+    it.join()
+    raise office_tools.Fault("gone wrong in a thread")
+office_tools.client.Office.once = in_thread if sys.argv[2] == "thread" else mistaken
+sys.argv = sys.argv[3:]
 runpy.run_path(sys.argv[0], run_name="__main__")
 """
 
@@ -230,6 +250,90 @@ def controls_exported(place):
     same("office-memory: controls in an export", (status, is_clean(out, faults), faults), (0, True, b""))
     named = re.findall(r"^[a-z ]+: (\".*\") (\".*\"): (\[.*\])(?: \(.*\))?$", out.decode(), re.M)
     same("office-memory: controls in an export, shown", [[json.loads(one) for one in it] for it in named], wanted)
+
+
+COUNTS = {"approved": 1, "needs-editing": 0, "obsolete": 0, "read-only": 0, "suggestions": 0, "translated": 1, "untranslated": 0}
+ODD_COUNTS = [*NO_JSON, {}, *({**COUNTS, name: it} for name in ("approved", "suggestions") for it in (None, [], {}, "1", 1.5, True))]
+SHOWN_VIEW = {**VIEW, "obsolete": False, "state": "approved"}
+ODD_SHOWN = [*ODD_VIEWS, *(odd(SHOWN_VIEW, obsolete=it) for it in ("left out", None, 0, []))]
+
+
+def watched(counts=COUNTS, view=SHOWN_VIEW, status=200):
+    """An office whose counts and views of messages are these."""
+
+    def of(_, path):
+        if "/export/" in path:
+            return 200, EXPORT.encode()
+        return (status, body(counts)) if "/stats/" in path else (200, body(view))
+
+    return of
+
+
+def watching(place, port, *words):
+    return ["office-snapshot", "--url", f"http://{HOST}:{port}", "--to", place / "page", *words]
+
+
+def odd_counts(place):
+    """Odd bodies in the place of what office-snapshot reads, and files that are none in the place of the page's."""
+    with server(watched()) as port:
+        same("snapshot of an office", run(*watching(place, port, "--once", "de"))[:3], (0, b"", b""))
+        found = json.loads((place / "page" / "snapshot" / "de.json").read_text())
+        same("snapshot of an office: its messages", [it["id"] for it in found["units"]], ["Hello", "Hello!"])
+        for it in (*no_files(place), place / "deep"):
+            (place / "deep").write_bytes(DEEP)
+            one_fault(f"snapshot by {it.name}", *watching(place, port, "--once", "--project", it), within=10, says=str(it))
+    for n, counts in enumerate(ODD_COUNTS):
+        with server(watched(counts)) as port:
+            one_fault(f"snapshot: odd counts {n}, {str(counts)[:60]}", *watching(place, port, "--once", "de"), says="no language's counts")
+    for n, view in enumerate(ODD_SHOWN):
+        with server(watched(view=view)) as port:
+            one_fault(f"snapshot: odd view {n}, {str(view)[:60]}", *watching(place, port, "--once", "de"), says="no view")
+    with server(watched({"error": f"a{ALL}"}, status=400)) as port:
+        looked_again(place, port)
+
+
+def looked_again(place, port):
+    """What office-snapshot tells while it goes on."""
+    words = [str(it) for it in watching(place, port, "--every", "0.1", "de")]
+    with subprocess.Popen([TOOLS / words[0], *words[1:]], stdin=subprocess.DEVNULL, stderr=subprocess.PIPE, env={**os.environ, "LC_ALL": "C.UTF-8"}) as it:
+        told = [it.stderr.readline() for _ in range(2)]
+        it.terminate()
+    line = f"office-snapshot: a{ALL_ESCAPED}: answered 400\n".encode()
+    same("snapshot: controls of a server, again and again", told, [line, line])
+
+
+def mistakes(place):
+    """Control characters in what Python says of a tool that goes wrong by itself."""
+    for where in ("first", "thread"):
+        with server(answers()) as port:
+            words = [sys.executable, "-c", MISTAKEN, TOOLS, where, *asking(place, port)[0]]
+            words[5] = TOOLS / words[5]
+            given = {**os.environ, "LC_ALL": "C.UTF-8", "WRONG": f"a{ALL[2:-4]}"}
+            done = subprocess.run([str(it) for it in words], capture_output=True, check=False, timeout=SECONDS, env=given)
+        told, said = done.stderr.decode(), ALL_ESCAPED[7:-14].replace("\\u000a", "\n")
+        same(f"a mistake, {where}", (done.returncode, UNSEEN.search(told), f"ValueError: a{said}\n" in told), (1, None, True))
+
+
+def printers(_):
+    """One function of the tools prints: no other file calls what writes to a terminal, or hands a stream of Python's to anything but it."""
+    found = []
+    for path in sorted(it for it in TOOLS.rglob("*") if it.is_file() and it.suffix in ("", ".py")):
+        tree = ast.parse(path.read_text())
+        told = {id(word.value) for call in ast.walk(tree) if isinstance(call, ast.Call) for word in call.keywords if word.arg == "to"}
+        for it in ast.walk(tree):
+            is_print = isinstance(it, ast.Name) and it.id == "print"
+            is_stream = isinstance(it, ast.Attribute) and it.attr in ("stdout", "stderr", "__stdout__", "__stderr__") and ast.unparse(it.value) == "sys"
+            if is_print or is_stream and id(it) not in told:
+                found.append((str(path.relative_to(TOOLS)), ast.unparse(it)))
+    same("what prints", sorted(set(found)), sorted(PRINTERS))
+
+
+# The function itself; that its streams take any text, and none is written to that nobody reads; and an answer over HTTP, of a socket of systemd's.
+PRINTERS = [
+    *(("office_tools/lines.py", it) for it in ("print", "sys.stdout")),
+    *(("office_tools/__init__.py", it) for it in ("sys.stdout", "sys.stderr")),
+    ("office-hook", "sys.stdout"),
+]
 
 
 # ---- servers by hand
@@ -509,11 +613,10 @@ def controls_recorded(place):
 
 
 def main():
-    for part in (odd_bodies, controls_served, controls_exported, endless, odd_places, named_files, databases, controls_recorded):
+    for part in (odd_bodies, controls_served, controls_exported, endless, odd_places, named_files, databases, controls_recorded, odd_counts, mistakes, printers):
         with tempfile.TemporaryDirectory(prefix="office-hostile-") as name:
             part(pathlib.Path(name))
-    print(f"{serve.looks} looks, {serve.wrong} wrong")
-    return 1 if serve.wrong else 0
+    return looks.told()
 
 
 if __name__ == "__main__":

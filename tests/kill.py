@@ -23,7 +23,7 @@ import sys
 import tempfile
 import time
 
-import serve as serving
+from looks import HOST, free_port
 
 TOP = pathlib.Path(__file__).resolve().parent.parent
 # How many kills an office sees.
@@ -86,7 +86,7 @@ class Posts:
     def send(self, lines):
         while self.link is None and self.process.poll() is None:
             try:
-                self.link = socket.create_connection((serving.HOST, self.port), SECONDS)
+                self.link = socket.create_connection((HOST, self.port), SECONDS)
             except ConnectionRefusedError:
                 time.sleep(0.002)
         for line in lines:
@@ -140,7 +140,7 @@ class Kills:
 
     def killed(self, path, lines, count, seconds, kind):
         """What was answered till the process was killed: so many seconds behind its first answers, which are counted."""
-        port = serving.free_port()
+        port = free_port()
         words = ["deliver", "--store", path] if kind is Lines else ["serve", "--store", path, "--port", str(port), "--connections", "1"]
         with subprocess.Popen([self.program, *words], stdin=subprocess.PIPE, stdout=subprocess.PIPE, stderr=subprocess.DEVNULL) as process:
             talk, told, sent = kind(process), [], 0

@@ -23,7 +23,9 @@ import time
 import urllib.parse
 
 import chromium
+import looks
 import page_office
+from looks import has, same
 
 TOP = pathlib.Path(__file__).resolve().parent.parent
 PASSWORD = "a good password"
@@ -42,25 +44,6 @@ TBX = """<?xml version="1.0"?><martif type="TBX" xml:lang="en"><text><body><term
 TBX_3 = """<?xml version="1.0"?><tbx type="TBX-Core" style="dca" xml:lang="en" xmlns="urn:iso:std:iso:30042:ed-2"><text><body><conceptEntry id="c1">
 <descrip type="definition">What asks &amp; waits.</descrip><langSec xml:lang="en"><termSec><term>file selector</term></termSec></langSec>
 <langSec xml:lang="de"><termSec><term>Dateiauswahl</term></termSec></langSec></conceptEntry></body></text></tbx>"""
-
-looks = wrong = 0
-
-
-def same(what, found, wanted):
-    global looks, wrong
-    looks += 1
-    if found != wanted:
-        wrong += 1
-        print(f"{what}: {found!r}, not {wanted!r}", flush=True)
-
-
-def has(what, found, wanted):
-    global looks, wrong
-    looks += 1
-    if wanted not in found:
-        wrong += 1
-        print(f"{what}: {wanted!r} isn't in {found!r}", flush=True)
-
 
 # ---- the office, at first
 
@@ -1466,8 +1449,7 @@ def main():
             given.shots.mkdir(parents=True, exist_ok=True)
             pictures(world, given.shots.resolve())
         after_all(world)
-    print(f"{looks} looks, {wrong} wrong")
-    sys.exit(wrong > 0)
+    sys.exit(looks.told())
 
 
 if __name__ == "__main__":

@@ -16,22 +16,18 @@ import time
 import urllib.parse
 
 import front_servers
+from looks import HOST, free_port, number
 from patience import seconds
 
-HOST = front_servers.HOST
 PROJECT = front_servers.PROJECT
 SECONDS = seconds(30)
-
-
-def number(n):
-    return f"00000000-0000-4000-8000-{n:012}"
 
 
 class Office:
     """The program, over a file, on a port; it can be killed and started again."""
 
     def __init__(self, program, path, beginning):
-        self.program, self.path, self.port, self.process, self.made = program, path, front_servers.free_port(), None, 0
+        self.program, self.path, self.port, self.process, self.made = program, path, free_port(), None, 0
         done = subprocess.run([program, "init", "--store", self.path, "--manager", "root"], capture_output=True, check=False)
         if done.returncode != 0:
             sys.exit(f"init: {done.stderr.decode()}")

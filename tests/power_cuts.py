@@ -24,7 +24,7 @@ import tempfile
 import time
 
 import failing_calls as failing
-import serve as serving
+from looks import free_port
 
 TOP = failing.TOP
 SECTOR = 512
@@ -201,7 +201,7 @@ class Programs:
     convert = deliver
 
     def serve(self, how):
-        port = serving.free_port()
+        port = free_port()
         words = [self.trial.program, "serve", "--store", str(self.trial.store), "--port", str(port), "--connections", "1"]
         with subprocess.Popen(words, stdin=subprocess.DEVNULL, stdout=subprocess.PIPE, stderr=subprocess.PIPE, env={**os.environ, **how}) as process:
             self.trial.posted(port, process)

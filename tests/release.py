@@ -32,10 +32,11 @@ WORDS = sys.argv[2:]
 sys.argv[2:] = []
 
 import front_servers
+import looks
 import real_projects
-import serve
 import tools
-from serve import HOST, PROGRAM, SECONDS, TOP, free_port, number, run, same
+from looks import HOST, free_port, number, same
+from serve import PROGRAM, SECONDS, TOP, run
 from tools import EXAMPLE, HEADER, HELLO, RULE, act, ask, at, at_time, records, replies, room, served, tool, view
 
 STORE = pathlib.Path(tempfile.gettempdir()) / "office-real-projects"
@@ -925,8 +926,7 @@ def main():
     for it in WORDS or PARTS:
         with tempfile.TemporaryDirectory(prefix="office-release-") as name:
             PARTS[it](pathlib.Path(name))
-    print(f"{serve.looks} looks, {serve.wrong} wrong")
-    return 1 if serve.wrong else 0
+    return looks.told()
 
 
 if __name__ == "__main__":

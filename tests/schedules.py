@@ -22,6 +22,8 @@ import sys
 import tempfile
 import time
 
+from looks import number
+
 TOP = pathlib.Path(__file__).resolve().parent.parent
 SECONDS = 900
 SPOILED = None
@@ -444,10 +446,6 @@ def text_drawn(draw, template):
     text = written([header, *entries] if header else entries)
     TEXTS[text] = {"entries": entries, "header": header, "rule": rule}
     return text
-
-
-def number(n):
-    return f"00000000-0000-4000-8000-{n:012}"
 
 
 def office_act(draw):

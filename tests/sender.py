@@ -11,6 +11,7 @@ Between rounds that brought nothing `office send` waits, so that many schedules 
 
 Prints the first schedules that come to something else, and last `N schedules, M otherwise; of K messages L answered`; the status is 1 if any did.
 """
+import functools
 import json
 import pathlib
 import random
@@ -23,11 +24,13 @@ import threading
 import time
 from concurrent.futures import ThreadPoolExecutor
 
+import looks
+from looks import HOST, number
+
 TOP = pathlib.Path(__file__).resolve().parent.parent
 PROGRAM = pathlib.Path(sys.argv[1] if len(sys.argv) > 1 else TOP / "crates" / "cli" / "out" / "cli").resolve()
 COUNT = int(sys.argv[2]) if len(sys.argv) > 2 else 2000
 SEED = int(sys.argv[3]) if len(sys.argv) > 3 else 1
-HOST = "127.0.0.1"
 SECONDS = 120
 TRIES = 10_000
 # How many schedules run at a time: most of their time is waited.
@@ -35,10 +38,6 @@ AT_A_TIME = 24
 
 HEADER = 'msgid ""\nmsgstr ""\n"Content-Type: text/plain; charset=UTF-8\\n"\n"Plural-Forms: nplurals=2; plural=n != 1;\\n"\n'
 TEMPLATE = "\n\n".join(f'msgid "{it}"\nmsgstr ""' for it in ("Hello", "Bye", "Yes")) + "\n"
-
-
-def number(n):
-    return f"00000000-0000-4000-8000-{n:012}"
 
 
 def lines_of(requests, first):
@@ -82,9 +81,7 @@ SENT = lines_of(
 )
 
 
-def run(*words, given=""):
-    done = subprocess.run([PROGRAM, *map(str, words)], input=given.encode(), capture_output=True, timeout=SECONDS, check=False)
-    return done.returncode, done.stdout.decode(), done.stderr.decode()
+run = functools.partial(looks.run, PROGRAM, seconds=SECONDS)
 
 
 def exported(path):

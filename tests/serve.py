@@ -10,6 +10,7 @@ Clients and servers that say nothing, or a byte a second, are waited for side by
 Prints what is otherwise than it should be, and last `N looks, M wrong`; the status is 1 if anything was.
 """
 import contextlib
+import functools
 import hashlib
 import http.client
 import json
@@ -21,11 +22,12 @@ import tempfile
 import threading
 import time
 
+import looks
+from looks import HOST, free_port, number, same
 from patience import seconds
 
 TOP = pathlib.Path(__file__).resolve().parent.parent
 PROGRAM = pathlib.Path(sys.argv[1] if len(sys.argv) > 1 else TOP / "crates" / "cli" / "out" / "cli").resolve()
-HOST = "127.0.0.1"
 SECONDS = seconds(300)
 
 HEADER = 'msgid ""\nmsgstr ""\n"Content-Type: text/plain; charset=UTF-8\\n"\n"Plural-Forms: nplurals=2; plural=n != 1;\\n"\n'
@@ -39,24 +41,7 @@ UNIT = (
 )
 STATS = '{"approved":0,"needs-editing":0,"obsolete":0,"read-only":0,"suggestions":0,"translated":1,"untranslated":0}'
 
-looks = wrong = 0
-
-
-def same(what, found, wanted):
-    global looks, wrong
-    looks += 1
-    if found != wanted:
-        wrong += 1
-        print(f"{what}: {found!r}, not {wanted!r}")
-
-
-def number(n):
-    return f"00000000-0000-4000-8000-{n:012}"
-
-
-def run(*words, given=""):
-    done = subprocess.run([PROGRAM, *map(str, words)], input=given.encode(), capture_output=True, timeout=SECONDS, check=False)
-    return done.returncode, done.stdout.decode(), done.stderr.decode()
+run = functools.partial(looks.run, PROGRAM, seconds=SECONDS)
 
 
 # ---- offices and servers
@@ -75,12 +60,6 @@ def office(folder):
     status, replies, faults = run("deliver", "--store", path, given=lines)
     same("the office", (status, [it[:3] for it in replies.splitlines()], faults), (0, ["200"] * 3, ""))
     return path
-
-
-def free_port():
-    with socket.socket() as it:
-        it.bind((HOST, 0))
-        return it.getsockname()[1]
 
 
 @contextlib.contextmanager
@@ -551,8 +530,7 @@ def main():
             it(folder)
         for it in waiting:
             it.end()
-    print(f"{looks} looks, {wrong} wrong")
-    return 1 if wrong else 0
+    return looks.told()
 
 
 if __name__ == "__main__":

@@ -18,7 +18,7 @@ from patience import seconds
 
 TOP = pathlib.Path(__file__).resolve().parent.parent
 NEEDED = ("share/web", "share/front", "share/tools", "tools", "docs/example", "docs/FORMATS.md")
-TESTS = ("page.py", "page_office.py", "chromium.py", "front_servers.py", "patience.py")
+TESTS = ("page.py", "page_office.py", "chromium.py", "front_servers.py", "looks.py", "patience.py")
 SECONDS = seconds(400)
 
 

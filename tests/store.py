@@ -9,6 +9,7 @@ here, its rows those that the rows of the program tell, and the sums and tallies
 statement of the crates on SQLite that reads or removes finds its rows by a key, and those that the bench runs by themselves are the same as
 the tables'. Prints what fails, and last how much was looked at; the status is 1 if anything failed.
 """
+import functools
 import json
 import pathlib
 import re
@@ -19,6 +20,9 @@ import subprocess
 import sys
 import tempfile
 import time
+
+from looks import number
+from looks import run as run_in_time
 
 TOP = pathlib.Path(__file__).resolve().parent.parent
 ROWS = (TOP / "tests" / "store" / "rows.txt").read_text()
@@ -136,9 +140,7 @@ class Looks:
             print(f"FAILED {what}:\n  found  {found}\n  wanted {wanted}")
 
 
-def run(*words, given=""):
-    done = subprocess.run([PROGRAM, *map(str, words)], input=given.encode(), capture_output=True, timeout=600)
-    return done.returncode, done.stdout.decode(), done.stderr.decode()
+run = functools.partial(run_in_time, PROGRAM, seconds=600)
 
 
 def alone(path, folder):
@@ -320,10 +322,6 @@ def look_at_rows(looks, folder):
         if "d_unit" in told:
             look_at_bounds(looks, path.name, db)
         db.close()
-
-
-def number(n):
-    return "00000000-0000-4000-8000-%012d" % n
 
 
 def request(n, act, caller, seen, **fields):

@@ -28,9 +28,11 @@ import threading
 import time
 import urllib.parse
 
+import looks
 import real_projects
 import serve
-from serve import HOST, PROGRAM, SECONDS, TOP, free_port, number, run, same
+from looks import HOST, free_port, number, same
+from serve import PROGRAM, SECONDS, TOP, run
 
 TOOLS = TOP / "share" / "tools"
 NAMES = (
@@ -994,8 +996,7 @@ def main():
         folder = pathlib.Path(name)
         for it in (words, imports, odd_files, limits, uploads, left_out, conflicts, checked, lost, raced, signs_in, suggests, contexts, noted, remembers, snapshots, logs, installed):
             it(folder)
-    print(f"{serve.looks} looks, {serve.wrong} wrong")
-    return 1 if serve.wrong else 0
+    return looks.told()
 
 
 if __name__ == "__main__":

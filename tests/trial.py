@@ -34,9 +34,9 @@ import urllib.parse
 import uuid
 
 import real_projects
+from looks import HOST, free_port
 
 TOP = pathlib.Path(__file__).resolve().parent.parent
-HOST = "127.0.0.1"
 SECONDS = 1800
 TEAM = {"ann": "translator", "rob": "reviewer", "machine": "translator", "memory": "translator", "git": "manager"}
 PEOPLE = "Ann Example <ann@example.org> ann\nRob Example <rob@example.org> rob\n"
@@ -53,12 +53,6 @@ def number():
     """A number of version 7."""
     bits = time.time_ns() // 1_000_000 << 80 | int.from_bytes(os.urandom(10), "big")
     return str(uuid.UUID(int=bits & ~(0xF << 76 | 0x3 << 62) | 0x7 << 76 | 0x2 << 62))
-
-
-def free_port():
-    with socket.socket() as it:
-        it.bind((HOST, 0))
-        return it.getsockname()[1]
 
 
 def entries(text, *kinds):

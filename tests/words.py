@@ -16,6 +16,8 @@ import subprocess
 import sys
 import tempfile
 
+import looks
+
 TOP = pathlib.Path(__file__).resolve().parent.parent
 PROGRAM = TOP / "crates" / "cli" / "out" / "cli"
 PAGE = TOP / "share" / "man" / "man1" / "office.1"
@@ -144,8 +146,7 @@ TOLD = [
 
 
 def run(program, words):
-    done = subprocess.run([program, *words], stdin=subprocess.DEVNULL, capture_output=True, check=False)
-    return done.returncode, done.stdout.decode(), done.stderr.decode()
+    return looks.run(program, *words)
 
 
 def listed(text):

@@ -3,8 +3,9 @@ import argparse
 import os
 import re
 import sys
+import threading
 
-from office_tools.lines import put, seen, take_any_text
+from office_tools.lines import put, put_mistake, put_mistake_of_thread, seen, take_any_text
 
 # The forms of a caller's name and of a language, as docs/FORMATS.md has them.
 NAME = re.compile(r"[a-z][a-z0-9._-]{0,31}")
@@ -47,6 +48,7 @@ def parser(tool, about, kind=Parser, **more):
 def run(tool, main):
     """Runs a tool's main, and tells what it could not do. Ends with the tool's status."""
     take_any_text(sys.stdout, sys.stderr)
+    sys.excepthook, threading.excepthook = put_mistake, put_mistake_of_thread
     try:
         status = main()
     except Fault as fault:

@@ -1,6 +1,7 @@
 """Lines that tools print. All that a tool tells goes through `put`: nothing else of the tools writes to a terminal or a log."""
 import re
 import sys
+import traceback
 
 # What a terminal or a reader of logs takes for more than a letter: control characters, marks that turn the direction of writing, line
 # ends of Unicode; and halves of surrogate pairs, which no encoding has.
@@ -15,6 +16,17 @@ def seen(text):
 def put(*columns, to=None):
     """Prints a line of these texts, with a tab between them."""
     print("\t".join(map(seen, columns)), file=to or sys.stdout, flush=True)
+
+
+def put_mistake(kind, why, trace):
+    """Prints where a tool went wrong by itself, as Python does."""
+    for line in "".join(traceback.format_exception(kind, why, trace)).removesuffix("\n").split("\n"):
+        put(line, to=sys.stderr)
+
+
+def put_mistake_of_thread(it):
+    if it.exc_type is not SystemExit:
+        put_mistake(it.exc_type, it.exc_value, it.exc_traceback)
 
 
 def take_any_text(*streams):

@@ -79,10 +79,10 @@ def has_forms(value, fields):
     return has_fields(value, {**fields, "forms": list}) and all(isinstance(it, str) for it in value["forms"])
 
 
-def view_of(text):
-    """The view of a unit that an answer of 200 has."""
+def view_of(text, more=None):
+    """The view of a unit that an answer of 200 has, with these fields more."""
     view = value_of(text)
-    if not has_forms(view, VIEW) or not all(has_forms(it, SUGGESTION) for it in view["suggestions"]):
+    if not has_forms(view, {**VIEW, **(more or {})}) or not all(has_forms(it, SUGGESTION) for it in view["suggestions"]):
         raise Fault("its answer is no view of a message: is an office there?")
     return view
 

@@ -1,0 +1,61 @@
+"""What the scripts of this folder share: looks, which are counted, numbers of requests, runs of a program, free ports."""
+import contextlib
+import random
+import socket
+import subprocess
+
+HOST = "127.0.0.1"
+
+count = wrong = 0
+
+
+def look(holds, told):
+    """Counts a look; where it doesn't hold, prints what it shows."""
+    global count, wrong
+    count += 1
+    if not holds:
+        wrong += 1
+        print(told, flush=True)
+
+
+def same(what, found, wanted):
+    look(found == wanted, f"{what}: {shown(found)}, not {shown(wanted)}")
+
+
+def has(what, found, wanted):
+    look(wanted in found, f"{what}: {shown(wanted)} isn't in {shown(found)}")
+
+
+def shown(value, most=2000):
+    text = repr(value)
+    return text if len(text) <= most else f"{text[:most]} .. ({len(text)} characters)"
+
+
+def told():
+    """Prints how many looks there were. The status that a script ends with: 1 where something was wrong, or nothing was looked at."""
+    print(f"{count} looks, {wrong} wrong")
+    return 1 if wrong or not count else 0
+
+
+def number(n):
+    """The number of a request."""
+    return f"00000000-0000-4000-8000-{n:012}"
+
+
+def run(program, *words, given="", seconds=300):
+    """The status and both outputs of a run; no status where it doesn't end in time."""
+    try:
+        words = [it if isinstance(it, bytes) else str(it) for it in words]
+        done = subprocess.run([program, *words], input=given.encode(), capture_output=True, timeout=seconds, check=False)
+    except subprocess.TimeoutExpired:
+        return None, "", f"it didn't end within {seconds} seconds"
+    return done.returncode, done.stdout.decode(errors="replace"), done.stderr.decode(errors="replace")
+
+
+def free_port():
+    """One below those that the system gives to connections, which are many here."""
+    for port in random.sample(range(20_000, 32_000), 100):
+        with contextlib.suppress(OSError), socket.socket() as it:
+            it.bind((HOST, port))
+            return port
+    raise SystemExit("no port is free")
