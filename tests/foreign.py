@@ -4,7 +4,8 @@
     tests/foreign.py [PROGRAM]      (crates/cli/out/cli, as ./office has built it)
 
 An office is made by `office init` and a few requests. Of copies of its file each is spoilt in one way, by Python's sqlite3 with its own checks
-switched off, and given to `office deliver --store` and `office export --store`. Folders, devices, FIFOs and sockets are no files either. And it looks
+switched off, and given to `office deliver --store` and `office export --store`. Of some the sums of votes or a language's counts that the file keeps are
+spoilt, or rows and not what is kept of them, so that a query counts otherwise; where both were changed alike, the file is an office's. Folders, devices, FIFOs and sockets are no files either. And it looks
 what is told where an output or the disk is full, on a small file system of its own (wants `unshare`). Prints what is otherwise than it should be,
 and last `N files, M wrong`.
 """
@@ -19,6 +20,7 @@ import sys
 import tempfile
 
 import looks
+from earlier_offices import COUNTS, SUMS
 from looks import number, same
 
 TOP = pathlib.Path(__file__).resolve().parent.parent
@@ -73,12 +75,43 @@ SPOILT = [
     ("a form too many", """UPDATE d_unit SET forms = '["Tschau","Ade"]' WHERE key = 'Bye'""", 3),
     ("forms that are no list", "UPDATE d_unit SET forms = 'Tschau' WHERE key = 'Bye'", 3),
     ("a unit that the template lacks", "UPDATE d_unit SET key = 'Ciao' WHERE key = 'Bye'", 3),
-    ("a unit missing", "DELETE FROM d_unit WHERE key = 'Bye'", 3),
+    ("a unit missing", "DELETE FROM d_unit WHERE key = 'Bye'; UPDATE d_tally SET translated = 0", 3),
     ("no manager", "DELETE FROM team WHERE role = 3", 3),
     ("a member without a name", "INSERT INTO team VALUES ('', 1)", 3),
     ("a member whose name has a blank", "INSERT INTO team VALUES ('an n', 1)", 3),
-    ("an approved unit without reviews", "UPDATE d_unit SET state = 3 WHERE key = 'Bye'", 3),
+    ("an approved unit without reviews", "UPDATE d_unit SET state = 3 WHERE key = 'Bye'; UPDATE d_tally SET translated = 0, approved = 1", 3),
     ("a language without a rule", "UPDATE d_language SET plural = 'none'", 3),
+    ("a sum of no suggestion", f"INSERT INTO d_vote_sum VALUES ('{number(99)}', 1)", 2),
+]
+
+# What is kept of sums and counts, or what they are of, is changed: a query counts otherwise then. Each is refused by fault 3.
+MISCOUNTED = [
+    ("a count of one more", "UPDATE d_tally SET untranslated = untranslated + 1"),
+    ("one counted as another", "UPDATE d_tally SET translated = 0, needs_editing = 1"),
+    ("a suggestion not counted", "UPDATE d_tally SET suggestions = 0"),
+    ("a count of less than none", "UPDATE d_tally SET obsolete = -1"),
+    ("a tally missing", "DELETE FROM d_tally"),
+    ("a tally of a language that isn't there", "INSERT INTO d_tally VALUES ('main', 'fr', 0, 0, 0, 0, 0, 0, 0)"),
+    ("a tally of a domain that isn't there", "INSERT INTO d_tally SELECT 'docs', lang, untranslated, 0, translated, 0, 0, suggestions, 0 FROM d_tally"),
+    ("a tally of another language", "UPDATE d_tally SET lang = 'fr'"),
+    ("a unit of another state", "UPDATE d_unit SET state = 1 WHERE key = 'Bye'"),
+    ("a read-only message", "UPDATE d_template SET flags = '[\"read-only\"]' WHERE key = 'Bye'"),
+    ("a suggestion missing", "DELETE FROM d_vote; DELETE FROM d_vote_sum; DELETE FROM d_suggestion"),
+    ("a sum of one more", "UPDATE d_vote_sum SET sum = sum + 1"),
+    ("a sum of one less", "UPDATE d_vote_sum SET sum = sum - 1"),
+    ("a sum missing", "DELETE FROM d_vote_sum"),
+    ("a vote more", "INSERT INTO d_vote SELECT number, 'root', 1 FROM d_suggestion"),
+    ("a vote missing", "DELETE FROM d_vote"),
+    ("a vote against", "UPDATE d_vote SET value = -1"),
+]
+
+# What is kept is changed with what it is of: it is what a query counts, and the file is an office's.
+RECOUNTED = [
+    ("a unit of another state, counted so", "UPDATE d_unit SET state = 1 WHERE key = 'Bye'; UPDATE d_tally SET translated = 0, needs_editing = 1"),
+    ("a read-only message, counted so", "UPDATE d_template SET flags = '[\"read-only\"]' WHERE key = 'Bye'; UPDATE d_tally SET translated = 0, read_only = 1"),
+    ("no suggestion, counted so", "DELETE FROM d_vote; DELETE FROM d_vote_sum; DELETE FROM d_suggestion; UPDATE d_tally SET suggestions = 0"),
+    ("a vote against, summed so", "UPDATE d_vote SET value = -1; UPDATE d_vote_sum SET sum = 0"),
+    ("a vote missing, summed so", "DELETE FROM d_vote; UPDATE d_vote_sum SET sum = 1"),
 ]
 
 
@@ -93,6 +126,15 @@ def rows(path):
     return found
 
 
+def figures(path):
+    """The sums and the counts that are kept, and those that queries count."""
+    db = sqlite3.connect(path)
+    kept = [db.execute(it).fetchall() for it in ("SELECT number, sum FROM d_vote_sum ORDER BY 1", "SELECT * FROM d_tally ORDER BY 1, 2")]
+    counted = [db.execute(it).fetchall() for it in (SUMS, COUNTS)]
+    db.close()
+    return kept, counted
+
+
 def spoil(path, text):
     db = sqlite3.connect(path, isolation_level=None)
     for it in ("PRAGMA foreign_keys = OFF", "PRAGMA ignore_check_constraints = ON"):
@@ -100,6 +142,38 @@ def spoil(path, text):
     db.executescript(text)
     db.execute("PRAGMA wal_checkpoint(TRUNCATE)")
     db.close()
+
+
+def spoilt(office, path, text):
+    """A copy of the office's file, spoilt."""
+    shutil.copyfile(office, path)
+    spoil(path, text)
+    return path
+
+
+def refused(path, what, fault):
+    before = rows(path)
+    for words in (["deliver", "--store", path], ["export", "--store", path, "--lang", "de"]):
+        same(f"{what}, {words[0]}", run(words), (1, "", f"store fault {fault}\n"))
+    same(f"{what}: rows", rows(path), before)
+
+
+def counted(folder, office, lines, first):
+    """Files whose kept sums and counts aren't those of their rows, and files whose rows and figures were changed alike."""
+    kept, found = figures(office)
+    same("the office's sums and counts", kept, found)
+    same("that it has both", [len(it) for it in kept], [1, 1])
+    for at, (what, text) in enumerate(MISCOUNTED):
+        path = spoilt(office, folder / f"miscounted-{at}.db", text)
+        kept, found = figures(path)
+        same(f"{what}: counted otherwise", kept != found, True)
+        refused(path, what, 3)
+    for at, (what, text) in enumerate(RECOUNTED):
+        path = spoilt(office, folder / f"recounted-{at}.db", text)
+        kept, found = figures(path)
+        same(f"{what}: sums and counts", kept, found)
+        same(what, run(["deliver", "--store", path], lines), first)
+    return len(MISCOUNTED) + len(RECOUNTED)
 
 
 def others(folder, office):
@@ -154,17 +228,10 @@ def main():
         same("an export", (text[0], 'msgstr "Tschau"' in text[1]), (0, True))
         for what, sql, fault in SPOILT:
             tried += 1
-            path = folder / f"spoilt-{tried}.db"
-            shutil.copyfile(office, path)
-            spoil(path, sql)
-            before = rows(path)
-            for words in (["deliver", "--store", path], ["export", "--store", path, "--lang", "de"]):
-                same(f"{what}, {words[0]}", run(words), (1, "", f"store fault {fault}\n"))
-            same(f"{what}: rows", rows(path), before)
+            refused(spoilt(office, folder / f"spoilt-{tried}.db", sql), what, fault)
+        tried += counted(folder, office, lines, first)
         tried += 1
-        path = folder / "spelled.db"
-        shutil.copyfile(office, path)
-        spoil(path, "PRAGMA writable_schema = ON; UPDATE sqlite_schema SET sql = replace(sql, 'CREATE TABLE', 'create  table')")
+        path = spoilt(office, folder / "spelled.db", "PRAGMA writable_schema = ON; UPDATE sqlite_schema SET sql = replace(sql, 'CREATE TABLE', 'create  table')")
         same("texts of another spelling", run(["deliver", "--store", path], lines), first)
         whole = office.read_bytes()
         for what, content in (

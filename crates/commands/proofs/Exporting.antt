@@ -9,7 +9,7 @@ use Rattle.po_write.specs.Sending.{TookAll, TookPart}
 use Rattle.request_book.specs.Book.{OfficeWithBook}
 use Rattle.deliveries.specs.ExportText.{export_text}
 use Rattle.office.specs.declared.export.ExportReceipt.{ExportReceipt}
-use Rattle.office.specs.declared.faults.ExportFault.TheVariants.{Device}
+use Rattle.office.specs.declared.faults.ExportFault.TheVariants.{Device, Disk}
 use Rattle.office.specs.Exports.{WasExported, WasCut, Failed}
 use Rattle.office.specs.Writers.{Writer}
 use Rattle.commands.specs.ExportLines.{Printed, printed, untold, ended, IsToldBehind, whole, broken, held}
@@ -45,9 +45,9 @@ held_back text t0 t1 t2 f0 f1 f2 receipt exported same part =
       count = subst R same part.count;
     })
 
-pub receipt_told : {Honest : Type 0} {office : Office} {domain lang : Text} {w0 w1 w2 e0 e1 : Writer} (receipt : ExportReceipt) (status : ℕ) →
+pub receipt_told : {Honest Gone : Type 0} {office : Office} {domain lang : Text} {w0 w1 w2 e0 e1 : Writer} (receipt : ExportReceipt) (status : ℕ) →
     (Honest → WasExported (export_text (project_in office domain) lang) w0.taken w1.taken receipt) → w1.failed ≡ w0.failed → IsToldBehind w1 w2 e0 e1 receipt status →
-    Printed Honest office domain lang w0 w2 e0 e1 status
+    Printed Honest Gone office domain lang w0 w2 e0 e1 status
 receipt_told {office = office} {domain = domain} {lang = lang} {w0} {w1} {w2} receipt status exported count (whole all told is) =
     printed receipt (λ h. handed_on (export_text (project_in office domain) lang) w0.taken w1.taken w2.taken w1.failed w2.failed receipt (exported h) all) told is
 receipt_told {office = office} {domain = domain} {lang = lang} {w0} {w1} {w2} receipt status exported count (broken all told is) =
@@ -58,6 +58,7 @@ receipt_told {office = office} {domain = domain} {lang = lang} {w0} {w1} {w2} re
       fault = Device;
       cut = λ h. held_back (export_text (project_in office domain) lang) w0.taken w1.taken w2.taken w0.failed w1.failed w2.failed receipt (exported h) count part;
       device = λ _. let R : ℕ → Type 0 = λ f. RoseOrStands f w2.failed in subst R count part.count;
+      disk = λ is. absurd (let differs : Device ≡ Disk = is in cc);
       told = told;
     })
     is

@@ -45,19 +45,19 @@ pub data Stopped (text : List ℕ) (reads_failed_old reads_failed_new : ℕ) (ol
 -- ---- the text of a language
 
 -- What came of an export, on the two outputs and in the exit status:
-pub data Exported (Honest Whole : Type 0) (office : Office) (domain : Text) (lang : Option Text) (out_old out_new faults_old faults_new : Writer) (status : ℕ) : Type 0 where
+pub data Exported (Honest Whole Gone : Type 0) (office : Office) (domain : Text) (lang : Option Text) (out_old out_new faults_old faults_new : Writer) (status : ℕ) : Type 0 where
   -- no language is named;
   unnamed : lang ≡ None → TakesAll out_old out_new [] → TakesAll faults_old faults_new [] → status ≡ 0
-      → Exported Honest Whole office domain lang out_old out_new faults_old faults_new status
+      → Exported Honest Whole Gone office domain lang out_old out_new faults_old faults_new status
   -- or its text was written, of tables that aren't shut;
   written : (named : Text) → lang ≡ Some named → (Honest → Whole) → (Honest → IsSomeAnd (export_text (project_in office domain) named) (Took out_old.taken out_new.taken))
       → TakesAll faults_old faults_new [] → status ≡ 0
-      → Exported Honest Whole office domain lang out_old out_new faults_old faults_new status
+      → Exported Honest Whole Gone office domain lang out_old out_new faults_old faults_new status
   -- or there is a fault. Where it shut the store, it isn't said which office was exported; that the language isn't there is told by tables
   -- that aren't shut.
   faulted : (named : Text) → lang ≡ Some named → (meant : Office) → (Honest → Whole → meant ≡ office)
-      → (ended : EndedWithFault Honest meant domain named out_old out_new faults_old faults_new) → (Honest → ended.fault ≡ NoLanguage → Whole) → status ≡ 1
-      → Exported Honest Whole office domain lang out_old out_new faults_old faults_new status
+      → (ended : EndedWithFault Honest Gone meant domain named out_old out_new faults_old faults_new) → (Honest → ended.fault ≡ NoLanguage → Whole) → status ≡ 1
+      → Exported Honest Whole Gone office domain lang out_old out_new faults_old faults_new status
 
 -- ---- the whole
 
@@ -84,11 +84,11 @@ pub data Delivered (at : AtLost) (HandedOn Honest Whole Gone : Type 0) (before a
     (reads_failed_old reads_failed_new : ℕ) (replies_old replies_new faults_old faults_new : Writer) (status : ℕ) : Type 0 where
   -- each line was answered, and the language exported behind the answers;
   done : AllAnswered (GoingOn at (HasDelivered Honest Whole Gone before after))
-      (TookBehind (λ old new. Exported Honest Whole after.office domain lang old new faults_old faults_new status) HandsOn replies_old replies_new) text
+      (TookBehind (λ old new. Exported Honest Whole Gone after.office domain lang old new faults_old faults_new status) HandsOn replies_old replies_new) text
       → Delivered at HandedOn Honest Whole Gone before after domain lang text reads_failed_old reads_failed_new replies_old replies_new faults_old faults_new status
   -- or the writer held back some of that;
   held : (exit : ℕ) → AllAnswered (GoingOn at (HasDelivered Honest Whole Gone before after))
-      (TookBehind (λ old new. Exported Honest Whole after.office domain lang old new faults_old faults_new exit) HoldsBack replies_old replies_new) text
+      (TookBehind (λ old new. Exported Honest Whole Gone after.office domain lang old new faults_old faults_new exit) HoldsBack replies_old replies_new) text
       → status ≡ 1
       → Delivered at HandedOn Honest Whole Gone before after domain lang text reads_failed_old reads_failed_new replies_old replies_new faults_old faults_new status
   -- or a stream failed behind the first lines;

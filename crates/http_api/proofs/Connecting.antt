@@ -20,7 +20,7 @@ use Rattle.http_api.specs.Answering.{WroteBeginning}
 use Rattle.http_api.specs.Steps.{IsFirst, whatever_follows, at_the_end, TookOne, Ended}
 use Rattle.http_api.proofs.ItemLemmas.{item_of, none_left, tail_of, items-one, items-none, items-full, items-all, tail-last, tail-more}
 use Rattle.http_api.proofs.NoMore.{behind_none, behind_one, ReadSoFar, nothing_so_far, reads_no_more, one_more_read}
-use Rattle.http_api.specs.Connection.{behind, ReadsNoMore, questions, answers_to, EndsInExport, GivenUp, no_source, no_sink, no_room, text_without_memory, text_without_disk}
+use Rattle.http_api.specs.Connection.{behind, EndsBehind, ReadsNoMore, questions, answers_to, EndsInExport, GivenUp, no_source, no_sink, no_room, text_without_memory, text_without_disk}
 
 -- ---- room for one answer more
 
@@ -203,6 +203,17 @@ ends {l0 = l0} {l1 = l1} {l2 = l2} {held = held} so_far end served wrote =
     all_taken got so_far.items so_far.outcomes all
     (ap items_of same ∙ so_far.cut [] ∙ ap (λ xs. so_far.items ++ items_within so_far.room xs) empty ∙ ap (λ xs. so_far.items ++ xs) (items-none so_far.room) ∙ append-nil so_far.items)
     (served (questions so_far.items) so_far.outcomes so_far.served) (wrote (answers_to so_far.items so_far.outcomes) so_far.wrote) so_far.many
+
+pub ends_behind : {Served : List Asked → List Outcome → Type 0} {Wrote : List ℕ → Type 0} {Same : Type 0} {l0 l1 l2 : Option (List ℕ)} {f0 f1 f2 answered : ℕ} {held : List ℕ} → Along Served Wrote l0 l1 f0 f1 answered held
+    → Ended Same l1 l2 f1 f2 held → EndsBehind l0 l2 answered
+ends_behind {l0 = l0} {l1 = l1} {l2 = l2} {answered = answered} {held = held} so_far end =
+    let none = nothing_behind held end.read.piece end.read.behind in
+    record {
+      given = so_far.got ++ end.read.piece;
+      read = read_more l0 l1 l2 so_far.got end.read.piece so_far.read end.read.read;
+      end = end.end;
+      none = ap (λ piece. behind answered (so_far.got ++ piece)) none.1 ∙ so_far.stands [] ∙ ap (λ bytes. Some (bytes ++ [])) none.0;
+    }
 
 -- no more may be answered
 pub is_full : {Served : List Asked → List Outcome → Type 0} {Wrote : List ℕ → Type 0} {l0 l1 : Option (List ℕ)} {f0 f1 answered : ℕ} {held : List ℕ} → (so_far : Along Served Wrote l0 l1 f0 f1 answered held) → answer_limit ≤ answered →

@@ -17,7 +17,7 @@ use Rattle.http_api.specs.Served.{HasServed}
 use Rattle.http_api.specs.Steps.{Stepped, SteppedOff, unread, broke_off}
 use Rattle.http_api.specs.Connection.{ReadsNoMore, ReadsOn, AllServed, SomeServed, GivenUp, no_room}
 use Rattle.http_api.proofs.Serving.{serves, none_served}
-use Rattle.http_api.proofs.Connecting.{HasRoom, has_room, Along, begins, goes_along, AllTaken, ends, is_full, lasts, lasts_read, full_read, SomeTaken, cut_off, breaks_off, wrote_more, gives_up, stops}
+use Rattle.http_api.proofs.Connecting.{HasRoom, has_room, Along, begins, goes_along, AllTaken, ends, ends_behind, is_full, lasts, lasts_read, full_read, SomeTaken, cut_off, breaks_off, wrote_more, gives_up, stops}
 
 module _ {S V : Type 0} (is_honest is_whole : S → Type 0) (means : S → OfficeWithBook) (is_stopped : S → Bool) (at : V → Writer) where
   abbrev pub ServedTo : S → S → List Asked → List Outcome → Type 0
@@ -123,7 +123,7 @@ module _ {S V : Type 0} (is_honest is_whole : S → Type 0) (means : S → Offic
     ends_here next end stepped = let step = subst StepTo end stepped in all_served answered (ends so_far.along step (same_served step.same) (same_wrote step.same))
 
     pub ends_read_here : (next : Next) → next ≡ End → StepTo next → ReadsOn l0 l2 answered
-    ends_read_here next end stepped = let step = subst StepTo end stepped in inl step.end
+    ends_read_here next end stepped = let step = subst StepTo end stepped in inl (ends_behind so_far.along step)
 
     -- the connection is given up
     abbrev GivenUpAt : ServeFault → List Outcome → List ℕ → Type 0

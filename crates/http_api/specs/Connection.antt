@@ -48,9 +48,16 @@ pub record ReadsNoMore (left_old left_new : Option (List ℕ)) (answered : ℕ) 
   pub piece : length last ≤ piece_limit
   pub wanted : (n : ℕ) → answered ≡ suc n → HoldsNext n before → ⊥
 
--- the stream has ended, or no more was read
+-- The stream has ended right behind the messages that were answered, none of which ends the connection.
+pub record EndsBehind (left_old left_new : Option (List ℕ)) (answered : ℕ) : Type 0 where
+  pub given : List ℕ
+  pub read : left_old ≡ prepend_known given left_new
+  pub end : IsAtEnd left_new
+  pub none : behind answered given ≡ Some []
+
+-- there was nothing more, or no more was read
 abbrev pub ReadsOn : Option (List ℕ) → Option (List ℕ) → ℕ → Type 0
-ReadsOn left_old left_new answered = IsAtEnd left_new ⊎ ReadsNoMore left_old left_new answered
+ReadsOn left_old left_new answered = EndsBehind left_old left_new answered ⊎ ReadsNoMore left_old left_new answered
 
 -- ---- a connection that was given up
 

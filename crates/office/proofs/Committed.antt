@@ -1,9 +1,17 @@
 -- What was read, decided and committed is what the delivery of a new number leaves, and keeps the rules.
 use Rattle.std.proofs.Common.{◌≡◌, ◌∙◌, sym, ap, subst, Option, Some, None, IsTrue, Result, Ok, Err, refl}
-use Rattle.std.specs.Prelude.{is_none, option_map, [], ◌∷◌, IfOk, OnOk}
+use Rattle.std.specs.Prelude.{is_none, option_map, [], ◌∷◌, IfOk, IfSome, OnOk}
+use Rattle.std.specs.Option.{option_map_or}
 use Rattle.std.specs.FinMap as maps
 use Rattle.po_text.specs.Texts.{Text}
+use Rattle.po_text.specs.declared.entry.Entry.{Entry}
 use Rattle.units.specs.Office.{Office, project_in}
+use Rattle.units.specs.Project.{Project, entry_of, role_of}
+use Rattle.units.specs.Rules.{rule_at}
+use Rattle.units.specs.declared.unit.Policy.{Policy}
+use Rattle.units.specs.declared.unit.Refusal.{Refusal}
+use Rattle.units.specs.declared.unit.Role.{Role}
+use Rattle.units.specs.declared.unit.Unit.{Unit}
 use Rattle.units.specs.declared.unit.Key.{Key}
 use Rattle.units.specs.declared.unit.UnitAct.{UnitAct}
 use Rattle.units.specs.declared.unit.UnitView.{UnitView}
@@ -13,10 +21,14 @@ use Rattle.request_book.specs.declared.book.Record.{Record}
 use Rattle.request_book.specs.Replies.{Reply}
 use Rattle.request_book.specs.Acts.{IsRequest, content_text}
 use Rattle.request_book.specs.Book.{OfficeWithBook, Recorded, with_record}
+use Rattle.plural_expr.specs.Values.{Rule}
 use Rattle.replies.specs.Bodies.{Stepped}
+use Rattle.review.specs.declared.decision.Decision.TheVariants.{Done, Refused}
+use Rattle.review.specs.UnitStep.{unit_step, unit_after, values_of, refusals, first_refusal}
+use Rattle.deliveries.specs.declared.values.Outcome.{Outcome}
 use Rattle.deliveries.specs.declared.values.ActContext.{ActContext}
 use Rattle.deliveries.specs.UnitAccess.{found_of, with_view_in}
-use Rattle.deliveries.specs.UnitOutcomes.{outcome_of}
+use Rattle.deliveries.specs.UnitOutcomes.{outcome_of, outcome_of_decision}
 use Rattle.deliveries.specs.OfficeChanges.{changed_by}
 use Rattle.deliveries.specs.OfficeRules.{KeepsRules}
 use Rattle.deliveries.specs.Step.{step}
@@ -68,6 +80,44 @@ pub unit_act_keeps : (old mid : OfficeWithBook) (request : Request) (domain lang
 unit_act_keeps old mid request domain lang key act found view reply content row is same answer decides text made given fresh start =
     subst KeepsRules (sym (ap (λ (p : OfficeWithBook × Reply). p.0) (unit_act_delivered old mid _ request domain lang key act found view reply content row is same answer decides text made refl)))
     (first_keeps old request given fresh start)
+
+-- the entry of a view that an act makes is that of the view before it
+step_shows : (entry : Option Entry) (view : UnitView) → view.source ≡ entry → (policy : Policy) (rule : Rule) (role : Role) (caller number : Text) (act : UnitAct) →
+    IfSome (outcome_of_decision (unit_step policy rule role caller number view act)).view (λ v. v.source ≡ entry)
+unfolding unit_step
+step_shows entry view is policy rule role caller number act = by (first_refusal (refusals policy rule role caller number view act))
+  where
+    by : (o : Option Refusal) → IfSome (outcome_of_decision (option_map_or Refused o (Done (record view { unit = unit_after policy rule caller number view act.action })
+        (values_of policy caller number view (unit_after policy rule caller number view act.action) act.action)))).view (λ v. v.source ≡ entry)
+    by None = is
+    by (Some refusal) = tt
+
+module _ (project : Project) (lang : Text) (key : Key) (caller number : Text) (act : UnitAct) where
+  abbrev seen : Unit → UnitView
+  seen unit = record { unit = unit; source = entry_of project.template key }
+
+  abbrev found_at : Option Unit → ActContext
+  found_at o = record { rule = rule_at project lang; policy = project.policy; role = role_of project caller; view = option_map seen o }
+
+  abbrev Shows : Option ActContext → Type 0
+  Shows found = IfSome (outcome_of found caller number act).view (λ v. v.source ≡ entry_of project.template key)
+
+  unit_shows : (o : Option Unit) → Shows (Some (found_at o))
+  unit_shows None = tt
+  unit_shows (Some unit) = step_shows (entry_of project.template key) (seen unit) refl project.policy (rule_at project lang) (role_of project caller) caller number act
+
+  found_shows : (o : Option Entry) → Shows (option_map (λ header. found_at (maps.get project.units (lang, key))) o)
+  found_shows None = tt
+  found_shows (Some header) = unit_shows (maps.get project.units (lang, key))
+
+-- a view that an act makes is shown with the template's entry of its key
+pub unit_act_shows : (old mid : OfficeWithBook) (request : Request) (domain lang : Text) (key : Key) (act : UnitAct) (view : Option UnitView) (reply : Reply) → mid ≡ old →
+    record { view = view; reply = reply } ≡ outcome_of (found_of (project_in old.office domain) lang key request.caller) request.caller request.number act →
+    IfSome view (λ v. v.source ≡ entry_of (project_in mid.office domain).template key)
+unit_act_shows old mid request domain lang key act view reply same decides =
+    subst (λ (m : OfficeWithBook). IfSome view (λ v. v.source ≡ entry_of (project_in m.office domain).template key)) (sym same)
+    (subst (λ (o : Option UnitView). IfSome o (λ v. v.source ≡ entry_of (project_in old.office domain).template key)) (sym (ap (λ (o : Outcome). o.view) decides))
+    (found_shows (project_in old.office domain) lang key request.caller request.number act (maps.get (project_in old.office domain).headers lang)))
 
 -- ---- an act on the office
 

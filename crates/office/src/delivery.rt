@@ -4,6 +4,7 @@ ghost use Rattle.std.specs.FinMap as maps;
 ghost use Rattle.po_text.specs.Texts.{text_eq};
 ghost use Rattle.replies.specs.Bodies.{number_used};
 ghost use Rattle.units.specs.Office.{project_in};
+ghost use Rattle.units.specs.Project.{entry_of};
 ghost use Rattle.request_book.specs.Acts.{IsRequest, content_text};
 ghost use Rattle.request_book.specs.Book.{with_record};
 ghost use Rattle.request_book.specs.Clash.{is_unit_act};
@@ -110,6 +111,7 @@ fn commit_unit_act<T: Tables>(
 ) -> Result<Reply, Lost>
     requires new { T.is_honest tables.old → IsTrue (is_none (maps.get (T.means tables.old).book row.number)) }
     requires content { IsContent row.content }
+    requires entry { T.is_honest tables.old → IfSome view (λ v. v.source ≡ entry_of (project_in (T.means tables.old).office domain.now).template key.now) }
     requires rules { T.is_honest tables.old → KeepsRules (record { office = with_view_in (T.means tables.old).office domain.now lang.now key.now view; book = with_record (T.means tables.old).book row }) }
     ensures handed_on { IfOk result (λ r. r ≡ reply) }
     ensures done { T.is_honest tables.new → OnOk result

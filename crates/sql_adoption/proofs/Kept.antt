@@ -1,25 +1,28 @@
 -- An office that was read keeps the rules with the book of the rows, or doesn't.
-use Rattle.std.proofs.Common.{◌≡◌, Result, Ok, Err, IfOk, IfErr, OnOk, MatchResult, refl, sym, subst, arith}
+use Rattle.std.proofs.Common.{◌≡◌, Result, Ok, Err, IfOk, IfErr, OnOk, MatchResult, codes, refl, sym, subst, arith}
 use Rattle.sqlite.specs.Effect.{Database}
 use Rattle.sqlite.specs.State.{State, HasCleanDisk}
 use Rattle.request_book.specs.Book.{OfficeWithBook}
 use Rattle.deliveries.specs.OfficeRules.{KeepsRules}
 use Rattle.office_maps.specs.OfficeIn.{office_in}
 use Rattle.units.specs.Office.{Office}
+use Rattle.units.specs.Offices.{IsOffice}
+use Rattle.deliveries.specs.MainAlone.{main_alone}
+use Rattle.sql_figures.specs.KeptTallies.{office_counts, AreTalliesOf}
 use Rattle.sql_schema.specs.Whole.{IsIdleOver, IsLookUp}
-use Rattle.sql_meaning.specs.Meaning.{book_in, meaning_for, own_rows, AreNumbered}
+use Rattle.sql_meaning.specs.Meaning.{book_in, project_of_rows, meaning_for, own_rows, AreNumbered}
 use Rattle.sql_adoption.specs.declared.faults.OpenFault.{OpenFault}
 use Rattle.sql_adoption.specs.declared.faults.OpenFault.TheVariants.{Memory, Disk, Foreign, Exists}
-use Rattle.sql_adoption.specs.declared.faults.Mismatch.TheVariants.{OtherTables, OtherForm, UnreadRow, BrokenRules}
+use Rattle.sql_adoption.specs.declared.faults.Mismatch.TheVariants.{OtherTables, OtherForm, UnreadRow, OtherFigures, BrokenRules}
 use Rattle.sql_adoption.specs.declared.office_read.ReadOffice.{ReadOffice}
-use Rattle.sql_adoption.specs.Adoption.{AreContents, StandForBook, IsAdoptedAs, Lacks, Refuses}
+use Rattle.sql_adoption.specs.Adoption.{KeepsFigures, AreContents, StandForBook, IsAdoptedAs, Lacks, Refuses}
 use Rattle.sql_adoption.proofs.LaidOut.{one_form}
 use Rattle.sql_adoption.specs.Tables.{form_told}
 use Rattle.sql_adoption.specs.declared.office_tables.Form as told
 use Rattle.sql_adoption.specs.declared.tested.Adopted.{Adopted}
-use Rattle.sql_adoption.specs.Reading.{IsReadOf, KeepsBook, RefusesWith, RefusesOf, RefusesBook, RefusesKept}
-use Rattle.sql_adoption.proofs.Looked.{idle_still, looked_on, looked_in_vain, both_looked, looked_same}
-use Rattle.sql_schema.specs.Layouts.{Form, HasLayoutOf, NamedRows, rows_named}
+use Rattle.sql_adoption.specs.Reading.{IsReadOf, KeepsBook, KeepsRows, FiguresOf, HoldFigures, RefusesWith, RefusesOf, RefusesBook, RefusesKept, RefusesFigures, RefusesKeptRows}
+use Rattle.sql_adoption.proofs.Looked.{idle_still, if_ok, looked_on, looked_in_vain, both_looked, looked_same}
+use Rattle.sql_schema.specs.Layouts.{Form, for_main, by_domain, HasLayoutOf, NamedRows, rows_named}
 
 module _ (form : Form) where
   -- where the rules were tested
@@ -31,6 +34,7 @@ module _ (form : Form) where
   -- why a book, or an office with it, isn't kept
   pub book_refused : (office : Office) (db : Database) (fault : OpenFault) → RefusesBook form db fault → RefusesKept form office db fault
   book_refused office db (Foreign UnreadRow) h = h
+  book_refused office db (Foreign OtherFigures) h = absurd h
   book_refused office db (Foreign BrokenRules) h = absurd h
   book_refused office db (Foreign OtherForm) h = absurd h
   book_refused office db (Foreign OtherTables) h = absurd h
@@ -40,12 +44,82 @@ module _ (form : Form) where
 
   pub rules_refused : (office : Office) (db : Database) (fault : OpenFault) → RefusesWith (record { office = office; book = book_in (own_rows form (rows_named db)) }) fault → RefusesKept form office db fault
   rules_refused office db (Foreign UnreadRow) h = absurd h
+  rules_refused office db (Foreign OtherFigures) h = absurd h
   rules_refused office db (Foreign BrokenRules) h = h
   rules_refused office db (Foreign OtherForm) h = absurd h
   rules_refused office db (Foreign OtherTables) h = absurd h
   rules_refused office db Exists h = absurd h
   rules_refused office db Memory h = tt
   rules_refused office db Disk h = tt
+
+  -- also with the figures
+  pub kept_refused : (office : Office) (db : Database) (fault : OpenFault) → RefusesKept form office db fault → RefusesKeptRows form office db fault
+  kept_refused office db (Foreign UnreadRow) h = λ alone stand. h stand.1
+  kept_refused office db (Foreign OtherFigures) h = absurd h
+  kept_refused office db (Foreign BrokenRules) h = h
+  kept_refused office db (Foreign OtherForm) h = absurd h
+  kept_refused office db (Foreign OtherTables) h = absurd h
+  kept_refused office db Exists h = absurd h
+  kept_refused office db Memory h = tt
+  kept_refused office db Disk h = tt
+
+-- ---- the figures
+
+-- those of the office that the rows mean
+pub figures_kept : (form : Form) (office : Office) (db : Database) → office ≡ main_alone (project_of_rows (own_rows form (rows_named db))) → FiguresOf form office db → KeepsFigures form (rows_named db)
+figures_kept for_main office db is figures = tt
+figures_kept by_domain office db is figures = record {
+  tallies = subst (λ (o : Office). AreTalliesOf (office_counts o) (rows_named db (codes "d_tally"))) is figures.tallies;
+  sums = figures.sums;
+}
+
+pub figures_of : (form : Form) (office : Office) (db : Database) → office ≡ main_alone (project_of_rows (own_rows form (rows_named db))) → KeepsFigures form (rows_named db) → FiguresOf form office db
+figures_of for_main office db is figures = tt
+figures_of by_domain office db is figures = record {
+  tallies = subst (λ (o : Office). AreTalliesOf (office_counts o) (rows_named db (codes "d_tally"))) (sym is) figures.tallies;
+  sums = figures.sums;
+}
+
+-- why an office whose book is kept isn't kept with its figures
+figures_refused : (office : Office) (db : Database) → KeepsBook by_domain office db → (fault : OpenFault) → RefusesFigures office db fault → RefusesKeptRows by_domain office db fault
+figures_refused office db kept (Foreign UnreadRow) h = λ alone stand. h alone stand.0
+figures_refused office db kept (Foreign OtherFigures) h = h kept.rules.office
+figures_refused office db kept (Foreign BrokenRules) h = absurd h
+figures_refused office db kept (Foreign OtherForm) h = absurd h
+figures_refused office db kept (Foreign OtherTables) h = absurd h
+figures_refused office db kept Exists h = absurd h
+figures_refused office db kept Memory h = tt
+figures_refused office db kept Disk h = tt
+
+-- tables without a column for a domain have none
+pub book_alone_kept : {U V : Type 0} (u : U) (v : V) (office : Office) (old new : State) → IsLookUp {E = OpenFault} old new (Ok u) (λ db _. KeepsBook for_main office db)
+    → IsLookUp {E = OpenFault} old new (Ok v) (λ db _. KeepsRows for_main office db)
+book_alone_kept u v office old new it =
+    looked_on old new {E = OpenFault} u (Ok v) (λ db _. KeepsBook for_main office db) (λ db _. KeepsRows for_main office db) it (λ early is_open book. record { book = book; figures = tt })
+
+module _ {U V : Type 0} (u : U) (office : Office) (old mid new : State) (r : Result V OpenFault) (one : IsLookUp {E = OpenFault} old mid (Ok u) (λ db _. KeepsBook by_domain office db))
+    (two : IsLookUp mid new r (λ db _. IsOffice office → HoldFigures office (rows_named db))) where
+  pub rows_are_kept : IsLookUp old new r (λ db _. KeepsRows by_domain office db)
+  rows_are_kept =
+      let both = both_looked old mid new u r (λ db _. KeepsBook by_domain office db) (λ db _. IsOffice office → HoldFigures office (rows_named db)) one two in
+      record {
+        answer = λ clean. if_ok r (λ v it. record { book = it.0; figures = it.1 it.0.rules.office }) (both.answer clean);
+        same = both.same;
+        is_open = both.is_open;
+        ended = both.ended;
+        survives = both.survives;
+      }
+
+  pub rows_refused : IfErr r (λ fault. HasCleanDisk new → RefusesFigures office mid.now fault) → IfErr r (λ fault. HasCleanDisk new → RefusesKeptRows by_domain office old.now fault)
+  rows_refused h = by r two h
+    where
+      by : (s : Result V OpenFault) → IsLookUp mid new s (λ db _. IsOffice office → HoldFigures office (rows_named db)) → IfErr s (λ fault. HasCleanDisk new → RefusesFigures office mid.now fault)
+          → IfErr s (λ fault. HasCleanDisk new → RefusesKeptRows by_domain office old.now fault)
+      by (Ok v) looked k = tt
+      by (Err fault) looked k = λ clean.
+          let before : HasCleanDisk mid = omega (arith, clean, looked.survives.clean) in
+          let same = looked_same old mid new u (Err fault) (λ db _. KeepsBook by_domain office db) (λ db _. IsOffice office → HoldFigures office (rows_named db)) one looked clean in
+          figures_refused office old.now (one.answer before) fault (subst (λ db. RefusesFigures office db fault) same (k clean))
 
 -- the rows stay those of a form's tables
 pub read_idle : (form : told.Form) (old mid : State) (read : ReadOffice) → IsIdleOver (form_told form) old → IsLookUp {E = OpenFault} old mid (Ok read) (IsReadOf (form_told form))
@@ -70,7 +144,7 @@ module _ (form : told.Form) (old mid new : State) (read : ReadOffice) (one : IsL
   abbrev pub IsAnswer : Database → Adopted → Type 0
   IsAnswer db adopted = (adopted.form ≡ form) × IsAdoptedAs db adopted
 
-  adopted_as : (db : Database) → IsReadOf (form_told form) db read → KeepsBook (form_told form) (office_in read.maps) db → IsAnswer db Answered
+  adopted_as : (db : Database) → IsReadOf (form_told form) db read → KeepsRows (form_told form) (office_in read.maps) db → IsAnswer db Answered
   adopted_as db is kept = (
     refl,
     record {
@@ -80,26 +154,28 @@ module _ (form : told.Form) (old mid new : State) (read : ReadOffice) (one : IsL
         told = is.told;
         alone = is.alone;
         office = is.stand;
-        book = kept.stand;
-        numbered = kept.numbered;
-        contents = kept.contents;
-        rules = subst KeepsRules (meant db is) kept.rules;
+        book = kept.book.stand;
+        numbered = kept.book.numbered;
+        contents = kept.book.contents;
+        figures = figures_kept (form_told form) (office_in read.maps) db is.office kept.figures;
+        rules = subst KeepsRules (meant db is) kept.book.rules;
       };
     },
   )
 
-  pub office_adopted : {U : Type 0} (kept : Result U OpenFault) (r : Result Adopted OpenFault) → IsLookUp mid new kept (λ db _. KeepsBook (form_told form) (office_in read.maps) db)
+  pub office_adopted : {U : Type 0} (kept : Result U OpenFault) (r : Result Adopted OpenFault) → IsLookUp mid new kept (λ db _. KeepsRows (form_told form) (office_in read.maps) db)
       → MatchResult kept (λ _. r ≡ Ok Answered) (λ fault. r ≡ Err fault) → IsLookUp old new r IsAnswer
   office_adopted (Ok u) r two is =
       subst (λ s. IsLookUp old new s IsAnswer) (sym is)
-      (looked_on old new {E = OpenFault} u (Ok Answered) _ IsAnswer (both_looked old mid new read (Ok u) (IsReadOf (form_told form)) (λ db _. KeepsBook (form_told form) (office_in read.maps) db) one two)
+      (looked_on old new {E = OpenFault} u (Ok Answered) _ IsAnswer (both_looked old mid new read (Ok u) (IsReadOf (form_told form)) (λ db _. KeepsRows (form_told form) (office_in read.maps) db) one two)
       (λ early was_open both. adopted_as old.now both.0 both.1))
   office_adopted (Err f) r two is =
       subst (λ s. IsLookUp old new s IsAnswer) (sym is)
-      (looked_in_vain old new (Err f) f _ IsAnswer (both_looked old mid new read (Err f) (IsReadOf (form_told form)) (λ db _. KeepsBook (form_told form) (office_in read.maps) db) one two))
+      (looked_in_vain old new (Err f) f _ IsAnswer (both_looked old mid new read (Err f) (IsReadOf (form_told form)) (λ db _. KeepsRows (form_told form) (office_in read.maps) db) one two))
 
-  refused_with : (db : Database) → IsReadOf (form_told form) db read → (fault : OpenFault) → RefusesKept (form_told form) (office_in read.maps) db fault → RefusesOf (form_told form) db fault
-  refused_with db is (Foreign UnreadRow) h = λ stand. h stand.1
+  refused_with : (db : Database) → IsReadOf (form_told form) db read → (fault : OpenFault) → RefusesKeptRows (form_told form) (office_in read.maps) db fault → RefusesOf (form_told form) db fault
+  refused_with db is (Foreign UnreadRow) h = h is.alone
+  refused_with db is (Foreign OtherFigures) h = λ keeps. h (figures_of (form_told form) (office_in read.maps) db is.office keeps)
   refused_with db is (Foreign BrokenRules) h = λ rules. h (subst KeepsRules (sym (meant db is)) rules)
   refused_with db is (Foreign OtherForm) h = absurd h
   refused_with db is (Foreign OtherTables) h = absurd h
@@ -107,20 +183,21 @@ module _ (form : told.Form) (old mid new : State) (read : ReadOffice) (one : IsL
   refused_with db is Memory h = tt
   refused_with db is Disk h = tt
 
-  pub office_refused : {U : Type 0} (kept : Result U OpenFault) (r : Result Adopted OpenFault) → IsLookUp mid new kept (λ db _. KeepsBook (form_told form) (office_in read.maps) db)
-      → IfErr kept (λ fault. HasCleanDisk new → RefusesKept (form_told form) (office_in read.maps) mid.now fault)
+  pub office_refused : {U : Type 0} (kept : Result U OpenFault) (r : Result Adopted OpenFault) → IsLookUp mid new kept (λ db _. KeepsRows (form_told form) (office_in read.maps) db)
+      → IfErr kept (λ fault. HasCleanDisk new → RefusesKeptRows (form_told form) (office_in read.maps) mid.now fault)
       → MatchResult kept (λ _. r ≡ Ok Answered) (λ fault. r ≡ Err fault) → IfErr r (λ fault. HasCleanDisk new → RefusesOf (form_told form) old.now fault)
   office_refused (Ok u) r two h is = subst (λ s. IfErr s (λ fault. HasCleanDisk new → RefusesOf (form_told form) old.now fault)) (sym is) tt
   office_refused (Err f) r two h is = subst (λ s. IfErr s (λ fault. HasCleanDisk new → RefusesOf (form_told form) old.now fault)) (sym is) (λ clean.
       let before : HasCleanDisk mid = omega (arith, clean, two.survives.clean) in
-      let same = looked_same old mid new read (Err f) (IsReadOf (form_told form)) (λ db _. KeepsBook (form_told form) (office_in read.maps) db) one two clean in
-      refused_with old.now (one.answer before) f (subst (λ db. RefusesKept (form_told form) (office_in read.maps) db f) same (h clean)))
+      let same = looked_same old mid new read (Err f) (IsReadOf (form_told form)) (λ db _. KeepsRows (form_told form) (office_in read.maps) db) one two clean in
+      refused_with old.now (one.answer before) f (subst (λ db. RefusesKeptRows (form_told form) (office_in read.maps) db f) same (h clean)))
 
 -- why tables of a form are refused, whatever their form
 pub refused_so : (form : Form) (db : Database) → HasLayoutOf form db → (fault : OpenFault) → RefusesOf form db fault → Refuses db fault
 refused_so form db has (Foreign OtherTables) h = absurd h
 refused_so form db has (Foreign OtherForm) h = (form, has, h)
 refused_so form db has (Foreign UnreadRow) h = (form, has, h)
+refused_so form db has (Foreign OtherFigures) h = (form, has, h)
 refused_so form db has (Foreign BrokenRules) h = (form, has, h)
 refused_so form db has Exists h = absurd h
 refused_so form db has Memory h = tt

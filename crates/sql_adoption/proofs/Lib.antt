@@ -16,3 +16,9 @@ pub mod LayoutsTold
 pub mod OwnRows
 pub mod MainAlone
 pub mod ReadAlone
+pub mod FigureReads
+pub mod FigureTests
+pub mod TalliesTold
+pub mod SumsTold
+pub mod FiguresTold
+pub mod FiguresKept

@@ -30,7 +30,7 @@ use Rattle.sql_adoption.specs.BookShown.{book_shown, IsRecordRow}
 use Rattle.sql_adoption.proofs.WholeBook.{all_numbered, whole_book}
 use Rattle.sql_adoption.specs.declared.faults.OpenFault.{OpenFault}
 use Rattle.sql_adoption.specs.declared.faults.OpenFault.TheVariants.{Memory, Disk, Foreign, Exists}
-use Rattle.sql_adoption.specs.declared.faults.Mismatch.TheVariants.{OtherTables, OtherForm, UnreadRow, BrokenRules}
+use Rattle.sql_adoption.specs.declared.faults.Mismatch.TheVariants.{OtherTables, OtherForm, UnreadRow, OtherFigures, BrokenRules}
 use Rattle.sql_adoption.specs.declared.office_read.ReadOffice.{ReadOffice}
 use Rattle.sql_adoption.specs.Adoption.{TellsForm, HoldsMainAlone, StandForOffice}
 use Rattle.sql_adoption.specs.Reading.{unread, ShowsForm, IsOfRows, HoldsMain, RefusesRows, RefusesOf, RefusesBook, IsReadOf, AreStatusesIn}
@@ -91,6 +91,7 @@ module _ (form : Form) (db : Database) (office : AreOfficeTablesOf form db) (row
   pub rows_refused : (fault : OpenFault) → RefusesRows form rows fault → RefusesOf form db fault
   rows_refused (Foreign UnreadRow) h = λ stand. h (rows_stand own as_asked rows shows stand.0)
   rows_refused (Foreign OtherForm) h = λ told. h (form_shown form db rows.office.policy shows.office.policy office told.0)
+  rows_refused (Foreign OtherFigures) h = absurd h
   rows_refused (Foreign BrokenRules) h = absurd h
   rows_refused (Foreign OtherTables) h = absurd h
   rows_refused Exists h = absurd h

@@ -21,8 +21,9 @@ use Rattle.sql_decoding.specs.RowTests.{is_member_row, is_policy_row, is_entry_r
 use Rattle.request_book.specs.Contents.{IsContent}
 use Rattle.sql_adoption.specs.declared.faults.OpenFault.{OpenFault}
 use Rattle.sql_adoption.specs.declared.faults.OpenFault.TheVariants.{Foreign, Exists}
-use Rattle.sql_adoption.specs.declared.faults.Mismatch.TheVariants.{OtherTables, OtherForm, UnreadRow, BrokenRules}
+use Rattle.sql_adoption.specs.declared.faults.Mismatch.TheVariants.{OtherTables, OtherForm, UnreadRow, OtherFigures, BrokenRules}
 use Rattle.sql_schema.specs.Layouts.{Form, for_main, by_domain, HasLayoutOf, NamedRows, rows_named}
+use Rattle.sql_figures.specs.Figures.{HasFigures}
 
 -- the number of the schema, which tells the form of the tables
 abbrev pub schema_number : Form → ℤ
@@ -37,6 +38,11 @@ TellsForm form tables = (row : Row) × Has (tables (codes "policy")) row × (row
 abbrev pub HoldsMainAlone : Form → NamedRows → Type 0
 HoldsMainAlone for_main tables = ⊤
 HoldsMainAlone by_domain tables = IsMainAlone tables × HoldsOneDomain tables
+
+-- the sums and tallies that tables by domains keep are what counting their rows gives
+abbrev pub KeepsFigures : Form → NamedRows → Type 0
+KeepsFigures for_main tables = ⊤
+KeepsFigures by_domain tables = HasFigures tables
 
 -- each record's content is that of some request
 abbrev pub AreContents : NamedRows → Type 0
@@ -78,6 +84,7 @@ pub record IsAdoptedOf (form : Form) (db : Database) : Type 0 where
   pub book : StandForBook (own_rows form (rows_named db))
   pub numbered : AreNumbered (own_rows form (rows_named db))
   pub contents : AreContents (own_rows form (rows_named db))
+  pub figures : KeepsFigures form (rows_named db)
   pub rules : KeepsRules (meaning_for form (rows_named db))
 
 -- in the form that the tables have
@@ -116,6 +123,7 @@ abbrev pub Refuses : Database → OpenFault → Type 0
 Refuses db (Foreign OtherTables) = ¬ HoldsOffice db
 Refuses db (Foreign OtherForm) = Lacks (λ form. TellsForm form (rows_named db) × HoldsMainAlone form (rows_named db)) db
 Refuses db (Foreign UnreadRow) = Lacks (λ form. StandForOffice (own_rows form (rows_named db)) × StandForBook (own_rows form (rows_named db))) db
+Refuses db (Foreign OtherFigures) = Lacks (λ form. KeepsFigures form (rows_named db)) db
 Refuses db (Foreign BrokenRules) = Lacks (λ form. KeepsRules (meaning_for form (rows_named db))) db
 Refuses db Exists = ⊥
 Refuses db _ = ⊤

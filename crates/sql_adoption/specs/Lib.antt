@@ -9,3 +9,4 @@ pub mod Checks
 pub mod Tables
 pub mod RisingRows
 pub mod RowidQueries
+pub mod FigureRows

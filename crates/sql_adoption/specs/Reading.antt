@@ -1,5 +1,5 @@
 -- What the readers of rows that are to be adopted answer. Only inner clauses and proofs cite this file.
-use Rattle.std.specs.Prelude.{◌≡◌, ◌⊎◌, ◌↔◌, ◌<◌, ⊤, ℕ, List, length, Option, Some, All}
+use Rattle.std.specs.Prelude.{◌≡◌, ◌⊎◌, ◌↔◌, ◌<◌, ⊤, ℕ, false, List, length, Option, Some, All, codes}
 use Rattle.std.specs.BTreeMap.{BTreeMap}
 use Rattle.sqlite.specs.declared.error.Error.{Error}
 use Rattle.sqlite.specs.declared.error.Error.TheVariants.{SqliteFailure}
@@ -25,10 +25,15 @@ use Rattle.sql_decoding.specs.RowTests.{AreOfficeRows}
 use Rattle.office_rules.specs.Given.{AreAll, AreStatusesOf}
 use Rattle.sql_adoption.specs.declared.faults.OpenFault.{OpenFault}
 use Rattle.sql_adoption.specs.declared.faults.OpenFault.TheVariants.{Memory, Disk, Foreign, Exists}
-use Rattle.sql_adoption.specs.declared.faults.Mismatch.TheVariants.{OtherTables, OtherForm, UnreadRow, BrokenRules}
+use Rattle.sql_adoption.specs.declared.faults.Mismatch.TheVariants.{OtherTables, OtherForm, UnreadRow, OtherFigures, BrokenRules}
 use Rattle.sql_adoption.specs.declared.office_read.ReadOffice.{ReadOffice}
-use Rattle.sql_adoption.specs.Adoption.{schema_number, TellsForm, HoldsMainAlone, AreContents, StandForOffice, StandForBook}
-use Rattle.sql_schema.specs.Layouts.{Form, rows_named}
+use Rattle.sql_adoption.specs.Adoption.{schema_number, TellsForm, HoldsMainAlone, KeepsFigures, AreContents, StandForOffice, StandForBook}
+use Rattle.sql_schema.specs.Layouts.{Form, for_main, by_domain, NamedRows, rows_named}
+use Rattle.units.specs.Offices.{IsOffice}
+use Rattle.sql_figures.specs.KeptSums.{HaveSums}
+use Rattle.sql_figures.specs.KeptTallies.{office_counts, AreTalliesOf}
+use Rattle.sql_adoption.specs.FigureRows.{votes_stand}
+use Rattle.sql_adoption.specs.declared.figure_rows.FigureRows.{FigureRows}
 
 -- ---- faults
 
@@ -72,6 +77,7 @@ pub record IsOfRows (rows : WholeOffice) (read : ReadOffice) : Type 0 where
 abbrev pub RefusesRows : Form → WholeOffice → OpenFault → Type 0
 RefusesRows form rows (Foreign OtherForm) = ¬ ShowsForm form rows.office.policy
 RefusesRows form rows (Foreign UnreadRow) = ¬ AreOfficeRows rows
+RefusesRows form rows (Foreign OtherFigures) = ⊥
 RefusesRows form rows (Foreign BrokenRules) = ⊥
 RefusesRows form rows (Foreign OtherTables) = ⊥
 RefusesRows form rows Exists = ⊥
@@ -96,6 +102,7 @@ abbrev pub RefusesOf : Form → Database → OpenFault → Type 0
 RefusesOf form db (Foreign OtherTables) = ⊥
 RefusesOf form db (Foreign OtherForm) = ¬ (TellsForm form (rows_named db) × HoldsMainAlone form (rows_named db))
 RefusesOf form db (Foreign UnreadRow) = ¬ (StandForOffice (own_rows form (rows_named db)) × StandForBook (own_rows form (rows_named db)))
+RefusesOf form db (Foreign OtherFigures) = ¬ KeepsFigures form (rows_named db)
 RefusesOf form db (Foreign BrokenRules) = ¬ KeepsRules (meaning_for form (rows_named db))
 RefusesOf form db Exists = ⊥
 RefusesOf form db _ = ⊤
@@ -120,6 +127,7 @@ pub record KeepsBook (form : Form) (office : Office) (db : Database) : Type 0 wh
 abbrev pub RefusesWith : OfficeWithBook → OpenFault → Type 0
 RefusesWith with_book (Foreign BrokenRules) = ¬ KeepsRules with_book
 RefusesWith with_book (Foreign UnreadRow) = ⊥
+RefusesWith with_book (Foreign OtherFigures) = ⊥
 RefusesWith with_book (Foreign OtherForm) = ⊥
 RefusesWith with_book (Foreign OtherTables) = ⊥
 RefusesWith with_book Exists = ⊥
@@ -128,6 +136,7 @@ RefusesWith with_book _ = ⊤
 -- what is true of a book's rows that are refused so
 abbrev pub RefusesBook : Form → Database → OpenFault → Type 0
 RefusesBook form db (Foreign UnreadRow) = ¬ StandForBook (own_rows form (rows_named db))
+RefusesBook form db (Foreign OtherFigures) = ⊥
 RefusesBook form db (Foreign BrokenRules) = ⊥
 RefusesBook form db (Foreign OtherForm) = ⊥
 RefusesBook form db (Foreign OtherTables) = ⊥
@@ -138,3 +147,49 @@ RefusesBook form db _ = ⊤
 abbrev pub RefusesKept : Form → Office → Database → OpenFault → Type 0
 RefusesKept form office db (Foreign UnreadRow) = ¬ StandForBook (own_rows form (rows_named db))
 RefusesKept form office db fault = RefusesWith (record { office = office; book = book_in (own_rows form (rows_named db)) }) fault
+
+-- ---- the figures
+
+-- the sums and tallies of tables by domains are what counting gives, where this is their office
+pub record HoldFigures (office : Office) (rows : NamedRows) : Type 0 where
+  pub tallies : AreTalliesOf (office_counts office) (rows (codes "d_tally"))
+  pub sums : HaveSums rows
+
+-- what is true of rows of figures that are refused so
+abbrev pub RefusesFigureRows : FigureRows → OpenFault → Type 0
+RefusesFigureRows rows (Foreign UnreadRow) = votes_stand rows ≡ false
+RefusesFigureRows rows (Foreign OtherFigures) = ⊥
+RefusesFigureRows rows (Foreign BrokenRules) = ⊥
+RefusesFigureRows rows (Foreign OtherForm) = ⊥
+RefusesFigureRows rows (Foreign OtherTables) = ⊥
+RefusesFigureRows rows Exists = ⊥
+RefusesFigureRows rows _ = ⊤
+
+-- what is true of an office and of tables by domains whose figures are refused so
+abbrev pub RefusesFigures : Office → Database → OpenFault → Type 0
+RefusesFigures office db (Foreign UnreadRow) = HoldsMainAlone by_domain (rows_named db) → ¬ StandForOffice (own_rows by_domain (rows_named db))
+RefusesFigures office db (Foreign OtherFigures) = IsOffice office → ¬ HoldFigures office (rows_named db)
+RefusesFigures office db (Foreign BrokenRules) = ⊥
+RefusesFigures office db (Foreign OtherForm) = ⊥
+RefusesFigures office db (Foreign OtherTables) = ⊥
+RefusesFigures office db Exists = ⊥
+RefusesFigures office db _ = ⊤
+
+-- ---- the book and the figures
+
+-- tables that have no column for a domain keep no figures
+abbrev pub FiguresOf : Form → Office → Database → Type 0
+FiguresOf for_main office db = ⊤
+FiguresOf by_domain office db = HoldFigures office (rows_named db)
+
+-- an office keeps the rules with the book of the rows, and the figures are its
+pub record KeepsRows (form : Form) (office : Office) (db : Database) : Type 0 where
+  pub book : KeepsBook form office db
+  pub figures : FiguresOf form office db
+
+-- what is true of an office and of rows that are refused so together
+abbrev pub RefusesKeptRows : Form → Office → Database → OpenFault → Type 0
+RefusesKeptRows form office db (Foreign UnreadRow) =
+    HoldsMainAlone form (rows_named db) → ¬ (StandForOffice (own_rows form (rows_named db)) × StandForBook (own_rows form (rows_named db)))
+RefusesKeptRows form office db (Foreign OtherFigures) = ¬ FiguresOf form office db
+RefusesKeptRows form office db fault = RefusesKept form office db fault

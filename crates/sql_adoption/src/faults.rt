@@ -17,6 +17,9 @@ pub enum Mismatch {
     /// A row stands for no value, the template for no valid catalogue, or what is recorded is no request's content.
     #[error("a row stands for no value")]
     UnreadRow,
+    /// A kept sum of votes, or a language's kept counts, aren't what counting the rows gives.
+    #[error("a kept sum or count isn't that of its rows")]
+    OtherFigures,
     /// The rows break the rules of an office with its book.
     #[error("its rows break the rules of an office")]
     BrokenRules,

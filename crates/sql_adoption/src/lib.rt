@@ -14,6 +14,8 @@
 //! - `look_ups`: what is read of them, each in a transaction; `main_alone`: whether all are of `main`
 //! - `statuses`: the statuses of all records
 //! - `office_read`, `book_read`: the office, and its book
+//! - `figure_rows`: the figures that are kept, and the rows that they are of; `language_tallies`, `suggestion_sums`,
+//!   `figures_kept`: whether they are what counting gives
 //! - `tested`: all that is asked (`adopted_office`)
 //! - `faults`: why an office's tables can't be had (`OpenFault`, `Mismatch`)
 //!
@@ -24,6 +26,9 @@
 
 mod book_read;
 mod faults;
+mod figure_rows;
+mod figures_kept;
+mod language_tallies;
 mod look_ups;
 mod main_alone;
 mod office_read;
@@ -32,6 +37,7 @@ mod offices;
 mod rowids;
 mod shapes;
 mod statuses;
+mod suggestion_sums;
 mod table_checks;
 mod table_shapes;
 mod tested;

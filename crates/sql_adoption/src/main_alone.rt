@@ -15,7 +15,7 @@ use sqlite::{Alter, Connection, Error, Row};
 use units::Name;
 
 /// The bytes of a row's first column, which other values than texts and blobs don't have.
-fn bytes_of(row: &Row) -> &[u8]
+pub(crate) fn bytes_of(row: &Row) -> &[u8]
     ensures { result.now ≡ text_at 0 row.now }
 {
     match row.get_ref(0) {

@@ -42,11 +42,11 @@ const ROWIDS_BY_DOMAIN: [&str; 11] = [
     "SELECT rowid FROM d_tally ORDER BY rowid",
 ];
 
-/// The integer that a row shows first.
-fn integer_of(row: &Row) -> Option<i64>
-    ensures { result ≡ spec.integer_in (column row.now 0) }
+/// The integer in a column.
+pub(crate) fn integer_of(row: &Row, at: usize) -> Option<i64>
+    ensures { result ≡ spec.integer_in (column row.now at) }
 {
-    match row.get_ref(0) {
+    match row.get_ref(at) {
         Ok(ValueRef::Int(id)) => Some(id),
         _ => None,
     }
@@ -66,7 +66,7 @@ fn is_above(last: Option<i64>, id: i64) -> bool
 fn next_integer(last: Option<i64>, row: &Row) -> Option<i64>
     ensures { result ≡ spec.follows last (spec.integer_in (column row.now 0)) }
 {
-    let id = integer_of(row)?;
+    let id = integer_of(row, 0)?;
     if is_above(last, id) { Some(id) } else { None }
 }
 

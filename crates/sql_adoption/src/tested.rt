@@ -4,11 +4,13 @@ ghost use Rattle.sqlite.specs.Held.{state};
 ghost use Rattle.sqlite.specs.State.{HasCleanDisk};
 ghost use Rattle.sql_schema.specs.Whole.{IsIdleOver, IsLookUp};
 ghost use Rattle.sql_adoption.specs.Adoption.{IsAdoptedAs, IsAdoptedIn, StaysAsItWas, Refuses};
-ghost use Rattle.sql_adoption.specs.Reading.{RefusesOf};
+ghost use Rattle.office_maps.specs.OfficeIn.{office_in};
+ghost use Rattle.sql_adoption.specs.Reading.{HoldsMain, KeepsRows, RefusesKeptRows, RefusesOf};
 ghost use Rattle.sql_adoption.specs.Tables.{form_told};
 
 use crate::book_read::keep_book;
 use crate::faults::{Mismatch, OpenFault};
+use crate::figures_kept::keep_figures;
 use crate::office_read::{ReadOffice, read_office};
 use crate::office_tables::Form;
 use crate::offices::office_form;
@@ -25,7 +27,7 @@ pub struct Adopted {
     pub langs: Vec<Lang>,
 }
 
-/// The office, where its book keeps the rules.
+/// The office, where its rows are kept.
 fn where_kept(
     form: Form,
     read: ReadOffice,
@@ -44,6 +46,26 @@ fn where_kept(
     }
 }
 
+/// Tests the rules of an office that was read, with the book of the rows, and the figures that are kept of it.
+fn keep_rows<S: Alter>(
+    connection: &mut Connection<S>,
+    alloc: Global,
+    form: Form,
+    read: &ReadOffice,
+) -> Result<(), OpenFault>
+    requires autocommit { connection.old.in_transaction ≡ false }
+    requires idle { IsIdleOver (form_told form) (state S.Store connection.old) }
+    requires holds { HoldsMain read.now }
+    ensures found { IsLookUp (state S.Store connection.old) (state S.Store connection.new) result (λ db _. KeepsRows (form_told form) (office_in read.now.maps) db) }
+    ensures refused { IfErr result (λ fault. HasCleanDisk (state S.Store connection.new) → RefusesKeptRows (form_told form) (office_in read.now.maps) (state S.Store connection.old).now fault) }
+{
+    keep_book(connection, alloc, read)?;
+    match form {
+        Form::ForMain => Ok(()),
+        Form::ByDomain => keep_figures(connection, alloc, read),
+    }
+}
+
 /// The office of tables of this form, if their rows are those of an office with its book and of no other domain than `main`.
 fn tested_tables<S: Alter>(
     connection: &mut Connection<S>,
@@ -56,17 +78,19 @@ fn tested_tables<S: Alter>(
     ensures refused { IfErr result (λ fault. HasCleanDisk (state S.Store connection.new) → RefusesOf (form_told form) (state S.Store connection.old).now fault) }
 {
     let read = read_office(connection, alloc, form)?;
-    let kept = keep_book(connection, alloc, &read);
+    let kept = keep_rows(connection, alloc, form, &read);
     where_kept(form, read, kept)
 }
 
 /// The office of a connection's tables, if they are an office's in some form that the policy's row tells: each row stands for a value, the
-/// template's for a valid catalogue, each record's content is a request's, all is of the domain `main`, and the rules of an office with its
-/// book hold. Nothing is changed: tables without a column for a domain are told, and stay.
+/// template's for a valid catalogue, each record's content is a request's, all is of the domain `main`, the rules of an office with its
+/// book hold, and the sums of votes and the tallies that tables by domains keep are what counting their rows gives. Nothing is changed: tables
+/// without a column for a domain are told, and stay.
 ///
 /// `Foreign` tells why not: `OtherTables` only where the tables aren't an office's, `OtherForm` only where the policy's row doesn't tell their
 /// form or another domain is there, `UnreadRow` only where a row stands for no value, the template for no valid catalogue, or a record's
-/// content is no request's, `BrokenRules` only where the rules don't hold. `Memory` where a growth was refused, `Disk` where the disk failed.
+/// content is no request's, `BrokenRules` only where the rules don't hold, `OtherFigures` only where a sum or a tally isn't what counting
+/// gives. `Memory` where a growth was refused, `Disk` where the disk failed.
 pub fn adopted_office<S: Alter>(
     connection: &mut Connection<S>,
     alloc: Global,

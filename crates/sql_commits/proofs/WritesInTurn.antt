@@ -1,6 +1,7 @@
 -- Writes one after the other, and rows of a list that are put in its order.
 use Rattle.std.proofs.Common.{◌≡◌, inl, inr, ℕ, ℤ, pos, ◌+◌, List, [], ◌∷◌, ◌++◌, length, map, take, get_or, ◌<◌, Some, w64, to_z, of_z, Result, Ok, Err, OnOk, IsTrue, refl, sym, ap, subst, ◌∙◌, arith, codes}
 use Rattle.std.proofs.lemmas.List.{take_more, length-take, map-append}
+use Rattle.std.specs.Result.{IsErr}
 use Rattle.std.specs.FinMap as maps
 use Rattle.std.specs.Prelude.{⊤, MatchResult, IsErrAnd}
 use Rattle.sqlite.specs.declared.types.Value.TheVariants.{Int, Text as Words}
@@ -127,6 +128,15 @@ module _ (a b c : State) where
         survives = both.survives;
       }
 
+module _ (a b c : State) where
+  -- an error behind a write, of the next one or of what follows it
+  pub write_fails : {A B D E F G : Type 0} (x : A) (r : Result B F) (given : Result D G) (P Q R : Database → Database → Type 0) → IsErr given
+      → IsInsideOf {E = E} by_domain a b (Ok x) P → IsInsideOf by_domain b c r Q → IsInsideOf by_domain a c given R
+  write_fails x r (Ok y) P Q R is one two = absurd (let none = is in cc)
+  write_fails {A} {B} {D} {E} {F} x r (Err e) P Q R is one two =
+      let both = writes_both a b c {E = F} x r P Q (write_told a b {F = F} x x P P (λ made. made) one) two in
+      record { made = λ clean. tt; ready = λ clean. tt; stays = λ clean. tt; kept = both.kept; survives = both.survives }
+
 -- ---- one more at the end
 
 pub puts_row_more : {K : Type 0} (name : List ℕ) (key : Row → K) (all : List Row) (cells : Row) (old mid new : NamedRows)
@@ -158,19 +168,19 @@ role_through Translator column is = let same : column ≡ pos 1 = cc in subst (�
 role_through Reviewer column is = let same : column ≡ pos 2 = cc in subst (λ z. to_z w64 (of_z w64 z) ≡ z) (sym same) refl
 role_through Manager column is = let same : column ≡ pos 3 = cc in subst (λ z. to_z w64 (of_z w64 z) ≡ z) (sym same) refl
 
-pub puts_vote_next : (number voter : Text) (value : ℤ) (votes : List (Text × VoteValue)) (i : ℕ) (vote : Text × VoteValue) (old mid new : NamedRows)
+pub puts_vote_next : (name : List ℕ) (number voter : Text) (value : ℤ) (votes : List (Text × VoteValue)) (i : ℕ) (vote : Text × VoteValue) (old mid new : NamedRows)
     → i < length votes → vote ≡ get_or votes i vote → voter ≡ vote.0 → value ≡ vote_number (Some vote.1)
-    → PutsRows (codes "vote") first_texts (map (vote_cells number) (take i votes)) old mid
-    → PutsIn (codes "vote") first_texts (HoldsValues (Words number ∷ Words voter ∷ Int value ∷ [])) mid new
-    → PutsRows (codes "vote") first_texts (map (vote_cells number) (take (i + 1) votes)) old new
-puts_vote_next number voter value votes i vote old mid new within is is_voter is_value front put =
+    → PutsRows name first_texts (map (vote_cells number) (take i votes)) old mid
+    → PutsIn name first_texts (HoldsValues (Words number ∷ Words voter ∷ Int value ∷ [])) mid new
+    → PutsRows name first_texts (map (vote_cells number) (take (i + 1) votes)) old new
+puts_vote_next name number voter value votes i vote old mid new within is is_voter is_value front put =
     let row : Row = Words number ∷ Words voter ∷ Int value ∷ [] in
     let cells : row ≡ vote_cells number vote = cc in
     let taken : take (i + 1) votes ≡ take i votes ++ vote ∷ [] = take_more votes i vote within ∙ ap (λ v. take i votes ++ v ∷ []) (sym is) in
     let all : map (vote_cells number) (take (i + 1) votes) ≡ map (vote_cells number) (take i votes) ++ vote_cells number vote ∷ [] =
     ap (map (vote_cells number)) taken ∙ map-append (vote_cells number) (take i votes) (vote ∷ []) in
-    subst (λ rows. PutsRows (codes "vote") first_texts rows old new) (sym all)
-    (puts_row_more (codes "vote") first_texts (map (vote_cells number) (take i votes)) (vote_cells number vote) old mid new front (subst (λ c. PutsIn (codes "vote") first_texts (HoldsValues c) mid new) cells put))
+    subst (λ rows. PutsRows name first_texts rows old new) (sym all)
+    (puts_row_more name first_texts (map (vote_cells number) (take i votes)) (vote_cells number vote) old mid new front (subst (λ c. PutsIn name first_texts (HoldsValues c) mid new) cells put))
 
 pub adds_suggestion_next : (lang key : Text) (ss : List Suggestion) (i : ℕ) (s : Suggestion) (old mid new : NamedRows)
     → i < length ss → s ≡ get_or ss i s → AddsNumberedSuggestions lang key (take i ss) old mid → AddsNumberedSuggestion lang key i s mid new → AddsNumberedSuggestions lang key (take (i + 1) ss) old new
@@ -209,7 +219,7 @@ puts_vote_on number voter value votes i vote old mid new within is is_voter is_v
     let one = vote_on_main put s.0 s.1 s.2 (ap first_text put.is_row.1 ∙ sym s.3) in (
       on_main_then (PutsRows (codes "vote") first_texts (map (vote_cells number) (take i votes))) (PutsIn (codes "vote") first_texts (HoldsValues (Words number ∷ Words voter ∷ Int value ∷ [])))
           (PutsRows (codes "vote") first_texts (map (vote_cells number) (take (i + 1) votes)))
-          (puts_vote_next number voter value votes i vote (main_rows (rows_named old)) (main_rows (rows_named mid)) (main_rows (rows_named new)) within is is_voter is_value) before.0 one,
+          (puts_vote_next (codes "vote") number voter value votes i vote (main_rows (rows_named old)) (main_rows (rows_named mid)) (main_rows (rows_named new)) within is is_voter is_value) before.0 one,
       (s.0, subst (λ rows. Has rows s.0) (sym (put.others (codes "d_suggestion") (names_differ refl))) s.1, s.2, s.3),
     )
 

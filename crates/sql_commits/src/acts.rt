@@ -8,8 +8,9 @@ ghost use Rattle.sql_schema.specs.Whole.{IsIdleOver, IsCommitOf};
 ghost use Rattle.sql_meaning.specs.RowChanges.{HaveNextIn};
 ghost use Rattle.sql_changes.specs.OnMain.{OnMainWhere, OnMain};
 ghost use Rattle.sql_changes.specs.UnitWrites.{WritesNumberedUnit};
-ghost use Rattle.sql_commits.specs.Acts.{MakesAct, MakesChange};
+ghost use Rattle.sql_commits.specs.Acts.{MakesAct, MakesChange, CommitsAct, CommitsChange};
 ghost use Rattle.sql_commits.specs.Changes.{WritesDomainChange, WritesIn, WritesChange};
+ghost use Rattle.sql_commits.specs.Figures.{FollowsView, FollowsIn, FollowsAct, FollowsDomainChange, FollowsOneChange, FollowsChange};
 
 use crate::languages::write_language;
 use crate::policies::write_policy;
@@ -39,7 +40,7 @@ pub fn commit_act<S: Alter>(
 ) -> Result<(), Failure>
     requires autocommit { connection.old.in_transaction ≡ false }
     requires idle { IsIdleOver by_domain (state S.Store connection.old) }
-    ensures committed { IsCommitOf by_domain (state S.Store connection.old) (state S.Store connection.new) result (MakesAct row.now domain.now lang.now view.now) }
+    ensures committed { IsCommitOf by_domain (state S.Store connection.old) (state S.Store connection.new) result (CommitsAct row.now domain.now lang.now view.now) }
 {
     let mut tx = connection.transaction();
     let put = put_record_and_view(&mut tx, alloc, row, domain, lang, view);
@@ -58,6 +59,7 @@ fn put_record_and_view<S: Alter>(
     requires steady { IsSteadyOver by_domain (state S.Store tx.old.conn.now) }
     ensures same_reference { tx.new.conn.ghost_name ≡ tx.old.conn.ghost_name }
     ensures put { IsInsideOf by_domain (state S.Store tx.old.conn.now) (state S.Store tx.new.conn.now) result (MakesAct row.now domain.now lang.now view.now) }
+    ensures figures { IsInsideOf by_domain (state S.Store tx.old.conn.now) (state S.Store tx.new.conn.now) result (FollowsAct domain.now lang.now view.now) }
 {
     put_record_of(tx, alloc, row)?;
     match view {
@@ -78,6 +80,7 @@ fn write_view_in<S: Alter>(
     requires open { HasCleanDisk (state S.Store tx.old.conn.now) → IsTrue (state S.Store tx.old.conn.now).is_open }
     ensures same_reference { tx.new.conn.ghost_name ≡ tx.old.conn.ghost_name }
     ensures put { IsInsideOf by_domain (state S.Store tx.old.conn.now) (state S.Store tx.new.conn.now) result (OnMain (WritesIn domain.now (WritesNumberedUnit lang.now view.now.unit))) }
+    ensures figures { IsInsideOf by_domain (state S.Store tx.old.conn.now) (state S.Store tx.new.conn.now) result (FollowsIn domain.now (FollowsView lang.now view.now)) }
 {
     if is_main(domain) {
         write_view(tx, alloc, lang, view)
@@ -97,6 +100,7 @@ fn write_view<S: Alter>(
     requires open { HasCleanDisk (state S.Store tx.old.conn.now) → IsTrue (state S.Store tx.old.conn.now).is_open }
     ensures same_reference { tx.new.conn.ghost_name ≡ tx.old.conn.ghost_name }
     ensures put { IsInsideOf by_domain (state S.Store tx.old.conn.now) (state S.Store tx.new.conn.now) result (OnMain (WritesNumberedUnit lang.now view.now.unit)) }
+    ensures figures { IsInsideOf by_domain (state S.Store tx.old.conn.now) (state S.Store tx.new.conn.now) result (FollowsView lang.now view.now) }
 {
     move_tally(tx, alloc, lang, view)?;
     write_unit(tx, alloc, lang, &view.unit)
@@ -114,7 +118,7 @@ pub fn commit_change<S: Alter>(
 ) -> Result<(), Failure>
     requires autocommit { connection.old.in_transaction ≡ false }
     requires idle { IsIdleOver by_domain (state S.Store connection.old) }
-    ensures committed { IsCommitOf by_domain (state S.Store connection.old) (state S.Store connection.new) result (MakesChange row.now change.now) }
+    ensures committed { IsCommitOf by_domain (state S.Store connection.old) (state S.Store connection.new) result (CommitsChange row.now change.now) }
 {
     let mut tx = connection.transaction();
     let put = put_record_and_change(&mut tx, alloc, row, change);
@@ -131,6 +135,7 @@ fn put_record_and_change<S: Alter>(
     requires steady { IsSteadyOver by_domain (state S.Store tx.old.conn.now) }
     ensures same_reference { tx.new.conn.ghost_name ≡ tx.old.conn.ghost_name }
     ensures put { IsInsideOf by_domain (state S.Store tx.old.conn.now) (state S.Store tx.new.conn.now) result (MakesChange row.now change.now) }
+    ensures figures { IsInsideOf by_domain (state S.Store tx.old.conn.now) (state S.Store tx.new.conn.now) result (FollowsChange change.now) }
 {
     put_record_of(tx, alloc, row)?;
     match change {
@@ -149,6 +154,7 @@ fn write_change<S: Alter>(
     requires open { HasCleanDisk (state S.Store tx.old.conn.now) → IsTrue (state S.Store tx.old.conn.now).is_open }
     ensures same_reference { tx.new.conn.ghost_name ≡ tx.old.conn.ghost_name }
     ensures put { IsInsideOf by_domain (state S.Store tx.old.conn.now) (state S.Store tx.new.conn.now) result (OnMainWhere HaveNextIn (WritesChange change.now)) }
+    ensures figures { IsInsideOf by_domain (state S.Store tx.old.conn.now) (state S.Store tx.new.conn.now) result (FollowsOneChange change.now) }
 {
     match change {
         Change::OneRole(name, role) => {
@@ -171,6 +177,7 @@ fn write_change_in<S: Alter>(
     requires open { HasCleanDisk (state S.Store tx.old.conn.now) → IsTrue (state S.Store tx.old.conn.now).is_open }
     ensures same_reference { tx.new.conn.ghost_name ≡ tx.old.conn.ghost_name }
     ensures put { IsInsideOf by_domain (state S.Store tx.old.conn.now) (state S.Store tx.new.conn.now) result (OnMain (WritesIn domain.now (WritesDomainChange change.now))) }
+    ensures figures { IsInsideOf by_domain (state S.Store tx.old.conn.now) (state S.Store tx.new.conn.now) result (FollowsIn domain.now (FollowsDomainChange change.now)) }
 {
     if is_main(domain) {
         write_domain_change(tx, alloc, change)
@@ -188,6 +195,7 @@ fn write_domain_change<S: Alter>(
     requires steady { IsSteadyOver by_domain (state S.Store tx.old.conn.now) }
     ensures same_reference { tx.new.conn.ghost_name ≡ tx.old.conn.ghost_name }
     ensures put { IsInsideOf by_domain (state S.Store tx.old.conn.now) (state S.Store tx.new.conn.now) result (OnMain (WritesDomainChange change.now)) }
+    ensures figures { IsInsideOf by_domain (state S.Store tx.old.conn.now) (state S.Store tx.new.conn.now) result (FollowsDomainChange change.now) }
 {
     match change {
         DomainChange::NewLanguage(lang, language, plan, tally) => write_language(

@@ -8,6 +8,7 @@ ghost use Rattle.sql_schema.specs.Inside.{IsSteadyOver, IsInsideOf};
 ghost use Rattle.sql_changes.specs.OnMain.{OnMain};
 ghost use Rattle.sql_changes.specs.Commits.{PutsEntry, PutsEntries};
 ghost use Rattle.sql_commits.specs.Columns.{columns_of_entry};
+ghost use Rattle.sql_figures.specs.Figures.{FiguresStay};
 
 use po_text::{Entry, Text};
 use sql_columns::{plural_column, texts_column};
@@ -28,6 +29,7 @@ pub fn put_entries<S: Alter>(
     requires open { HasCleanDisk (state S.Store tx.old.conn.now) → IsTrue (state S.Store tx.old.conn.now).is_open }
     ensures same_reference { tx.new.conn.ghost_name ≡ tx.old.conn.ghost_name }
     ensures put { IsInsideOf by_domain (state S.Store tx.old.conn.now) (state S.Store tx.new.conn.now) result (OnMain (PutsEntries 0 entries.now)) }
+    ensures figures { IsInsideOf by_domain (state S.Store tx.old.conn.now) (state S.Store tx.new.conn.now) result FiguresStay }
 {
     for (place, entry) in entries.iter().enumerate() {
         put_entry(tx, alloc, place, entry)?;
@@ -79,6 +81,7 @@ fn put_entry<S: Alter>(
     requires steady { IsSteadyOver by_domain (state S.Store tx.old.conn.now) }
     ensures same_reference { tx.new.conn.ghost_name ≡ tx.old.conn.ghost_name }
     ensures put { IsInsideOf by_domain (state S.Store tx.old.conn.now) (state S.Store tx.new.conn.now) result (OnMain (PutsEntry place entry.now)) }
+    ensures figures { IsInsideOf by_domain (state S.Store tx.old.conn.now) (state S.Store tx.new.conn.now) result FiguresStay }
 {
     entry_key_fits(entry);
     let columns = columns_of(alloc, entry)?;

@@ -6,6 +6,8 @@ ghost use Rattle.sql_schema.specs.Layouts.{by_domain};
 ghost use Rattle.sql_schema.specs.Inside.{IsSteadyOver, IsInsideOf};
 ghost use Rattle.sql_changes.specs.OnMain.{OnMain};
 ghost use Rattle.sql_changes.specs.Commits.{PutsLanguage, WritesLanguage};
+ghost use Rattle.sql_figures.specs.Figures.{with_tally, FiguresFollow, FiguresStay};
+ghost use Rattle.units.specs.Office.{main};
 
 use crate::planned_units::write_units;
 use crate::tallies::put_tally_of;
@@ -31,6 +33,7 @@ pub fn write_language<S: Alter>(
     requires steady { IsSteadyOver by_domain (state S.Store tx.old.conn.now) }
     ensures same_reference { tx.new.conn.ghost_name ≡ tx.old.conn.ghost_name }
     ensures put { IsInsideOf by_domain (state S.Store tx.old.conn.now) (state S.Store tx.new.conn.now) result (OnMain (WritesLanguage lang.now header.now units.now)) }
+    ensures figures { IsInsideOf by_domain (state S.Store tx.old.conn.now) (state S.Store tx.new.conn.now) result (FiguresFollow (with_tally main lang.now tally)) }
 {
     put_language_of(tx, alloc, lang, header)?;
     write_units(tx, alloc, lang, units)?;
@@ -47,6 +50,7 @@ pub fn put_language_of<S: Alter>(
     requires steady { IsSteadyOver by_domain (state S.Store tx.old.conn.now) }
     ensures same_reference { tx.new.conn.ghost_name ≡ tx.old.conn.ghost_name }
     ensures put { IsInsideOf by_domain (state S.Store tx.old.conn.now) (state S.Store tx.new.conn.now) result (OnMain (PutsLanguage lang.now header.now)) }
+    ensures figures { IsInsideOf by_domain (state S.Store tx.old.conn.now) (state S.Store tx.new.conn.now) result FiguresStay }
 {
     language_fits(lang, header);
     let column = header_column(alloc, header)?;

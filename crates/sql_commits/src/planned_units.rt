@@ -6,6 +6,7 @@ ghost use Rattle.sql_schema.specs.Layouts.{by_domain};
 ghost use Rattle.sql_schema.specs.Inside.{IsSteadyOver, IsInsideOf};
 ghost use Rattle.sql_changes.specs.OnMain.{OnMain};
 ghost use Rattle.sql_changes.specs.UnitWrites.{WritesPlanned, WritesUnits, WritesUnitsBack, WritesPlansBack};
+ghost use Rattle.sql_figures.specs.Figures.{FiguresStay};
 
 use crate::unit_writes::write_unit;
 use sql_decoding::Failure;
@@ -25,6 +26,7 @@ pub fn write_planned<S: Alter>(
     requires steady { IsSteadyOver by_domain (state S.Store tx.old.conn.now) }
     ensures same_reference { tx.new.conn.ghost_name ≡ tx.old.conn.ghost_name }
     ensures put { IsInsideOf by_domain (state S.Store tx.old.conn.now) (state S.Store tx.new.conn.now) result (OnMain (WritesPlanned lang.now unit.now)) }
+    ensures figures { IsInsideOf by_domain (state S.Store tx.old.conn.now) (state S.Store tx.new.conn.now) result FiguresStay }
 {
     key_fits(&unit.key);
     previous_fits(&unit.previous);
@@ -42,6 +44,7 @@ pub fn write_units<S: Alter>(
     requires open { HasCleanDisk (state S.Store tx.old.conn.now) → IsTrue (state S.Store tx.old.conn.now).is_open }
     ensures same_reference { tx.new.conn.ghost_name ≡ tx.old.conn.ghost_name }
     ensures put { IsInsideOf by_domain (state S.Store tx.old.conn.now) (state S.Store tx.new.conn.now) result (OnMain (WritesUnits lang.now units.now)) }
+    ensures figures { IsInsideOf by_domain (state S.Store tx.old.conn.now) (state S.Store tx.new.conn.now) result FiguresStay }
 {
     for unit in units {
         write_planned(tx, alloc, lang, unit)?;
@@ -60,6 +63,7 @@ fn write_units_back<S: Alter>(
     requires open { HasCleanDisk (state S.Store tx.old.conn.now) → IsTrue (state S.Store tx.old.conn.now).is_open }
     ensures same_reference { tx.new.conn.ghost_name ≡ tx.old.conn.ghost_name }
     ensures put { IsInsideOf by_domain (state S.Store tx.old.conn.now) (state S.Store tx.new.conn.now) result (OnMain (WritesUnitsBack lang.now units.now)) }
+    ensures figures { IsInsideOf by_domain (state S.Store tx.old.conn.now) (state S.Store tx.new.conn.now) result FiguresStay }
 {
     let mut left = units;
     while let Some((last, others)) = left.split_last() {
@@ -79,6 +83,7 @@ pub fn write_plans_back<S: Alter>(
     requires open { HasCleanDisk (state S.Store tx.old.conn.now) → IsTrue (state S.Store tx.old.conn.now).is_open }
     ensures same_reference { tx.new.conn.ghost_name ≡ tx.old.conn.ghost_name }
     ensures put { IsInsideOf by_domain (state S.Store tx.old.conn.now) (state S.Store tx.new.conn.now) result (OnMain (WritesPlansBack plans.now)) }
+    ensures figures { IsInsideOf by_domain (state S.Store tx.old.conn.now) (state S.Store tx.new.conn.now) result FiguresStay }
 {
     let mut left = plans;
     while let Some((last, others)) = left.split_last() {

@@ -1,11 +1,12 @@
 //! The policy.
-ghost use Rattle.std.specs.Prelude.{◌≡◌};
+ghost use Rattle.std.specs.Prelude.{◌≡◌, codes};
 ghost use Rattle.sqlite.specs.Held.{state};
-ghost use Rattle.sql_schema.specs.Layouts.{by_domain};
-ghost use Rattle.sql_schema.specs.Inside.{IsSteadyOver, IsInsideOf};
+ghost use Rattle.sql_schema.specs.Layouts.{by_domain, SparesOthers};
+ghost use Rattle.sql_schema.specs.Inside.{IsSteadyOver, IsInsideOf, OnRows};
 ghost use Rattle.sql_meaning.specs.RowChanges.{HaveNextIn};
 ghost use Rattle.sql_changes.specs.OnMain.{OnMainWhere, OnMain};
 ghost use Rattle.sql_changes.specs.Commits.{PutsPolicy, WritesPolicy};
+ghost use Rattle.sql_commits.specs.Figures.{FollowsPolicy};
 
 use sql_columns::policy_columns;
 use sql_statements::domain_units::unapprove_domain_units;
@@ -23,6 +24,7 @@ pub fn write_policy<S: Alter>(tx: &mut Transaction<'_, S>, policy: &Policy) -> R
     requires steady { IsSteadyOver by_domain (state S.Store tx.old.conn.now) }
     ensures same_reference { tx.new.conn.ghost_name ≡ tx.old.conn.ghost_name }
     ensures put { IsInsideOf by_domain (state S.Store tx.old.conn.now) (state S.Store tx.new.conn.now) result (OnMainWhere HaveNextIn (WritesPolicy policy.now)) }
+    ensures figures { IsInsideOf by_domain (state S.Store tx.old.conn.now) (state S.Store tx.new.conn.now) result (FollowsPolicy policy.now) }
 {
     put_policy_of(tx, policy)?;
     if policy.reviews {
@@ -38,6 +40,7 @@ pub fn put_policy_of<S: Alter>(tx: &mut Transaction<'_, S>, policy: &Policy) -> 
     requires steady { IsSteadyOver by_domain (state S.Store tx.old.conn.now) }
     ensures same_reference { tx.new.conn.ghost_name ≡ tx.old.conn.ghost_name }
     ensures put { IsInsideOf by_domain (state S.Store tx.old.conn.now) (state S.Store tx.new.conn.now) result (OnMain (PutsPolicy policy.now)) }
+    ensures others { IsInsideOf by_domain (state S.Store tx.old.conn.now) (state S.Store tx.new.conn.now) result (OnRows (SparesOthers (codes "policy"))) }
 {
     let columns = policy_columns(policy);
     set_policy(

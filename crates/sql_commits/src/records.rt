@@ -1,8 +1,8 @@
 //! A request's record.
-ghost use Rattle.std.specs.Prelude.{◌≡◌};
+ghost use Rattle.std.specs.Prelude.{◌≡◌, codes};
 ghost use Rattle.sqlite.specs.Held.{state};
-ghost use Rattle.sql_schema.specs.Layouts.{by_domain};
-ghost use Rattle.sql_schema.specs.Inside.{IsSteadyOver, IsInsideOf};
+ghost use Rattle.sql_schema.specs.Layouts.{by_domain, SparesOthers};
+ghost use Rattle.sql_schema.specs.Inside.{IsSteadyOver, IsInsideOf, OnRows};
 ghost use Rattle.sql_changes.specs.OnMain.{OnMain};
 ghost use Rattle.sql_changes.specs.Commits.{PutsNumberedRecord};
 
@@ -22,6 +22,7 @@ pub fn put_record_of<S: Alter>(
     requires steady { IsSteadyOver by_domain (state S.Store tx.old.conn.now) }
     ensures same_reference { tx.new.conn.ghost_name ≡ tx.old.conn.ghost_name }
     ensures put { IsInsideOf by_domain (state S.Store tx.old.conn.now) (state S.Store tx.new.conn.now) result (OnMain (PutsNumberedRecord row.now)) }
+    ensures others { IsInsideOf by_domain (state S.Store tx.old.conn.now) (state S.Store tx.new.conn.now) result (OnRows (SparesOthers (codes "record"))) }
 {
     let number = number_column(alloc, row.number)?;
     put_record(

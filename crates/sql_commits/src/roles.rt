@@ -6,6 +6,7 @@ ghost use Rattle.sql_schema.specs.Inside.{IsSteadyOver, IsInsideOf};
 ghost use Rattle.sql_changes.specs.OnMain.{OnMain};
 ghost use Rattle.sql_columns.specs.Numbers.{role_number};
 ghost use Rattle.sql_changes.specs.Commits.{WritesRole};
+ghost use Rattle.sql_figures.specs.Figures.{FiguresStay};
 
 use sql_columns::role_column;
 use sql_statements::team::{remove_member, set_member};
@@ -21,6 +22,7 @@ pub fn write_role<S: Alter>(
     requires steady { IsSteadyOver by_domain (state S.Store tx.old.conn.now) }
     ensures same_reference { tx.new.conn.ghost_name ≡ tx.old.conn.ghost_name }
     ensures put { IsInsideOf by_domain (state S.Store tx.old.conn.now) (state S.Store tx.new.conn.now) result (OnMain (WritesRole name.now (role_number role))) }
+    ensures figures { IsInsideOf by_domain (state S.Store tx.old.conn.now) (state S.Store tx.new.conn.now) result FiguresStay }
 {
     match role_column(role) {
         Some(column) => set_member(tx, name, column),

@@ -11,11 +11,14 @@ ghost use Rattle.units.specs.Project.{entry_of};
 ghost use Rattle.units.specs.Units.{shown_state, stored_as_shown};
 ghost use Rattle.units.specs.declared.unit.Unit.{Unit as UnitValue};
 ghost use Rattle.po_text.specs.declared.entry.Entry.{Entry as EntryValue};
-ghost use Rattle.sql_commits.specs.Figures.{PutsTally};
+ghost use Rattle.sql_commits.specs.Figures.{PutsTally, FollowsView, CountsThere};
+ghost use Rattle.sql_figures.specs.Figures.{with_tallies, moved_at, FiguresFollow};
+ghost use Rattle.units.specs.Office.{main};
 
 use deliveries::Tally;
 use po_text::Entry;
 use sql_decoding::{Failure, UnitNumbers, tally_in, unit_numbers};
+use sql_keepable::key_fits;
 use sql_statements::domain_suggestions::domain_suggestions_of;
 use sql_statements::domain_units::find_domain_unit;
 use sql_statements::tallies::{find_tally, put_tally};
@@ -80,6 +83,7 @@ pub fn put_tallies<S: Alter>(
     requires open { HasCleanDisk (state S.Store tx.old.conn.now) → IsTrue (state S.Store tx.old.conn.now).is_open }
     ensures same_reference { tx.new.conn.ghost_name ≡ tx.old.conn.ghost_name }
     ensures spares { IsInsideOf by_domain (state S.Store tx.old.conn.now) (state S.Store tx.new.conn.now) result SparesMain }
+    ensures figures { IsInsideOf by_domain (state S.Store tx.old.conn.now) (state S.Store tx.new.conn.now) result (FiguresFollow (with_tallies main tallies.now)) }
 {
     for tallied in tallies {
         put_tally_of(tx, &tallied.0, tallied.1)?;
@@ -99,6 +103,7 @@ pub fn move_tally<S: Alter>(
     requires open { HasCleanDisk (state S.Store tx.old.conn.now) → IsTrue (state S.Store tx.old.conn.now).is_open }
     ensures same_reference { tx.new.conn.ghost_name ≡ tx.old.conn.ghost_name }
     ensures spares { IsInsideOf by_domain (state S.Store tx.old.conn.now) (state S.Store tx.new.conn.now) result SparesMain }
+    ensures figures { IsInsideOf by_domain (state S.Store tx.old.conn.now) (state S.Store tx.new.conn.now) result (FollowsView lang.now view.now) }
 {
     let was = counted_there(tx, alloc, lang, view)?;
     let is = counted(&view.source, &view.unit)?;
@@ -119,6 +124,7 @@ fn put_moved<S: Alter>(
     requires steady { IsSteadyOver by_domain (state S.Store tx.old.conn.now) }
     ensures same_reference { tx.new.conn.ghost_name ≡ tx.old.conn.ghost_name }
     ensures spares { IsInsideOf by_domain (state S.Store tx.old.conn.now) (state S.Store tx.new.conn.now) result SparesMain }
+    ensures figures { IsInsideOf by_domain (state S.Store tx.old.conn.now) (state S.Store tx.new.conn.now) result (FiguresFollow (moved_at main lang.now was is)) }
 {
     let domain = Name::main_domain();
     let found = find_tally(tx, domain.as_str(), lang.as_str())?;
@@ -143,7 +149,9 @@ fn counted_there<S: Alter>(
     requires steady { IsSteadyOver by_domain (state S.Store tx.old.conn.now) }
     ensures same_reference { tx.new.conn.ghost_name ≡ tx.old.conn.ghost_name }
     ensures spares { IsInsideOf by_domain (state S.Store tx.old.conn.now) (state S.Store tx.new.conn.now) result (λ old new. new ≡ old) }
+    ensures counted { HasCleanDisk (state S.Store tx.new.conn.now) → IfOk result (CountsThere lang.now view.now (state S.Store tx.old.conn.now).now) }
 {
+    key_fits(&view.unit.key);
     let domain = Name::main_domain();
     let key = view.unit.key.text(alloc)?;
     let found = find_domain_unit(tx, domain.as_str(), lang.as_str(), key.as_str())?;

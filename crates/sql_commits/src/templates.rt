@@ -5,6 +5,8 @@ ghost use Rattle.sql_schema.specs.Layouts.{by_domain};
 ghost use Rattle.sql_schema.specs.Inside.{IsSteadyOver, IsInsideOf};
 ghost use Rattle.sql_changes.specs.OnMain.{OnMain};
 ghost use Rattle.sql_changes.specs.Commits.{WritesTemplate};
+ghost use Rattle.sql_figures.specs.Figures.{with_tallies, FiguresFollow};
+ghost use Rattle.units.specs.Office.{main};
 
 use crate::entries::put_entries;
 use crate::planned_units::write_plans_back;
@@ -30,6 +32,7 @@ pub fn write_template<S: Alter>(
     requires steady { IsSteadyOver by_domain (state S.Store tx.old.conn.now) }
     ensures same_reference { tx.new.conn.ghost_name ≡ tx.old.conn.ghost_name }
     ensures put { IsInsideOf by_domain (state S.Store tx.old.conn.now) (state S.Store tx.new.conn.now) result (OnMain (WritesTemplate entries.now plans.now)) }
+    ensures figures { IsInsideOf by_domain (state S.Store tx.old.conn.now) (state S.Store tx.new.conn.now) result (FiguresFollow (with_tallies main tallies.now)) }
 {
     let domain = Name::main_domain();
     empty_domain_template(tx, domain.as_str())?;

@@ -1,18 +1,22 @@
 //! A unit inside a transaction: its row, its suggestions, and the votes on them.
-ghost use Rattle.std.specs.Prelude.{◌≡◌, ◌<◌, ◌^◌, ◌∷◌, IfOk, IsTrue, codes};
+ghost use Rattle.std.specs.Prelude.{◌≡◌, ◌<◌, ◌^◌, ◌∷◌, map, IfOk, IsTrue, codes};
 ghost use Rattle.std.specs.FinMap as maps;
 ghost use Rattle.sqlite.specs.Held.{state};
 ghost use Rattle.sqlite.specs.State.{HasCleanDisk};
 ghost use Rattle.sql_schema.specs.Layouts.{by_domain};
-ghost use Rattle.sql_schema.specs.Inside.{IsSteadyOver, IsInsideOf, PutsRow, HoldsValues};
-ghost use Rattle.sql_schema.specs.Keys.{first_three};
+ghost use Rattle.sql_schema.specs.Inside.{IsSteadyOver, IsInsideOf, OnRows, PutsRow, HoldsValues};
+ghost use Rattle.sql_schema.specs.Keys.{first_texts, first_three};
 ghost use Rattle.sql_changes.specs.OnMain.{OnMain};
 ghost use Rattle.sqlite.specs.declared.types.Value.TheVariants.{Text as Words};
 ghost use Rattle.units.specs.Office.{main};
-ghost use Rattle.sql_meaning.specs.Cells.{unit_cells};
+ghost use Rattle.sql_meaning.specs.Cells.{unit_cells, vote_cells};
 ghost use Rattle.sql_changes.specs.UnitWrites.{AddsNumberedSuggestion, AddsNumberedSuggestions, WritesNumberedUnit};
 ghost use Rattle.sql_commits.specs.Columns.{columns_of_unit};
 ghost use Rattle.sql_commits.specs.Votes.{AddsSummed, PutsVotesOn};
+ghost use Rattle.sql_figures.specs.Figures.{FiguresStay};
+ghost use Rattle.sql_commits.specs.Figures.{AddsWithSum};
+ghost use Rattle.units.specs.Units.{vote_sum};
+ghost use Rattle.sql_meaning.specs.Written.{PutsRows};
 
 use po_text::Text;
 use sql_columns::{
@@ -38,6 +42,7 @@ pub fn write_unit<S: Alter>(
     requires steady { IsSteadyOver by_domain (state S.Store tx.old.conn.now) }
     ensures same_reference { tx.new.conn.ghost_name ≡ tx.old.conn.ghost_name }
     ensures put { IsInsideOf by_domain (state S.Store tx.old.conn.now) (state S.Store tx.new.conn.now) result (OnMain (WritesNumberedUnit lang.now unit.now)) }
+    ensures figures { IsInsideOf by_domain (state S.Store tx.old.conn.now) (state S.Store tx.new.conn.now) result FiguresStay }
 {
     let columns = columns_of(alloc, unit)?;
     write_columns(tx, alloc, lang.as_str(), unit, &columns)
@@ -75,6 +80,7 @@ fn write_columns<S: Alter>(
     requires steady { IsSteadyOver by_domain (state S.Store tx.old.conn.now) }
     ensures same_reference { tx.new.conn.ghost_name ≡ tx.old.conn.ghost_name }
     ensures put { IsInsideOf by_domain (state S.Store tx.old.conn.now) (state S.Store tx.new.conn.now) result (OnMain (WritesNumberedUnit lang.now unit.now)) }
+    ensures figures { IsInsideOf by_domain (state S.Store tx.old.conn.now) (state S.Store tx.new.conn.now) result FiguresStay }
 {
     put_row(tx, lang, unit, columns)?;
     let domain = Name::main_domain();
@@ -100,6 +106,7 @@ fn put_row<S: Alter>(
     ensures same_reference { tx.new.conn.ghost_name ≡ tx.old.conn.ghost_name }
     ensures put { IsInsideOf by_domain (state S.Store tx.old.conn.now) (state S.Store tx.new.conn.now) result
         (PutsRow (codes "d_unit") first_three (HoldsValues (Words main ∷ unit_cells lang.now unit.now))) }
+    ensures figures { IsInsideOf by_domain (state S.Store tx.old.conn.now) (state S.Store tx.new.conn.now) result FiguresStay }
 {
     let domain = Name::main_domain();
     put_domain_unit(
@@ -130,6 +137,7 @@ fn add_suggestions<S: Alter>(
     requires open { HasCleanDisk (state S.Store tx.old.conn.now) → IsTrue (state S.Store tx.old.conn.now).is_open }
     ensures same_reference { tx.new.conn.ghost_name ≡ tx.old.conn.ghost_name }
     ensures put { IsInsideOf by_domain (state S.Store tx.old.conn.now) (state S.Store tx.new.conn.now) result (OnMain (AddsNumberedSuggestions lang.now key.now suggestions.now)) }
+    ensures figures { IsInsideOf by_domain (state S.Store tx.old.conn.now) (state S.Store tx.new.conn.now) result FiguresStay }
 {
     for (place, suggestion) in suggestions.iter().enumerate() {
         add_suggestion(tx, alloc, lang, key, place, suggestion)?;
@@ -150,6 +158,7 @@ fn add_suggestion<S: Alter>(
     requires steady { IsSteadyOver by_domain (state S.Store tx.old.conn.now) }
     ensures same_reference { tx.new.conn.ghost_name ≡ tx.old.conn.ghost_name }
     ensures put { IsInsideOf by_domain (state S.Store tx.old.conn.now) (state S.Store tx.new.conn.now) result (OnMain (AddsNumberedSuggestion lang.now key.now place suggestion.now)) }
+    ensures figures { IsInsideOf by_domain (state S.Store tx.old.conn.now) (state S.Store tx.new.conn.now) result FiguresStay }
 {
     let number = number_column(alloc, suggestion.number)?;
     let forms = forms_column(alloc, &suggestion.forms)?;
@@ -180,6 +189,7 @@ fn add_summed<S: Alter>(
     ensures same_reference { tx.new.conn.ghost_name ≡ tx.old.conn.ghost_name }
     ensures added { IsInsideOf by_domain (state S.Store tx.old.conn.now) (state S.Store tx.new.conn.now) result
         (AddsSummed number.now lang.now key.now place suggestion.now.suggester forms.now) }
+    ensures summed { IsInsideOf by_domain (state S.Store tx.old.conn.now) (state S.Store tx.new.conn.now) result (AddsWithSum number.now (vote_sum suggestion.now.votes)) }
 {
     let domain = Name::main_domain();
     add_domain_suggestion(
@@ -206,6 +216,7 @@ fn put_votes<S: Alter>(
     ensures same_reference { tx.new.conn.ghost_name ≡ tx.old.conn.ghost_name }
     ensures put { IsInsideOf by_domain (state S.Store tx.old.conn.now) (state S.Store tx.new.conn.now) result
         (PutsVotesOn number.now (maps.entries votes.now)) }
+    ensures rows { IsInsideOf by_domain (state S.Store tx.old.conn.now) (state S.Store tx.new.conn.now) result (OnRows (PutsRows (codes "d_vote") first_texts (map (vote_cells number.now) (maps.entries votes.now)))) }
 {
     for vote in votes.as_slice() {
         put_domain_vote(tx, number, vote.0.as_str(), vote_column(vote.1))?;

@@ -39,18 +39,19 @@ use Rattle.sql_conversion.specs.Conversion.{TellsPolicy}
 
 -- ---- the eight tables have no row by domains
 
-record HasNone (rows : NamedRows) : Type 0 where
-  domains : rows (codes "domain") ≡ []
-  template : rows (codes "d_template") ≡ []
-  languages : rows (codes "d_language") ≡ []
-  units : rows (codes "d_unit") ≡ []
-  suggestions : rows (codes "d_suggestion") ≡ []
-  votes : rows (codes "d_vote") ≡ []
+pub record HasNone (rows : NamedRows) : Type 0 where
+  pub domains : rows (codes "domain") ≡ []
+  pub template : rows (codes "d_template") ≡ []
+  pub languages : rows (codes "d_language") ≡ []
+  pub units : rows (codes "d_unit") ≡ []
+  pub suggestions : rows (codes "d_suggestion") ≡ []
+  pub votes : rows (codes "d_vote") ≡ []
+  pub tallies : rows (codes "d_tally") ≡ []
 
 none_in : (layout : Layout for_main) (trees : Trees) → HasNone (rows_in (schema_of layout) trees)
-none_in made_new trees = record { domains = refl; template = refl; languages = refl; units = refl; suggestions = refl; votes = refl }
+none_in made_new trees = record { domains = refl; template = refl; languages = refl; units = refl; suggestions = refl; votes = refl; tallies = refl }
 
-none_named : (db : Database) → HasLayout db → HasNone (rows_named db)
+pub none_named : (db : Database) → HasLayout db → HasNone (rows_named db)
 none_named db (layout, is) = subst (λ (s : Schema). HasNone (rows_in s db.trees)) (sym is) (none_in layout db.trees)
 
 none_of_main : (place : ℕ) (rows : List Row) → rows ≡ [] → AreOfMain place rows

@@ -2,6 +2,7 @@ pub mod Begun
 pub mod LanguagesWritten
 pub mod WrittenInTurn
 pub mod LanguagesFound
+pub mod LanguagesCounted
 pub mod Whole
 pub mod TakenOver
 pub mod NothingThere

@@ -111,7 +111,7 @@ as_they_stand s adopted it form ended =
       means = λ clean. (by_domain, (ready clean).schema, refl);
       file = λ clean.
           let own = rows clean in
-          record { ready = ready clean; rows = record { form_told = own.told; alone = own.alone; office = own.office; book = own.book; rules = own.rules } };
+          record { ready = ready clean; rows = record { form_told = own.told; alone = own.alone; office = own.office; book = own.book; figures = own.figures; rules = own.rules } };
       committed = λ clean. idle.settled clean (it.is_open clean);
       ended = ended;
       stops = λ clean db leaves. inl leaves;

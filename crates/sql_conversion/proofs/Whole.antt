@@ -1,4 +1,4 @@
--- What is written anew means what was there, and is an office's.
+-- What is written anew means what was there, and is an office's, with the figures that counting gives.
 use Rattle.std.proofs.Common.{◌≡◌, ◌≢◌, inl, inr, suc, List, [], ◌∷◌, All, refl, sym, ap, subst, ◌∙◌, arith, codes}
 use Rattle.std.specs.FinMap as maps
 use Rattle.sqlite.specs.Effect.{Database}
@@ -15,6 +15,7 @@ use Rattle.po_text.specs.declared.entry.Entry.{Entry}
 use Rattle.units.specs.Office.{Office}
 use Rattle.units.specs.Project.{Project}
 use Rattle.units.specs.Projects.{IsProject, IsTemplateEntry}
+use Rattle.request_book.specs.Book.{OfficeWithBook}
 use Rattle.sql_schema.specs.Inside.{AreOfficeTables, AreOfficeTablesOf}
 use Rattle.sql_schema.specs.Layouts.{for_main, by_domain, NamedRows, rows_named}
 use Rattle.sql_schema.proofs.Layouts.{names_differ}
@@ -34,8 +35,9 @@ use Rattle.sql_adoption.specs.declared.tested.Adopted.{Adopted}
 use Rattle.office_maps.specs.OfficeIn.{office_in}
 use Rattle.sql_files.specs.Files.{StandForAll}
 use Rattle.sql_files.proofs.TemplateKept.{entries_stand, template_step}
-use Rattle.sql_conversion.specs.Conversion.{WritesLanguages, WritesProject, WritesAnew, Converts}
-use Rattle.sql_conversion.proofs.Begun.{HasBegun, has_begun}
+use Rattle.sql_conversion.specs.Conversion.{WritesLanguages, WritesProject, WritesAnew, FollowsLanguages, Converts}
+use Rattle.sql_conversion.proofs.Begun.{HasBegun, none_named, has_begun}
+use Rattle.sql_conversion.proofs.LanguagesCounted.{figures_counted}
 use Rattle.sql_conversion.proofs.OldTables.{old_tables_stay}
 use Rattle.sql_conversion.proofs.LanguagesWritten.{IsLeft, plan_at, those_there, languages_written, are_headers, each_written}
 use Rattle.sql_keepable.specs.Keepable.{AreKeepableEntries}
@@ -113,8 +115,9 @@ module _ (old new : Database) (langs : List Text) (adopted : IsAdoptedOf for_mai
   abbrev before : Project
   before = project_of_rows (rows_named old)
 
-  converts_project : (told : Database) → HasBegun old told → OnMain (WritesProject before langs) told new → Converts old new
-  converts_project told begun made =
+  converts_project : (told : Database) → HasBegun old told → OnMain (WritesProject before langs) told new → FollowsLanguages (main_alone before) langs old new → Converts old new
+  converts_project told begun made follows =
+      let none = none_named old was_ready.schema in
       let on = made.on begun.held tt in
       let mid = on.0.0 in
       let put = on.0.1.0 in
@@ -132,6 +135,7 @@ module _ (old new : Database) (langs : List Text) (adopted : IsAdoptedOf for_mai
             alone = (main_stays (rows_named told) (rows_named new) (on.2 (codes "domain") domain_elsewhere) begun.alone, on.1);
             office = stand.office;
             book = stand.book;
+            figures = figures_counted before langs all old new none.tallies none.suggestions adopted.rules.office (ap (λ (m : OfficeWithBook). m.office) meaning) follows;
             rules = subst KeepsRules (sym meaning) adopted.rules;
           };
         };
@@ -139,18 +143,19 @@ module _ (old new : Database) (langs : List Text) (adopted : IsAdoptedOf for_mai
             (team_stays old told langs adopted begun all mid rows put keepable written) (λ name apart domain. on.2 name apart ∙ begun.others name apart domain);
       }
 
-  converts_alone : WritesAnew (main_alone before) langs old new → Converts old new
-  converts_alone (made, keeps, (named, puts, (told, tells, written))) =
+  converts_alone : WritesAnew (main_alone before) langs old new → FollowsLanguages (main_alone before) langs old new → Converts old new
+  converts_alone (made, keeps, (named, puts, (told, tells, written))) follows =
       converts_project told
       (has_begun old made named told was_ready keeps puts tells adopted.office adopted.book (project_keeps before (book_in (rows_named old)) adopted.rules).accepting)
-      (subst (λ (p : Project). OnMain (WritesProject p langs) told new) (in-main before) written)
+      (subst (λ (p : Project). OnMain (WritesProject p langs) told new) (in-main before) written) follows
 
-  pub converts : (office : Office) → office ≡ main_alone before → WritesAnew office langs old new → Converts old new
-  converts office is written = converts_alone (subst (λ (o : Office). WritesAnew o langs old new) is written)
+  pub converts : (office : Office) → office ≡ main_alone before → WritesAnew office langs old new × FollowsLanguages office langs old new → Converts old new
+  converts office is written =
+      converts_alone (subst (λ (o : Office). WritesAnew o langs old new) is written.0) (subst (λ (o : Office). FollowsLanguages o langs old new) is written.1)
 
 -- what was adopted in the eight tables
 pub converts_adopted : (old new : Database) (adopted : Adopted) → adopted.form ≡ ForMain → IsAdoptedAs old adopted → AreOfficeTables old → AreOfficeTablesOf by_domain new
-    → WritesAnew (office_in adopted.maps) adopted.langs.items old new → Converts old new
+    → WritesAnew (office_in adopted.maps) adopted.langs.items old new × FollowsLanguages (office_in adopted.maps) adopted.langs.items old new → Converts old new
 converts_adopted old new adopted form is was_ready ready written =
     let told : form_told adopted.form ≡ for_main = ap form_told form in
     converts old new adopted.langs.items (subst (λ f. IsAdoptedOf f old) told is.rows) (subst (λ f. AreAll (headers_in (own_rows f (rows_named old))) adopted.langs.items) told is.langs) was_ready ready

@@ -1,16 +1,10 @@
 -- Units of a language that are written in a walk over them, and languages that are written one after the other.
-use Rattle.std.proofs.Common.{◌≡◌, inl, inr, ◌+◌, ◌<◌, ℕ, List, [], ◌∷◌, ◌++◌, length, take, get_or, Result, Ok, Err, refl, sym, ap, subst, ◌∙◌}
+use Rattle.std.proofs.Common.{◌≡◌, inl, inr, ◌+◌, ◌<◌, ℕ, List, [], ◌∷◌, ◌++◌, length, take, get_or, refl, sym, ap, subst, ◌∙◌}
 use Rattle.std.proofs.lemmas.List.{append_assoc, append-nil, take_more}
 use Rattle.po_text.specs.Texts.{Text}
 use Rattle.units.specs.Project.{Project}
 use Rattle.units.specs.declared.unit.Unit.{Unit}
-use Rattle.std.specs.Result.{IsErr}
-use Rattle.sqlite.specs.Effect.{Database}
-use Rattle.sqlite.specs.State.{State}
-use Rattle.sql_schema.specs.Inside.{IsInsideOf}
-use Rattle.sql_schema.specs.Layouts.{by_domain, NamedRows}
-use Rattle.sql_schema.proofs.Sequences.{writes_both}
-use Rattle.sql_commits.proofs.WritesInTurn.{write_told}
+use Rattle.sql_schema.specs.Layouts.{NamedRows}
 use Rattle.sql_changes.specs.UnitWrites.{WritesPlanned}
 use Rattle.sql_commits.proofs.PlannedWrites.{units_more}
 use Rattle.sql_keepable.specs.Keepable.{IsKeepableUnit, AreKeepableUnits}
@@ -43,15 +37,6 @@ one_unit_more lang all left next unit old mid new fits is (done, parts, (written
 pub all_units_before : (lang : Text) (all left : List Unit) (old new : NamedRows) → left ≡ [] → UnitsBefore lang all left old new → WritesKept lang all old new
 all_units_before lang all left old new none (done, parts, written) =
     subst (λ us. WritesKept lang us old new) (sym (parts ∙ ap (λ l. done ++ l) none ∙ append-nil done)) written
-
--- ---- a failure behind writes
-
-pub failed_behind : {A B C E F G : Type 0} (a b c : State) (x : A) (r : Result B E) (told : Result C F) (P Q R : Database → Database → Type 0) → IsErr told
-    → IsInsideOf {A = A} {E = G} by_domain a b (Ok x) P → IsInsideOf by_domain b c r Q → IsInsideOf by_domain a c told R
-failed_behind a b c x r (Ok y) P Q R is one two = absurd (let none = is in cc)
-failed_behind {A} {B} {C} {E} {F} {G} a b c x r (Err f) P Q R is one two =
-    let both = writes_both a b c {E = E} x r P Q (write_told a b {F = E} x x P P (λ made. made) one) two in
-    record { made = λ clean. tt; ready = λ clean. tt; stays = λ clean. tt; kept = both.kept; survives = both.survives }
 
 -- ---- languages
 

@@ -10,6 +10,9 @@ use Rattle.units.specs.declared.unit.Policy.{Policy}
 use Rattle.units.specs.declared.unit.Unit.{Unit}
 use Rattle.units.specs.Project.{Project, units_of}
 use Rattle.units.specs.Office.{Office, main, project_in}
+use Rattle.units.specs.Offices.{IsOffice}
+use Rattle.deliveries.specs.declared.tally.Tally.{Tally}
+use Rattle.deliveries.specs.Tally.{counts_of}
 use Rattle.request_book.specs.Book.{OfficeWithBook}
 use Rattle.sql_schema.specs.Creation.{KeepsNamedRows}
 use Rattle.sql_schema.specs.Inside.{Then, AreOfficeTablesOf}
@@ -20,6 +23,7 @@ use Rattle.sql_meaning.specs.Meaning.{meaning_in, meaning_for, DatabaseMeans, Tr
 use Rattle.sql_changes.specs.Commits.{PutsEntries, PutsPolicy, PutsLanguage}
 use Rattle.sql_changes.specs.UnitWrites.{WritesUnits}
 use Rattle.sql_changes.specs.OnMain.{OnMain}
+use Rattle.sql_figures.specs.Figures.{with_tallies, FiguresFollow}
 use Rattle.sql_keepable.specs.Keepable.{IsKeepableLanguage, AreKeepableUnits, AreKeepableEntries}
 use Rattle.sql_adoption.specs.Adoption.{IsAdopted}
 use Rattle.sql_files.specs.Files.{IsOfficeDatabase, IsOfficeFile}
@@ -62,10 +66,26 @@ TellsPolicy policy old new = OnMain (PutsPolicy policy) old new × AreOfficeTabl
 abbrev pub WritesAnew : Office → List Text → Database → Database → Type 0
 WritesAnew office langs = Then KeepsNamedRows (Then PutsMain (Then (TellsPolicy office.policy) (OnMain (WritesProject (project_in office main) langs))))
 
+-- ---- what is counted
+
+-- a language with its tally, if it has one
+abbrev pub tallied : Option Tally → Text → List (Text × Tally) → List (Text × Tally)
+tallied (Some tally) lang more = (lang, tally) ∷ more
+tallied None lang more = more
+
+-- the languages of these codes that are there, each with what its units count
+abbrev pub tallies_of : Project → List Text → List (Text × Tally)
+tallies_of project [] = []
+tallies_of project (lang ∷ langs) = tallied (counts_of project lang) lang (tallies_of project langs)
+
+-- these languages of `main` count their units, where the office keeps its rules
+abbrev pub FollowsLanguages : Office → List Text → Database → Database → Type 0
+FollowsLanguages office langs old new = IsOffice office → FiguresFollow (with_tallies main (tallies_of (project_in office main) langs)) old new
+
 -- ---- what it comes to
 
--- The rows of tables by domains mean what those of the eight tables meant, and are an office's. The eight tables keep their rows, but for the
--- policy's, which tells the form.
+-- The rows of tables by domains mean what those of the eight tables meant, and are an office's, with the sums and tallies that counting them gives. The
+-- eight tables keep their rows, but for the policy's, which tells the form.
 pub record Converts (old new : Database) : Type 0 where
   pub meaning : meaning_for by_domain (rows_named new) ≡ meaning_in (rows_named old)
   pub file : IsOfficeDatabase by_domain new

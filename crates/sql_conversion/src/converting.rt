@@ -15,7 +15,8 @@ use sql_decoding::Failure;
 use sqlite::{Alter, Connection};
 use std::alloc::Global;
 
-/// Writes an office that was adopted in the eight tables by domains beside them. What the file means stays.
+/// Writes an office that was adopted in the eight tables by domains beside them, with the sum of the votes on each suggestion and the
+/// tally of each language. What the file means stays, and sums and tallies are what counting its rows gives.
 ///
 /// Where it fails, nothing is changed: `Memory` where a growth was refused, `Disk` where the disk failed.
 pub fn convert<S: Alter>(

@@ -1,6 +1,6 @@
 //! An office's file is taken over: its tables are adopted as they stand, and where they have no column for a domain,
-//! all that they hold is written by domains beside them, in one transaction. Their own rows stay, and aren't read any
-//! more.
+//! all that they hold is written by domains beside them, with the sums and tallies that counting it gives, in one
+//! transaction. Their own rows stay, and aren't read any more.
 //!
 //! - `writing`: the office of `main`, written inside a transaction
 //! - `converting`: the transaction (`convert`)

@@ -36,7 +36,7 @@ fn converted<S: Alter>(
 }
 
 /// Takes an office's file over: its tables are adopted as they stand, and converted where they have no column for a domain. Behind it they
-/// are tables by domains, that mean what the file meant before.
+/// are tables by domains, that mean what the file meant before, and whose sums and tallies are what counting their rows gives.
 ///
 /// `Foreign` tells why the tables aren't taken, as of `adopted_office`; then nothing was changed. `Memory` where a growth was refused, `Disk`
 /// where the disk failed: the rows are as before, and a stop leaves what was there, or what the conversion makes, which means the same.

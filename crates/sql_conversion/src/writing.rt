@@ -1,13 +1,18 @@
 //! The office of `main`, written by domains inside a transaction, where nothing of it is yet.
-ghost use Rattle.std.specs.Prelude.{◌≡◌, IsTrue};
+ghost use Rattle.std.specs.Prelude.{◌≡◌, [], ◌∷◌, unwrap_or, IfOk, IsTrue};
 ghost use Rattle.sqlite.specs.Held.{state};
 ghost use Rattle.sqlite.specs.State.{HasCleanDisk};
+ghost use Rattle.units.specs.Office.{main, project_in};
+ghost use Rattle.units.specs.Offices.{IsOffice};
 ghost use Rattle.units.specs.Project.{units_of};
+ghost use Rattle.deliveries.specs.Counting.{none_counted};
+ghost use Rattle.deliveries.specs.Tally.{counts_of};
 ghost use Rattle.office_maps.specs.OfficeIn.{lent_project, office_in};
 ghost use Rattle.sql_schema.specs.Layouts.{by_domain};
 ghost use Rattle.sql_schema.specs.Inside.{IsSteady, IsSteadyOver, IsInsideOf};
 ghost use Rattle.sql_changes.specs.OnMain.{OnMain};
-ghost use Rattle.sql_conversion.specs.Conversion.{WritesKept, WritesThere, WritesLanguages, WritesProject, WritesAnew};
+ghost use Rattle.sql_figures.specs.Figures.{FiguresStay};
+ghost use Rattle.sql_conversion.specs.Conversion.{WritesKept, WritesThere, WritesLanguages, WritesProject, WritesAnew, FollowsLanguages};
 
 use deliveries::Tally;
 use office_maps::{OfficeMaps, Place, ProjectMaps};
@@ -33,6 +38,7 @@ fn write_units_of<S: Alter>(
     ensures same_reference { tx.new.conn.ghost_name ≡ tx.old.conn.ghost_name }
     ensures put { IsInsideOf by_domain (state S.Store tx.old.conn.now) (state S.Store tx.new.conn.now) result
         (OnMain (WritesKept lang.now (units_of (lent_project project.now) lang.now))) }
+    ensures figures { IsInsideOf by_domain (state S.Store tx.old.conn.now) (state S.Store tx.new.conn.now) result FiguresStay }
 {
     let first = Place::first_of(alloc, lang)?;
     for (place, unit) in project.domain.units.range(first..) {
@@ -45,15 +51,17 @@ fn write_units_of<S: Alter>(
     Ok(())
 }
 
-/// The tally of a language of `main`; of none, where it isn't there.
-fn tally_of(alloc: Global, maps: &OfficeMaps, lang: &Lang) -> Result<Tally, Failure> {
+/// The tally of a language of `main`, of an office that keeps its rules; nothing is counted where the language isn't there.
+fn tally_of(alloc: Global, maps: &OfficeMaps, lang: &Lang) -> Result<Tally, Failure>
+    ensures { IsOffice (office_in maps.now) → IfOk result (λ tally. tally ≡ unwrap_or (counts_of (project_in (office_in maps.now) main) lang.now) none_counted) }
+{
     match counts_in(alloc, maps, &Name::main_domain(), lang)? {
         Some(tally) => Ok(tally),
         None => Ok(Tally::none()),
     }
 }
 
-/// Writes a language with its units, and the tally of these.
+/// Writes a language with its units, and the tally of these; nothing, where it isn't there.
 fn write_language_of<S: Alter>(
     tx: &mut Transaction<'_, S>,
     alloc: Global,
@@ -63,9 +71,11 @@ fn write_language_of<S: Alter>(
 ) -> Result<(), Failure>
     requires steady { IsSteadyOver by_domain (state S.Store tx.old.conn.now) }
     requires open { HasCleanDisk (state S.Store tx.old.conn.now) → IsTrue (state S.Store tx.old.conn.now).is_open }
+    requires lent { lent_project project.now ≡ project_in (office_in maps.now) main }
     ensures same_reference { tx.new.conn.ghost_name ≡ tx.old.conn.ghost_name }
     ensures put { IsInsideOf by_domain (state S.Store tx.old.conn.now) (state S.Store tx.new.conn.now) result
         (OnMain (WritesThere (lent_project project.now) lang.now)) }
+    ensures figures { IsInsideOf by_domain (state S.Store tx.old.conn.now) (state S.Store tx.new.conn.now) result (FollowsLanguages (office_in maps.now) (lang.now ∷ [])) }
 {
     match project.domain.languages.get(lang) {
         Some(language) => {
@@ -89,9 +99,11 @@ fn write_languages<S: Alter>(
 ) -> Result<(), Failure>
     requires steady { IsSteadyOver by_domain (state S.Store tx.old.conn.now) }
     requires open { HasCleanDisk (state S.Store tx.old.conn.now) → IsTrue (state S.Store tx.old.conn.now).is_open }
+    requires lent { lent_project project.now ≡ project_in (office_in maps.now) main }
     ensures same_reference { tx.new.conn.ghost_name ≡ tx.old.conn.ghost_name }
     ensures put { IsInsideOf by_domain (state S.Store tx.old.conn.now) (state S.Store tx.new.conn.now) result
         (OnMain (WritesLanguages (lent_project project.now) langs.now)) }
+    ensures figures { IsInsideOf by_domain (state S.Store tx.old.conn.now) (state S.Store tx.new.conn.now) result (FollowsLanguages (office_in maps.now) langs.now) }
 {
     for lang in langs {
         write_language_of(tx, alloc, maps, project, lang)?;
@@ -109,9 +121,11 @@ fn write_project<S: Alter>(
 ) -> Result<(), Failure>
     requires steady { IsSteadyOver by_domain (state S.Store tx.old.conn.now) }
     requires open { HasCleanDisk (state S.Store tx.old.conn.now) → IsTrue (state S.Store tx.old.conn.now).is_open }
+    requires lent { lent_project project.now ≡ project_in (office_in maps.now) main }
     ensures same_reference { tx.new.conn.ghost_name ≡ tx.old.conn.ghost_name }
     ensures put { IsInsideOf by_domain (state S.Store tx.old.conn.now) (state S.Store tx.new.conn.now) result
         (OnMain (WritesProject (lent_project project.now) langs.now)) }
+    ensures figures { IsInsideOf by_domain (state S.Store tx.old.conn.now) (state S.Store tx.new.conn.now) result (FollowsLanguages (office_in maps.now) langs.now) }
 {
     let entries = project.domain.template.catalogue.entries();
     entries_fit(entries);
@@ -119,8 +133,8 @@ fn write_project<S: Alter>(
     write_languages(tx, alloc, maps, project, langs)
 }
 
-/// Makes the tables by domains beside the eight, and writes the office of `main` into them, with the languages of these codes. The policy's
-/// row tells the new form. The other rows of the eight tables stay.
+/// Makes the tables by domains beside the eight, and writes the office of `main` into them, with the languages of these codes and their
+/// tallies. The policy's row tells the new form. The other rows of the eight tables stay.
 pub(crate) fn write_anew<S: Alter>(
     tx: &mut Transaction<'_, S>,
     alloc: Global,
@@ -131,6 +145,7 @@ pub(crate) fn write_anew<S: Alter>(
     ensures same_reference { tx.new.conn.ghost_name ≡ tx.old.conn.ghost_name }
     ensures put { IsInsideOf by_domain (state S.Store tx.old.conn.now) (state S.Store tx.new.conn.now) result
         (WritesAnew (office_in maps.now) langs.now) }
+    ensures figures { IsInsideOf by_domain (state S.Store tx.old.conn.now) (state S.Store tx.new.conn.now) result (FollowsLanguages (office_in maps.now) langs.now) }
 {
     make_domain_tables(tx)?;
     let domain = Name::main_domain();

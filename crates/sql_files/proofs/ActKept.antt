@@ -16,6 +16,7 @@ use Rattle.sql_changes.specs.Commits.{PutsNumberedRecord, WritesRecordAndUnit, M
 use Rattle.sql_commits.specs.Acts.{MakesAct, MakesActRows}
 use Rattle.sql_keepable.specs.Keepable.{IsKeepableUnit}
 use Rattle.sql_adoption.specs.Adoption.{HoldsMainAlone}
+use Rattle.sql_figures.specs.Figures.{HasFigures}
 use Rattle.sql_files.specs.Files.{IsKeepable, StandForAll, IsOfficeDatabase}
 use Rattle.sql_files.proofs.RecordKept.{office_kept, form_kept, book_kept}
 use Rattle.sql_files.proofs.UnitKept.{unit_keeps}
@@ -26,9 +27,9 @@ use Rattle.sql_changes.specs.OnMain.{OnMain}
 alone_still : (old new : NamedRows) → HoldsMainAlone by_domain old → HoldsOneDomain new → new (codes "domain") ≡ old (codes "domain") → HoldsMainAlone by_domain new
 alone_still old new alone held same = (main_stays old new same alone.0, held)
 
-pub stand_all : {Makes : NamedRows → NamedRows → Type 0} (old new : Database) → OnMain Makes old new → AreOfficeTablesOf by_domain new → KeepsRules (meaning_in (main_rows (rows_named new))) → IsOfficeDatabase by_domain old
+pub stand_all : {Makes : NamedRows → NamedRows → Type 0} (old new : Database) → OnMain Makes old new → AreOfficeTablesOf by_domain new → KeepsRules (meaning_in (main_rows (rows_named new))) → HasFigures (rows_named new) → IsOfficeDatabase by_domain old
     → (Makes (main_rows (rows_named old)) (main_rows (rows_named new)) → StandForAll (main_rows (rows_named old)) → StandForAll (main_rows (rows_named new))) → IsOfficeDatabase by_domain new
-stand_all old new it ready rules file makes =
+stand_all old new it ready rules figures file makes =
     let made = it.on file.rows.alone.1 tt in
     let all = makes made.0 (record { form = file.rows.form_told; office = file.rows.office; book = file.rows.book }) in
     record {
@@ -38,6 +39,7 @@ stand_all old new it ready rules file makes =
         alone = alone_still (rows_named old) (rows_named new) file.rows.alone made.1 (made.2 (codes "domain") domain_elsewhere);
         office = all.office;
         book = all.book;
+        figures = figures;
         rules = rules;
       };
     }
@@ -67,10 +69,10 @@ stand_after_act old new row domain lang (Some view) it keepable fits =
     in_domain (same_domain domain main) old new row (WritesRecordAndUnit row lang view.unit) it keepable (λ made. unit_after old new row lang view.unit made keepable fits)
 
 pub act_keeps : (old new : Database) (row : Record) (domain lang : Text) (view : Option UnitView) → MakesAct row domain lang view old new → AreOfficeTablesOf by_domain new
-    → IsKeepable row → IfSome view (λ v. IsKeepableUnit lang v.unit) → KeepsRules (meaning_in (main_rows (rows_named new))) → IsOfficeDatabase by_domain old → IsOfficeDatabase by_domain new
-act_keeps old new row domain lang view it ready keepable fits rules file =
-    stand_all old new it ready rules file (λ made. stand_after_act (main_rows (rows_named old)) (main_rows (rows_named new)) row domain lang view made keepable fits)
+    → IsKeepable row → IfSome view (λ v. IsKeepableUnit lang v.unit) → KeepsRules (meaning_in (main_rows (rows_named new))) → HasFigures (rows_named new) → IsOfficeDatabase by_domain old → IsOfficeDatabase by_domain new
+act_keeps old new row domain lang view it ready keepable fits rules figures file =
+    stand_all old new it ready rules figures file (λ made. stand_after_act (main_rows (rows_named old)) (main_rows (rows_named new)) row domain lang view made keepable fits)
 
 pub record_keeps : (old new : Database) (row : Record) → OnMain (PutsNumberedRecord row) old new → AreOfficeTablesOf by_domain new → IsKeepable row → KeepsRules (meaning_in (main_rows (rows_named new)))
-    → IsOfficeDatabase by_domain old → IsOfficeDatabase by_domain new
-record_keeps old new row it ready keepable rules file = stand_all old new it ready rules file (λ made. record_step (main_rows (rows_named old)) (main_rows (rows_named new)) row made keepable)
+    → HasFigures (rows_named new) → IsOfficeDatabase by_domain old → IsOfficeDatabase by_domain new
+record_keeps old new row it ready keepable rules figures file = stand_all old new it ready rules figures file (λ made. record_step (main_rows (rows_named old)) (main_rows (rows_named new)) row made keepable)

@@ -36,6 +36,7 @@ use Rattle.sql_keepable.specs.Keepable.{IsKeepableUnit}
 use Rattle.office_rules.proofs.MainAlone.{project_keeps}
 use Rattle.sql_files.specs.Files.{HoldsOfficeRows, StandForAll}
 use Rattle.sql_files.proofs.Puts.{no_row, all_put}
+use Rattle.sql_files.proofs.StartFigures.{demo_figures}
 use Rattle.sql_files.proofs.RoleKept.{member_stands, MemberStands}
 use Rattle.sql_files.proofs.UnitKept.{unit_stands, UnitStands}
 use Rattle.sql_schema.specs.Creation.{HaveNoRows}
@@ -193,4 +194,4 @@ demo_rows old new made =
     let it = demo_in old new made in
     let rules = subst KeepsRules (sym (opens_demo (main_rows (rows_named old)) (main_rows (rows_named new)) it).0) demo_keeps in
     let all = demo_seen (main_rows (rows_named old)) (main_rows (rows_named new)) it rules in
-    record { form_told = all.form; alone = demo_is_main old new made; office = all.office; book = all.book; rules = rules }
+    record { form_told = all.form; alone = demo_is_main old new made; office = all.office; book = all.book; figures = demo_figures old new made; rules = rules }

@@ -32,6 +32,7 @@ use Rattle.sql_decoding.specs.ShownFound.{header_of_column}
 use Rattle.sql_decoding.proofs.ColumnsTested.{text_stands, header_stands, language_stands}
 use Rattle.sql_keepable.specs.Keepable.{IsKeepableLanguage, AreKeepableUnits}
 use Rattle.office_rules.proofs.MainAlone.{project_keeps}
+use Rattle.sql_figures.specs.Figures.{HasFigures}
 use Rattle.sql_files.specs.Files.{IsKeepable, StandForAll, IsOfficeDatabase}
 use Rattle.sql_files.proofs.Puts.{all_put, template_same, form_same, book_same}
 use Rattle.sql_files.proofs.UnitKept.{units_keep}
@@ -127,6 +128,6 @@ unfolding MakesLanguage
 stand_after_language old new row lang language plan it ready keepable fits entry all rules = makes_language old new row lang language.header plan.units it ready keepable fits entry all rules
 
 pub language_keeps : (old new : Database) (row : Record) (lang : Text) (language : Language) (plan : Plan) → OnMain (MakesLanguage row lang language plan) old new → AreOfficeTablesOf by_domain new
-    → IsKeepable row → IsKeepableLanguage lang language.header → IsHeaderEntry language.header → AreKeepableUnits lang plan.units → KeepsRules (meaning_in (main_rows (rows_named new))) → IsOfficeDatabase by_domain old → IsOfficeDatabase by_domain new
-language_keeps old new row lang language plan it ready keepable fits entry all rules file =
-    stand_all old new it ready rules file (λ made. stand_after_language (main_rows (rows_named old)) (main_rows (rows_named new)) row lang language plan made (domain_rows new ready main) keepable fits entry all rules)
+    → IsKeepable row → IsKeepableLanguage lang language.header → IsHeaderEntry language.header → AreKeepableUnits lang plan.units → KeepsRules (meaning_in (main_rows (rows_named new))) → HasFigures (rows_named new) → IsOfficeDatabase by_domain old → IsOfficeDatabase by_domain new
+language_keeps old new row lang language plan it ready keepable fits entry all rules figures file =
+    stand_all old new it ready rules figures file (λ made. stand_after_language (main_rows (rows_named old)) (main_rows (rows_named new)) row lang language plan made (domain_rows new ready main) keepable fits entry all rules)

@@ -11,3 +11,6 @@ pub mod Demo
 pub mod PolicyKept
 pub mod LanguageKept
 pub mod TemplateKept
+pub mod CountsFollow
+pub mod FiguresKept
+pub mod StartFigures

@@ -16,6 +16,7 @@ use Rattle.sql_decoding.specs.RowTests.{is_member_row, is_policy_row}
 use Rattle.sql_decoding.proofs.ColumnsTested.{text_stands}
 use Rattle.sql_files.specs.Files.{HoldsOfficeRows, StandForAll}
 use Rattle.sql_files.proofs.Puts.{no_row, all_put}
+use Rattle.sql_files.proofs.StartFigures.{opening_figures}
 use Rattle.sql_schema.specs.Creation.{HaveNoRows}
 use Rattle.sql_schema.proofs.Layouts.{names_differ}
 use Rattle.sql_schema.specs.Layouts.{by_domain, NamedRows, rows_named}
@@ -81,5 +82,6 @@ opening_rows name named utf8 old new made =
       alone = opening_is_main name old new made;
       office = all.office;
       book = all.book;
+      figures = opening_figures name old new made;
       rules = subst KeepsRules (sym (opens name (main_rows (rows_named old)) (main_rows (rows_named new)) it).0) (opening_keeps name);
     }

@@ -30,6 +30,7 @@ use Rattle.sql_decoding.specs.RowTests.{integer_passes, holds_integer, natural_p
 use Rattle.sql_decoding.proofs.ColumnsTested.{integer_is, flag_stands, natural_stands}
 use Rattle.office_rules.proofs.MainAlone.{project_keeps}
 use Rattle.sql_adoption.specs.Adoption.{TellsForm}
+use Rattle.sql_figures.specs.Figures.{HasFigures}
 use Rattle.sql_files.specs.Files.{IsKeepable, StandForAll, IsOfficeDatabase}
 use Rattle.sql_files.proofs.Puts.{all_put, template_same, book_same}
 use Rattle.sql_files.proofs.UnitKept.{UnitStands, units_step}
@@ -198,6 +199,6 @@ stand_after_policy old new row policy (mid, recorded, (next, put, made)) ready i
     changed_step mid next new policy put made is_ready rules one whole (record_step old mid row recorded keepable all)
 
 pub policy_keeps : (old new : Database) (row : Record) (policy : Policy) → OnMain (MakesPolicy row policy) old new → AreOfficeTablesOf by_domain new
-    → IsKeepable row → KeepsRules (meaning_in (main_rows (rows_named new))) → IsOfficeDatabase by_domain old → IsOfficeDatabase by_domain new
-policy_keeps old new row policy it ready keepable rules file =
-    stand_all old new it ready rules file (λ made. stand_after_policy (main_rows (rows_named old)) (main_rows (rows_named new)) row policy made (domain_rows old file.ready main) (domain_rows new ready main) keepable rules)
+    → IsKeepable row → KeepsRules (meaning_in (main_rows (rows_named new))) → HasFigures (rows_named new) → IsOfficeDatabase by_domain old → IsOfficeDatabase by_domain new
+policy_keeps old new row policy it ready keepable rules figures file =
+    stand_all old new it ready rules figures file (λ made. stand_after_policy (main_rows (rows_named old)) (main_rows (rows_named new)) row policy made (domain_rows old file.ready main) (domain_rows new ready main) keepable rules)

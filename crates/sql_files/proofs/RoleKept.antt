@@ -16,6 +16,7 @@ use Rattle.sql_meaning.specs.Meaning.{main_rows, meaning_in}
 use Rattle.sql_changes.specs.Commits.{WritesRole, MakesRole}
 use Rattle.sql_decoding.specs.RowTests.{is_role, is_member_row}
 use Rattle.sql_decoding.proofs.ColumnsTested.{text_stands, integer_is, role_stands}
+use Rattle.sql_figures.specs.Figures.{HasFigures}
 use Rattle.sql_files.specs.Files.{IsKeepable, StandForAll, IsOfficeDatabase}
 use Rattle.sql_files.proofs.Puts.{all_put, template_same, form_same, book_same}
 use Rattle.sql_files.proofs.ActKept.{stand_all, record_step}
@@ -65,6 +66,6 @@ pub stand_after_role : (old new : NamedRows) (row : Record) (name : Text) (role 
 stand_after_role old new row name role it keepable named utf8 all = role_step name named utf8 role (role_number role) refl it.0 new it.2 (record_step old it.0 row it.1 keepable all)
 
 pub role_keeps : (old new : Database) (row : Record) (name : Text) (role : Role) → OnMain (MakesRole row name role) old new → AreOfficeTablesOf by_domain new
-    → IsKeepable row → is_name name ≡ true → IsUtf8 name → KeepsRules (meaning_in (main_rows (rows_named new))) → IsOfficeDatabase by_domain old → IsOfficeDatabase by_domain new
-role_keeps old new row name role it ready keepable named utf8 rules file =
-    stand_all old new it ready rules file (λ made. stand_after_role (main_rows (rows_named old)) (main_rows (rows_named new)) row name role made keepable named utf8)
+    → IsKeepable row → is_name name ≡ true → IsUtf8 name → KeepsRules (meaning_in (main_rows (rows_named new))) → HasFigures (rows_named new) → IsOfficeDatabase by_domain old → IsOfficeDatabase by_domain new
+role_keeps old new row name role it ready keepable named utf8 rules figures file =
+    stand_all old new it ready rules figures file (λ made. stand_after_role (main_rows (rows_named old)) (main_rows (rows_named new)) row name role made keepable named utf8)

@@ -23,6 +23,7 @@ use Rattle.sql_decoding.specs.RowTests.{is_key, are_texts, is_entry_row}
 use Rattle.sql_decoding.proofs.ColumnsTested.{text_stands, key_stands, texts_stand}
 use Rattle.sql_keepable.specs.Keepable.{IsKeepableEntry, AreKeepableEntries, AreKeepablePlans}
 use Rattle.office_rules.proofs.MainAlone.{project_keeps}
+use Rattle.sql_figures.specs.Figures.{HasFigures}
 use Rattle.sql_files.specs.Files.{IsKeepable, StandForAll, IsOfficeDatabase}
 use Rattle.sql_files.proofs.Puts.{all_put, template_same, form_same, book_same}
 use Rattle.sql_files.proofs.UnitKept.{plural_stands, plans_keep}
@@ -103,6 +104,6 @@ stand_after_template old new row entries plans it keepable fits all rules = make
 
 pub template_keeps : (old new : Database) (row : Record) (entries : List Entry) (plans : List LanguagePlan) → OnMain (MakesTemplate row entries plans) old new → AreOfficeTablesOf by_domain new
     → IsKeepable row → AreKeepableEntries entries → AreKeepablePlans plans → KeepsRules (meaning_in (main_rows (rows_named new)))
-    → IsOfficeDatabase by_domain old → IsOfficeDatabase by_domain new
-template_keeps old new row entries plans it ready keepable fits all rules file =
-    stand_all old new it ready rules file (λ made. stand_after_template (main_rows (rows_named old)) (main_rows (rows_named new)) row entries plans made keepable fits all rules)
+    → HasFigures (rows_named new) → IsOfficeDatabase by_domain old → IsOfficeDatabase by_domain new
+template_keeps old new row entries plans it ready keepable fits all rules figures file =
+    stand_all old new it ready rules figures file (λ made. stand_after_template (main_rows (rows_named old)) (main_rows (rows_named new)) row entries plans made keepable fits all rules)

@@ -13,7 +13,7 @@ ghost use Rattle.std.specs.Prelude.{true, ⊤, List, Option, Result, IfSome, IsU
 ghost use Rattle.sqlite.specs.Held.{Held, state};
 ghost use Rattle.sql_decoding.specs.declared.faults.Failure.{Failure};
 ghost use Rattle.units.specs.declared.unit.UnitView.{UnitView};
-ghost use Rattle.sql_commits.specs.Acts.{MakesAct};
+ghost use Rattle.sql_commits.specs.Acts.{MakesAct, CommitsAct};
 ghost use Rattle.po_text.specs.Texts.{Text};
 ghost use Rattle.units.specs.Limits.{is_name};
 ghost use Rattle.sql_schema.specs.Whole.{IsCommitOf};
@@ -33,6 +33,16 @@ ghost use Rattle.template_update.specs.declared.plans.Plan.{Plan};
 ghost use Rattle.po_text.specs.declared.entry.Entry.{Entry};
 ghost use Rattle.deliveries.specs.ProjectActs.{LanguagePlan};
 ghost use Rattle.sql_schema.specs.Layouts.{Form, by_domain, Layout, schema_of, NamedRows, rows_named};
+ghost use Rattle.units.specs.Offices.{IsOffice};
+ghost use Rattle.deliveries.specs.UnitAccess.{with_view_in};
+ghost use Rattle.deliveries.specs.OfficeChanges.{changed_by, IsPossibleChange};
+ghost use Rattle.deliveries.specs.declared.values.Change.{Change};
+ghost use Rattle.sql_figures.specs.Figures.{HasFigures};
+ghost use Rattle.sql_commits.specs.Figures.{FollowsAct, FollowsChange};
+ghost use Rattle.units.specs.Office.{project_in};
+ghost use Rattle.units.specs.Project.{entry_of};
+ghost use Rattle.units.specs.declared.unit.Key.{Key};
+ghost use Rattle.sql_files.specs.Files.{office_of};
 
 use sqlite::Alter;
 
@@ -46,16 +56,16 @@ pub fn whatever_is_adopted()
     ensures { (db : Database) → IsDatabase db → IsAdopted db → IsOfficeFile db.trees }
 {}
 
-/// A record alone, put where the rules go on to hold, keeps an office's database one.
+/// A record alone, put where the rules and the figures go on to hold, keeps an office's database one.
 pub fn records_keep_files()
     ensures { (old new : Database) (row : Record) → OnMain (PutsNumberedRecord row) old new → AreOfficeTablesOf by_domain new
-        → IsKeepable row → KeepsRules (meaning_in (main_rows (rows_named new))) → IsOfficeDatabase by_domain old → IsOfficeDatabase by_domain new }
+        → IsKeepable row → KeepsRules (meaning_in (main_rows (rows_named new))) → HasFigures (rows_named new) → IsOfficeDatabase by_domain old → IsOfficeDatabase by_domain new }
 {}
 
 /// Where what the commit of an act on a unit makes of an office's file is one, the connection keeps it, and a stop leaves one.
 pub fn commits_keep_files<S: Alter>()
-    ensures { (old new : Held S) (r : Result ⊤ Failure) (row : Record) (domain lang : Text) (view : Option UnitView) → IsCommitOf by_domain (state S.Store old) (state S.Store new) r (MakesAct row domain lang view)
-        → MakesFiles (MakesAct row domain lang view) (state S.Store old) → KeepsFile (state S.Store old)
+    ensures { (old new : Held S) (r : Result ⊤ Failure) (row : Record) (domain lang : Text) (view : Option UnitView) → IsCommitOf by_domain (state S.Store old) (state S.Store new) r (CommitsAct row domain lang view)
+        → MakesFiles (CommitsAct row domain lang view) (state S.Store old) → KeepsFile (state S.Store old)
         → KeepsFile (state S.Store new) × (LeavesFiles (state S.Store old) → LeavesFiles (state S.Store new)) }
 {}
 
@@ -70,38 +80,38 @@ pub fn units_keep_rows()
         → StandForAll old → StandForAll new }
 {}
 
-/// The commit of an act on a unit, where the rules go on to hold, keeps an office's database one.
+/// The commit of an act on a unit, where the rules and the figures go on to hold, keeps an office's database one.
 pub fn acts_keep_files()
     ensures { (old new : Database) (row : Record) (domain lang : Text) (view : Option UnitView) → MakesAct row domain lang view old new → AreOfficeTablesOf by_domain new
         → IsKeepable row → IfSome view (λ v. IsKeepableUnit lang v.unit) → KeepsRules (meaning_in (main_rows (rows_named new)))
-        → IsOfficeDatabase by_domain old → IsOfficeDatabase by_domain new }
+        → HasFigures (rows_named new) → IsOfficeDatabase by_domain old → IsOfficeDatabase by_domain new }
 {}
 
-/// The commit of a role, where the rules go on to hold, keeps an office's database one.
+/// The commit of a role, where the rules and the figures go on to hold, keeps an office's database one.
 pub fn roles_keep_files()
     ensures { (old new : Database) (row : Record) (name : Text) (role : Role) → OnMain (MakesRole row name role) old new → AreOfficeTablesOf by_domain new
         → IsKeepable row → is_name name ≡ true → IsUtf8 name → KeepsRules (meaning_in (main_rows (rows_named new)))
-        → IsOfficeDatabase by_domain old → IsOfficeDatabase by_domain new }
+        → HasFigures (rows_named new) → IsOfficeDatabase by_domain old → IsOfficeDatabase by_domain new }
 {}
 
-/// The commit of a policy, where the rules go on to hold, keeps an office's database one.
+/// The commit of a policy, where the rules and the figures go on to hold, keeps an office's database one.
 pub fn policies_keep_files()
     ensures { (old new : Database) (row : Record) (policy : Policy) → OnMain (MakesPolicy row policy) old new → AreOfficeTablesOf by_domain new
-        → IsKeepable row → KeepsRules (meaning_in (main_rows (rows_named new))) → IsOfficeDatabase by_domain old → IsOfficeDatabase by_domain new }
+        → IsKeepable row → KeepsRules (meaning_in (main_rows (rows_named new))) → HasFigures (rows_named new) → IsOfficeDatabase by_domain old → IsOfficeDatabase by_domain new }
 {}
 
-/// The commit of a language, where the rules go on to hold, keeps an office's database one.
+/// The commit of a language, where the rules and the figures go on to hold, keeps an office's database one.
 pub fn languages_keep_files()
     ensures { (old new : Database) (row : Record) (lang : Text) (language : Language) (plan : Plan) → OnMain (MakesLanguage row lang language plan) old new
         → AreOfficeTablesOf by_domain new → IsKeepable row → IsKeepableLanguage lang language.header → IsHeaderEntry language.header
-        → AreKeepableUnits lang plan.units → KeepsRules (meaning_in (main_rows (rows_named new))) → IsOfficeDatabase by_domain old → IsOfficeDatabase by_domain new }
+        → AreKeepableUnits lang plan.units → KeepsRules (meaning_in (main_rows (rows_named new))) → HasFigures (rows_named new) → IsOfficeDatabase by_domain old → IsOfficeDatabase by_domain new }
 {}
 
-/// The commit of a template with the units that are fitted to it, where the rules go on to hold, keeps an office's database one.
+/// The commit of a template with the units that are fitted to it, where the rules and the figures go on to hold, keeps an office's database one.
 pub fn templates_keep_files()
     ensures { (old new : Database) (row : Record) (entries : List Entry) (plans : List LanguagePlan) → OnMain (MakesTemplate row entries plans) old new
         → AreOfficeTablesOf by_domain new → IsKeepable row → AreKeepableEntries entries → AreKeepablePlans plans
-        → KeepsRules (meaning_in (main_rows (rows_named new))) → IsOfficeDatabase by_domain old → IsOfficeDatabase by_domain new }
+        → KeepsRules (meaning_in (main_rows (rows_named new))) → HasFigures (rows_named new) → IsOfficeDatabase by_domain old → IsOfficeDatabase by_domain new }
 {}
 
 /// An opening of trees that list the tables of a layout reads that schema, however the texts are spelled.
@@ -112,4 +122,14 @@ pub fn listed_schemas_are_read()
 /// The rows of the demo are an office's.
 pub fn demos_are_rows()
     ensures { (old new : Database) → MakesDemo old new → HoldsOfficeRows by_domain (rows_named new) }
+{}
+
+/// The sums and the tallies of an office's database are what counting its rows gives behind the commit of an act on a unit too, whose view has the
+/// template's entry of its key; and behind that of a change that the office allows.
+pub fn figures_follow_acts()
+    ensures unit { (old new : Database) (domain lang : Text) (key : Key) (view : Option UnitView) → IsOfficeDatabase by_domain old → IsOffice (office_of new)
+        → office_of new ≡ with_view_in (office_of old) domain lang key view → IfSome view (λ v. v.source ≡ entry_of (project_in (office_of old) domain).template key)
+        → FollowsAct domain lang view old new → HasFigures (rows_named new) }
+    ensures office { (old new : Database) (change : Option Change) → IsOfficeDatabase by_domain old → IsPossibleChange (office_of old) change
+        → office_of new ≡ changed_by (office_of old) change → FollowsChange change old new → HasFigures (rows_named new) }
 {}

@@ -2,7 +2,7 @@
 //!
 //! - `office_read`: the whole office (`office_in`)
 //! - `office_tables`: the team, the policy, the template and the languages, put in
-//! - `unit_tables`: votes and suggestions, found by their numbers and units
+//! - `unit_tables`: votes and suggestions, found by their numbers and units (`votes_by_number`)
 //!
 //! The spec `MainChanged` is for inner functions.
 #![tactic(auto)]
@@ -12,3 +12,4 @@ mod office_tables;
 mod unit_tables;
 
 pub use office_read::office_in;
+pub use unit_tables::votes_by_number;

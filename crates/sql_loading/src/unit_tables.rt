@@ -38,7 +38,9 @@ fn put_vote_on(alloc: Global, all: &mut BTreeMap<String, Votes>, row: &Row) -> R
 }
 
 /// The votes of rows, under the texts of their suggestions' numbers.
-fn votes_by_number(alloc: Global, rows: &[Row]) -> Result<BTreeMap<String, Votes>, Failure>
+///
+/// `Memory` where a growth was refused, and `Disk` only where a row stands for no vote.
+pub fn votes_by_number(alloc: Global, rows: &[Row]) -> Result<BTreeMap<String, Votes>, Failure>
     ensures shown { IfOk result (λ all. (number : Text) → votes_of all number ≡ votes_shown rows.now number) }
     ensures stands { OnOk result (list_all is_vote_row rows.now ≡ true) }
     ensures unread { IfErr result (IsUnread (list_all is_vote_row rows.now)) }

@@ -13,7 +13,7 @@ ghost use Rattle.store_sql.specs.Kept.{KeepsOffice};
 ghost use Rattle.sql_schema.specs.Layouts.{by_domain, rows_named};
 
 use crate::look_ups::look_up_policy;
-use crate::views::read_view;
+use crate::unit_views::read_view;
 use deliveries::ActContext;
 use sql_decoding::{Failure, KeptRule, is_main};
 use sql_exports::export_entries;

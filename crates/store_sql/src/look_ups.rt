@@ -2,6 +2,7 @@
 ghost use Rattle.std.specs.Prelude.{◌≡◌, false};
 ghost use Rattle.sqlite.specs.Held.{state};
 ghost use Rattle.sql_statements.specs.Answers.{ShowsMember, ShowsPolicy, ShowsRecord};
+ghost use Rattle.sql_statements.specs.DomainAnswers.{ShowsTally};
 ghost use Rattle.sql_schema.specs.Inside.{IsSteadyOver, IsReadOf};
 ghost use Rattle.sql_statements.specs.RecordsInOrder.{ShowsPlace};
 ghost use Rattle.sql_statements.specs.DomainUnitRows.{ShowsDomainOfficeRows, ShowsDomainUnitRows, ShowsDomainViewRows, ShowsWithDomainVotes, ShowsEachWithDomainVotes};
@@ -15,6 +16,7 @@ use sql_statements::domain_units::find_domain_unit;
 use sql_statements::domain_votes::domain_votes_on;
 use sql_statements::policy::find_policy;
 use sql_statements::records::{find_place, find_record};
+use sql_statements::tallies::find_tally;
 use sql_statements::team::find_member;
 use sql_statements::unit_rows::{OfficeRows, SuggestionRows, UnitRows, ViewRows};
 use sqlite::{Alter, Connection, Error, Row, Transaction};
@@ -73,6 +75,22 @@ pub(crate) fn look_up_policy<S: Alter>(connection: &mut Connection<S>) -> Result
 {
     let mut tx = connection.transaction();
     let found = find_policy(&mut tx)?;
+    tx.commit().and(Ok(found))
+}
+
+/// The tally of a domain's language. None, where there is no such language.
+pub(crate) fn look_up_tally<'a, S: Alter>(
+    connection: &mut Connection<S>,
+    domain: &'a str,
+    lang: &'a str,
+) -> Result<Option<Row>, Error>
+    requires autocommit { connection.old.in_transaction ≡ false }
+    requires idle { IsIdleOver by_domain (state S.Store connection.old) }
+    ensures found { IsLookUp (state S.Store connection.old) (state S.Store connection.new) result
+        (ShowsTally domain.now lang.now) }
+{
+    let mut tx = connection.transaction();
+    let found = find_tally(&mut tx, domain, lang)?;
     tx.commit().and(Ok(found))
 }
 

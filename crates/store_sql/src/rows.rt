@@ -2,7 +2,7 @@
 //!
 //! `SqliteTables` adds the two facts that the trait's laws hand to callers, as ghost fields, and takes nothing apart: the connection, the flag and
 //! the maps change here alone, each change keeps the invariant of `Rows`, and that the two facts follow from it is shown once, in `rules`.
-ghost use Rattle.std.specs.Prelude.{◌≡◌, ◌≢◌, Bool, false, true, Ok, Err, IfOk, IfErr, OnOk, OnErr, is_some, option_map};
+ghost use Rattle.std.specs.Prelude.{◌≡◌, ◌≢◌, Bool, false, true, Ok, Err, IfOk, IfErr, IfSome, OnOk, OnErr, is_some, option_map};
 ghost use Rattle.std.specs.Coded.{coded×, coded_bool};
 ghost use Rattle.std.specs.FinMap as maps;
 ghost use Rattle.sqlite.specs.Held.{Held, held_code, state};
@@ -17,7 +17,7 @@ ghost use Rattle.tables.specs.Sinks.{WasCutShort};
 ghost use Rattle.tables.specs.Entries.{entries_of};
 ghost use Rattle.deliveries.specs.Tally.{counts_of};
 ghost use Rattle.tables.specs.declared.faults.EachFault.TheVariants.{NoTables};
-ghost use Rattle.units.specs.Project.{role_in};
+ghost use Rattle.units.specs.Project.{entry_of, role_in};
 ghost use Rattle.units.specs.Office.{project_in};
 ghost use Rattle.units.specs.Offices.{IsOffice};
 ghost use Rattle.office_maps.specs.OfficeIn.{office_in};
@@ -40,7 +40,8 @@ use crate::keepable_values::{change_fits, record_fits, view_fits};
 use crate::making::make;
 use crate::recorded::{HandingFault, hand_records};
 use crate::records::read_record;
-use crate::views::read_role;
+use crate::tallies::read_tally;
+use crate::unit_views::read_role;
 use crate::whole_office::{forget, keep, read_office};
 use deliveries::{ActContext, Change, Tally};
 use office_maps::OfficeMaps;
@@ -54,7 +55,7 @@ use sql_streams::RowSink;
 use sqlite::{Alter, Connection};
 use std::alloc::Global;
 use std::marker::Model;
-use tables::{EachFault, EntrySink, Lost, Start, counts_in};
+use tables::{EachFault, EntrySink, Lost, Start};
 use units::{Key, Lang, Name, Role, UnitView};
 use uuid::Uuid;
 
@@ -348,20 +349,27 @@ impl<S: Alter> Rows<S> {
         }
     }
 
-    /// How many units of a domain's language callers see in each state; nothing where the domain or its language isn't there.
+    /// How many units of a domain's language callers see in each state; nothing where the domain or its language isn't there. One row is
+    /// read; the office need not be at hand, and isn't read.
     pub(crate) fn counts(&mut self, domain: &Name, lang: &Lang) -> Result<Option<Tally>, Lost>
         ensures answer { is_honest S.Store self.new → IfOk result (λ r. r ≡ counts_of (project_in (means S.Store self.old).office domain.now) lang.now) }
         ensures same { is_honest S.Store self.new → is_whole S.Store self.new → means S.Store self.new ≡ means S.Store self.old }
         ensures kept { IsKept (is_honest S.Store) (is_whole S.Store) (means S.Store) (may_leave S.Store) (is_stopped S.Store) self.old self.new result Disk Nothing }
     {
-        match self.office_rows() {
-            Ok(()) => Ok(counts_in(self.alloc, self.at_hand(), domain, lang)?),
-            Err(lost) => Err(lost),
+        if self.stopped {
+            return Err(Lost::Disk);
+        }
+        match read_tally(&mut self.connection, domain, lang) {
+            Ok(counts) => Ok(counts),
+            Err(failure) => {
+                forget(self.alloc, &mut self.office);
+                Err(self.lost(failure))
+            }
         }
     }
 
     /// Writes a request's record and its unit's new view, if it has one and the domain is there; or neither. The number must be new, the content a
-    /// request's, and what the commit leaves must keep the rules.
+    /// request's, the view's entry the template's, and what the commit leaves must keep the rules.
     pub(crate) fn commit_unit(
         &mut self,
         row: &Record,
@@ -371,6 +379,7 @@ impl<S: Alter> Rows<S> {
         view: &Option<UnitView>,
     ) -> Result<(), Lost>
         requires content { IsContent row.now.content }
+        requires entry { is_honest S.Store self.old → IfSome view.now (λ v. v.source ≡ entry_of (project_in (means S.Store self.old).office domain.now).template key.now) }
         requires rules { is_honest S.Store self.old → KeepsRules (record { office = with_view_in (means S.Store self.old).office domain.now lang.now key.now view.now; book = with_record (means S.Store self.old).book row.now }) }
         ensures done { is_honest S.Store self.new → OnOk result (means S.Store self.new ≡ record { office = with_view_in (means S.Store self.old).office domain.now lang.now key.now view.now; book = with_record (means S.Store self.old).book row.now }) }
         ensures same { is_honest S.Store self.new → is_whole S.Store self.new → OnErr result (means S.Store self.new ≡ means S.Store self.old) }

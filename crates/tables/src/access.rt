@@ -1,8 +1,8 @@
 //! Tables of an office with its book.
-ghost use Rattle.std.specs.Prelude.{◌≡◌, Bool, IfOk, OnOk, OnErr, IfErr, IsTrue, option_map, is_none};
+ghost use Rattle.std.specs.Prelude.{◌≡◌, Bool, IfOk, IfSome, OnOk, OnErr, IfErr, IsTrue, option_map, is_none};
 ghost use Rattle.std.specs.FinMap as maps;
 ghost use Rattle.request_book.specs.Book.{OfficeWithBook, row_of, with_record};
-ghost use Rattle.units.specs.Project.{role_in};
+ghost use Rattle.units.specs.Project.{entry_of, role_in};
 ghost use Rattle.units.specs.Office.{project_in};
 ghost use Rattle.deliveries.specs.UnitAccess.{found_of, with_view_in};
 ghost use Rattle.deliveries.specs.OfficeChanges.{changed_by, IsPossibleChange};
@@ -91,7 +91,7 @@ pub trait Tables: Drop {
         ensures { is_honest self.now → is_whole self.now → office_in result.now ≡ (means self.now).office };
 
     /// Writes a request's record and its unit's new view, if it has one and the domain is there; or neither. The number must be new, the
-    /// content a request's, and what the commit leaves must keep the rules.
+    /// content a request's, the view's entry the template's, and what the commit leaves must keep the rules.
     fn commit_unit(
         &mut self,
         row: Record,
@@ -102,6 +102,7 @@ pub trait Tables: Drop {
     ) -> Result<(), Lost>
         requires new { is_honest self.old → IsTrue (is_none (maps.get (means self.old).book row.number)) }
         requires content { IsContent row.content }
+        requires entry { is_honest self.old → IfSome view (λ v. v.source ≡ entry_of (project_in (means self.old).office domain.now).template key.now) }
         requires rules { is_honest self.old → KeepsRules (record { office = with_view_in (means self.old).office domain.now lang.now key.now view; book = with_record (means self.old).book row }) }
         ensures done { is_honest self.new → OnOk result (means self.new ≡ record { office = with_view_in (means self.old).office domain.now lang.now key.now view; book = with_record (means self.old).book row }) }
         ensures same { is_honest self.new → is_whole self.new → OnErr result (means self.new ≡ means self.old) }

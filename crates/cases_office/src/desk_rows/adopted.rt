@@ -12,6 +12,7 @@ fn fault_told(fault: OpenFault) -> &'static str {
         OpenFault::Foreign(Mismatch::OtherTables) => "other tables",
         OpenFault::Foreign(Mismatch::OtherForm) => "another form",
         OpenFault::Foreign(Mismatch::UnreadRow) => "an unread row",
+        OpenFault::Foreign(Mismatch::OtherFigures) => "other figures",
         OpenFault::Foreign(Mismatch::BrokenRules) => "broken rules",
         OpenFault::Exists => "an office",
     }

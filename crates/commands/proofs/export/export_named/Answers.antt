@@ -22,6 +22,6 @@ returns-in-Err-clause-exported g c =
     let cut = c.in-Err.ensures in
     faulted c.in-Some.lang.now (ap (option_map _) c.in-Some.is)
     (g.T.Tables.means c.args.desk.now).office (λ h w. sym (ap (λ m. m.office) (cut.same h w)))
-    (record { fault = c.in-Err.fault; cut = cut.err; device = cut.device; told = c.tell_fault.ensures.told })
+    (record { fault = c.in-Err.fault; cut = cut.err; device = cut.device; disk = cut.kept.disk; told = c.tell_fault.ensures.told })
     (λ h none. cut.open_still h (ap {A = ExportFault} {B = Result ExportReceipt ExportFault} (λ e. Err e) none))
     c.tell_fault.ensures.status

@@ -8,4 +8,4 @@ returns-in-Ok-clause-printed g c =
 
 pub returns-in-Err-clause-printed : goal.returns-in-Err-clause-printed
 returns-in-Err-clause-printed g c =
-    ended (record { fault = c.in-Err.fault; cut = c.in-Err.ensures.err; device = c.in-Err.ensures.device; told = c.tell_fault.ensures.told }) c.tell_fault.ensures.status
+    ended (record { fault = c.in-Err.fault; cut = c.in-Err.ensures.err; device = c.in-Err.ensures.device; disk = c.in-Err.ensures.kept.disk; told = c.tell_fault.ensures.told }) c.tell_fault.ensures.status

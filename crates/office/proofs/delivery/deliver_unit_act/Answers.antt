@@ -2,12 +2,19 @@ use Rattle.std.proofs.Common.{◌∙◌, ap, refl, sym}
 use Rattle.request_book.specs.Book.{OfficeWithBook}
 use Rattle.request_book.specs.Replies.{Reply}
 use Rattle.request_book.specs.declared.book.Record.{Record}
-use Rattle.office.proofs.Committed.{handed_on, unit_act_delivered, unit_act_keeps}
+use Rattle.office.proofs.Committed.{handed_on, unit_act_delivered, unit_act_keeps, unit_act_shows}
 use Rattle.office.proofs.Stopped.{alike, read_then}
 use Rattle.office.proofs.delivery.deliver_unit_act.Goals as goal
 
 pub commit_unit_act-requires-clause-content : goal.commit_unit_act-requires-clause-content
 commit_unit_act-requires-clause-content g c = (c.args.request.now, c.requires.limits, sym c.requires.content ∙ sym (ap (λ (r : Record). r.content) c.in-Some.ensures))
+
+pub commit_unit_act-requires-clause-entry : goal.commit_unit_act-requires-clause-entry
+commit_unit_act-requires-clause-entry g c = λ honest.
+    let whole = c.in_ok-view.ensures.kept.open_still honest in
+    unit_act_shows (g.T.Tables.means c.args.tables.now) (g.T.Tables.means c.read_and_decide.new.tables)
+    c.args.request.now c.args.domain.now c.args.lang.now c.args.key.now c.args.act.now c.in_ok-view.field-0.view c.in_ok-view.field-0.reply
+    (c.read_and_decide.ensures.same honest whole) (c.in_ok-view.ensures.answer honest)
 
 pub commit_unit_act-requires-clause-rules : goal.commit_unit_act-requires-clause-rules
 commit_unit_act-requires-clause-rules g c = λ honest.

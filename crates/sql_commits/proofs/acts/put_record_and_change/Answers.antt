@@ -1,6 +1,6 @@
-use Rattle.std.proofs.Common.{Ok}
+use Rattle.std.proofs.Common.{Ok, codes}
 use Rattle.sqlite.specs.Held.{state}
-use Rattle.sql_schema.specs.Layouts.{rows_named}
+use Rattle.sql_schema.specs.Layouts.{rows_named, SparesOthers}
 use Rattle.sql_meaning.specs.Meaning.{main_rows}
 use Rattle.sql_meaning.specs.RowChanges.{HaveNextIn}
 use Rattle.sql_changes.specs.Commits.{PutsNumberedRecord}
@@ -11,6 +11,11 @@ use Rattle.sql_commits.specs.Changes.{WritesChange}
 use Rattle.sql_commits.proofs.ActsWritten.{makes_change}
 use Rattle.sql_commits.proofs.PolicyTurns.{next_behind_record}
 use Rattle.sql_commits.proofs.WritesInTurn.{write_as, write_then}
+use Rattle.sql_schema.specs.Inside.{OnRows}
+use Rattle.sql_commits.specs.Figures.{FollowsOneChange}
+use Rattle.sql_figures.specs.Figures.{FiguresStay}
+use Rattle.sql_figures.proofs.FigureSteps.{stay_beside, record_beside}
+use Rattle.sql_commits.proofs.FiguresInTurn.{change_behind}
 use Rattle.sql_commits.proofs.acts.put_record_and_change.Goals as goal
 
 pub returns-in-Some-clause-put : goal.returns-in-Some-clause-put
@@ -33,3 +38,18 @@ returns-in-None-clause-put g c =
     let new = state g.S.Store c.put_record_of.new.tx.conn.now in
     let row = c.args.row.now in
     rw c.in-None.is (write_as old new (Ok c.in_ok-put_record_of.field-0) (OnMain (PutsNumberedRecord row)) (OnMainWhere HaveNextIn (PutsNumberedRecord row)) (main_where HaveNextIn (PutsNumberedRecord row)) c.in_ok-put_record_of.ensures.put)
+
+pub returns-in-Some-clause-figures : goal.returns-in-Some-clause-figures
+returns-in-Some-clause-figures g c =
+    let old = state g.S.Store c.args.tx.now.conn.now in
+    let mid = state g.S.Store c.put_record_of.new.tx.conn.now in
+    let new = state g.S.Store c.write_change.new.tx.conn.now in
+    let Change = FollowsOneChange c.in-Some.change in
+    rw c.in-Some.is (write_then old mid new c.in_ok-put_record_of.field-0 c.write_change.result (OnRows (SparesOthers (codes "record"))) Change Change
+    (λ others. change_behind old.now mid.now new.now others c.in-Some.change) c.in_ok-put_record_of.ensures.others c.write_change.ensures.figures)
+
+pub returns-in-None-clause-figures : goal.returns-in-None-clause-figures
+returns-in-None-clause-figures g c =
+    let old = state g.S.Store c.args.tx.now.conn.now in
+    let new = state g.S.Store c.put_record_of.new.tx.conn.now in
+    rw c.in-None.is (write_as old new (Ok c.in_ok-put_record_of.field-0) (OnRows (SparesOthers (codes "record"))) FiguresStay (stay_beside (codes "record") record_beside) c.in_ok-put_record_of.ensures.others)

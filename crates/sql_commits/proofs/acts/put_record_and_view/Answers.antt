@@ -1,5 +1,5 @@
 use Rattle.sqlite.specs.Held.{state}
-use Rattle.sql_schema.specs.Layouts.{rows_named}
+use Rattle.sql_schema.specs.Layouts.{rows_named, SparesOthers}
 use Rattle.sql_meaning.specs.Meaning.{main_rows}
 use Rattle.sql_changes.specs.Commits.{PutsNumberedRecord, WritesRecordAndUnit, MakesIn}
 use Rattle.sql_changes.specs.OnMain.{OnMain}
@@ -7,7 +7,13 @@ use Rattle.sql_changes.specs.UnitWrites.{WritesNumberedUnit}
 use Rattle.sql_changes.proofs.MainSteps.{on_main_then}
 use Rattle.sql_commits.specs.Changes.{WritesIn}
 use Rattle.sql_commits.proofs.ActsWritten.{writes_unit}
-use Rattle.sql_commits.proofs.WritesInTurn.{write_then}
+use Rattle.sql_commits.proofs.WritesInTurn.{write_then, write_as}
+use Rattle.std.proofs.Common.{Ok, codes}
+use Rattle.sql_schema.specs.Inside.{OnRows}
+use Rattle.sql_commits.specs.Figures.{FollowsView, FollowsIn}
+use Rattle.sql_figures.specs.Figures.{FiguresStay}
+use Rattle.sql_figures.proofs.FigureSteps.{stay_beside, record_beside}
+use Rattle.sql_commits.proofs.FiguresInTurn.{view_behind}
 use Rattle.sql_commits.proofs.acts.put_record_and_view.Goals as goal
 
 pub returns-in-Some-clause-put : goal.returns-in-Some-clause-put
@@ -28,3 +34,21 @@ returns-in-Some-clause-put g c =
 
 pub returns-in-None-clause-put : goal.returns-in-None-clause-put
 returns-in-None-clause-put g c = rw c.in-None.is c.in_ok-put_record_of.ensures.put
+
+pub returns-in-Some-clause-figures : goal.returns-in-Some-clause-figures
+returns-in-Some-clause-figures g c =
+    let old = state g.S.Store c.args.tx.now.conn.now in
+    let mid = state g.S.Store c.put_record_of.new.tx.conn.now in
+    let new = state g.S.Store c.write_view_in.new.tx.conn.now in
+    let domain = c.args.domain.now in
+    let lang = c.args.lang.now in
+    let view = c.in-Some.view in
+    let View = FollowsIn domain (FollowsView lang view) in
+    rw c.in-Some.is (write_then old mid new c.in_ok-put_record_of.field-0 c.write_view_in.result (OnRows (SparesOthers (codes "record"))) View View
+    (λ others. view_behind old.now mid.now new.now others domain lang view) c.in_ok-put_record_of.ensures.others c.write_view_in.ensures.figures)
+
+pub returns-in-None-clause-figures : goal.returns-in-None-clause-figures
+returns-in-None-clause-figures g c =
+    let old = state g.S.Store c.args.tx.now.conn.now in
+    let new = state g.S.Store c.put_record_of.new.tx.conn.now in
+    rw c.in-None.is (write_as old new (Ok c.in_ok-put_record_of.field-0) (OnRows (SparesOthers (codes "record"))) FiguresStay (stay_beside (codes "record") record_beside) c.in_ok-put_record_of.ensures.others)

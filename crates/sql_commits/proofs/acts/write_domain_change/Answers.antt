@@ -4,6 +4,8 @@ use Rattle.sql_schema.specs.Inside.{IsInsideOf}
 use Rattle.sql_schema.specs.Layouts.{by_domain}
 use Rattle.sql_changes.specs.Commits.{WritesLanguage, WritesTemplate}
 use Rattle.sql_commits.proofs.acts.write_domain_change.Goals as goal
+use Rattle.units.specs.Office.{main}
+use Rattle.sql_figures.specs.Figures.{with_tallies, FiguresFollow}
 use Rattle.sql_changes.specs.OnMain.{OnMain}
 
 pub returns-in-NewLanguage-clause-put : goal.returns-in-NewLanguage-clause-put
@@ -21,3 +23,12 @@ returns-in-NewTemplate-clause-put g c =
     let template = c.in-NewTemplate.template in
     rw c.in-NewTemplate.is (subst (λ plans. IsInsideOf by_domain old new c.write_template.result (OnMain (WritesTemplate template plans))) c.as_slice-in-NewTemplate.ensures.value
     (subst (λ entries. IsInsideOf by_domain old new c.write_template.result (OnMain (WritesTemplate entries c.as_slice-in-NewTemplate.result.now))) c.entries.ensures.value c.write_template.ensures.put))
+
+pub returns-in-NewLanguage-clause-figures : goal.returns-in-NewLanguage-clause-figures
+returns-in-NewLanguage-clause-figures g c = rw c.in-NewLanguage.is c.write_language.ensures.figures
+
+pub returns-in-NewTemplate-clause-figures : goal.returns-in-NewTemplate-clause-figures
+returns-in-NewTemplate-clause-figures g c =
+    let old = state g.S.Store c.args.tx.now.conn.now in
+    let new = state g.S.Store c.write_template.new.tx.conn.now in
+    rw c.in-NewTemplate.is (subst (λ tallies. IsInsideOf by_domain old new c.write_template.result (FiguresFollow (with_tallies main tallies))) c.as_slice-in-NewTemplate-2.ensures.value c.write_template.ensures.figures)

@@ -5,6 +5,8 @@ use Rattle.sql_changes.specs.UnitWrites.{WritesNumberedUnit}
 use Rattle.sql_changes.proofs.MainSteps.{nothing_made}
 use Rattle.sql_commits.specs.Changes.{WritesIf}
 use Rattle.sql_commits.proofs.WritesInTurn.{nothing_put, write_as}
+use Rattle.sql_commits.specs.Figures.{FollowsView, FollowsIf}
+use Rattle.sql_figures.proofs.FigureSteps.{nothing_follows}
 use Rattle.sql_commits.proofs.acts.write_view_in.Goals as goal
 
 pub returns-then-is_main-clause-put : goal.returns-then-is_main-clause-put
@@ -20,3 +22,16 @@ returns-else-is_main-clause-put g c =
     let old = state g.S.Store c.args.tx.now.conn.now in
     let Unit = WritesNumberedUnit c.args.lang.now c.args.view.now.unit in
     nothing_put old _ _ c.requires.steady c.requires.open (subst (λ b. OnMain (WritesIf b Unit) old.now old.now) (sym c.if-is_main.false ∙ c.is_main.ensures) (nothing_made old.now))
+
+pub returns-then-is_main-clause-figures : goal.returns-then-is_main-clause-figures
+returns-then-is_main-clause-figures g c =
+    let old = state g.S.Store c.args.tx.now.conn.now in
+    let new = state g.S.Store c.write_view.new.tx.conn.now in
+    let View = FollowsView c.args.lang.now c.args.view.now in
+    write_as old new c.write_view.result View _ (subst (λ b. FollowsIf b View old.now new.now) (sym c.if-is_main.true ∙ c.is_main.ensures)) c.write_view.ensures.figures
+
+pub returns-else-is_main-clause-figures : goal.returns-else-is_main-clause-figures
+returns-else-is_main-clause-figures g c =
+    let old = state g.S.Store c.args.tx.now.conn.now in
+    let View = FollowsView c.args.lang.now c.args.view.now in
+    nothing_put old _ _ c.requires.steady c.requires.open (subst (λ b. FollowsIf b View old.now old.now) (sym c.if-is_main.false ∙ c.is_main.ensures) (nothing_follows old.now))

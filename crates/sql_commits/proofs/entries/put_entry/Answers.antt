@@ -9,6 +9,8 @@ use Rattle.sql_changes.specs.Commits.{entry_row}
 use Rattle.sql_changes.specs.OnMain.{OnMain}
 use Rattle.sql_commits.proofs.PlannedWrites.{leaves_with, entry_told}
 use Rattle.sql_commits.proofs.WritesInTurn.{write_mapped}
+use Rattle.sql_figures.specs.Figures.{FiguresStay}
+use Rattle.sql_figures.proofs.FigureSteps.{put_beside, entry_beside}
 use Rattle.sql_commits.proofs.entries.put_entry.Goals as goal
 
 pub returns-clause-put : goal.returns-clause-put
@@ -22,3 +24,9 @@ returns-clause-put g c =
     (to_z_pos w64 place (omega (arith, c.requires.fits))) (search rules) (search rules) (search rules) (search rules) (search rules) in
     leaves_with old new c.map_err.result Puts (HasStrings (key_of entry)) c.entry_key_fits.ensures.strings
     (write_mapped old new c.put_domain_entry.result c.map_err.result _ _ (OnMain Puts) c.map_err.ensures.cases told c.put_domain_entry.ensures.put)
+
+-- the template is beside the figures
+pub returns-clause-figures : goal.returns-clause-figures
+returns-clause-figures g c =
+    write_mapped (state g.S.Store c.args.tx.now.conn.now) (state g.S.Store c.put_domain_entry.new.tx.conn.now) c.put_domain_entry.result c.map_err.result _ _ FiguresStay c.map_err.ensures.cases (put_beside entry_beside)
+    c.put_domain_entry.ensures.put

@@ -8,6 +8,8 @@ use Rattle.sql_changes.specs.Commits.{language_cells}
 use Rattle.sql_changes.specs.OnMain.{OnMain}
 use Rattle.sql_commits.proofs.PlannedWrites.{leaves_with_both, language_told}
 use Rattle.sql_commits.proofs.WritesInTurn.{write_mapped}
+use Rattle.sql_figures.specs.Figures.{FiguresStay}
+use Rattle.sql_figures.proofs.FigureSteps.{put_beside, language_beside}
 use Rattle.sql_commits.proofs.languages.put_language_of.Goals as goal
 
 pub returns-clause-put : goal.returns-clause-put
@@ -20,3 +22,9 @@ returns-clause-put g c =
     let told = language_told c.as_str.result.now lang c.as_str-2.result.now c.as_str-3.result.now c.rule_text.result.now header old.now new.now (search rules) (search rules) (search rules) (search rules) in
     leaves_with_both old new c.map_err.result Puts (is_forms header.forms ≡ true) (ArePrevious header.previous) c.language_fits.ensures.forms c.language_fits.ensures.previous
     (write_mapped old new c.put_domain_language.result c.map_err.result _ _ (OnMain Puts) c.map_err.ensures.cases told c.put_domain_language.ensures.put)
+
+-- languages are beside the figures
+pub returns-clause-figures : goal.returns-clause-figures
+returns-clause-figures g c =
+    write_mapped (state g.S.Store c.args.tx.now.conn.now) (state g.S.Store c.put_domain_language.new.tx.conn.now) c.put_domain_language.result c.map_err.result _ _ FiguresStay c.map_err.ensures.cases (put_beside language_beside)
+    c.put_domain_language.ensures.put

@@ -11,6 +11,8 @@ use Rattle.sql_schema.specs.Layouts.{rows_named}
 use Rattle.sql_changes.specs.OnMain.{OnMain}
 use Rattle.sql_meaning.specs.Meaning.{main_rows}
 use Rattle.sql_changes.proofs.MainSteps.{nothing_on_main}
+use Rattle.sql_figures.specs.Figures.{FiguresStay}
+use Rattle.sql_figures.proofs.FigureSteps.{stay_both, nothing_follows}
 use Rattle.sql_commits.proofs.WritesInTurn.{nothing_put}
 
 pub loop-last-preserved : goal.loop-last-preserved
@@ -29,10 +31,12 @@ loop-last-preserved g c =
           (on_main_then (PlansBehind plans left) (WritesUnitsBack last.0 units) (PlansBehind plans others)
           (plans_behind plans left others last units (main_rows (rows_named old.now)) (main_rows (rows_named mid.now)) (main_rows (rows_named new.now)) c.in-Some.ensures.cases.0 c.as_slice.ensures)) c.loop-last.invariant.1
           (write_told mid new {E = Failure} c.in_ok-write_units_back.field-0 0 One One (λ made. made) c.in_ok-write_units_back.ensures.put),
+      write_then old mid new {A = ℕ} {B = ℕ} {E = Error} {F = Error} 0 (Ok 0) FiguresStay FiguresStay FiguresStay stay_both c.loop-last.invariant.2
+          (write_told mid new {E = Failure} c.in_ok-write_units_back.field-0 0 FiguresStay FiguresStay (λ stays. stays) c.in_ok-write_units_back.ensures.figures),
     )
 
 pub loop-last-init : goal.loop-last-init
 loop-last-init g c =
     let old = state g.S.Store c.args.tx.now.conn.now in
     let None = PlansBehind c.args.plans.now c.args.plans.now in
-    (refl, nothing_put old {E = Error} 0 (OnMain None) c.requires.steady c.requires.open (nothing_on_main None old.now ([], sym (append-nil c.args.plans.now), refl)))
+    (refl, nothing_put old {E = Error} 0 (OnMain None) c.requires.steady c.requires.open (nothing_on_main None old.now ([], sym (append-nil c.args.plans.now), refl)), nothing_put old {E = Error} 0 FiguresStay c.requires.steady c.requires.open (nothing_follows old.now))

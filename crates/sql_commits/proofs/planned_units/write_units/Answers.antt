@@ -11,6 +11,8 @@ use Rattle.sql_schema.specs.Layouts.{rows_named}
 use Rattle.sql_changes.specs.OnMain.{OnMain}
 use Rattle.sql_meaning.specs.Meaning.{main_rows}
 use Rattle.sql_changes.proofs.MainSteps.{nothing_on_main}
+use Rattle.sql_figures.specs.Figures.{FiguresStay}
+use Rattle.sql_figures.proofs.FigureSteps.{stay_both, nothing_follows}
 use Rattle.sql_commits.proofs.WritesInTurn.{nothing_put}
 
 pub loop-unit-preserved : goal.loop-unit-preserved
@@ -27,10 +29,12 @@ loop-unit-preserved g c =
           (on_main_then (WritesUnits lang (take i units)) (WritesPlanned lang c.unit-item.result) (WritesUnits lang (take (i + 1) units))
           (units_next lang units i c.unit-item.result (main_rows (rows_named old.now)) (main_rows (rows_named mid.now)) (main_rows (rows_named new.now)) c.loop-unit-test.true c.unit-item.is)) c.loop-unit.invariant.1
           (write_told mid new {E = Failure} c.in_ok-write_planned.field-0 0 One One (λ made. made) c.in_ok-write_planned.ensures.put),
+      write_then old mid new {A = ℕ} {B = ℕ} {E = Error} {F = Error} 0 (Ok 0) FiguresStay FiguresStay FiguresStay stay_both c.loop-unit.invariant.2
+          (write_told mid new {E = Failure} c.in_ok-write_planned.field-0 0 FiguresStay FiguresStay (λ stays. stays) c.in_ok-write_planned.ensures.figures),
     )
 
 pub loop-unit-init : goal.loop-unit-init
 loop-unit-init g c =
     let old = state g.S.Store c.args.tx.now.conn.now in
     let None = WritesUnits c.args.lang.now [] in
-    (refl, nothing_put old {E = Error} 0 (OnMain None) c.requires.steady c.requires.open (nothing_on_main None old.now refl))
+    (refl, nothing_put old {E = Error} 0 (OnMain None) c.requires.steady c.requires.open (nothing_on_main None old.now refl), nothing_put old {E = Error} 0 FiguresStay c.requires.steady c.requires.open (nothing_follows old.now))

@@ -5,6 +5,7 @@ use Rattle.sql_schema.specs.Inside.{IsInsideOf}
 use Rattle.sql_changes.specs.UnitWrites.{WritesUnits}
 use Rattle.sql_commits.proofs.planned_units.write_units.Given as goal
 use Rattle.sql_changes.specs.OnMain.{OnMain}
+use Rattle.sql_figures.specs.Figures.{FiguresStay}
 use Rattle.sql_schema.specs.Layouts.{by_domain}
 
 -- the units so far are written
@@ -12,3 +13,4 @@ abbrev pub invariant-loop-unit : goal.invariant-loop-unit
 invariant-loop-unit g l =
     (l.tx.conn.ghost_name ≡ l.fn.tx.conn.ghost_name)
     × IsInsideOf {A = ℕ} {E = Error} by_domain (state g.S.Store l.fn.tx.conn.now) (state g.S.Store l.tx.conn.now) (Ok 0) (OnMain (WritesUnits l.lang (take l.unit-index l.units)))
+    × IsInsideOf {A = ℕ} {E = Error} by_domain (state g.S.Store l.fn.tx.conn.now) (state g.S.Store l.tx.conn.now) (Ok 0) FiguresStay

@@ -11,6 +11,8 @@ use Rattle.sql_schema.specs.Layouts.{rows_named}
 use Rattle.sql_changes.specs.OnMain.{OnMain}
 use Rattle.sql_meaning.specs.Meaning.{main_rows}
 use Rattle.sql_changes.proofs.MainSteps.{nothing_on_main}
+use Rattle.sql_figures.specs.Figures.{FiguresStay}
+use Rattle.sql_figures.proofs.FigureSteps.{stay_both, nothing_follows}
 use Rattle.sql_commits.proofs.WritesInTurn.{nothing_put}
 
 pub loop-last-preserved : goal.loop-last-preserved
@@ -29,10 +31,12 @@ loop-last-preserved g c =
           (on_main_then (UnitsBehind lang units left) (WritesPlanned lang last) (UnitsBehind lang units others)
           (units_behind lang units left others last (main_rows (rows_named old.now)) (main_rows (rows_named mid.now)) (main_rows (rows_named new.now)) c.in-Some.ensures.cases.0)) c.loop-last.invariant.1
           (write_told mid new {E = Failure} c.in_ok-write_planned.field-0 0 One One (λ made. made) c.in_ok-write_planned.ensures.put),
+      write_then old mid new {A = ℕ} {B = ℕ} {E = Error} {F = Error} 0 (Ok 0) FiguresStay FiguresStay FiguresStay stay_both c.loop-last.invariant.2
+          (write_told mid new {E = Failure} c.in_ok-write_planned.field-0 0 FiguresStay FiguresStay (λ stays. stays) c.in_ok-write_planned.ensures.figures),
     )
 
 pub loop-last-init : goal.loop-last-init
 loop-last-init g c =
     let old = state g.S.Store c.args.tx.now.conn.now in
     let None = UnitsBehind c.args.lang.now c.args.units.now c.args.units.now in
-    (refl, nothing_put old {E = Error} 0 (OnMain None) c.requires.steady c.requires.open (nothing_on_main None old.now ([], sym (append-nil c.args.units.now), refl)))
+    (refl, nothing_put old {E = Error} 0 (OnMain None) c.requires.steady c.requires.open (nothing_on_main None old.now ([], sym (append-nil c.args.units.now), refl)), nothing_put old {E = Error} 0 FiguresStay c.requires.steady c.requires.open (nothing_follows old.now))

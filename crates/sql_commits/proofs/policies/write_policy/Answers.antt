@@ -1,7 +1,7 @@
-use Rattle.std.proofs.Common.{Ok, sym, subst}
+use Rattle.std.proofs.Common.{Ok, sym, subst, codes}
 use Rattle.sqlite.specs.Held.{state}
 use Rattle.sqlite.specs.declared.error.Error.{Error}
-use Rattle.sql_schema.specs.Layouts.{rows_named}
+use Rattle.sql_schema.specs.Layouts.{rows_named, SparesOthers}
 use Rattle.sql_statements.specs.DomainRenewed.{UnapprovesDomainUnits, UnapprovesTallies}
 use Rattle.sql_meaning.specs.Meaning.{main_rows}
 use Rattle.sql_meaning.specs.RowChanges.{HaveNextIn, UnapprovesIn}
@@ -10,6 +10,10 @@ use Rattle.sql_changes.specs.OnMain.{OnMainWhere, OnMain}
 use Rattle.sql_changes.proofs.MainSteps.{main_then, main_where, spares_last, units_on_main, tallies_on_main}
 use Rattle.sql_commits.proofs.WritesInTurn.{write_told, write_then}
 use Rattle.sql_commits.proofs.PolicyTurns.{next_behind_policy, stays_reviewed}
+use Rattle.sqlite.specs.Effect.{Database}
+use Rattle.sql_schema.specs.Inside.{OnRows}
+use Rattle.sql_commits.proofs.FiguresInTurn.{policy_stays, policy_turns}
+use Rattle.sql_commits.specs.Figures.{FollowsPolicy}
 use Rattle.sql_commits.proofs.policies.write_policy.Goals as goal
 
 pub returns-then-policy-clause-put : goal.returns-then-policy-clause-put
@@ -34,3 +38,25 @@ returns-in_ok-unapprove_domain_units-clause-put g c =
     c.in_ok-put_policy_of.ensures.put c.in_ok-unapprove_domain_units.ensures.unapproved in
     write_then old next new c.in_ok-unapprove_domain_units.field-0 c.unapprove_tallies.result (OnMainWhere HaveNextIn Whole) UnapprovesTallies (OnMainWhere HaveNextIn Whole)
     (λ whole tallied. spares_last HaveNextIn Whole whole (tallies_on_main tallied)) units c.unapprove_tallies.ensures.unapproved
+
+pub returns-then-policy-clause-figures : goal.returns-then-policy-clause-figures
+returns-then-policy-clause-figures g c =
+    let old = state g.S.Store c.args.tx.now.conn.now in
+    let mid = state g.S.Store c.put_policy_of.new.tx.conn.now in
+    let policy = c.args.policy.now in
+    write_told old mid c.in_ok-put_policy_of.field-0 _ (OnRows (SparesOthers (codes "policy"))) (FollowsPolicy policy) (policy_stays policy old.now mid.now c.if-policy.true) c.in_ok-put_policy_of.ensures.others
+
+-- what was approved is counted as translated
+pub returns-in_ok-unapprove_domain_units-clause-figures : goal.returns-in_ok-unapprove_domain_units-clause-figures
+returns-in_ok-unapprove_domain_units-clause-figures g c =
+    let old = state g.S.Store c.args.tx.now.conn.now in
+    let mid = state g.S.Store c.put_policy_of.new.tx.conn.now in
+    let next = state g.S.Store c.unapprove_domain_units.new.tx.conn.now in
+    let new = state g.S.Store c.unapprove_tallies.new.tx.conn.now in
+    let policy = c.args.policy.now in
+    let Others = OnRows (SparesOthers (codes "policy")) in
+    let Both = λ (before after : Database). Others old.now mid.now × UnapprovesDomainUnits mid.now after in
+    let units = write_then old mid next {F = Error} c.in_ok-put_policy_of.field-0 (Ok c.in_ok-unapprove_domain_units.field-0) Others UnapprovesDomainUnits Both (λ others made. (others, made))
+    c.in_ok-put_policy_of.ensures.others c.in_ok-unapprove_domain_units.ensures.unapproved in
+    write_then old next new c.in_ok-unapprove_domain_units.field-0 c.unapprove_tallies.result Both UnapprovesTallies (FollowsPolicy policy)
+    (λ both tallied. policy_turns policy old.now mid.now next.now new.now c.if-policy.false both.0 both.1 tallied) units c.unapprove_tallies.ensures.unapproved

@@ -8,6 +8,8 @@ use Rattle.sql_meaning.specs.RowChanges.{TakesIn}
 use Rattle.sql_changes.specs.OnMain.{OnMain}
 use Rattle.sql_changes.proofs.MainSteps.{member_on_main, members_taken_on_main}
 use Rattle.sql_commits.proofs.WritesInTurn.{write_as, role_through}
+use Rattle.sql_figures.specs.Figures.{FiguresStay}
+use Rattle.sql_figures.proofs.FigureSteps.{put_beside, taken_beside, team_beside}
 use Rattle.sql_commits.proofs.roles.write_role.Goals as goal
 
 pub returns-in-Some-clause-put : goal.returns-in-Some-clause-put
@@ -26,3 +28,12 @@ returns-in-None-clause-put g c =
     let old = state g.S.Store c.args.tx.now.conn.now in
     let new = state g.S.Store c.remove_member.new.tx.conn.now in
     rw (← c.in-None.ensures) (write_as old new c.remove_member.result _ (OnMain (TakesIn (codes "team") (has_text 1 c.args.name.now))) members_taken_on_main (c.remove_member.ensures.taken by_domain c.requires.steady))
+
+-- the team is beside the figures
+pub returns-in-Some-clause-figures : goal.returns-in-Some-clause-figures
+returns-in-Some-clause-figures g c =
+    write_as (state g.S.Store c.args.tx.now.conn.now) (state g.S.Store c.set_member.new.tx.conn.now) c.set_member.result _ FiguresStay (put_beside team_beside) (c.set_member.ensures.put by_domain c.requires.steady)
+
+pub returns-in-None-clause-figures : goal.returns-in-None-clause-figures
+returns-in-None-clause-figures g c =
+    write_as (state g.S.Store c.args.tx.now.conn.now) (state g.S.Store c.remove_member.new.tx.conn.now) c.remove_member.result _ FiguresStay (taken_beside team_beside) (c.remove_member.ensures.taken by_domain c.requires.steady)

@@ -1,10 +1,15 @@
-use Rattle.std.proofs.Common.{◌≡◌, subst}
+use Rattle.std.proofs.Common.{◌≡◌, subst, rules}
 use Rattle.sqlite.specs.Held.{state}
 use Rattle.sql_decoding.specs.declared.faults.Failure.{Failure}
 use Rattle.sql_changes.specs.OnMain.{SparesMain}
 use Rattle.sql_changes.proofs.MainSteps.{tally_on_main}
 use Rattle.sql_commits.specs.Figures.{PutsTally}
 use Rattle.sql_commits.proofs.WritesInTurn.{write_read, write_then}
+use Rattle.sqlite.specs.Effect.{Database}
+use Rattle.units.specs.Office.{main}
+use Rattle.sql_statements.specs.DomainAnswers.{ShowsTally}
+use Rattle.sql_figures.specs.Figures.{moved_at, FiguresFollow}
+use Rattle.sql_commits.proofs.FiguresInTurn.{write_answered, moves_row}
 use Rattle.sql_commits.proofs.tallies.put_moved.Goals as goal
 
 -- the tally is looked up, and put moved
@@ -16,3 +21,19 @@ returns-in_ok-after-in-Some-clause-spares g c =
     let looked = write_read old mid {F = Failure} c.in_ok-found.found c.in_ok-found.found _ c.in_ok-found.ensures.found in
     write_then old mid new c.in_ok-found.found c.put_tally_of.result (λ before after. after ≡ before) (PutsTally c.args.lang.now c.in_ok-after-in-Some.after) SparesMain
     (λ same put. subst (λ db. SparesMain db new.now) same (tally_on_main put)) looked c.put_tally_of.ensures.put
+
+-- it is the one that was there, moved
+pub returns-in_ok-after-in-Some-clause-figures : goal.returns-in_ok-after-in-Some-clause-figures
+returns-in_ok-after-in-Some-clause-figures g c =
+    let old = state g.S.Store c.args.tx.now.conn.now in
+    let mid = state g.S.Store c.find_tally.new.tx.conn.now in
+    let new = state g.S.Store c.put_tally_of.new.tx.conn.now in
+    let lang = c.args.lang.now in
+    let domain = c.as_str.result.now in
+    let code = c.as_str-2.result.now in
+    let found = c.in_ok-found.found in
+    let after = c.in_ok-after-in-Some.after in
+    let Seen = λ (before now : Database). (now ≡ before) × ShowsTally domain code before found in
+    let looked = write_answered old mid {F = Failure} found found (ShowsTally domain code) c.in_ok-found.ensures.found in
+    write_then old mid new found c.put_tally_of.result Seen (PutsTally lang after) (FiguresFollow (moved_at main lang c.args.was c.args.is))
+    (moves_row domain code lang found c.in-Some.row c.in_ok-tally-in-Some.tally after c.args.was c.args.is old.now mid.now new.now (search rules) (search rules) (search rules) (search rules) (search rules)) looked c.put_tally_of.ensures.put

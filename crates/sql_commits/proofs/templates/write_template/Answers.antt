@@ -13,6 +13,9 @@ use Rattle.sql_changes.specs.UnitWrites.{WritesPlansBack, LeavesRows}
 use Rattle.sql_changes.proofs.MainSteps.{on_main_then, spares_last, template_emptied_on_main}
 use Rattle.sql_commits.proofs.PlannedWrites.{leaves_rows}
 use Rattle.sql_commits.proofs.WritesInTurn.{write_told, write_then}
+use Rattle.units.specs.Office.{main}
+use Rattle.sql_figures.specs.Figures.{with_tallies, FiguresFollow, FiguresStay}
+use Rattle.sql_figures.proofs.FigureSteps.{stay_both, stay_first, taken_beside, entry_beside}
 use Rattle.sql_commits.proofs.templates.write_template.Goals as goal
 
 pub returns-clause-put : goal.returns-clause-put
@@ -37,3 +40,17 @@ returns-clause-put g c =
     let written = write_then old put next {F = Failure} c.in_ok-put_entries.field-0 (Ok c.in_ok-write_plans_back.field-0) (OnMain (PutsTemplate entries)) (OnMain Plans) (OnMain Whole)
     (on_main_then (PutsTemplate entries) Plans Whole (λ template units. (main_rows (rows_named put.now), template, units))) template c.in_ok-write_plans_back.ensures.put in
     write_then old next new c.in_ok-write_plans_back.field-0 c.put_tallies.result (OnMain Whole) SparesMain (OnMain Whole) (spares_last (λ rows. ⊤) Whole) written c.put_tallies.ensures.spares
+
+-- its languages count what the tallies say
+pub returns-clause-figures : goal.returns-clause-figures
+returns-clause-figures g c =
+    let old = state g.S.Store c.args.tx.now.conn.now in
+    let bare = state g.S.Store c.empty_domain_template.new.tx.conn.now in
+    let put = state g.S.Store c.put_entries.new.tx.conn.now in
+    let next = state g.S.Store c.write_plans_back.new.tx.conn.now in
+    let new = state g.S.Store c.put_tallies.new.tx.conn.now in
+    let Tallied = FiguresFollow (with_tallies main c.args.tallies.now) in
+    let gone = write_told old bare {F = Failure} c.in_ok-empty_domain_template.field-0 c.in_ok-empty_domain_template.field-0 _ FiguresStay (taken_beside entry_beside) c.in_ok-empty_domain_template.ensures.taken in
+    let template = write_then old bare put {F = Failure} c.in_ok-empty_domain_template.field-0 (Ok c.in_ok-put_entries.field-0) FiguresStay FiguresStay FiguresStay stay_both gone c.in_ok-put_entries.ensures.figures in
+    let units = write_then old put next {F = Failure} c.in_ok-put_entries.field-0 (Ok c.in_ok-write_plans_back.field-0) FiguresStay FiguresStay FiguresStay stay_both template c.in_ok-write_plans_back.ensures.figures in
+    write_then old next new c.in_ok-write_plans_back.field-0 c.put_tallies.result FiguresStay Tallied Tallied (stay_first (λ counts. ⊤) (with_tallies main c.args.tallies.now)) units c.put_tallies.ensures.figures

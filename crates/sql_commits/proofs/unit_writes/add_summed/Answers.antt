@@ -1,8 +1,11 @@
-use Rattle.std.proofs.Common.{Ok, rules, arith, w64}
+use Rattle.std.proofs.Common.{Ok, rules, arith, w64, ◌≡◌, ◌∙◌, ℤ, to_z, of_z}
 use Rattle.std.proofs.lemmas.Int.{to_z_pos}
 use Rattle.sqlite.specs.Held.{state}
 use Rattle.sql_commits.specs.Votes.{AddsSummed}
 use Rattle.sql_commits.proofs.WritesInTurn.{write_ready, write_then, adds_summed}
+use Rattle.units.specs.Units.{vote_sum}
+use Rattle.sql_commits.specs.Figures.{PutsSum, AddsWithSum}
+use Rattle.sql_commits.proofs.FiguresInTurn.{adds_with_sum}
 use Rattle.sql_commits.proofs.unit_writes.add_summed.Goals as goal
 
 pub returns-clause-added : goal.returns-clause-added
@@ -20,3 +23,14 @@ returns-clause-added g c =
     write_then old mid new c.in_ok-add_domain_suggestion.field-0 c.put_sum.result _ _ (AddsSummed number lang key place suggester forms)
     (λ one summed. adds_summed number c.as_str.result.now lang key _ _ place suggester c.as_str-2.result.now forms old.now mid.now new.now (search rules) (to_z_pos w64 place (omega (arith, c.requires.fits))) (search rules) one.0 one.1 summed)
     added c.put_sum.ensures.put
+
+pub returns-clause-summed : goal.returns-clause-summed
+returns-clause-summed g c =
+    let old = state g.S.Store c.args.tx.now.conn.now in
+    let mid = state g.S.Store c.add_domain_suggestion.new.tx.conn.now in
+    let new = state g.S.Store c.put_sum.new.tx.conn.now in
+    let number = c.args.number.now in
+    let sum : ℤ = to_z w64 (of_z w64 c.sum.result) in
+    let through : sum ≡ c.sum.result = search rules in
+    write_then old mid new c.in_ok-add_domain_suggestion.field-0 c.put_sum.result _ (PutsSum number sum) (AddsWithSum number (vote_sum c.args.suggestion.now.votes))
+    (adds_with_sum number _ sum (vote_sum c.args.suggestion.now.votes) old.now mid.now new.now (through ∙ c.sum.ensures)) c.in_ok-add_domain_suggestion.ensures.added c.put_sum.ensures.put

@@ -7,6 +7,8 @@ use Rattle.sql_schema.specs.Keys.{first_three}
 use Rattle.sql_meaning.specs.Cells.{unit_cells}
 use Rattle.sql_commits.proofs.PlannedWrites.{unit_told}
 use Rattle.sql_commits.proofs.WritesInTurn.{write_mapped}
+use Rattle.sql_figures.specs.Figures.{FiguresStay}
+use Rattle.sql_figures.proofs.FigureSteps.{put_beside, unit_beside}
 use Rattle.sql_commits.proofs.unit_writes.put_row.Goals as goal
 
 pub returns-clause-put : goal.returns-clause-put
@@ -18,4 +20,10 @@ returns-clause-put g c =
     write_mapped old new c.put_domain_unit.result c.map_err.result _ _ (PutsRow (codes "d_unit") first_three (HoldsValues (Words main ∷ unit_cells lang unit))) c.map_err.ensures.cases
     (unit_told c.as_str.result.now lang c.as_str-2.result.now _ c.as_str-3.result.now _ _ _ c.as_str-4.result.now c.as_str-5.result.now unit old.now new.now (c.as_str.ensures.value ∙ c.main_domain-domain.ensures)
     (search rules) (search rules) (search rules) (search rules) (search rules) (search rules) (search rules) (search rules))
+    c.put_domain_unit.ensures.put
+
+-- units' rows are beside the figures
+pub returns-clause-figures : goal.returns-clause-figures
+returns-clause-figures g c =
+    write_mapped (state g.S.Store c.args.tx.now.conn.now) (state g.S.Store c.put_domain_unit.new.tx.conn.now) c.put_domain_unit.result c.map_err.result _ _ FiguresStay c.map_err.ensures.cases (put_beside unit_beside)
     c.put_domain_unit.ensures.put

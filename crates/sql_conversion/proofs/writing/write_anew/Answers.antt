@@ -10,9 +10,11 @@ use Rattle.sql_schema.specs.Inside.{PutsRow, HoldsValues}
 use Rattle.sql_schema.specs.Keys.{first_text}
 use Rattle.sql_changes.specs.Commits.{PutsPolicy}
 use Rattle.sql_changes.specs.OnMain.{OnMain}
+use Rattle.sql_figures.specs.Figures.{FiguresStay}
 use Rattle.sql_commits.proofs.WritesInTurn.{write_told, write_then, write_left}
-use Rattle.sql_conversion.specs.Conversion.{TellsPolicy, WritesProject, WritesAnew}
-use Rattle.sql_conversion.proofs.NothingThere.{nothing_there, MakesDomain, Begins, anew_then}
+use Rattle.sql_conversion.specs.Conversion.{TellsPolicy, WritesProject, WritesAnew, FollowsLanguages}
+use Rattle.sql_conversion.proofs.LanguagesCounted.{counted_behind, none_there}
+use Rattle.sql_conversion.proofs.NothingThere.{nothing_there, MakesDomain, Begins, anew_then, begins_uncounted}
 use Rattle.sql_conversion.proofs.writing.write_anew.Goals as goal
 
 pub returns-in-Some-clause-put : goal.returns-in-Some-clause-put
@@ -36,6 +38,18 @@ returns-in-Some-clause-put g c =
     write_then old told new c.in_ok-put_policy_of.field-0 c.write_project.result (Begins office) (OnMain (WritesProject (lent_project c.in-Some.project) langs)) (WritesAnew office langs)
     (λ begun written. anew_then office langs old.now told.now new.now begun (subst (λ (p : Project). OnMain (WritesProject p langs) told.now new.now) its written)) two c.write_project.ensures.put
 
+pub returns-in-Some-clause-figures : goal.returns-in-Some-clause-figures
+returns-in-Some-clause-figures g c =
+    let old = state g.S.Store c.args.tx.now.conn.now in
+    let made = state g.S.Store c.make_domain_tables.new.tx.conn.now in
+    let named = state g.S.Store c.put_domain.new.tx.conn.now in
+    let told = state g.S.Store c.put_policy_of.new.tx.conn.now in
+    let new = state g.S.Store c.write_project.new.tx.conn.now in
+    let Counted = FollowsLanguages (office_in c.args.maps.now) c.args.langs.now in
+    write_then old told new c.in_ok-put_policy_of.field-0 c.write_project.result FiguresStay Counted Counted (counted_behind (office_in c.args.maps.now) c.args.langs.now old.now told.now new.now)
+    (begins_uncounted old made named told c.in_ok-make_domain_tables.field-0 c.in_ok-put_domain.field-0 c.in_ok-put_policy_of.field-0 c.in_ok-make_domain_tables.ensures.made c.in_ok-put_domain.ensures.put c.in_ok-put_policy_of.ensures.others)
+    c.write_project.ensures.figures
+
 -- where `main` isn't there
 pub returns-in-None-clause-put : goal.returns-in-None-clause-put
 returns-in-None-clause-put g c =
@@ -55,3 +69,15 @@ returns-in-None-clause-put g c =
     (write_told named told {F = Failure} c.in_ok-put_policy_of.field-0 c.in_ok-put_policy_of.field-0 (TellsPolicy office.policy) (TellsPolicy office.policy) (λ it. it) policy) in
     write_told old told {F = Failure} c.in_ok-put_policy_of.field-0 c.in_ok-put_policy_of.field-0 (Begins office) (WritesAnew office langs)
     (λ begun. anew_then office langs old.now told.now told.now begun (nothing_there office langs told.now (search rules))) two
+
+pub returns-in-None-clause-figures : goal.returns-in-None-clause-figures
+returns-in-None-clause-figures g c =
+    let old = state g.S.Store c.args.tx.now.conn.now in
+    let made = state g.S.Store c.make_domain_tables.new.tx.conn.now in
+    let named = state g.S.Store c.put_domain.new.tx.conn.now in
+    let told = state g.S.Store c.put_policy_of.new.tx.conn.now in
+    let office = office_in c.args.maps.now in
+    let langs = c.args.langs.now in
+    write_told old told {F = Failure} c.in_ok-put_policy_of.field-0 _ FiguresStay (FollowsLanguages office langs)
+    (λ stays. counted_behind office langs old.now told.now told.now stays (none_there office langs told.now (search rules)))
+    (begins_uncounted old made named told c.in_ok-make_domain_tables.field-0 c.in_ok-put_domain.field-0 c.in_ok-put_policy_of.field-0 c.in_ok-make_domain_tables.ensures.made c.in_ok-put_domain.ensures.put c.in_ok-put_policy_of.ensures.others)

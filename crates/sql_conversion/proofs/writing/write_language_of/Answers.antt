@@ -1,19 +1,25 @@
 use Rattle.std.specs.Prelude.{⊤}
-use Rattle.std.proofs.Common.{refl, ap, Ok, None}
+use Rattle.std.proofs.Common.{◌≡◌, [], ◌∷◌, Some, None, option_map, Ok, refl, sym, ap, ◌∙◌, rules}
+use Rattle.std.specs.FinMap as maps
 use Rattle.std.specs.Option.{option_copied}
 use Rattle.sqlite.specs.Held.{state}
-use Rattle.units.specs.Project.{units_of}
-use Rattle.office_maps.specs.OfficeIn.{lent_project}
+use Rattle.units.specs.Office.{main, project_in}
+use Rattle.units.specs.Project.{Project, units_of}
+use Rattle.deliveries.specs.declared.values.Language.{Language}
+use Rattle.office_maps.specs.OfficeIn.{lent_project, office_in}
 use Rattle.sql_decoding.specs.declared.faults.Failure.{Failure}
 use Rattle.sql_meaning.specs.Meaning.{main_rows}
 use Rattle.sql_schema.specs.Layouts.{rows_named}
 use Rattle.sql_changes.specs.Commits.{PutsLanguage}
 use Rattle.sql_changes.specs.OnMain.{OnMain}
 use Rattle.sql_changes.proofs.MainSteps.{on_main_then, on_main_as, spares_last, tally_on_main, nothing_on_main}
+use Rattle.sql_figures.specs.Figures.{FiguresStay}
+use Rattle.sql_figures.proofs.FigureSteps.{stay_both}
 use Rattle.sql_commits.specs.Figures.{PutsTally}
-use Rattle.sql_commits.proofs.WritesInTurn.{nothing_put, write_then, write_as}
-use Rattle.sql_conversion.specs.Conversion.{WritesKept, WritesWhole, WritesThere}
-use Rattle.sql_conversion.proofs.LanguagesFound.{writes_found, writes_none}
+use Rattle.sql_commits.proofs.WritesInTurn.{nothing_put, write_then, write_as, write_fails}
+use Rattle.sql_conversion.specs.Conversion.{WritesKept, WritesWhole, WritesThere, FollowsLanguages}
+use Rattle.sql_conversion.proofs.LanguagesFound.{found_there, writes_found, writes_none}
+use Rattle.sql_conversion.proofs.LanguagesCounted.{language_counted, none_counted_of}
 use Rattle.sql_conversion.proofs.writing.write_language_of.Goals as goal
 
 -- its row, its units and their tally
@@ -37,6 +43,44 @@ returns-in_ok-tally-in-Some-clause-put g c =
     write_as old new c.put_tally_of.result (OnMain Whole) (OnMain (WritesThere project lang))
     (on_main_as Whole (WritesThere project lang) (writes_found c.args.project.now lang c.in-Some.language.now c.get.result c.get.ensures (ap option_copied c.in-Some.is) (main_rows (rows_named old.now)) (main_rows (rows_named new.now)))) whole
 
+-- it counts its units
+pub returns-in_ok-tally-in-Some-clause-figures : goal.returns-in_ok-tally-in-Some-clause-figures
+returns-in_ok-tally-in-Some-clause-figures g c =
+    let old = state g.S.Store c.args.tx.now.conn.now in
+    let mid = state g.S.Store c.put_language_of.new.tx.conn.now in
+    let next = state g.S.Store c.write_units_of.new.tx.conn.now in
+    let new = state g.S.Store c.put_tally_of.new.tx.conn.now in
+    let office = office_in c.args.maps.now in
+    let lang = c.args.lang.now in
+    let header = c.in-Some.language.now.header in
+    let tally = c.in_ok-tally-in-Some.tally in
+    let there : maps.get (project_in office main).headers lang ≡ Some header =
+    ap (λ (p : Project). maps.get p.headers lang) (sym c.requires.lent) ∙ found_there c.args.project.now lang c.get.result c.get.ensures
+    ∙ ap (option_map (λ (language : Language). language.header)) (ap option_copied c.in-Some.is) in
+    let written = write_then old mid next {F = Failure} c.in_ok-put_language_of-in-Some.field-0 (Ok c.in_ok-write_units_of-in-Some.field-0) FiguresStay FiguresStay FiguresStay stay_both
+    c.in_ok-put_language_of-in-Some.ensures.figures c.in_ok-write_units_of-in-Some.ensures.figures in
+    write_then old next new c.in_ok-write_units_of-in-Some.field-0 c.put_tally_of.result FiguresStay (PutsTally lang tally) (FollowsLanguages office (lang ∷ []))
+    (language_counted office lang header tally old.now next.now new.now there c.in_ok-tally-in-Some.ensures) written c.put_tally_of.ensures.put
+
+-- where nothing could be counted
+pub returns-in_err-tally-in-Some-clause-put : goal.returns-in_err-tally-in-Some-clause-put
+returns-in_err-tally-in-Some-clause-put g c =
+    let old = state g.S.Store c.args.tx.now.conn.now in
+    let mid = state g.S.Store c.put_language_of.new.tx.conn.now in
+    let next = state g.S.Store c.write_units_of.new.tx.conn.now in
+    let project = lent_project c.args.project.now in
+    let lang = c.args.lang.now in
+    write_fails old mid next {F = Failure} c.in_ok-put_language_of-in-Some.field-0 (Ok c.in_ok-write_units_of-in-Some.field-0) c.from_residual-in_err-tally-in-Some.result (OnMain (PutsLanguage lang c.in-Some.language.now.header))
+    (OnMain (WritesKept lang (units_of project lang))) (OnMain (WritesThere project lang)) (search rules) c.in_ok-put_language_of-in-Some.ensures.put c.in_ok-write_units_of-in-Some.ensures.put
+
+pub returns-in_err-tally-in-Some-clause-figures : goal.returns-in_err-tally-in-Some-clause-figures
+returns-in_err-tally-in-Some-clause-figures g c =
+    let old = state g.S.Store c.args.tx.now.conn.now in
+    let mid = state g.S.Store c.put_language_of.new.tx.conn.now in
+    let next = state g.S.Store c.write_units_of.new.tx.conn.now in
+    write_fails old mid next {F = Failure} c.in_ok-put_language_of-in-Some.field-0 (Ok c.in_ok-write_units_of-in-Some.field-0) c.from_residual-in_err-tally-in-Some.result FiguresStay FiguresStay
+    (FollowsLanguages (office_in c.args.maps.now) (c.args.lang.now ∷ [])) (search rules) c.in_ok-put_language_of-in-Some.ensures.figures c.in_ok-write_units_of-in-Some.ensures.figures
+
 -- one that isn't there
 pub returns-in-None-clause-put : goal.returns-in-None-clause-put
 returns-in-None-clause-put g c =
@@ -44,3 +88,12 @@ returns-in-None-clause-put g c =
     let There = WritesThere (lent_project c.args.project.now) c.args.lang.now in
     nothing_put old {E = Failure} _ (OnMain There) c.requires.steady c.requires.open
     (nothing_on_main There old.now (writes_none c.args.project.now c.args.lang.now None c.in-None.ensures refl (main_rows (rows_named old.now))))
+
+pub returns-in-None-clause-figures : goal.returns-in-None-clause-figures
+returns-in-None-clause-figures g c =
+    let old = state g.S.Store c.args.tx.now.conn.now in
+    let office = office_in c.args.maps.now in
+    let lang = c.args.lang.now in
+    let missing : maps.get (project_in office main).headers lang ≡ None =
+    ap (λ (p : Project). maps.get p.headers lang) (sym c.requires.lent) ∙ found_there c.args.project.now lang None c.in-None.ensures in
+    nothing_put old {E = Failure} _ (FollowsLanguages office (lang ∷ [])) c.requires.steady c.requires.open (none_counted_of office lang old.now missing)

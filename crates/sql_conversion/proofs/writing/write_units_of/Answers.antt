@@ -14,9 +14,11 @@ use Rattle.sql_schema.specs.Layouts.{rows_named}
 use Rattle.sql_changes.specs.OnMain.{OnMain}
 use Rattle.sql_changes.specs.UnitWrites.{WritesPlanned}
 use Rattle.sql_changes.proofs.MainSteps.{on_main_then, on_main_as, nothing_on_main}
-use Rattle.sql_commits.proofs.WritesInTurn.{nothing_put, write_then, write_told}
+use Rattle.sql_figures.specs.Figures.{FiguresStay}
+use Rattle.sql_figures.proofs.FigureSteps.{stay_both, nothing_follows}
+use Rattle.sql_commits.proofs.WritesInTurn.{nothing_put, write_then, write_told, write_fails}
 use Rattle.sql_conversion.specs.Conversion.{WritesKept}
-use Rattle.sql_conversion.proofs.WrittenInTurn.{UnitsBefore, no_unit_yet, one_unit_more, all_units_before, failed_behind}
+use Rattle.sql_conversion.proofs.WrittenInTurn.{UnitsBefore, no_unit_yet, one_unit_more, all_units_before}
 use Rattle.sql_conversion.proofs.writing.write_units_of.Goals as goal
 
 pub loop-place-init : goal.loop-place-init
@@ -26,8 +28,11 @@ loop-place-init g c =
     let units = c.args.project.now.domain.now.units in
     let left = c.into_iter-place-iterator.ensures.into_iter_gives ∙ c.range-place-items.ensures.between tt in
     let all = starts units lang c.in_ok-first.first c.into_iter-place-iterator.result c.in_ok-first.ensures.lang c.in_ok-first.ensures.key c.range-place-items.ensures.ordered left in
-    let None = UnitsBefore lang (own_of units lang) (taken lang c.into_iter-place-iterator.result) in
-    (refl, nothing_put old {E = Error} 0 (OnMain None) c.requires.steady c.requires.open (nothing_on_main None old.now (no_unit_yet lang (own_of units lang) (taken lang c.into_iter-place-iterator.result) (main_rows (rows_named old.now)) all)))
+    let None = UnitsBefore lang (own_of units lang) (taken lang c.into_iter-place-iterator.result) in (
+      refl,
+      nothing_put old {E = Error} 0 (OnMain None) c.requires.steady c.requires.open (nothing_on_main None old.now (no_unit_yet lang (own_of units lang) (taken lang c.into_iter-place-iterator.result) (main_rows (rows_named old.now)) all)),
+      nothing_put old {E = Error} 0 FiguresStay c.requires.steady c.requires.open (nothing_follows old.now),
+    )
 
 pub loop-place-preserved : goal.loop-place-preserved
 loop-place-preserved g c =
@@ -48,6 +53,8 @@ loop-place-preserved g c =
           (on_main_then Before (WritesPlanned lang unit) After
           (one_unit_more lang all (taken lang c.loop-place.place-iterator) (taken lang c.next.new.self) unit (main_rows (rows_named old.now)) (main_rows (rows_named mid.now)) (main_rows (rows_named new.now)) c.unit_fits.ensures more))
           c.loop-place.invariant.1 (write_told mid new {E = Failure} c.in_ok-write_planned.field-0 0 One One (λ made. made) c.in_ok-write_planned.ensures.put),
+      write_then old mid new {A = ℕ} {B = ℕ} {E = Error} {F = Error} 0 (Ok 0) FiguresStay FiguresStay FiguresStay stay_both c.loop-place.invariant.2
+          (write_told mid new {E = Failure} c.in_ok-write_planned.field-0 0 FiguresStay FiguresStay (λ stays. stays) c.in_ok-write_planned.ensures.figures),
     )
 
 -- where a write failed
@@ -58,8 +65,16 @@ returns-in_err-write_planned-clause-put g c =
     let new = state g.S.Store c.write_planned.new.tx.conn.now in
     let lang = c.args.lang.now in
     let all = own_of c.args.project.now.domain.now.units lang in
-    failed_behind {A = ℕ} {G = Error} old mid new 0 c.write_planned.result c.from_residual-in_err-write_planned.result (OnMain (UnitsBefore lang all (taken lang c.loop-place.place-iterator)))
+    write_fails old mid new {A = ℕ} {E = Error} 0 c.write_planned.result c.from_residual-in_err-write_planned.result (OnMain (UnitsBefore lang all (taken lang c.loop-place.place-iterator)))
     (OnMain (WritesPlanned lang c.in-Some.unit.now)) (OnMain (WritesKept lang all)) (search rules) c.loop-place.invariant.1 c.write_planned.ensures.put
+
+pub returns-in_err-write_planned-clause-figures : goal.returns-in_err-write_planned-clause-figures
+returns-in_err-write_planned-clause-figures g c =
+    let old = state g.S.Store c.args.tx.now.conn.now in
+    let mid = state g.S.Store c.loop-place.tx.conn.now in
+    let new = state g.S.Store c.write_planned.new.tx.conn.now in
+    write_fails old mid new {A = ℕ} {E = Error} 0 c.write_planned.result c.from_residual-in_err-write_planned.result FiguresStay FiguresStay FiguresStay (search rules) c.loop-place.invariant.2
+    c.write_planned.ensures.figures
 
 -- the next unit is another language's
 pub returns-then-ne-clause-put : goal.returns-then-ne-clause-put

@@ -7,7 +7,7 @@ use Rattle.sql_meaning.specs.Meaning.{project_of_rows}
 use Rattle.sql_decoding.specs.ShownFound.{IsShownFound}
 use Rattle.sql_exports.proofs.Results.{look_up_answered}
 use Rattle.store_sql.proofs.ViewsRead.{reads_view}
-use Rattle.store_sql.proofs.views.read_view.Goals as goal
+use Rattle.store_sql.proofs.unit_views.read_view.Goals as goal
 use Rattle.sql_schema.specs.Layouts.{rows_named}
 use Rattle.sql_schema.specs.Views.{seen_in}
 

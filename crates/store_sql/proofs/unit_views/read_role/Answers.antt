@@ -7,7 +7,7 @@ use Rattle.sql_meaning.specs.Meaning.{main_rows, project_of_rows}
 use Rattle.sql_decoding.specs.ShownFound.{shown_role}
 use Rattle.sql_exports.proofs.Results.{look_up_answered}
 use Rattle.store_sql.proofs.ViewsRead.{reads_role}
-use Rattle.store_sql.proofs.views.read_role.Goals as goal
+use Rattle.store_sql.proofs.unit_views.read_role.Goals as goal
 use Rattle.sql_schema.specs.Layouts.{rows_named}
 
 pub returns : goal.returns

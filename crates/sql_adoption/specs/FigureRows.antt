@@ -1,0 +1,127 @@
+-- What reads of kept figures show, and the tests of what they show. This project's own words.
+use Rattle.std.specs.Prelude.{◌≡◌, ◌&&◌, ◌++◌, pos, ℤ, List, [], ◌∷◌, filter, fold, Bool, true, false, Option, Some, None, IsSome, unwrap_or, String, codes}
+use Rattle.std.specs.Borrow.{Bor}
+use Rattle.std.specs.BTreeMap.{BTreeMap, get_by}
+use Rattle.std.specs.List.{list_all}
+use Rattle.std.specs.Ordering.{int_eq}
+use Rattle.sqlite.specs.declared.types.Value.{Value}
+use Rattle.sqlite.specs.declared.types.Value.TheVariants.{Null, Int, Real, Text as Words, Blob}
+use Rattle.sqlite.specs.Order.{Row, column}
+use Rattle.sqlite.specs.Effect.{Database}
+use Rattle.sqlite_rules.specs.Lists.{Has}
+use Rattle.po_text.specs.Texts.{Text, text_eq, text_cmp}
+use Rattle.units.specs.Units.{vote_sum}
+use Rattle.deliveries.specs.declared.tally.Tally.{Tally}
+use Rattle.sql_schema.specs.Keys.{text_at, has_text, columns}
+use Rattle.sql_statements.specs.DomainAnswers.{ShowsSums}
+use Rattle.sql_statements.specs.Tables.{ShowsTable}
+use Rattle.sql_meaning.specs.Cells.{tally_cells}
+use Rattle.sql_meaning.specs.OfficeShown.{votes_shown}
+use Rattle.sql_decoding.specs.RowTests.{holds_text, is_number, is_vote_row}
+use Rattle.sql_decoding.specs.TablesRead.{Votes, votes_of}
+use Rattle.sql_figures.specs.KeptTallies.{Counts, tally_columns}
+use Rattle.sql_adoption.specs.RisingRows.{integer_in}
+use Rattle.sql_adoption.specs.declared.figure_rows.FigureRows.{FigureRows}
+use Rattle.sql_adoption.specs.declared.language_tallies.Counted.{Counted}
+
+-- ---- what is read
+
+-- domain, lang, untranslated, needs_editing, translated, approved, read_only, suggestions, obsolete
+abbrev pub ShowsAllTallies : Database → List Row → Type 0
+ShowsAllTallies = ShowsTable (codes "d_tally") tally_columns (0 ∷ 1 ∷ [])
+
+-- number
+abbrev pub ShowsNumbers : Database → List Row → Type 0
+ShowsNumbers = ShowsTable (codes "d_suggestion") (1 ∷ []) (0 ∷ [])
+
+-- voter, value, number
+abbrev pub ShowsAllVotes : Database → List Row → Type 0
+ShowsAllVotes = ShowsTable (codes "d_vote") (2 ∷ 3 ∷ 1 ∷ []) (2 ∷ 0 ∷ [])
+
+-- the figures, and what their sums are of
+pub record ShowsFigures (db : Database) (rows : FigureRows) : Type 0 where
+  pub tallies : ShowsAllTallies db rows.tallies.items
+  pub suggestions : ShowsNumbers db rows.suggestions.items
+  pub votes : ShowsAllVotes db rows.votes.items
+  pub sums : ShowsSums db rows.sums.items
+
+-- ---- tests of columns
+
+abbrev pub is_words : Text → Value → Bool
+is_words text Null = false
+is_words text (Int n) = false
+is_words text (Real x) = false
+is_words text (Words t) = text_eq t text
+is_words text (Blob b) = false
+
+abbrev pub is_integer : ℤ → Value → Bool
+is_integer number Null = false
+is_integer number (Int n) = int_eq n number
+is_integer number (Real x) = false
+is_integer number (Words t) = false
+is_integer number (Blob b) = false
+
+-- ---- tallies
+
+abbrev pub shows_counts : Tally → Row → Bool
+shows_counts tally row =
+    is_integer (pos tally.untranslated) (column row 2) && (is_integer (pos tally.needs_editing) (column row 3) && (is_integer (pos tally.translated) (column row 4)
+    && (is_integer (pos tally.approved) (column row 5) && (is_integer (pos tally.read_only) (column row 6) && (is_integer (pos tally.suggestions) (column row 7)
+    && is_integer (pos tally.obsolete) (column row 8))))))
+
+-- the row is that of a language of a domain, with what it counts
+abbrev pub is_row_of : Text → Counted → Row → Bool
+is_row_of domain counted row = is_words domain (column row 0) && (is_words counted.lang.now (column row 1) && shows_counts counted.tally row)
+
+-- those of these languages that are there, each with what it counts
+pub record AreCounted (counts : Text → Option Tally) (langs : List Text) (counted : List Counted) : Type 0 where
+  pub only : (c : Counted) → Has counted c → counts c.lang.now ≡ Some c.tally
+  pub all : (lang : Text) (tally : Tally) → Has langs lang → counts lang ≡ Some tally → (c : Counted) × Has counted c × (c.lang.now ≡ lang)
+
+-- one language more
+abbrev pub CountsOneMore : Option Tally → Text → List Counted → List Counted → Type 0
+CountsOneMore None lang old new = new ≡ old
+CountsOneMore (Some tally) lang old new = (c : Counted) × (c.lang.now ≡ lang) × (c.tally ≡ tally) × (new ≡ old ++ c ∷ [])
+
+-- each row that is shown is of a language that is there and holds its counts, and each language that is there has one
+pub record AreTalliesShown (counts : Counts) (rows : List Row) : Type 0 where
+  pub counted : (row : Row) → Has rows row
+      → (tally : Tally) × (columns (0 ∷ 1 ∷ 2 ∷ 3 ∷ 4 ∷ 5 ∷ 6 ∷ 7 ∷ 8 ∷ []) row ≡ tally_cells (text_at 0 row) (text_at 1 row) tally) × (counts (text_at 0 row) (text_at 1 row) ≡ Some tally)
+  pub all : (domain lang : Text) → IsSome (counts domain lang) → (row : Row) × Has rows row × (text_at 0 row ≡ domain) × (text_at 1 row ≡ lang)
+
+-- ---- sums
+
+-- under the texts of their suggestions' numbers; none where the column is no integer
+abbrev pub Sums : Type 0
+Sums = BTreeMap (Bor Text) (Option ℤ)
+
+abbrev pub sum_in : Sums → Text → Option ℤ
+sum_in sums number = unwrap_or (get_by (λ k. text_cmp number k.now) sums) None
+
+-- number, sum: that of the last row of a number
+abbrev pub sum_shown : List Row → Text → Option ℤ
+sum_shown rows number = fold (λ before row. integer_in (column row 1)) None (filter (has_text 0 number) rows)
+
+abbrev pub is_sum : Option ℤ → ℤ → Bool
+is_sum None n = false
+is_sum (Some m) n = int_eq m n
+
+-- the suggestion whose number a row shows has a sum, which is that of its votes
+abbrev pub has_its_sum : {A : Type 0} → BTreeMap (String A) Votes → Sums → Row → Bool
+has_its_sum votes sums row = is_sum (sum_in sums (text_at 0 row)) (vote_sum (votes_of votes (text_at 0 row)))
+
+abbrev pub has_shown_sum : FigureRows → Row → Bool
+has_shown_sum rows row = is_sum (sum_shown rows.sums.items (text_at 0 row)) (vote_sum (votes_shown rows.votes.items (text_at 0 row)))
+
+abbrev pub have_shown_sums : FigureRows → Bool
+have_shown_sums rows = list_all (has_shown_sum rows) rows.suggestions.items
+
+-- votes and numbers of suggestions stand for values
+abbrev pub votes_stand : FigureRows → Bool
+votes_stand rows = list_all is_vote_row rows.votes.items && list_all (holds_text is_number 0) rows.suggestions.items
+
+-- ---- both
+
+pub record ShowFigures (counts : Counts) (rows : FigureRows) : Type 0 where
+  pub tallies : AreTalliesShown counts rows.tallies.items
+  pub sums : have_shown_sums rows ≡ true

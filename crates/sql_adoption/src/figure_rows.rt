@@ -1,0 +1,87 @@
+//! The rows of figures that tables by domains keep, and those that they are of, read in one transaction. It ends by a commit, since only that
+//! tells that the connection is still open.
+ghost use Rattle.std.specs.Prelude.{◌≡◌, false};
+ghost use Rattle.sqlite.specs.Held.{state};
+ghost use Rattle.sql_schema.specs.Inside.{IsSteadyOver, IsReadOf};
+ghost use Rattle.sql_schema.specs.Layouts.{by_domain};
+ghost use Rattle.sql_schema.specs.Whole.{IsIdleOver, IsLookUp};
+ghost use Rattle.sql_adoption.specs.FigureRows.{ShowsAllTallies, ShowsNumbers, ShowsAllVotes, ShowsFigures};
+
+use sql_statements::vote_sums::all_sums;
+use sqlite::{Alter, Connection, Error, Row, Transaction};
+
+/// All tallies, the numbers of all suggestions, all votes on these, and all sums of votes, of whatever domain.
+#[derive(Drop)]
+pub struct FigureRows {
+    pub tallies: Vec<Row>,
+    pub suggestions: Vec<Row>,
+    pub votes: Vec<Row>,
+    pub sums: Vec<Row>,
+}
+
+/// The tallies of all domains by domain and language: each one's domain, language, untranslated, needing editing, translated, approved,
+/// read-only, suggestions and obsolete.
+fn all_tallies<S: Alter>(tx: &mut Transaction<'_, S>) -> Result<Vec<Row>, Error>
+    requires steady { IsSteadyOver by_domain (state S.Store tx.old.conn.now) }
+    ensures same_reference { tx.new.conn.ghost_name ≡ tx.old.conn.ghost_name }
+    ensures found { IsReadOf by_domain (state S.Store tx.old.conn.now) (state S.Store tx.new.conn.now) result
+        (λ db rows. ShowsAllTallies db rows.items) }
+{
+    tx.query_all(
+        "SELECT domain, lang, untranslated, needs_editing, translated, approved, read_only, suggestions, obsolete FROM d_tally ORDER BY domain, lang",
+        &[],
+    )
+}
+
+/// The numbers of the suggestions of all domains, in their order.
+fn all_numbers<S: Alter>(tx: &mut Transaction<'_, S>) -> Result<Vec<Row>, Error>
+    requires steady { IsSteadyOver by_domain (state S.Store tx.old.conn.now) }
+    ensures same_reference { tx.new.conn.ghost_name ≡ tx.old.conn.ghost_name }
+    ensures found { IsReadOf by_domain (state S.Store tx.old.conn.now) (state S.Store tx.new.conn.now) result
+        (λ db rows. ShowsNumbers db rows.items) }
+{
+    tx.query_all("SELECT number FROM d_suggestion ORDER BY number", &[])
+}
+
+/// The votes on the suggestions of all domains by number and voter: each one's voter, value and number.
+fn all_votes<S: Alter>(tx: &mut Transaction<'_, S>) -> Result<Vec<Row>, Error>
+    requires steady { IsSteadyOver by_domain (state S.Store tx.old.conn.now) }
+    ensures same_reference { tx.new.conn.ghost_name ≡ tx.old.conn.ghost_name }
+    ensures found { IsReadOf by_domain (state S.Store tx.old.conn.now) (state S.Store tx.new.conn.now) result
+        (λ db rows. ShowsAllVotes db rows.items) }
+{
+    tx.query_all(
+        "SELECT voter, value, number FROM d_vote ORDER BY number, voter",
+        &[],
+    )
+}
+
+/// All of them. It wants the transaction open and leaves it open.
+fn all_figures<S: Alter>(tx: &mut Transaction<'_, S>) -> Result<FigureRows, Error>
+    requires steady { IsSteadyOver by_domain (state S.Store tx.old.conn.now) }
+    ensures same_reference { tx.new.conn.ghost_name ≡ tx.old.conn.ghost_name }
+    ensures found { IsReadOf by_domain (state S.Store tx.old.conn.now) (state S.Store tx.new.conn.now) result ShowsFigures }
+{
+    let tallies = all_tallies(tx)?;
+    let suggestions = all_numbers(tx)?;
+    let votes = all_votes(tx)?;
+    let sums = all_sums(tx)?;
+    Ok(FigureRows {
+        tallies,
+        suggestions,
+        votes,
+        sums,
+    })
+}
+
+/// The rows of figures, and those that they are of. On an error nothing is known of them, and the rows are as before.
+pub(crate) fn look_up_figures<S: Alter>(connection: &mut Connection<S>) -> Result<FigureRows, Error>
+    requires autocommit { connection.old.in_transaction ≡ false }
+    requires idle { IsIdleOver by_domain (state S.Store connection.old) }
+    ensures found { IsLookUp (state S.Store connection.old) (state S.Store connection.new) result ShowsFigures }
+{
+    let mut tx = connection.transaction();
+    let rows = all_figures(&mut tx)?;
+    tx.commit()?;
+    Ok(rows)
+}

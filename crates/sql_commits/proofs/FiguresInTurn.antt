@@ -1,0 +1,210 @@
+-- Sums and tallies behind writes one after the other: of a unit's view, of plans' tallies, of a policy, and behind a request's record.
+use Rattle.std.specs.Prelude.{⊤}
+use Rattle.std.proofs.Common.{◌≡◌, ℕ, ◌+◌, ◌<◌, ℤ, pos, ◌+ℤ◌, List, [], ◌∷◌, ◌++◌, length, take, get_or, map, Bool, true, false, Option, Some, None, Result, Ok, Err, option_map, codes, refl, sym, ap, subst, ◌∙◌, arith}
+use Rattle.std.proofs.lemmas.List.{take_more, length-map}
+use Rattle.std.specs.FinMap as maps
+use Rattle.sqlite.specs.declared.types.Value.TheVariants.{Text as Words}
+use Rattle.sqlite.specs.Order.{Row, column}
+use Rattle.sqlite.specs.Effect.{Database}
+use Rattle.sqlite.specs.State.{State, HasCleanDisk}
+use Rattle.sqlite_sql.specs.Ops.{fits_i64}
+use Rattle.sqlite_rules.specs.Edit.{id_in}
+use Rattle.sqlite_rules.specs.Lists.{Has}
+use Rattle.po_text.specs.declared.entry.Entry.{Entry}
+use Rattle.po_text.specs.Texts.{Text}
+use Rattle.units.specs.KeyTexts.{HasStrings}
+use Rattle.units.specs.Office.{main, same_domain}
+use Rattle.units.specs.Project.{Project, entry_of}
+use Rattle.units.specs.Units.{key_text}
+use Rattle.units.specs.declared.unit.Key.{Key}
+use Rattle.units.specs.declared.unit.Policy.{Policy}
+use Rattle.units.specs.declared.unit.Suggestion.{Suggestion}
+use Rattle.units.specs.declared.unit.UnitView.{UnitView}
+use Rattle.deliveries.specs.declared.tally.Tally.{Tally}
+use Rattle.deliveries.specs.declared.values.Change.{Change}
+use Rattle.deliveries.specs.declared.values.Change.TheVariants.{OneRole, NewPolicy, NewDomain, InDomain}
+use Rattle.deliveries.specs.declared.values.DomainChange.{DomainChange}
+use Rattle.deliveries.specs.declared.values.DomainChange.TheVariants.{NewLanguage, NewTemplate}
+use Rattle.tables.specs.Tallies.{counted, moved}
+use Rattle.sql_schema.specs.Inside.{AreOfficeTablesOf, IsSteadyOver, IsInsideOf, IsReadOf, OnRows, PutsRow, HoldsValues}
+use Rattle.sql_schema.specs.Keys.{first_text}
+use Rattle.sql_schema.specs.Layouts.{by_domain, NamedRows, rows_named, SparesOthers}
+use Rattle.sql_schema.proofs.DomainViews.{unit_found_seen}
+use Rattle.sql_schema.proofs.Layouts.{names_differ}
+use Rattle.sql_statements.specs.Added.{AddsRow}
+use Rattle.sql_statements.specs.DomainAnswers.{ShowsTally, ShowsDomainUnit, ShowsDomainSuggestions}
+use Rattle.sql_statements.specs.DomainRenewed.{is_approved_in_domain, UnapprovesDomainUnits, UnapprovesTallies}
+use Rattle.sql_statements.proofs.SeenAnswers.{suggestions_shown_seen}
+use Rattle.sql_meaning.specs.Meaning.{main_rows}
+use Rattle.sql_meaning.specs.Shown.{shown_tally, shown_unit, shown_suggestion}
+use Rattle.sql_meaning.proofs.DomainOfficeRows.{domain_rows}
+use Rattle.sql_meaning.proofs.OfficeQueries.{suggestions_found}
+use Rattle.sql_meaning.proofs.Units.{finds_unit}
+use Rattle.sql_figures.specs.KeptTallies.{Counts, counted_at}
+use Rattle.sql_figures.specs.Figures.{with_tally, with_tallies, moved_at, HaveRoom, FiguresFollowWhere, FiguresFollow, FiguresStay}
+use Rattle.sql_figures.proofs.FigureSteps.{stay_first, stay_last, stay_both, stay_where, follow_both, follow_tally, follow_moved, follow_turned, nothing_moves, stay_beside, units_turned, record_beside, policy_beside, record_alone}
+use Rattle.sql_commits.specs.Figures.{PutsTally, AddsWithSum, PutsSum, main_project, IsSourceIn, counted_before, CountsThere, FollowsUnit, FollowsView, FollowsIf, FollowsIn, FollowsDomainChange, turned_unless, FollowsPolicy, FollowsOneChange}
+
+module _ (a b : State) where
+  -- a query, with what it answers
+  pub write_answered : {A B E F : Type 0} (x : A) (y : B) (IsAnswer : Database → A → Type 0) → IsReadOf {E = E} by_domain a b (Ok x) IsAnswer
+      → IsInsideOf {E = F} by_domain a b (Ok y) (λ old new. (new ≡ old) × IsAnswer old x)
+  write_answered x y IsAnswer it = record { made = λ clean. (it.same clean, it.answer clean); ready = it.ready; stays = it.stays; kept = it.kept; survives = it.survives }
+
+  -- with what is known of the rows before it
+  pub write_known : {A E : Type 0} (x : A) (P : Database → Database → Type 0) (Q : Database → Type 0) → (HasCleanDisk b → Q a.now) → IsInsideOf {E = E} by_domain a b (Ok x) P
+      → IsInsideOf {E = E} by_domain a b (Ok x) (λ old new. P old new × Q old)
+  write_known x P Q known it = record { made = λ clean. (it.made clean, known clean); ready = it.ready; stays = it.stays; kept = it.kept; survives = it.survives }
+
+  -- two things that a write made, in one
+  pub write_joined : {A E : Type 0} (r : Result A E) (P Q R : Database → Database → Type 0) → (P a.now b.now → Q a.now b.now → R a.now b.now)
+      → IsInsideOf by_domain a b r P → IsInsideOf by_domain a b r Q → IsInsideOf by_domain a b r R
+  write_joined (Ok x) P Q R joined one two = record { made = λ clean. joined (one.made clean) (two.made clean); ready = one.ready; stays = one.stays; kept = one.kept; survives = one.survives }
+  write_joined (Err e) P Q R joined one two = record { made = λ clean. tt; ready = λ clean. tt; stays = λ clean. tt; kept = one.kept; survives = one.survives }
+
+  -- what a query answers, over tables that obey their schema
+  pub read_over : {A E : Type 0} (x : A) (IsAnswer : Database → A → Type 0) → IsSteadyOver by_domain a → IsReadOf {E = E} by_domain a b (Ok x) IsAnswer → HasCleanDisk b → AreOfficeTablesOf by_domain a.now × IsAnswer a.now x
+  read_over x IsAnswer steady it clean = (steady.ready (omega (arith, clean, it.survives.clean)) ((it.kept clean).was_open (it.stays clean).is_open), it.answer clean)
+
+-- a table's other rows
+pub put_others : {old new : Database} {K : Type 0} {key : Row → K} {IsRow : Row → Type 0} {name : List ℕ} → PutsRow name key IsRow old new → OnRows (SparesOthers name) old new
+put_others it = it.others
+
+-- ---- a unit of `main` that gets a view
+
+-- what rows show of a unit that is looked up, and of its suggestions, is the unit
+pub unit_looked_up : (db : Database) → AreOfficeTablesOf by_domain db → (domain lang column : Text) (key : Key) (found : Option Row) (rows : List Row) → domain ≡ main → column ≡ key_text key → HasStrings key
+    → ShowsDomainUnit domain lang column db found → ShowsDomainSuggestions domain lang column db rows
+    → maps.get (main_project db).units (lang, key) ≡ option_map (shown_unit key (map (shown_suggestion (main_rows (rows_named db))) rows)) found
+unit_looked_up db ready domain lang column key found rows is_main is_key strings unit suggestions =
+    let tables = main_rows (rows_named db) in
+    let office = domain_rows db ready main in
+    let of_unit = subst (λ (x : Text × Text). ShowsDomainUnit x.0 lang x.1 db found) (λ i. (is_main i, is_key i)) unit in
+    let of_suggestions = subst (λ (x : Text × Text). ShowsDomainSuggestions x.0 lang x.1 db rows) (λ i. (is_main i, is_key i)) suggestions in
+    let seen = suggestions_shown_seen main lang (key_text key) db rows of_suggestions in
+    finds_unit tables lang key found office.keyed.one_unit strings (unit_found_seen main lang (key_text key) db found of_unit (tables (codes "unit")) refl)
+    ∙ ap (λ ss. option_map (shown_unit key ss) found) (suggestions_found tables office lang (key_text key) rows seen.0 seen.1)
+
+-- what it counts
+pub unit_counted : (db : Database) → AreOfficeTablesOf by_domain db → (domain lang column : Text) (view : UnitView) (found : Option Row) (row : Row) (rows : List Row) (tally : Tally) → domain ≡ main
+    → column ≡ key_text view.unit.key → HasStrings view.unit.key → found ≡ Some row → ShowsDomainUnit domain lang column db found × ShowsDomainSuggestions domain lang column db rows
+    → (IsSourceIn (main_project db) view → (ss : List Suggestion) → length ss ≡ length rows → tally ≡ counted (main_project db).template (shown_unit view.unit.key ss row)) → CountsThere lang view db tally
+unit_counted db ready domain lang column view found row rows tally is_main is_key strings is_found shown counts source =
+    let tables = main_rows (rows_named db) in
+    let ss = map (shown_suggestion tables) rows in
+    counts source ss (length-map rows (shown_suggestion tables))
+    ∙ ap (counted_at (main_project db).template) (sym (unit_looked_up db ready domain lang column view.unit.key found rows is_main is_key strings shown.0 shown.1 ∙ ap (option_map (shown_unit view.unit.key ss)) is_found))
+
+-- where there is none
+pub none_counted_there : (db : Database) → AreOfficeTablesOf by_domain db → (domain lang column : Text) (view : UnitView) (found : Option Row) (rows : List Row) (tally : Tally) → domain ≡ main
+    → column ≡ key_text view.unit.key → HasStrings view.unit.key → found ≡ None → ShowsDomainUnit domain lang column db found × ShowsDomainSuggestions domain lang column db rows
+    → tally ≡ counted_at (main_project db).template None → CountsThere lang view db tally
+none_counted_there db ready domain lang column view found rows tally is_main is_key strings is_found shown is_none source =
+    let tables = main_rows (rows_named db) in
+    let ss = map (shown_suggestion tables) rows in
+    is_none
+    ∙ ap (counted_at (main_project db).template) (sym (unit_looked_up db ready domain lang column view.unit.key found rows is_main is_key strings shown.0 shown.1 ∙ ap (option_map (shown_unit view.unit.key ss)) is_found))
+
+-- its language's tally is looked up, and put moved
+pub moves_row : (domain code lang : Text) (found : Option Row) (row : Row) (tally after was is : Tally) (old mid new : Database) → domain ≡ main → code ≡ lang → found ≡ Some row → tally ≡ shown_tally row
+    → after ≡ moved tally was is → (mid ≡ old) × ShowsTally domain code old found → PutsTally lang after mid new → FiguresFollow (moved_at main lang was is) old new
+moves_row domain code lang found row tally after was is old mid new is_main is_lang is_found is_tally is_after seen put =
+    follow_moved main lang row was is (subst (λ (x : Text × Text × Option Row). ShowsTally x.0 x.1 old x.2) (λ i. (is_main i, is_lang i, is_found i)) seen.1)
+    (subst (λ (db : Database). PutsTally lang (moved (shown_tally row) was is) db new) seen.0
+    (subst (λ (t : Tally). PutsTally lang t mid new) (is_after ∙ ap (λ (t : Tally). moved t was is) is_tally) put))
+
+-- what its new view counts, by its template's entry
+abbrev pub CountsView : UnitView → Tally → Type 0
+CountsView view tally = (template : List Entry) → view.source ≡ entry_of template view.unit.key → tally ≡ counted template view.unit
+
+pub moves_nothing : (lang : Text) (view : UnitView) (was is : Tally) (old new : Database) → was ≡ is → CountsView view is → (new ≡ old) × CountsThere lang view old was → FollowsView lang view old new
+moves_nothing lang view was is old new same now before source =
+    subst (FiguresFollow (moved_at main lang (counted_before (main_project old) lang view) (counted (main_project old).template view.unit)) old) (sym before.0)
+    (nothing_moves old main lang (counted_before (main_project old) lang view) (counted (main_project old).template view.unit) (sym (before.1 source) ∙ same ∙ now (main_project old).template source))
+
+pub moves_view : (lang : Text) (view : UnitView) (was is : Tally) (old mid new : Database) → CountsView view is → (mid ≡ old) × CountsThere lang view old was → FiguresFollow (moved_at main lang was is) mid new
+    → FollowsView lang view old new
+moves_view lang view was is old mid new now before follows source =
+    let first = before.1 source in
+    let second = now (main_project old).template source in
+    subst (λ (x : Tally × Tally). FiguresFollow (moved_at main lang x.0 x.1) old new) (λ i. (first i, second i)) (subst (λ (db : Database). FiguresFollow (moved_at main lang was is) db new) before.0 follows)
+
+-- and the unit is written
+pub view_written : (lang : Text) (view : UnitView) (old mid new : Database) → FollowsView lang view old mid → FiguresStay mid new → FollowsView lang view old new
+view_written lang view old mid new moved stays source =
+    stay_last (λ counts. ⊤) (moved_at main lang (counted_before (main_project old) lang view) (counted (main_project old).template view.unit)) (moved source) stays
+
+-- ---- a suggestion that is added, with its sum
+
+pub adds_with_sum : (number : Text) (cells : Row) (sum again : ℤ) (old mid new : Database) → sum ≡ again → AddsRow (codes "d_suggestion") first_text (HoldsValues (Words number ∷ cells)) old mid → PutsSum number sum mid new
+    → AddsWithSum number again old new
+adds_with_sum number cells sum again old mid new same added summed = (
+  mid,
+  record {
+    puts = record { row = added.puts.row; is_row = ap first_text added.puts.is_row.1; put = added.puts.put; others = added.puts.others; schema = added.puts.schema };
+    fresh = added.fresh;
+  },
+  subst (λ (n : ℤ). PutsSum number n mid new) same summed,
+)
+
+-- ---- tallies of languages, one after the other
+
+with_one_more : (domain : Text) (tallies : List (Text × Tally)) (t : Text × Tally) (counts : Counts) → with_tallies domain (tallies ++ t ∷ []) counts ≡ with_tally domain t.0 t.1 (with_tallies domain tallies counts)
+with_one_more domain [] t counts = refl
+with_one_more domain (first ∷ more) t counts = with_one_more domain more t (with_tally domain first.0 first.1 counts)
+
+pub tallies_next : (tallies : List (Text × Tally)) (i : ℕ) (t : Text × Tally) (old mid new : Database) → i < length tallies → t ≡ get_or tallies i t → FiguresFollow (with_tallies main (take i tallies)) old mid
+    → PutsTally t.0 t.1 mid new → FiguresFollow (with_tallies main (take (i + 1) tallies)) old new
+tallies_next tallies i t old mid new within is front put =
+    let taken : take (i + 1) tallies ≡ take i tallies ++ t ∷ [] = take_more tallies i t within ∙ ap (λ v. take i tallies ++ v ∷ []) (sym is) in
+    subst (λ ts. FiguresFollow (with_tallies main ts) old new) (sym taken)
+    (subst (λ (change : Counts → Counts). FiguresFollow change old new) (λ k counts. sym (with_one_more main (take i tallies) t counts) k)
+    (follow_both (with_tallies main (take i tallies)) (with_tally main t.0 t.1) front (follow_tally main t.0 t.1 put)))
+
+-- ---- a policy
+
+pub policy_stays : (policy : Policy) (old new : Database) → policy.reviews ≡ true → SparesOthers (codes "policy") (rows_named old) (rows_named new) → FollowsPolicy policy old new
+policy_stays policy old new reviews others next =
+    subst (λ (b : Bool). FiguresFollowWhere HaveRoom (turned_unless b) old new) (sym reviews) (stay_where HaveRoom (stay_beside (codes "policy") policy_beside others))
+
+next_still : (old new : NamedRows) → new (codes "d_unit") ≡ old (codes "d_unit") → ((row : Row) → Has (old (codes "d_unit")) row → is_approved_in_domain row ≡ true → fits_i64 (id_in (column row 8) +ℤ pos 1) ≡ true)
+    → (row : Row) → Has (new (codes "d_unit")) row → is_approved_in_domain row ≡ true → fits_i64 (id_in (column row 8) +ℤ pos 1) ≡ true
+next_still old new same next = subst (λ (rows : List Row). (row : Row) → Has rows row → is_approved_in_domain row ≡ true → fits_i64 (id_in (column row 8) +ℤ pos 1) ≡ true) (sym same) next
+
+pub policy_turns : (policy : Policy) (old mid between new : Database) → policy.reviews ≡ false → SparesOthers (codes "policy") (rows_named old) (rows_named mid) → UnapprovesDomainUnits mid between → UnapprovesTallies between new
+    → FollowsPolicy policy old new
+policy_turns policy old mid between new reviews others units tallies next =
+    subst (λ (b : Bool). FiguresFollowWhere HaveRoom (turned_unless b) old new) (sym reviews)
+    (stay_first HaveRoom (turned_unless false) (stay_both (stay_beside (codes "policy") policy_beside others)
+    (units_turned (next_still (rows_named old) (rows_named mid) (others (codes "d_unit") (names_differ refl)) next) units)) (follow_turned tallies))
+
+-- ---- behind a request's record
+
+module _ (old mid new : Database) (others : SparesOthers (codes "record") (rows_named old) (rows_named mid)) where
+  stays : FiguresStay old mid
+  stays = stay_beside (codes "record") record_beside others
+
+  pub view_behind : (domain lang : Text) (view : UnitView) → FollowsIn domain (FollowsView lang view) mid new → FollowsIn domain (FollowsView lang view) old new
+  view_behind domain lang view = by (same_domain domain main)
+    where
+      by : (b : Bool) → FollowsIf b (FollowsView lang view) mid new → FollowsIf b (FollowsView lang view) old new
+      by true follows =
+          let project = record_alone (rows_named old) (rows_named mid) others in
+          let own : FollowsUnit (main_project old) lang view mid new = subst (λ (p : Project). FollowsUnit p lang view mid new) project follows in
+          λ source. stay_first (λ counts. ⊤) (moved_at main lang (counted_before (main_project old) lang view) (counted (main_project old).template view.unit)) stays (own source)
+      by false follows = stay_both stays follows
+
+  domain_change_behind : (change : DomainChange) → FollowsDomainChange change mid new → FollowsDomainChange change old new
+  domain_change_behind (NewLanguage lang language plan tally) follows = stay_first (λ counts. ⊤) (with_tally main lang tally) stays follows
+  domain_change_behind (NewTemplate template plans tallies) follows = stay_first (λ counts. ⊤) (with_tallies main tallies.items) stays follows
+
+  in_domain_behind : (b : Bool) (change : DomainChange) → FollowsIf b (FollowsDomainChange change) mid new → FollowsIf b (FollowsDomainChange change) old new
+  in_domain_behind true change follows = domain_change_behind change follows
+  in_domain_behind false change follows = stay_both stays follows
+
+  pub change_behind : (change : Change) → FollowsOneChange change mid new → FollowsOneChange change old new
+  change_behind (OneRole name role) follows = stay_both stays follows
+  change_behind (NewPolicy policy) follows =
+      λ next. stay_first HaveRoom (turned_unless policy.reviews) stays (follows (next_still (rows_named old) (rows_named mid) (others (codes "d_unit") (names_differ refl)) next))
+  change_behind (NewDomain domain) follows = stay_both stays follows
+  change_behind (InDomain domain change) follows = in_domain_behind (same_domain domain main) change follows

@@ -1,0 +1,171 @@
+-- Sums and tallies that are what counting the rows gives still are, behind the commit of an act.
+use Rattle.std.proofs.Common.{◌≡◌, ◌+◌, ◌<◌, ◌^◌, Bool, true, false, cond, Option, Some, None, option_map, codes, refl, sym, ap, subst, ◌∙◌, arith}
+use Rattle.std.specs.Prelude.{IfSome}
+use Rattle.std.specs.Cmp.{eq_by_cmp_equiv}
+use Rattle.std.specs.FinMap as maps
+use Rattle.sqlite.specs.Effect.{Database}
+use Rattle.po_text.specs.declared.entry.Entry.{Entry}
+use Rattle.po_text.specs.Texts.{Text}
+use Rattle.units.specs.Office.{Office, main, same_domain, project_in}
+use Rattle.units.specs.Offices.{IsOffice}
+use Rattle.units.specs.Orders.{place_total}
+use Rattle.units.specs.Project.{Project, entry_of, units_of}
+use Rattle.units.specs.declared.unit.Key.{Key}
+use Rattle.units.specs.declared.unit.UnitView.{UnitView}
+use Rattle.deliveries.specs.Counting.{AreWithin}
+use Rattle.deliveries.specs.Tally.{counts_in}
+use Rattle.deliveries.specs.OfficeChanges.{changed_project, changed, changed_by, IsPossible, IsPossibleChange, IsPossibleIn}
+use Rattle.deliveries.specs.UnitAccess.{with_view, with_view_in}
+use Rattle.deliveries.specs.declared.values.Change.{Change}
+use Rattle.deliveries.specs.declared.values.Change.TheVariants.{OneRole, NewPolicy, NewDomain, InDomain}
+use Rattle.deliveries.specs.declared.values.DomainChange.{DomainChange}
+use Rattle.deliveries.specs.declared.values.DomainChange.TheVariants.{NewLanguage, NewTemplate}
+use Rattle.deliveries.proofs.domains.InDomains.{equal_domains, its_own_domain, project_own, with_project-same}
+use Rattle.deliveries.proofs.rules.DomainsKept.{any_project}
+use Rattle.deliveries.proofs.domains.MainAlone.{has-main, in-main, put-another}
+use Rattle.office_laws.proofs.OfficeCounts.{new_domain_counts}
+use Rattle.tables.proofs.OfficeUnits.{few_counted}
+use Rattle.tables.specs.Tallies.{counted}
+use Rattle.sql_schema.specs.Keys.{has_text}
+use Rattle.sql_schema.specs.Layouts.{by_domain, rows_named}
+use Rattle.sql_schema.specs.Views.{unit_seen}
+use Rattle.sql_schema.proofs.DomainViews.{is_text}
+use Rattle.sql_schema.proofs.Views.{to_view}
+use Rattle.sql_statements.specs.DomainRenewed.{HaveNextRevisionsInDomains}
+use Rattle.sql_meaning.specs.Meaning.{main_rows}
+use Rattle.sql_figures.specs.KeptSums.{HaveSums}
+use Rattle.sql_figures.specs.KeptTallies.{Counts, AreTalliesOf, office_counts, counted_at}
+use Rattle.sql_figures.specs.Figures.{HasFigures, FiguresFollow, FiguresStay, HaveRoom, with_tally, with_tallies, moved_at}
+use Rattle.sql_figures.proofs.TallyRows.{tallies_alike}
+use Rattle.sql_commits.specs.Figures.{main_project, IsSourceIn, counted_before, FollowsView, FollowsIf, FollowsAct, FollowsDomainChange, FollowsOneChange, FollowsChange, turned_unless}
+use Rattle.sql_files.specs.Files.{IsOfficeDatabase, office_of}
+use Rattle.sql_files.proofs.PolicyKept.{next_revisions}
+use Rattle.sql_files.proofs.CountsFollow.{view_counts, language_counted, policy_counted, template_counted}
+
+-- tallies of counts that are the office's
+figures_are : (db : Database) (counts : Counts) → ((d l : Text) → office_counts (office_of db) d l ≡ counts d l) → AreTalliesOf counts (rows_named db (codes "d_tally")) → HaveSums (rows_named db) → HasFigures (rows_named db)
+figures_are db counts same tallies sums = record { tallies = tallies_alike counts (office_counts (office_of db)) (rows_named db (codes "d_tally")) same tallies; sums = sums }
+
+module _ (old new : Database) (figures : HasFigures (rows_named old)) where
+  -- where the counts stay
+  figures_stay : ((d l : Text) → office_counts (office_of new) d l ≡ office_counts (office_of old) d l) → FiguresStay old new → HasFigures (rows_named new)
+  figures_stay same stays = figures_are new (office_counts (office_of old)) same (stays.tallies (office_counts (office_of old)) tt figures.tallies) (stays.sums figures.sums)
+
+  figures_follow : (change : Counts → Counts) → ((d l : Text) → office_counts (office_of new) d l ≡ change (office_counts (office_of old)) d l) → FiguresFollow change old new → HasFigures (rows_named new)
+  figures_follow change same follows = figures_are new (change (office_counts (office_of old))) same (follows.tallies (office_counts (office_of old)) tt figures.tallies) (follows.sums figures.sums)
+
+  -- the office is as it was
+  office_stays : (office_of new ≡ office_of old) → FiguresStay old new → HasFigures (rows_named new)
+  office_stays is stays = figures_stay (λ d l. ap (λ (o : Office). office_counts o d l) is) stays
+
+  -- ---- an act on a unit
+
+  view_follows : (lang : Text) (view : UnitView) → IsSourceIn (main_project old) view → office_of new ≡ with_view_in (office_of old) main lang view.unit.key (Some view) → FollowsView lang view old new → HasFigures (rows_named new)
+  view_follows lang view source is follows =
+      figures_follow (moved_at main lang (counted_before (main_project old) lang view) (counted (main_project old).template view.unit))
+      (λ d l. ap (λ (o : Office). office_counts o d l) is ∙ view_counts (office_of old) main lang view.unit.key view (has-main (main_project old) main ∙ its_own_domain main) d l
+      ∙ ap (λ (p : Project). moved_at main lang (counted_at p.template (maps.get p.units (lang, view.unit.key))) (counted p.template view.unit) (office_counts (office_of old)) d l) (in-main (main_project old)))
+      (follows source)
+
+  -- ---- of the unit at a key
+
+  there : maps.contains_key (office_of old).domains main ≡ true
+  there = has-main (main_project old) main ∙ its_own_domain main
+
+  module _ (lang : Text) (key : Key) (view : UnitView) (rules : IsOffice (office_of new)) (is : office_of new ≡ with_view_in (office_of old) main lang key (Some view)) where
+    -- the rules ask that a unit stands at its key
+    own_key : view.unit.key ≡ key
+    own_key =
+        let project = project_in (office_of old) main in
+        let next : project_in (office_of new) main ≡ with_view project lang key (Some view) =
+        ap (λ (o : Office). project_in o main) is ∙ project_own (office_of old) main (with_view project lang key (Some view)) there (refl, refl) in
+        let found : maps.get (with_view project lang key (Some view)).units (lang, key) ≡ Some view.unit =
+        maps.get-insert place_total project.units (lang, key) view.unit (lang, key)
+        ∙ ap (λ b. cond b (Some view.unit) (maps.get project.units (lang, key))) ((eq_by_cmp_equiv place_total).refl (lang, key)) in
+        ((any_project (office_of new) rules main).placed (lang, key) view.unit (ap (λ (p : Project). maps.get p.units (lang, key)) next ∙ found)).0
+
+    at_key_follows : view.source ≡ entry_of (project_in (office_of old) main).template key → FollowsView lang view old new → HasFigures (rows_named new)
+    at_key_follows source follows =
+        view_follows lang view
+        (source ∙ ap (λ (p : Project). entry_of p.template key) (in-main (main_project old)) ∙ ap (λ k. entry_of (main_project old).template k) (sym own_key))
+        (is ∙ ap (λ k. with_view_in (office_of old) main lang k (Some view)) (sym own_key)) follows
+
+  view_figures : (domain lang : Text) (key : Key) (view : Option UnitView) → IsOffice (office_of new) → office_of new ≡ with_view_in (office_of old) domain lang key view
+      → IfSome view (λ v. v.source ≡ entry_of (project_in (office_of old) domain).template key) → FollowsAct domain lang view old new → HasFigures (rows_named new)
+  view_figures domain lang key None rules is source stays = office_stays (is ∙ with_project-same (office_of old) domain) stays
+  view_figures domain lang key (Some view) rules is source follows = by (same_domain domain main) refl follows
+    where
+      by : (b : Bool) → same_domain domain main ≡ b → FollowsIf b (FollowsView lang view) old new → HasFigures (rows_named new)
+      by true same it =
+          let at = equal_domains domain main same in
+          at_key_follows lang key view rules (is ∙ ap (λ (d : Text). with_view_in (office_of old) d lang key (Some view)) at)
+          (source ∙ ap (λ (d : Text). entry_of (project_in (office_of old) d).template key) at) it
+      by false other it = office_stays (is ∙ put-another (main_project old) (with_view (project_in (office_of old) domain) lang key (Some view)) domain other) it
+
+  -- ---- a change of the office
+
+  -- the counts of an office that keeps its rules are small
+  have_room : IsOffice (office_of old) → HaveRoom (office_counts (office_of old))
+  have_room rules d l tally = by (maps.get (project_in (office_of old) d).headers l)
+    where
+      project : Project
+      project = project_in (office_of old) d
+
+      by : (h : Option Entry) → option_map (λ _. counts_in project.template (units_of project l)) h ≡ Some tally → tally.translated + tally.approved < 2 ^ 63
+      by None e = absurd (let no : None ≡ Some tally = e in cc)
+      by (Some header) e =
+          let same : counts_in project.template (units_of project l) ≡ tally = cc in
+          let few = subst AreWithin same (few_counted project l (any_project (office_of old) rules d)) in
+          omega (arith, few.translated, few.approved)
+
+  domain_change_figures : (change : DomainChange) → IsOffice (office_of old) → IsPossibleIn (project_in (office_of old) main) change → office_of new ≡ changed (office_of old) (InDomain main change) → FollowsDomainChange change old new
+      → HasFigures (rows_named new)
+  domain_change_figures (NewLanguage lang language plan tally) rules possible is follows =
+      figures_follow (with_tally main lang tally)
+      (λ d l. ap (λ (o : Office). office_counts o d l) is
+      ∙ language_counted (office_of old) rules main lang language.header plan tally there possible.new (possible.apart (any_project (office_of old) rules main)) possible.tallied d l) follows
+  domain_change_figures (NewTemplate template plans tallies) rules possible is follows =
+      figures_follow (with_tallies main tallies.items)
+      (λ d l. ap (λ (o : Office). office_counts o d l) is
+      ∙ template_counted (office_of old) main template plans.items there possible.each (possible.apart (any_project (office_of old) rules main)) d l
+      ∙ ap (λ ts. with_tallies main ts (office_counts (office_of old)) d l) (sym possible.tallied)) follows
+
+  in_domain_figures : (domain : Text) (change : DomainChange) → IsOffice (office_of old) → IsPossible (office_of old) (InDomain domain change) → office_of new ≡ changed (office_of old) (InDomain domain change)
+      → (b : Bool) → same_domain domain main ≡ b → FollowsIf b (FollowsDomainChange change) old new → HasFigures (rows_named new)
+  in_domain_figures domain change rules possible is true same follows =
+      let at = equal_domains domain main same in
+      domain_change_figures change rules (subst (λ (d : Text). IsPossibleIn (project_in (office_of old) d) change) at possible.1) (is ∙ ap (λ (d : Text). changed (office_of old) (InDomain d change)) at) follows
+  in_domain_figures domain change rules possible is false other stays = office_stays (is ∙ put-another (main_project old) (changed_project (project_in (office_of old) domain) change) domain other) stays
+
+  one_change_figures : (change : Change) → IsOffice (office_of old) → IsPossible (office_of old) change → HaveNextRevisionsInDomains old → office_of new ≡ changed (office_of old) change → FollowsOneChange change old new
+      → HasFigures (rows_named new)
+  one_change_figures (OneRole name role) rules possible next is stays = figures_stay (λ d l. ap (λ (o : Office). office_counts o d l) is) stays
+  one_change_figures (NewPolicy policy) rules possible next is follows =
+      let it = follows next in
+      figures_are new (turned_unless policy.reviews (office_counts (office_of old))) (λ d l. ap (λ (o : Office). office_counts o d l) is ∙ policy_counted (office_of old) policy d l)
+      (it.tallies (office_counts (office_of old)) (have_room rules) figures.tallies) (it.sums figures.sums)
+  one_change_figures (NewDomain domain) rules possible next is stays =
+      figures_stay (λ d l. ap (λ (o : Office). office_counts o d l) is ∙ new_domain_counts (office_of old) domain d l possible) stays
+  one_change_figures (InDomain domain change) rules possible next is follows = in_domain_figures domain change rules possible is (same_domain domain main) refl follows
+
+  any_change_figures : (change : Option Change) → IsOffice (office_of old) → IsPossibleChange (office_of old) change → HaveNextRevisionsInDomains old → office_of new ≡ changed_by (office_of old) change → FollowsChange change old new
+      → HasFigures (rows_named new)
+  any_change_figures None rules possible next is stays = office_stays is stays
+  any_change_figures (Some change) rules possible next is follows = one_change_figures change rules possible next is follows
+
+-- ---- of an office's database
+
+-- the rules bound the revisions, so that 64 bits hold the next ones
+next_in_domains : (db : Database) → IsOfficeDatabase by_domain db → HaveNextRevisionsInDomains db
+next_in_domains db file row there approved =
+    next_revisions (main_rows (rows_named db)) file.rows.office.units (unit_seen row)
+    (to_view (has_text 1 main) unit_seen (rows_named db (codes "d_unit")) row there (is_text 1 main row (file.rows.alone.1.units row there))) approved
+
+pub act_figures : (old new : Database) (domain lang : Text) (key : Key) (view : Option UnitView) → IsOfficeDatabase by_domain old → IsOffice (office_of new)
+    → office_of new ≡ with_view_in (office_of old) domain lang key view → IfSome view (λ v. v.source ≡ entry_of (project_in (office_of old) domain).template key)
+    → FollowsAct domain lang view old new → HasFigures (rows_named new)
+act_figures old new domain lang key view file rules is source follows = view_figures old new file.rows.figures domain lang key view rules is source follows
+
+pub change_figures : (old new : Database) (change : Option Change) → IsOfficeDatabase by_domain old → IsPossibleChange (office_of old) change
+    → office_of new ≡ changed_by (office_of old) change → FollowsChange change old new → HasFigures (rows_named new)
+change_figures old new change file possible is follows = any_change_figures old new file.rows.figures change file.rows.rules.office possible (next_in_domains old file) is follows
