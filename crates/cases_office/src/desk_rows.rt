@@ -1,5 +1,4 @@
-//! Deliveries to two offices, one over tables in maps and one over tables on SQLite, or to one over tables in maps alone. A request is a line
-//! of JSON, or the name of one. Where the two offices answer differently, a row comes to both answers, which no row wants.
+//! Deliveries to two offices, one over tables in maps and one over tables on SQLite. A request is a line of JSON, or the name of one. Where the two offices answer differently, a row comes to both answers, which no row wants.
 //!
 //!   NAME is REQUEST                  gives the request a name
 //!   open WHO                         opens the offices for the rows below: `demo`, or an office with this manager
@@ -20,8 +19,7 @@
 //!   stats LANG -> TEXT               a language's counts, or `fault N`
 //!   adopt STATEMENT -> X             the demo's tables on SQLite, changed by a statement of SQL and taken over as they stand: `adopted`, or why not
 //!   number FAULT -> N                the fault's number
-//!   close -> TABLE N, ..             closes the offices, and tells how many rows each table on SQLite has that has any; of an office in maps
-//!                                    alone nothing
+//!   close -> TABLE N, ..             closes the offices, and tells how many rows each table on SQLite has that has any
 //!
 //! A delivery that is lost for want of memory is told as lost, which no row wants.
 mod adopted;
@@ -37,5 +35,5 @@ mod offices;
 mod stage;
 
 pub(crate) use asked::unit_told;
-pub(crate) use offices::{Both, InMaps, Offices};
+pub(crate) use offices::{Both, Offices};
 pub(crate) use stage::{Stage, deed_told};

@@ -3,7 +3,6 @@
 //! were.
 //!
 //!   == desks       what desks over tables of both kinds answer: `desk_rows` has the words of the rows below
-//!   == maps        what desks over tables in maps answer, which have a place for further domains: the same words
 //!   == streams     the program's commands, connections, offices in files and sockets: `stream_rows`
 //!   == senders     senders and their networks: `sender_rows`
 //!

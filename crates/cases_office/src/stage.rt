@@ -1,5 +1,5 @@
 //! What the rows so far set, and what a row makes of it.
-use crate::desk_rows::{InMaps, Offices};
+use crate::desk_rows::Offices;
 use crate::{desk_rows, sender_rows, stream_rows};
 use std::alloc::Global;
 use std::rt::HostRuntime;
@@ -8,7 +8,6 @@ use std::rt::HostRuntime;
 #[derive(Drop)]
 enum Part {
     Desks,
-    Maps,
     Streams,
     Senders,
 }
@@ -17,7 +16,6 @@ impl Part {
     fn named(name: &str) -> Option<Part> {
         match name {
             "desks" => Some(Part::Desks),
-            "maps" => Some(Part::Maps),
             "streams" => Some(Part::Streams),
             "senders" => Some(Part::Senders),
             _ => None,
@@ -30,7 +28,6 @@ impl Part {
 pub(crate) struct Stage<O: Offices> {
     part: Part,
     desks: desk_rows::Stage<O>,
-    maps: desk_rows::Stage<InMaps>,
     streams: stream_rows::Stage,
     senders: sender_rows::Stage,
 }
@@ -40,7 +37,6 @@ impl<O: Offices> Stage<O> {
         Stage {
             part: Part::Desks,
             desks: desk_rows::Stage::new(alloc),
-            maps: desk_rows::Stage::new(alloc),
             streams: stream_rows::Stage::new(alloc),
             senders: sender_rows::Stage::new(alloc),
         }
@@ -54,7 +50,6 @@ impl<O: Offices> Stage<O> {
         }
         match self.part {
             Part::Desks => desk_rows::deed_told(alloc, &mut self.desks, deed),
-            Part::Maps => desk_rows::deed_told(alloc, &mut self.maps, deed),
             Part::Streams => stream_rows::deed_told(rt, alloc, &mut self.streams, deed),
             Part::Senders => sender_rows::deed_told(alloc, &mut self.senders, deed),
         }

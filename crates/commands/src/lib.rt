@@ -2,6 +2,7 @@
 //!
 //! - `deliver`, `lines`, `answer`: `office deliver` (`deliver_lines`): a line gathered within a limit, and what it is
 //!   answered
+//! - `turns`: a source that is read only while a sink holds nothing back (`SourceBehind`)
 //! - `export`: the PO text of a language, and what is told of it on the second output (`export_text`)
 //! - `canon`: `office canon` (`canon_text`)
 //! - `plural`: `office plural` (`plural_lines`)
@@ -21,6 +22,7 @@ mod numbers;
 mod plural;
 mod record;
 mod streams;
+mod turns;
 
 pub use canon::canon_text;
 pub use deliver::{AtLost, deliver_lines};
@@ -28,3 +30,4 @@ pub use export::{DONE, FAILED, export_text};
 pub use plural::plural_lines;
 pub use record::send_record;
 pub use streams::{Input, Output};
+pub use turns::SourceBehind;

@@ -4,7 +4,7 @@ use Rattle.sqlite.specs.Held.{Held, state}
 use Rattle.sqlite.specs.Tree.{Trees}
 use Rattle.sqlite_trees.specs.declared.store.Store as store
 use Rattle.request_book.specs.Book.{OfficeWithBook}
-use Rattle.sql_meaning.specs.Meaning.{meaning_for, TreesMean}
+use Rattle.sql_meaning.specs.Domains.{meaning_for, TreesMean}
 use Rattle.tables.specs.Starts.{started}
 use Rattle.tables.specs.declared.start.Start.{Start}
 use Rattle.store_sql.specs.Adopting.{AreAdopted}

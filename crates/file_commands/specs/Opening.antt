@@ -4,7 +4,7 @@ use Rattle.sqlite.specs.Held.{Held, state}
 use Rattle.sqlite.specs.State.{State, HasCleanDisk}
 use Rattle.sqlite_trees.specs.declared.store.Store as store
 use Rattle.request_book.specs.Book.{OfficeWithBook}
-use Rattle.sql_meaning.specs.Meaning.{main_rows, meaning_in, DatabaseMeans, TreesMean}
+use Rattle.sql_meaning.specs.Domains.{meaning_by_domain, DatabaseMeans, TreesMean}
 use Rattle.sql_adoption.specs.Adoption.{IsAdopted, Refuses}
 use Rattle.sql_conversion.specs.Conversion.{IsGivenBack}
 use Rattle.sql_files.specs.Files.{IsOfficeFile, IsLost, KeepsFile, LeavesFiles}
@@ -15,7 +15,7 @@ use Rattle.sql_schema.specs.Layouts.{rows_named}
 
 -- what the rows of running tables mean, which are by domains
 abbrev pub running_meaning : State → OfficeWithBook
-running_meaning s = meaning_in (main_rows (rows_named s.now))
+running_meaning s = meaning_by_domain (rows_named s.now)
 
 -- While the disk has returned what was written, no failure has shut the connection, its rows mean this office with its book, and a stop
 -- leaves no other.

@@ -11,8 +11,8 @@ ghost use Rattle.file_commands.specs.Runs.{Ran};
 
 use crate::faults::{hand_on, tell_store_fault};
 use crate::opening::{Closed, Unopened, close_desk, open_desk};
-use byte_streams::{ByteSink, ByteSource};
-use commands::{AtLost, FAILED, deliver_lines, export_text};
+use byte_streams::ByteSink;
+use commands::{AtLost, FAILED, SourceBehind, deliver_lines, export_text};
 use office::Desk;
 use sqlite::{Alter, Connection};
 use std::alloc::Global;
@@ -24,7 +24,7 @@ use units::{Lang, Name};
 ///
 /// Answers the exit status: 0, or 1 after a fault, where a stream failed or where the list ended at a lost line; whether a failure of the disk
 /// stopped the tables; and the connection.
-pub fn deliver_store<S: Alter + Drop, R: ByteSource, W: ByteSink, E: ByteSink>(
+pub fn deliver_store<S: Alter + Drop, R: SourceBehind<W>, W: ByteSink, E: ByteSink>(
     alloc: Global,
     connection: Connection<S>,
     source: &mut R,

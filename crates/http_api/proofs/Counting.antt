@@ -40,13 +40,13 @@ on_ok_and {T} {U} P r x s is p = subst (λ (t : Result U ServeFault). OnOk t P) 
 -- ---- a step
 
 -- where nothing was written
-pub hands_still : {T : Type 0} (held : Bool) (r : Result T ServeFault) → HandsOn held held r
-hands_still held (Ok x) = λ none. none
-hands_still held (Err f) = λ is none. none
+pub hands_still : {T : Type 0} (held : Bool) (r : Result T ServeFault) → held ≡ false → HandsOn held r
+hands_still held (Ok x) none = none
+hands_still held (Err f) none = λ is. none
 
-pub hands_on : {T : Type 0} (Stopped : Type 0) (old new : Bool) (a b : ℕ) (r : Result T ServeFault) → OnOk r (new ≡ false) → TellsFailures Stopped a b r → HandsOn old new r
-hands_on Stopped old new a b (Ok x) none told = λ _. none
-hands_on Stopped old new a b (Err f) none told = λ is _. absurd (subst (AnswerFailed Stopped a b) is told)
+pub hands_on : {T : Type 0} (Stopped : Type 0) (new : Bool) (a b : ℕ) (r : Result T ServeFault) → OnOk r (new ≡ false) → TellsFailures Stopped a b r → HandsOn new r
+hands_on Stopped new a b (Ok x) none told = none
+hands_on Stopped new a b (Err f) none told = λ is. absurd (subst (AnswerFailed Stopped a b) is told)
 
 module _ (Stopped : Type 0) (reads_old reads_new writes_old writes_new : ℕ) where
   abbrev pub StepFailures : {T : Type 0} → Result T ServeFault → Type 0
@@ -70,28 +70,27 @@ module _ (Stopped : Type 0) (reads_old reads_new writes_old writes_new : ℕ) wh
   unread_step (Ok x) cause is off = absurd is
   unread_step (Err f) cause is off = subst (StepFailed Stopped reads_old reads_new writes_old writes_new) (sym is) (cut_step cause off)
 
+  -- where the writer fails before anything is read
+  pub unsent_step : (f : ServeFault) → f ≡ fault.Write → RoseOrStands writes_old writes_new → StepFailed Stopped reads_old reads_new writes_old writes_new f
+  unsent_step f is rose = subst (StepFailed Stopped reads_old reads_new writes_old writes_new) (sym is) rose
+
 -- ---- the loop
 
--- No write failed so far, and nothing more is held back.
-pub record WroteOn (held_old held_now : Bool) (failed_old failed_now : ℕ) : Type 0 where
+-- No write failed so far, and nothing is held back.
+pub record WroteOn (held_now : Bool) (failed_old failed_now : ℕ) : Type 0 where
   pub count : failed_now ≡ failed_old
-  pub handed_on : held_old ≡ false → held_now ≡ false
+  pub handed_on : held_now ≡ false
 
-pub writes_on : (held : Bool) (failed : ℕ) → WroteOn held held failed failed
-writes_on held failed = record { count = refl; handed_on = λ none. none }
-
-pub one_more_handed : {h0 h1 h2 : Bool} {f0 f1 f2 : ℕ} → WroteOn h0 h1 f0 f1 → (h1 ≡ false → h2 ≡ false) → f2 ≡ f1 → WroteOn h0 h2 f0 f2
-one_more_handed so_far handed_on count = record { count = count ∙ so_far.count; handed_on = λ none. handed_on (so_far.handed_on none) }
+pub one_more_handed : {h1 h2 : Bool} {f0 f1 f2 : ℕ} → WroteOn h1 f0 f1 → h2 ≡ false → f2 ≡ f1 → WroteOn h2 f0 f2
+one_more_handed so_far none count = record { count = count ∙ so_far.count; handed_on = none }
 
 -- what is said of the fault that a step passes on
 passed : {T : Type 0} (P : ServeFault → Type 0) (r : Result T ServeFault) (f : ServeFault) → IsErrAnd r (λ x. x ≡ f) → P f → IfErr r P
 passed P (Ok x) f is p = absurd is
 passed P (Err x) f is p = subst P (sym is) p
 
-pub handed_on_first : {T : Type 0} {h0 h1 h2 : Bool} {w0 w1 : ℕ} → WroteOn h0 h1 w0 w1 → (r : Result T ServeFault) (f : ServeFault) → IsErrAnd r (λ x. x ≡ f)
-    → (f ≡ fault.Read → h1 ≡ false → h2 ≡ false) → IfErr r (λ x. x ≡ fault.Read → h0 ≡ false → h2 ≡ false)
-handed_on_first {h0 = h0} {h2 = h2} so_far r f is step =
-    passed (λ x. x ≡ fault.Read → h0 ≡ false → h2 ≡ false) r f is (λ e none. step e (so_far.handed_on none))
+pub handed_on_first : {T : Type 0} (held : Bool) (r : Result T ServeFault) (f : ServeFault) → IsErrAnd r (λ x. x ≡ f) → (f ≡ fault.Read → held ≡ false) → IfErr r (λ x. x ≡ fault.Read → held ≡ false)
+handed_on_first held r f is step = passed (λ x. x ≡ fault.Read → held ≡ false) r f is step
 
 module _ {T : Type 0} (Stopped : Type 0) (r0 r1 r2 w0 w1 w2 : ℕ) (r : Result T ServeFault) (f : ServeFault) (is : IsErrAnd r (λ x. x ≡ f)) (step : StepFailed Stopped r1 r2 w1 w2 f) where
   pub read_failed : r1 ≡ r0 → IfErr r (λ x. x ≡ fault.Read → RoseOrStands r0 r2)

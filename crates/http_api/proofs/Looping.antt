@@ -1,21 +1,21 @@
 -- The loop over a connection, by tables and a writer.
-use Rattle.std.proofs.Common.{◌≡◌, ◌≤◌, ◌<◌, ◌+◌, ◌==◌, List, [], ℕ, Bool, true, Option, Some, None, Result, Ok, Err, MatchResult, inl, inr, refl, sym, subst}
+use Rattle.std.proofs.Common.{◌≡◌, ◌≤◌, ◌<◌, ◌+◌, ◌==◌, List, [], ℕ, Bool, true, Option, Some, None, Result, Ok, Err, MatchResult, inl, inr, refl, sym, subst, ◌∙◌}
 use Rattle.std.specs.Prelude.{IfSome, IsErrAnd, ◌||◌, unwrap_or}
 use Rattle.request_book.specs.Book.{OfficeWithBook}
-use Rattle.office.specs.Writers.{Writer, TakesAll}
+use Rattle.office.specs.Writers.{Writer, TakesAll, TakesPart}
 use Rattle.office.proofs.Streaming.{took_none}
 use Rattle.http_messages.specs.Asked.{Asked}
 use Rattle.http_messages.specs.Streams.{answer_limit, items_of}
 use Rattle.http_api.specs.declared.connection.Next.{Next}
 use Rattle.http_api.specs.declared.connection.Next.TheVariants.{End, Last, More}
 use Rattle.http_api.specs.declared.faults.ServeFault.{ServeFault}
-use Rattle.http_api.specs.declared.faults.ServeFault.TheVariants.{Memory}
+use Rattle.http_api.specs.declared.faults.ServeFault.TheVariants.{Write, Memory}
 use Rattle.http_api.specs.Faults.{fault_of}
 use Rattle.http_api.specs.Outcomes.{Outcome, outcome_answer}
 use Rattle.http_api.specs.Answering.{ComesTo, WroteBeginning}
 use Rattle.http_api.specs.Served.{HasServed}
 use Rattle.http_api.specs.Steps.{Stepped, SteppedOff, unread, broke_off}
-use Rattle.http_api.specs.Connection.{ReadsNoMore, ReadsOn, AllServed, SomeServed, GivenUp, no_room}
+use Rattle.http_api.specs.Connection.{ReadsNoMore, ReadsOn, AllServed, SomeServed, GivenUp, no_sink, no_room}
 use Rattle.http_api.proofs.Serving.{serves, none_served}
 use Rattle.http_api.proofs.Connecting.{HasRoom, has_room, Along, begins, goes_along, AllTaken, ends, ends_behind, is_full, lasts, lasts_read, full_read, SomeTaken, cut_off, breaks_off, wrote_more, gives_up, stops}
 
@@ -33,18 +33,18 @@ module _ {S V : Type 0} (is_honest is_whole : S → Type 0) (means : S → Offic
     pub whole : is_honest now → is_whole now → is_whole start
     pub stopped : is_stopped start ≡ true → is_stopped now ≡ true
 
-  pub serving : (start : S) (old : V) (left : Option (List ℕ)) (failed : ℕ) (held : List ℕ) → held ≡ [] → Serving start start old old left left failed failed 0 held
-  serving start old left failed held none = record {
-    along = begins left failed held none (none_served (is_honest start) (is_whole start) (is_stopped start ≡ true) (means start)) (λ h. took_none (at old).taken (at old).failed);
+  pub serving : (start : S) (old now : V) (left : Option (List ℕ)) (failed : ℕ) (held : List ℕ) → TakesAll (at old) (at now) [] → held ≡ [] → Serving start start old now left left failed failed 0 held
+  serving start old now left failed held wrote none = record {
+    along = begins left failed held none (none_served (is_honest start) (is_whole start) (is_stopped start ≡ true) (means start)) (λ h. wrote);
     honest = λ h. h;
     whole = λ h w. w;
     stopped = λ s. s;
   }
 
-  -- nothing is served where there is no memory for the routes
-  pub no_routes : (start : S) (old : V) (left : Option (List ℕ)) (failed : ℕ) → (bytes : List ℕ) × IfSome left (λ all. bytes ≡ all)
-      × SomeServed (is_honest start) (is_whole start) (is_stopped start ≡ true) (means start) (means start) bytes failed failed (at old) (at old) Memory
-  no_routes start old left failed = (
+  -- nothing is served where the connection is given up before anything is read
+  nothing_served : (start : S) (old new : V) (left : Option (List ℕ)) (failed : ℕ) (fault : ServeFault) → GivenUp (is_stopped start ≡ true) failed failed (at old) (at new) [] [] fault → (bytes : List ℕ) × IfSome left (λ all. bytes ≡ all)
+      × SomeServed (is_honest start) (is_whole start) (is_stopped start ≡ true) (means start) (means start) bytes failed failed (at old) (at new) fault
+  nothing_served start old new left failed fault why = (
     unwrap_or left [],
     known left,
     record {
@@ -53,13 +53,25 @@ module _ {S V : Type 0} (is_honest is_whole : S → Type 0) (means : S → Offic
       cut = refl;
       outcomes = [];
       served = none_served (is_honest start) (is_whole start) (is_stopped start ≡ true) (means start);
-      given_up = λ h. no_room refl (took_none (at old).taken (at old).failed);
+      given_up = λ h. why;
     },
   )
     where
       known : (o : Option (List ℕ)) → IfSome o (λ all. unwrap_or o [] ≡ all)
       known None = tt
       known (Some all) = refl
+
+  -- there is no memory for the routes
+  pub no_routes : (start : S) (old : V) (left : Option (List ℕ)) (failed : ℕ) → (bytes : List ℕ) × IfSome left (λ all. bytes ≡ all)
+      × SomeServed (is_honest start) (is_whole start) (is_stopped start ≡ true) (means start) (means start) bytes failed failed (at old) (at old) Memory
+  no_routes start old left failed = nothing_served start old old left failed Memory (no_room refl (took_none (at old).taken (at old).failed))
+
+  -- what the writer held back before isn't handed on
+  pub not_begun : {T : Type 0} (Q : List ℕ → T → Type 0) (r : Result T ServeFault) (f : ServeFault) → IsErrAnd r (λ x. x ≡ f) → (start : S) (old new : V) (left : Option (List ℕ)) (failed : ℕ) → f ≡ Write → TakesPart (at old) (at new) []
+      → (bytes : List ℕ) × IfSome left (λ all. bytes ≡ all)
+      × MatchResult r (Q bytes) (SomeServed (is_honest start) (is_whole start) (is_stopped start ≡ true) (means start) (means start) bytes failed failed (at old) (at new))
+  not_begun Q (Ok x) f is start old new left failed write part = absurd is
+  not_begun Q (Err x) f is start old new left failed write part = nothing_served start old new left failed x (no_sink (is ∙ write) part)
 
   module _ (s0 s1 s2 : S) (v0 v1 v2 : V) (l0 l1 l2 : Option (List ℕ)) (f0 f1 f2 answered : ℕ) (held now : List ℕ) (full : Bool) (so_far : Serving s0 s1 v0 v1 l0 l1 f0 f1 answered held) where
     abbrev Same : Type 0

@@ -1,10 +1,9 @@
--- The request that a message brings: its number in the path, its caller in the one header `X-Office-Caller`, its act in the body, one that
--- the programs take. This project's own rule.
-use Rattle.std.specs.Prelude.{◌≡◌, List, [], ◌∷◌, ℕ, true, IsUtf8}
+-- The request that a message brings: its number in the path, its caller in the one header `X-Office-Caller`, its act in the body. This project's
+-- own rule.
+use Rattle.std.specs.Prelude.{◌≡◌, List, [], ◌∷◌, ℕ, IsUtf8}
 use Rattle.request_book.specs.Acts.{IsActText, IsRequest}
 use Rattle.request_book.specs.Words.{number_text}
 use Rattle.request_book.specs.declared.act.Request.{Request}
-use Rattle.office.specs.Exchanges.{has_come}
 
 pub record IsPosted (number : List ℕ) (callers : List (List ℕ)) (body : List ℕ) (request : Request) : Type 0 where
   pub named : number ≡ number_text request.number
@@ -12,4 +11,3 @@ pub record IsPosted (number : List ℕ) (callers : List (List ℕ)) (body : List
   pub text : IsUtf8 body
   pub act : IsActText body request.act
   pub limits : IsRequest request
-  pub come : has_come request ≡ true

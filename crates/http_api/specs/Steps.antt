@@ -58,9 +58,9 @@ pub data SteppedOff (Same : Type 0) (Came : Asked → Outcome → Type 0) (Wrote
 
 -- ---- whatever the disk gives
 
--- Nothing more is held back behind a step, nor where a read failed.
-abbrev pub HandsOn : {T : Type 0} → Bool → Bool → Result T ServeFault → Type 0
-HandsOn old new result = MatchResult result (λ _. old ≡ false → new ≡ false) (λ f. f ≡ fault.Read → old ≡ false → new ≡ false)
+-- Nothing is held back behind a step, nor where a read failed.
+abbrev pub HandsOn : {T : Type 0} → Bool → Result T ServeFault → Type 0
+HandsOn new result = MatchResult result (λ _. new ≡ false) (λ f. f ≡ fault.Read → new ≡ false)
 
 -- what the fault of a step says of the source, of the writer and of the tables
 abbrev pub StepFailed : (Stopped : Type 0) → ℕ → ℕ → ℕ → ℕ → ServeFault → Type 0

@@ -13,7 +13,8 @@ ghost use Rattle.http_api.specs.Connection.{AllServed, SomeServed, ReadsOn};
 
 use crate::answers::{answer, send_refusal};
 use crate::faults::ServeFault;
-use byte_streams::{ByteSink, ByteSource};
+use crate::turns::MessagesBehind;
+use byte_streams::ByteSink;
 use http_messages::{Arrival, Inbox, Refusal, Routes};
 use office::Desk;
 use std::alloc::Global;
@@ -133,7 +134,7 @@ fn serve_message<T: Tables, W: ByteSink>(
 }
 
 /// Reads a message and answers it. Nothing is held back of what it wrote.
-fn serve_one<T: Tables, R: ByteSource, W: ByteSink>(
+fn serve_one<T: Tables, R: MessagesBehind<W>, W: ByteSink>(
     alloc: Global,
     routes: &Routes,
     desk: &mut Desk<T>,
@@ -142,6 +143,7 @@ fn serve_one<T: Tables, R: ByteSource, W: ByteSink>(
     full: bool,
     w: &mut W,
 ) -> Result<Next, ServeFault>
+    requires handed_on { W.holds_back w.old ≡ false }
     ensures stepped { MatchResult result
         (Stepped ((desk.new ≡ desk.old) × (w.new ≡ w.old))
         (ComesTo T.is_honest T.is_whole T.is_stopped T.means desk.old desk.new)
@@ -152,11 +154,11 @@ fn serve_one<T: Tables, R: ByteSource, W: ByteSink>(
         (λ o last. T.is_honest desk.new
         → WroteBeginning (T.is_stopped desk.new ≡ true) (writer_at W.taken W.failed w.old) (writer_at W.taken W.failed w.new) o last fault)
         (R.left source.old) (R.left source.new) (R.failed source.old) (R.failed source.new) inbox.old full fault) }
-    ensures handed_on { HandsOn (W.holds_back w.old) (W.holds_back w.new) result }
+    ensures handed_on { HandsOn (W.holds_back w.new) result }
     ensures failures { MatchResult result (λ _. W.failed w.new ≡ W.failed w.old)
         (StepFailed (T.is_stopped desk.new ≡ true) (R.failed source.old) (R.failed source.new) (W.failed w.old) (W.failed w.new)) }
 {
-    match inbox.read_message(source)? {
+    match source.message_behind(w, inbox)? {
         Arrival::End => Ok(Next::End),
         Arrival::Refused(refusal) => refuse(refusal, w),
         Arrival::Message { head, body } => serve_message(
@@ -168,14 +170,14 @@ fn serve_one<T: Tables, R: ByteSource, W: ByteSink>(
 /// Serves one connection: answers what the bytes of the source ask, message by message, whatever pieces they come in. A request is
 /// delivered to the desk, and answered by its reply; other questions are answered from the office as the requests before them left it.
 /// Nothing more is read behind a message that ends the connection, or behind the 1,000,000,000th answer. Before more is read, the
-/// answers so far are handed on.
+/// answers so far are handed on, and first of all what the writer held back before.
 ///
 /// Answers how many messages were answered. After a fault the writer has taken a beginning of the answers, and the tables are those of
 /// a beginning of the requests that has each one whose answer was written whole: a request that was recorded and not answered gets its
 /// reply when it is sent again. `Read` and `Write` where the source or the writer failed; `Memory` where a growth was refused, for the
 /// routes before anything is read, to read, or within an export whose head was written; `Disk` where the disk failed within such an export. Want of memory and a failed disk are
 /// else answered, by 503 and 507.
-pub fn serve<T: Tables, R: ByteSource, W: ByteSink>(
+pub fn serve<T: Tables, R: MessagesBehind<W>, W: ByteSink>(
     alloc: Global,
     desk: &mut Desk<T>,
     source: &mut R,
@@ -189,9 +191,9 @@ pub fn serve<T: Tables, R: ByteSource, W: ByteSink>(
         (R.failed source.old) (R.failed source.new) (writer_at W.taken W.failed w.old) (writer_at W.taken W.failed w.new)) }
     // Behind the last answer nothing more is read.
     ensures reads { IfOk result (λ served. ReadsOn (R.left source.old) (R.left source.new) served.answered) }
-    // Each answer was handed on, and before more was read: also where a read failed behind it.
-    ensures handed_on { OnOk result (W.holds_back w.old ≡ false → W.holds_back w.new ≡ false) }
-    ensures handed_on_first { IfErr result (λ fault. fault ≡ Read → W.holds_back w.old ≡ false → W.holds_back w.new ≡ false) }
+    // Nothing is held back, nor where a read failed. That each answer is handed on before more is read is what the source asks.
+    ensures handed_on { OnOk result (W.holds_back w.new ≡ false) }
+    ensures handed_on_first { IfErr result (λ fault. fault ≡ Read → W.holds_back w.new ≡ false) }
     // Whatever the disk gave: a read failed, a write failed, the tables are stopped.
     ensures read { IfErr result (λ fault. fault ≡ Read → RoseOrStands (R.failed source.old) (R.failed source.new)) }
     ensures write { IfErr result (λ fault. fault ≡ Write → RoseOrStands (W.failed w.old) (W.failed w.new)) }
@@ -204,6 +206,7 @@ pub fn serve<T: Tables, R: ByteSource, W: ByteSink>(
     let Ok(routes) = Routes::new(alloc) else {
         return Err(ServeFault::Memory);
     };
+    hand_on(w)?;
     let mut inbox = Inbox::new(alloc);
     for answered in 0..ANSWER_LIMIT {
         let full = answered + 1 == ANSWER_LIMIT;

@@ -1,6 +1,7 @@
 //! The office over HTTP: what the messages of a connection are answered, from the desk and in their order.
 //!
 //! - `connection`: one connection (`serve`), message after message
+//! - `turns`: a source of messages that is read only while a sink holds nothing back (`MessagesBehind`)
 //! - `answers`, `posts`, `exports`: what a message is answered; the request that it brings; a language's text, made
 //!   twice: into nowhere for its length and digest, and then into the writer
 //! - `answer_bytes`, `refusals`: heads and bodies of answers; statuses (by `http`), and the answers that are errors
@@ -26,7 +27,9 @@ mod faults;
 mod laws;
 mod posts;
 mod refusals;
+mod turns;
 
 pub use connection::{Served, serve};
 pub use faults::ServeFault;
 pub use laws::messages_stand_alone;
+pub use turns::MessagesBehind;

@@ -13,7 +13,6 @@ ghost use Rattle.http_messages.specs.Queries.{only_one};
 ghost use Rattle.http_api.specs.Posts.{IsPosted};
 
 use http_messages::{RequestParts, Values};
-use office::has_come;
 use request_book::{Act, Request, RequestFault, bytes_fit};
 use std::alloc::{AllocError, Global};
 use units::Name;
@@ -82,7 +81,7 @@ fn act_in(alloc: Global, body: &[u8]) -> Result<Act, RequestFault>
 
 /// The request that a message brings: its number in the path, its caller in the one header, its act in the body.
 ///
-/// `Malformed` where it brings none, or one whose act the programs don't take yet; `Memory` where a growth was refused.
+/// `Malformed` where it brings none; `Memory` where a growth was refused.
 pub(crate) fn request_of(alloc: Global, parts: RequestParts<'_>) -> Result<Request, RequestFault>
     ensures ok { IfOk result (λ request. (callers : List (List ℕ)) → AreValues parts.entry.callers callers
         → IsPosted parts.entry.number.now callers parts.entry.body.now request) }
@@ -96,14 +95,9 @@ pub(crate) fn request_of(alloc: Global, parts: RequestParts<'_>) -> Result<Reque
         return Err(RequestFault::Malformed);
     };
     let act = act_in(alloc, parts.body)?;
-    let request = Request {
+    Ok(Request {
         number,
         caller,
         act,
-    };
-    if has_come(&request) {
-        Ok(request)
-    } else {
-        Err(RequestFault::Malformed)
-    }
+    })
 }

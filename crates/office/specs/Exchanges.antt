@@ -1,9 +1,7 @@
 -- Requests a line each, and their answers a line each: what came of a line, the bytes that tell it, and what reached the desk.
 -- This project's own rule.
-use Rattle.std.specs.Prelude.{◌≡◌, ◌≤◌, ℕ, List, [], ◌∷◌, ◌++◌, length, flat_map, codes, decimal, Result, Ok, Err, IsUtf8, Bool, true, false, ⊤}
+use Rattle.std.specs.Prelude.{◌≡◌, ◌≤◌, ℕ, List, [], ◌∷◌, ◌++◌, length, flat_map, codes, decimal, Result, Ok, Err, IsUtf8, Bool, true, ⊤}
 use Rattle.request_book.specs.Acts.{IsRequestText}
-use Rattle.request_book.specs.declared.act.Act.{Act}
-use Rattle.request_book.specs.declared.act.Act.TheVariants.{OnUnit, SetTemplate, AddLanguage, SetRole, SetPolicy, AddDomain}
 use Rattle.request_book.specs.declared.act.Request.{Request}
 use Rattle.request_book.specs.Replies.{Reply}
 use Rattle.request_book.specs.Book.{OfficeWithBook}
@@ -11,26 +9,12 @@ use Rattle.tables.specs.declared.faults.Lost.{Lost}
 use Rattle.tables.specs.declared.faults.Lost.TheVariants.{Memory, Disk}
 use Rattle.office.specs.Runs.{HasRun}
 
--- ---- the acts that have come
-
--- Whether the programs take an act yet: not one that makes a domain, for which tables in a file have no place so far.
-abbrev pub act_has_come : Act → Bool
-act_has_come (OnUnit domain lang key act) = true
-act_has_come (SetTemplate domain po) = true
-act_has_come (AddLanguage domain lang po) = true
-act_has_come (SetRole name role) = true
-act_has_come (SetPolicy policy) = true
-act_has_come (AddDomain domain) = false
-
-abbrev pub has_come : Request → Bool
-has_come request = act_has_come request.act
-
 -- ---- a line, and what came of it
 
 pub data Exchange : Type 0 where
   -- the line is a request's, with its reply, or it is lost
   asked : Request → Result Reply Lost → Exchange
-  -- it is no request's, or one's whose act hasn't come, or too long
+  -- it is no request's, or too long
   malformed : Exchange
   -- there was no memory to read it
   unread : Exchange
@@ -40,8 +24,8 @@ abbrev pub line_limit : ℕ
 line_limit = 22000000
 
 abbrev pub IsLine : List ℕ → Exchange → Type 0
-IsLine line (asked request result) = (length line ≤ line_limit) × IsUtf8 line × IsRequestText line request × (has_come request ≡ true)
-IsLine line malformed = length line ≤ line_limit → IsUtf8 line → (request : Request) → IsRequestText line request → has_come request ≡ true → ⊥
+IsLine line (asked request result) = (length line ≤ line_limit) × IsUtf8 line × IsRequestText line request
+IsLine line malformed = length line ≤ line_limit → IsUtf8 line → (request : Request) → IsRequestText line request → ⊥
 IsLine line unread = length line ≤ line_limit
 
 -- one for one

@@ -3,7 +3,7 @@
 //! - `desk`: `Desk<T: Tables>`, with `deliver`, `run` and `export`
 //! - `questions`: what callers ask of a desk (`unit`, `stats`)
 //! - `delivery`: one delivery over any tables: a look into the book, and for a new number the decision and its commit
-//! - `exchanges`: which acts the programs take (`has_come`), and the bodies that tell of a malformed or a lost request
+//! - `exchanges`: the bodies that tell of a malformed or a lost request
 //! - `export`, `export_sink`, `checksum`: a language's text, entry by entry, with its length and its digest
 //! - `strings`: what the types of an entry's texts keep, for proofs
 //! - `faults`: why an export failed, and why a question has no answer
@@ -23,6 +23,6 @@ mod questions;
 mod strings;
 
 pub use desk::Desk;
-pub use exchanges::{MALFORMED_BODY, has_come, lost_body};
+pub use exchanges::{MALFORMED_BODY, lost_body};
 pub use export::ExportReceipt;
 pub use faults::{ExportFault, QueryFault};

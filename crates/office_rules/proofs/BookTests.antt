@@ -1,6 +1,6 @@
--- What the tests of a project with its book tell of the office whose one domain it is.
+-- What the tests of an office with its book tell.
 use Rattle.std.proofs.Common.{◌≡◌, ◌+◌, ◌<◌, ℕ, Bool, true, false, cond, not, ◌&&◌, ◌||◌, List, [], ◌∷◌, ◌++◌, length, map, take, drop, get_or, append_assoc, add-one, Option, Some, None, is_some, option_map, refl, sym, ap, subst, ◌∙◌}
-use Rattle.std.specs.Prelude.{IsSome, flat_map}
+use Rattle.std.specs.Prelude.{IsSome, All, String, string_bytes, unwrap_or, flat_map}
 use Rattle.std.specs.Bool.{Decides}
 use Rattle.std.specs.List.{list_any, list_all, AllByRecursion, IsDistinct}
 use Rattle.std.specs.Map.{values_of, lookup}
@@ -20,27 +20,25 @@ use Rattle.std.proofs.lemmas.List.Elements.{recursion_from_All, All-weaker}
 use Rattle.std.proofs.lemmas.Map.Keys.{IsDistinct-push}
 use Rattle.std.proofs.lemmas.Map.Views.{All-found}
 use Rattle.po_text.specs.Texts.{Text, text_cmp, text_eq}
-use Rattle.units.specs.Project.{Project, Place as OfficePlace, place_cmp}
-use Rattle.units.specs.Projects.{IsProject}
-use Rattle.units.specs.Orders.{text_total, place_total, place_IsAntisymmetric}
+use Rattle.units.specs.Project.{Place as OfficePlace, place_cmp}
+use Rattle.units.specs.Office.{Office, Domain, empty_domain, project_in}
+use Rattle.units.specs.Offices.{IsOffice}
+use Rattle.units.specs.Orders.{text_total, text_IsAntisymmetric, place_total, place_IsAntisymmetric}
 use Rattle.units.specs.declared.unit.Suggestion.{Suggestion}
 use Rattle.units.specs.declared.unit.Unit.{Unit}
 use Rattle.request_book.specs.Book.{Book, Recorded, with_record}
 use Rattle.request_book.specs.declared.book.Record.{Record}
-use Rattle.units.specs.Office.{main}
-use Rattle.deliveries.specs.MainAlone.{main_alone}
-use Rattle.deliveries.specs.OfficeRules.{KeepsRules}
-use Rattle.deliveries.proofs.domains.MainAlone.{in-main, numbers-main}
+use Rattle.deliveries.specs.OfficeRules.{KeepsRules, numbers_in, all_numbers}
 use Rattle.deliveries.proofs.rules.Numbers.{differs}
-use Rattle.office_maps.specs.declared.project_maps.ProjectMaps.{ProjectMaps}
+use Rattle.office_maps.specs.declared.domain_maps.DomainMaps.{DomainMaps}
+use Rattle.office_maps.specs.declared.office_maps.OfficeMaps.{OfficeMaps}
 use Rattle.office_maps.specs.declared.place.Place.{Place}
-use Rattle.office_maps.specs.OfficeIn.{lent_project, place_of}
+use Rattle.office_maps.specs.OfficeIn.{domain_in, office_in, place_of}
 use Rattle.office_maps.specs.MapViews.{viewed}
 use Rattle.office_maps.proofs.AfterChanges.{unit_entries}
+use Rattle.office_maps.proofs.OrderedViews.{entries-viewed}
 use Rattle.office_rules.specs.Given.{AreStatusesOf}
-use Rattle.office_rules.specs.Books.{is_status, HasStatuses, AreRecorded, HasRecords, numbers_of, AreSeen}
-use Rattle.office_rules.proofs.MainAlone.{project_keeps, numbers_keep}
-use Rattle.office_rules.proofs.MainRules.{office_rules, unit_there}
+use Rattle.office_rules.specs.Books.{is_status, HasStatuses, AreRecorded, HasRecords, HaveRecords, numbers_of, AreSeen}
 use Rattle.office_rules.proofs.MapRows.{each_found, found_each}
 use Rattle.office_rules.proofs.Tests.{three_tell}
 
@@ -52,11 +50,20 @@ HasStatus statuses s = IsSome (get_by (text_cmp s.number) statuses)
 abbrev pub IsRow : BTreeMap Text ℕ → Place × Unit → Type 0
 IsRow statuses e = AreRecorded statuses e.1
 
-pub all_recorded : (statuses : BTreeMap Text ℕ) (t : ProjectMaps) (b : Bool) → IsOrdered (λ x y. place_cmp (place_of x) (place_of y)) t.domain.now.units → Decides b (AllByRecursion (IsRow statuses) t.domain.now.units.entries) →
-    Decides b (HasRecords statuses (lent_project t))
-all_recorded statuses t b ordered tells =
-    Decides-like b (each_found place_total place_IsAntisymmetric place_of (λ unit. unit) (λ place unit. AreRecorded statuses unit) t.domain.now.units)
-    (found_each place_total place_IsAntisymmetric place_of (λ unit. unit) (λ place unit. AreRecorded statuses unit) t.domain.now.units ordered) tells
+pub all_recorded : (statuses : BTreeMap Text ℕ) (d : DomainMaps) (b : Bool) → IsOrdered (λ x y. place_cmp (place_of x) (place_of y)) d.units → Decides b (AllByRecursion (IsRow statuses) d.units.entries) →
+    Decides b (HasRecords statuses (domain_in d))
+all_recorded statuses d b ordered tells =
+    Decides-like b (each_found place_total place_IsAntisymmetric place_of (λ unit. unit) (λ place unit. AreRecorded statuses unit) d.units)
+    (found_each place_total place_IsAntisymmetric place_of (λ unit. unit) (λ place unit. AreRecorded statuses unit) d.units ordered) tells
+
+abbrev pub IsDomainRow : {A : Type 0} → BTreeMap Text ℕ → String A × DomainMaps → Type 0
+IsDomainRow statuses e = HasRecords statuses (domain_in e.1)
+
+pub have_recorded : (statuses : BTreeMap Text ℕ) (t : OfficeMaps) (b : Bool) → IsOrdered (λ x y. text_cmp (string_bytes x) (string_bytes y)) t.domains →
+    Decides b (AllByRecursion (IsDomainRow statuses) t.domains.entries) → Decides b (HaveRecords statuses (office_in t))
+have_recorded statuses t b ordered tells =
+    Decides-like b (each_found text_total text_IsAntisymmetric string_bytes domain_in (λ name domain. HasRecords statuses domain) t.domains)
+    (found_each text_total text_IsAntisymmetric string_bytes domain_in (λ name domain. HasRecords statuses domain) t.domains ordered) tells
 
 -- ---- statuses
 
@@ -111,12 +118,12 @@ pub not_false : (b : Bool) → not b ≡ false → b ≡ true
 not_false true h = refl
 not_false false h = cc
 
-abbrev pub numbers_in : List Suggestion → List Text
-numbers_in suggestions = map (λ s. s.number) suggestions
+abbrev pub numbers_among : List Suggestion → List Text
+numbers_among suggestions = map (λ s. s.number) suggestions
 
 pub record IsAdded (old new : BTreeSet Text) (added : List Suggestion) : Type 0 where
-  pub seen : (before : List Text) → AreSeen before old → AreSeen (before ++ numbers_in added) new
-  pub own : (before : List Text) → AreSeen before old → IsDistinct text_eq before → IsDistinct text_eq (before ++ numbers_in added)
+  pub seen : (before : List Text) → AreSeen before old → AreSeen (before ++ numbers_among added) new
+  pub own : (before : List Text) → AreSeen before old → IsDistinct text_eq before → IsDistinct text_eq (before ++ numbers_among added)
 
 pub none_added : (seen : BTreeSet Text) → IsAdded seen seen []
 none_added seen = record {
@@ -143,18 +150,18 @@ seen_more before old new n are updates q =
 next_taken : (xs : List Suggestion) (i : ℕ) (x : Suggestion) → i < length xs → x ≡ get_or xs i x → take (i + 1) xs ≡ take i xs ++ x ∷ []
 next_taken xs i x within is = take_more xs i x within ∙ ap (λ y. take i xs ++ y ∷ []) (sym is)
 
-one_later : (before : List Text) (added : List Suggestion) (x : Suggestion) → (before ++ numbers_in added) ++ x.number ∷ [] ≡ before ++ numbers_in (added ++ x ∷ [])
-one_later before added x = append_assoc before (numbers_in added) (x.number ∷ []) ∙ ap (λ ns. before ++ ns) (sym (map-append (λ (s : Suggestion). s.number) added (x ∷ [])))
+one_later : (before : List Text) (added : List Suggestion) (x : Suggestion) → (before ++ numbers_among added) ++ x.number ∷ [] ≡ before ++ numbers_among (added ++ x ∷ [])
+one_later before added x = append_assoc before (numbers_among added) (x.number ∷ []) ∙ ap (λ ns. before ++ ns) (sym (map-append (λ (s : Suggestion). s.number) added (x ∷ [])))
 
 pub one_added : (old now new : BTreeSet Text) (xs : List Suggestion) (i : ℕ) (x : Suggestion) (number : Text) → i < length xs → x ≡ get_or xs i x → number ≡ x.number → contains text_cmp now number ≡ false →
     Updates text_cmp now new number true → IsAdded old now (take i xs) → IsAdded old new (take (i + 1) xs)
 one_added old now new xs i x number within is named fresh updates so_far = subst (IsAdded old new) (sym (next_taken xs i x within is)) (record {
   seen = λ before are.
-      subst (λ ns. AreSeen ns new) (ap (λ n. (before ++ numbers_in (take i xs)) ++ n ∷ []) named ∙ one_later before (take i xs) x)
-      (seen_more (before ++ numbers_in (take i xs)) now new number (so_far.seen before are) updates);
+      subst (λ ns. AreSeen ns new) (ap (λ n. (before ++ numbers_among (take i xs)) ++ n ∷ []) named ∙ one_later before (take i xs) x)
+      (seen_more (before ++ numbers_among (take i xs)) now new number (so_far.seen before are) updates);
   own = λ before are distinct.
-      subst (IsDistinct text_eq) (ap (λ n. (before ++ numbers_in (take i xs)) ++ n ∷ []) named ∙ one_later before (take i xs) x)
-      (IsDistinct-push nat_list_eq_equiv (before ++ numbers_in (take i xs)) number (so_far.own before are distinct) (sym (so_far.seen before are number) ∙ fresh));
+      subst (IsDistinct text_eq) (ap (λ n. (before ++ numbers_among (take i xs)) ++ n ∷ []) named ∙ one_later before (take i xs) x)
+      (IsDistinct-push nat_list_eq_equiv (before ++ numbers_among (take i xs)) number (so_far.own before are distinct) (sym (so_far.seen before are number) ∙ fresh));
 })
 
 -- a number that stands in front stands twice
@@ -173,61 +180,37 @@ twice (f ∷ front) back n there distinct = by (text_eq n f) refl there (twice f
     by false e h rest d = rest h d.1
 
 pub number_twice : (old now : BTreeSet Text) (xs : List Suggestion) (i : ℕ) (x : Suggestion) (number : Text) → i < length xs → x ≡ get_or xs i x → number ≡ x.number → contains text_cmp now number ≡ true →
-    IsAdded old now (take i xs) → (before : List Text) → AreSeen before old → IsDistinct text_eq before → Decides false (IsDistinct text_eq (before ++ numbers_in xs))
+    IsAdded old now (take i xs) → (before : List Text) → AreSeen before old → IsDistinct text_eq before → Decides false (IsDistinct text_eq (before ++ numbers_among xs))
 number_twice old now xs i x number within is named there so_far before are distinct = (
   λ e. absurd (false≢true e),
-  λ whole. absurd (twice (before ++ numbers_in (take i xs)) (numbers_in (drop (i + 1) xs)) x.number
+  λ whole. absurd (twice (before ++ numbers_among (take i xs)) (numbers_among (drop (i + 1) xs)) x.number
       (sym (so_far.seen before are x.number) ∙ (ap (contains text_cmp now) (sym named) ∙ there)) (subst (IsDistinct text_eq) cut whole)),
 )
   where
     parts : xs ≡ take i xs ++ x ∷ drop (i + 1) xs
     parts = sym (take-append-drop i xs) ∙ ap (λ ys. take i xs ++ ys) (drop-cons xs i x within ∙ (λ k. sym is k ∷ drop (sym (add-one i) k) xs))
 
-    cut : before ++ numbers_in xs ≡ (before ++ numbers_in (take i xs)) ++ x.number ∷ numbers_in (drop (i + 1) xs)
+    cut : before ++ numbers_among xs ≡ (before ++ numbers_among (take i xs)) ++ x.number ∷ numbers_among (drop (i + 1) xs)
     cut =
-        ap (λ ys. before ++ numbers_in ys) parts
+        ap (λ ys. before ++ numbers_among ys) parts
         ∙ (ap (λ ns. before ++ ns) (map-append (λ (s : Suggestion). s.number) (take i xs) (x ∷ drop (i + 1) xs))
-        ∙ sym (append_assoc before (numbers_in (take i xs)) (x.number ∷ numbers_in (drop (i + 1) xs))))
+        ∙ sym (append_assoc before (numbers_among (take i xs)) (x.number ∷ numbers_among (drop (i + 1) xs))))
 
--- ---- the numbers of all suggestions
+-- ---- the numbers of all rows
 
-abbrev rows : List (Place × Unit) → List Text
-rows es = flat_map (λ e. numbers_of e.1) es
+-- what is told of numbers that are added to those that were seen
+abbrev pub TellsNew : BTreeSet Text → List Text → Bool → Type 0
+TellsNew old added new = (before : List Text) → AreSeen before old → IsDistinct text_eq before → Decides new (IsDistinct text_eq (before ++ added))
 
--- the numbers of the rows that were met, which differ, stand in the set
-pub record IsGathered (all left : List (Place × Unit)) (seen : BTreeSet Text) : Type 0 where
-  pub before : List Text
-  pub rest : before ++ rows left ≡ rows all
-  pub are : AreSeen before seen
-  pub own : IsDistinct text_eq before
+abbrev pub TellsSeen : BTreeSet Text → BTreeSet Text → List Text → Bool → Type 0
+TellsSeen old now added new = (before : List Text) → AreSeen before old → new ≡ true → AreSeen (before ++ added) now
 
-pub begun : (all left : List (Place × Unit)) (seen : BTreeSet Text) → left ≡ all → seen.keys ≡ [] → IsGathered all left seen
-unfolding IsDistinct
-begun all left seen is none = record {
-  before = [];
-  rest = ap rows is;
-  are = λ q. ap (λ ks. list_any (λ k. is_eq (text_cmp q k)) ks) none;
-  own = tt;
-}
-
--- what `add_numbers` tells of a unit
-abbrev TellsNew : BTreeSet Text → Unit → Bool → Type 0
-TellsNew old unit new = (before : List Text) → AreSeen before old → IsDistinct text_eq before → Decides new (IsDistinct text_eq (before ++ numbers_of unit))
-
-abbrev TellsSeen : BTreeSet Text → BTreeSet Text → Unit → Bool → Type 0
-TellsSeen old now unit new = (before : List Text) → AreSeen before old → new ≡ true → AreSeen (before ++ numbers_of unit) now
-
-next_rows : (before : List Text) (all left next : List (Place × Unit)) (e : Place × Unit) → left ≡ e ∷ next → before ++ rows left ≡ rows all → (before ++ numbers_of e.1) ++ rows next ≡ rows all
-next_rows before all left next e is rest = append_assoc before (numbers_of e.1) (rows next) ∙ (sym (ap (λ es. before ++ rows es) is) ∙ rest)
-
-pub gathered_more : (all left next : List (Place × Unit)) (e : Place × Unit) (old now : BTreeSet Text) (new : Bool) → left ≡ e ∷ next → TellsNew old e.1 new → TellsSeen old now e.1 new → new ≡ true →
-    IsGathered all left old → IsGathered all next now
-gathered_more all left next e old now new is fresh seen passed met = record {
-  before = met.before ++ numbers_of e.1;
-  rest = next_rows met.before all left next e is met.rest;
-  are = seen met.before met.are passed;
-  own = (fresh met.before met.are met.own).0 passed;
-}
+-- the numbers of the rows that were met differ from one another and from those before, and stand in the set with them
+pub record IsGathered {X : Type 0} (numbers : X → List Text) (all left : List X) (old seen : BTreeSet Text) : Type 0 where
+  pub met : List Text
+  pub rest : met ++ flat_map numbers left ≡ flat_map numbers all
+  pub are : (before : List Text) → AreSeen before old → AreSeen (before ++ met) seen
+  pub own : (before : List Text) → AreSeen before old → IsDistinct text_eq before → IsDistinct text_eq (before ++ met)
 
 front_distinct : (xs ys : List Text) → IsDistinct text_eq (xs ++ ys) → IsDistinct text_eq xs
 unfolding IsDistinct
@@ -238,31 +221,79 @@ front_distinct (x ∷ xs) ys d = (front xs d.0, front_distinct xs ys d.1)
     front [] h = tt
     front (z ∷ zs) h = (h.0, front zs h.1)
 
-pub shared : (all left next : List (Place × Unit)) (e : Place × Unit) (old : BTreeSet Text) (new : Bool) → left ≡ e ∷ next → TellsNew old e.1 new → new ≡ false → IsGathered all left old →
-    Decides false (IsDistinct text_eq (rows all))
-shared all left next e old new is fresh failed met = (
-  λ h. absurd (false≢true h),
-  λ distinct. absurd (false≢true (sym failed ∙ (fresh met.before met.are met.own).1
-      (front_distinct (met.before ++ numbers_of e.1) (rows next) (subst (IsDistinct text_eq) (sym (next_rows met.before all left next e is met.rest)) distinct)))),
-)
+module _ {X : Type 0} (numbers : X → List Text) (all : List X) (old : BTreeSet Text) where
+  pub begun : (left : List X) → left ≡ all → IsGathered numbers all left old old
+  begun left is = record {
+    met = [];
+    rest = ap (flat_map numbers) is;
+    are = λ before are. subst (λ ns. AreSeen ns old) (sym (append-nil before)) are;
+    own = λ before are distinct. subst (IsDistinct text_eq) (sym (append-nil before)) distinct;
+  }
 
-pub gathered : (all left : List (Place × Unit)) (seen : BTreeSet Text) → left ≡ [] → IsGathered all left seen → Decides true (IsDistinct text_eq (rows all))
-gathered all left seen is met = (
-  λ h. subst (IsDistinct text_eq) (sym (append-nil met.before) ∙ (sym (ap (λ es. met.before ++ rows es) is) ∙ met.rest)) met.own,
-  λ h. refl,
-)
+  next_rows : (met : List Text) (left next : List X) (e : X) → left ≡ e ∷ next → met ++ flat_map numbers left ≡ flat_map numbers all → (met ++ numbers e) ++ flat_map numbers next ≡ flat_map numbers all
+  next_rows met left next e is rest = append_assoc met (numbers e) (flat_map numbers next) ∙ (sym (ap (λ es. met ++ flat_map numbers es) is) ∙ rest)
 
-viewed_rows : (es : List (Place × Unit)) → flat_map (λ (e : OfficePlace × Unit). numbers_of e.1) (viewed place_of (λ unit. unit) es) ≡ rows es
-viewed_rows [] = refl
-viewed_rows (e ∷ es) = ap (λ ns. numbers_of e.1 ++ ns) (viewed_rows es)
+  pub gathered_more : (left next : List X) (e : X) (seen now : BTreeSet Text) (new : Bool) → left ≡ e ∷ next → TellsNew seen (numbers e) new → TellsSeen seen now (numbers e) new → new ≡ true →
+      IsGathered numbers all left old seen → IsGathered numbers all next old now
+  gathered_more left next e seen now new is tells adds passed so_far = record {
+    met = so_far.met ++ numbers e;
+    rest = next_rows so_far.met left next e is so_far.rest;
+    are = λ before are. subst (λ ns. AreSeen ns now) (append_assoc before so_far.met (numbers e)) (adds (before ++ so_far.met) (so_far.are before are) passed);
+    own = λ before are distinct.
+        subst (IsDistinct text_eq) (append_assoc before so_far.met (numbers e)) ((tells (before ++ so_far.met) (so_far.are before are) (so_far.own before are distinct)).0 passed);
+  }
 
-abbrev own_numbers : Project → List Text
-own_numbers project = flat_map (λ e. numbers_of e.1) (maps.entries project.units)
+  pub shared : (left next : List X) (e : X) (seen : BTreeSet Text) (new : Bool) → left ≡ e ∷ next → TellsNew seen (numbers e) new → new ≡ false → IsGathered numbers all left old seen →
+      TellsNew old (flat_map numbers all) false
+  shared left next e seen new is tells failed so_far before are distinct = (
+    λ h. absurd (false≢true h),
+    λ whole. absurd (false≢true (sym failed ∙ (tells (before ++ so_far.met) (so_far.are before are) (so_far.own before are distinct)).1
+        (subst (IsDistinct text_eq) (sym (append_assoc before so_far.met (numbers e)))
+        (front_distinct (before ++ (so_far.met ++ numbers e)) (flat_map numbers next) (subst (IsDistinct text_eq) (sym cut) whole))))),
+  )
+    where
+      cut : (before ++ (so_far.met ++ numbers e)) ++ flat_map numbers next ≡ before ++ flat_map numbers all
+      cut = append_assoc before (so_far.met ++ numbers e) (flat_map numbers next) ∙ ap (λ ns. before ++ ns) (next_rows so_far.met left next e is so_far.rest)
 
-pub own_told : (t : ProjectMaps) (b : Bool) → IsOrdered (λ x y. place_cmp (place_of x) (place_of y)) t.domain.now.units → Decides b (IsDistinct text_eq (rows t.domain.now.units.entries)) →
-    Decides b (IsDistinct text_eq (own_numbers (lent_project t)))
-own_told t b ordered tells =
-    subst (λ ns. Decides b (IsDistinct text_eq ns)) (sym (ap (flat_map (λ (e : OfficePlace × Unit). numbers_of e.1)) (unit_entries t.domain.now.units ordered) ∙ viewed_rows t.domain.now.units.entries)) tells
+  all_met : (left : List X) (seen : BTreeSet Text) → left ≡ [] → (so_far : IsGathered numbers all left old seen) → so_far.met ≡ flat_map numbers all
+  all_met left seen is so_far = sym (append-nil so_far.met) ∙ (sym (ap (λ es. so_far.met ++ flat_map numbers es) is) ∙ so_far.rest)
+
+  pub all_own : (left : List X) (seen : BTreeSet Text) → left ≡ [] → IsGathered numbers all left old seen → TellsNew old (flat_map numbers all) true
+  all_own left seen is so_far before are distinct =
+      (λ h. subst (λ ns. IsDistinct text_eq (before ++ ns)) (all_met left seen is so_far) (so_far.own before are distinct), λ h. refl)
+
+  pub all_seen : (left : List X) (seen : BTreeSet Text) → left ≡ [] → IsGathered numbers all left old seen → TellsSeen old seen (flat_map numbers all) true
+  all_seen left seen is so_far before are h = subst (λ ns. AreSeen (before ++ ns) seen) (all_met left seen is so_far) (so_far.are before are)
+
+-- ---- the numbers of all suggestions
+
+viewed_rows : {K X B Y : Type 0} (f : K → B) (g : X → Y) (numbers : Y → List Text) (es : List (K × X)) → flat_map (λ e. numbers e.1) (viewed f g es) ≡ flat_map (λ e. numbers (g e.1)) es
+viewed_rows f g numbers [] = refl
+viewed_rows f g numbers (e ∷ es) = ap (λ ns. numbers (g e.1) ++ ns) (viewed_rows f g numbers es)
+
+-- those of a row of units, and of a row of domains
+abbrev pub unit_numbers : Place × Unit → List Text
+unit_numbers e = numbers_of e.1
+
+abbrev pub domain_numbers : {A : Type 0} → String A × DomainMaps → List Text
+domain_numbers e = numbers_in (domain_in e.1)
+
+pub in_units : (d : DomainMaps) → IsOrdered (λ x y. place_cmp (place_of x) (place_of y)) d.units → flat_map unit_numbers d.units.entries ≡ numbers_in (domain_in d)
+in_units d ordered = sym (ap (flat_map (λ (e : OfficePlace × Unit). numbers_of e.1)) (unit_entries d.units ordered) ∙ viewed_rows place_of (λ unit. unit) numbers_of d.units.entries)
+
+in_domains : (t : OfficeMaps) → IsOrdered (λ x y. text_cmp (string_bytes x) (string_bytes y)) t.domains → flat_map domain_numbers t.domains.entries ≡ all_numbers (office_in t)
+in_domains t ordered =
+    sym (ap (flat_map (λ (e : Text × Domain). numbers_in e.1)) (entries-viewed text_total text_IsAntisymmetric string_bytes domain_in t.domains ordered)
+    ∙ viewed_rows string_bytes domain_in numbers_in t.domains.entries)
+
+-- all of them, where none was seen before
+none_seen : (seen : BTreeSet Text) → seen.keys ≡ [] → AreSeen [] seen
+none_seen seen none q = ap (λ ks. list_any (λ k. is_eq (text_cmp q k)) ks) none
+
+pub own_told : (t : OfficeMaps) (seen : BTreeSet Text) (b : Bool) → seen.keys ≡ [] → IsOrdered (λ x y. text_cmp (string_bytes x) (string_bytes y)) t.domains →
+    TellsNew seen (flat_map domain_numbers t.domains.entries) b → Decides b (IsDistinct text_eq (all_numbers (office_in t)))
+unfolding IsDistinct
+own_told t seen b none ordered tells = subst (λ ns. Decides b (IsDistinct text_eq ns)) (in_domains t ordered) (tells [] (none_seen seen none) tt)
 
 -- ---- all rules
 
@@ -270,34 +301,39 @@ some_map : {X Y : Type 0} (f : X → Y) (o : Option X) → is_some (option_map f
 some_map f None = refl
 some_map f (Some x) = refl
 
-module _ (project : Project) (book : Book) (statuses : BTreeMap Text ℕ) (are : AreStatusesOf book statuses) where
+module _ (office : Office) (book : Book) (statuses : BTreeMap Text ℕ) (are : AreStatusesOf book statuses) where
   is_there : (number : Text) → is_some (get_by (text_cmp number) statuses) ≡ is_some (maps.get book number)
   is_there number = ap is_some (are number) ∙ some_map (λ (recorded : Recorded). recorded.reply.status) (maps.get book number)
 
   abbrev Kept : Type 0
-  Kept = KeepsRules (record { office = main_alone project; book = book })
+  Kept = KeepsRules (record { office = office; book = book })
 
-  records_of : Kept → HasRecords statuses project
-  records_of rules place unit there =
+  -- where there is no such domain there is no unit
+  recorded_of : HaveRecords statuses office → (name : Text) (place : OfficePlace) (unit : Unit) → maps.get (project_in office name).units place ≡ Some unit → All (λ s. IsSome (maps.get book s.number)) unit.suggestions
+  recorded_of have name place unit is =
+      All-weaker (HasStatus statuses) (λ s. IsSome (maps.get book s.number)) (λ s there. sym (is_there s.number) ∙ there) unit.suggestions (found (maps.get office.domains name) refl is)
+    where
+      found : (o : Option Domain) → maps.get office.domains name ≡ o → maps.get (unwrap_or o empty_domain).units place ≡ Some unit → AreRecorded statuses unit
+      found None none there =
+          let wrong : None ≡ Some unit = sym (maps.get-empty place_cmp place) ∙ there in
+          cc
+      found (Some domain) own there = have name domain own place unit there
+
+  records_of : Kept → HaveRecords statuses office
+  records_of rules name domain own place unit there =
       All-weaker (λ s. IsSome (maps.get book s.number)) (HasStatus statuses) (λ s is. is_there s.number ∙ is) unit.suggestions
-      (rules.recorded main place unit (ap (λ (p : Project). maps.get p.units place) (in-main project) ∙ there))
+      (rules.recorded name place unit (ap (λ (o : Option Domain). maps.get (unwrap_or o empty_domain).units place) own ∙ there))
 
-  pub rules_told : (k r a b c : Bool) → Decides k (IsProject project) → k ≡ true → r ≡ (a && (b && c)) → Decides a (HasRecords statuses project) → Decides b (IsDistinct text_eq (own_numbers project)) →
+  pub rules_told : (k r a b c : Bool) → Decides k (IsOffice office) → k ≡ true → r ≡ (a && (b && c)) → Decides a (HaveRecords statuses office) → Decides b (IsDistinct text_eq (all_numbers office)) →
       Decides c (HasStatuses book) → Decides r Kept
   rules_told k r a b c tells keeps e recorded own have =
-      three_tell {P = HasRecords statuses project} {Q = IsDistinct text_eq (own_numbers project)} {R = HasStatuses book} r a b c e
-      (λ h. record {
-        office = office_rules project (tells.0 keeps);
-        recorded = λ domain place unit there.
-            All-weaker (HasStatus statuses) (λ s. IsSome (maps.get book s.number)) (λ s is. sym (is_there s.number) ∙ is) unit.suggestions (h.0 place unit (unit_there project domain place unit there));
-        own_numbers = subst (IsDistinct text_eq) (sym (numbers-main project)) h.1.0;
-        statuses = h.1.1;
-      })
-      (λ rules. (records_of rules, (numbers_keep project book rules, rules.statuses)))
+      three_tell {P = HaveRecords statuses office} {Q = IsDistinct text_eq (all_numbers office)} {R = HasStatuses book} r a b c e
+      (λ h. record { office = tells.0 keeps; recorded = recorded_of h.0; own_numbers = h.1.0; statuses = h.1.1 })
+      (λ rules. (records_of rules, (rules.own_numbers, rules.statuses)))
       recorded own have
 
-  pub no_rules : (k : Bool) → Decides k (IsProject project) → k ≡ false → Decides false Kept
-  no_rules k tells failed = (λ e. absurd (false≢true e), λ rules. absurd (false≢true (sym failed ∙ tells.1 (project_keeps project book rules))))
+  pub no_rules : (k : Bool) → Decides k (IsOffice office) → k ≡ false → Decides false Kept
+  no_rules k tells failed = (λ e. absurd (false≢true e), λ rules. absurd (false≢true (sym failed ∙ tells.1 rules.office)))
 
 -- ---- one more record
 

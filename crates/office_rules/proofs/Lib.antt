@@ -4,10 +4,10 @@ pub mod UnitTests
 pub mod TemplateTests
 pub mod ContentTests
 pub mod MapRows
-pub mod MainRules
 pub mod PlaceTests
 pub mod TeamTests
 pub mod LanguageTests
 pub mod ProjectTests
+pub mod DomainTests
 pub mod BookTests
 pub mod GivenLemmas

@@ -1,11 +1,12 @@
--- The parts of the rules of a project with its book that are tested one by one. Only inner clauses and proofs cite this file.
+-- The parts of the rules of an office with its book that are tested one by one. Only inner clauses and proofs cite this file.
 use Rattle.std.specs.Prelude.{◌≡◌, ℕ, List, [], ◌∷◌, Bool, map, nat_eq, Some, IsSome, IsTrue, All}
 use Rattle.std.specs.List.{list_any}
 use Rattle.std.specs.BTreeMap.{BTreeMap, get_by}
 use Rattle.std.specs.BTreeSet.{BTreeSet, contains}
 use Rattle.std.specs.FinMap as maps
 use Rattle.po_text.specs.Texts.{Text, text_cmp, text_eq}
-use Rattle.units.specs.Project.{Project, Place}
+use Rattle.units.specs.Project.{Place}
+use Rattle.units.specs.Office.{Office, Domain}
 use Rattle.units.specs.declared.unit.Unit.{Unit}
 use Rattle.request_book.specs.Book.{Book, Recorded}
 
@@ -20,8 +21,11 @@ HasStatuses book = (number : Text) (recorded : Recorded) → maps.get book numbe
 abbrev pub AreRecorded : BTreeMap Text ℕ → Unit → Type 0
 AreRecorded statuses unit = All (λ s. IsSome (get_by (text_cmp s.number) statuses)) unit.suggestions
 
-abbrev pub HasRecords : BTreeMap Text ℕ → Project → Type 0
-HasRecords statuses project = (place : Place) (unit : Unit) → maps.get project.units place ≡ Some unit → AreRecorded statuses unit
+abbrev pub HasRecords : BTreeMap Text ℕ → Domain → Type 0
+HasRecords statuses domain = (place : Place) (unit : Unit) → maps.get domain.units place ≡ Some unit → AreRecorded statuses unit
+
+abbrev pub HaveRecords : BTreeMap Text ℕ → Office → Type 0
+HaveRecords statuses office = (name : Text) (domain : Domain) → maps.get office.domains name ≡ Some domain → HasRecords statuses domain
 
 abbrev pub numbers_of : Unit → List Text
 numbers_of unit = map (λ s. s.number) unit.suggestions

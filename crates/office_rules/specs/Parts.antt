@@ -1,4 +1,4 @@
--- The parts of a project's rules that are tested one by one. Only inner clauses and proofs cite this file.
+-- The parts of an office's rules that are tested one by one, apart from those of its book. Only inner clauses and proofs cite this file.
 use Rattle.std.specs.Prelude.{◌≡◌, ◌≤◌, [], ◌∷◌, length, true, false, not, Some, None, IsSome, IsOk, IsTrue, All}
 use Rattle.std.specs.List.{list_any, AllByRecursion}
 use Rattle.std.specs.FinMap as maps
@@ -12,7 +12,8 @@ use Rattle.plural_expr.specs.Values.{Rule}
 use Rattle.units.specs.Limits.{is_accept_at, language_limit, team_limit, unit_limit, suggestion_limit, vote_limit}
 use Rattle.units.specs.Units.{forms_needed, no_previous, is_below, is_approved, is_needs_editing, key_of}
 use Rattle.units.specs.Project.{Project, Place, entry_of, units_of}
-use Rattle.units.specs.Projects.{IsUnit, IsTemplateEntry}
+use Rattle.units.specs.Projects.{IsUnit, IsTemplateEntry, IsProject}
+use Rattle.units.specs.Office.{Office, project_in}
 use Rattle.units.specs.Rules.{rule_in, rule_at}
 use Rattle.units.specs.declared.unit.Role.{Role}
 use Rattle.units.specs.declared.unit.Role.TheVariants.{Guest, Manager}
@@ -100,3 +101,9 @@ pub record IsFrame (project : Project) : Type 0 where
   pub template_valid : IsValid project.template
   pub template_plain : All IsTemplateEntry project.template
   pub few_languages : maps.len project.headers ≤ language_limit
+
+-- ---- of an office
+
+-- each domain keeps the rules of a project
+abbrev pub AreProjects : Office → Type 0
+AreProjects office = (domain : Text) → IsSome (maps.get office.domains domain) → IsProject (project_in office domain)

@@ -1,19 +1,17 @@
-//! Whether an office whose one domain is `main` keeps the rules of one with its book.
+//! Whether an office keeps the rules of one with its book.
 
 ghost use Rattle.std.specs.Prelude.{◌≡◌, ◌↔◌, ◌++◌, List, true, IfOk, OnOk};
 ghost use Rattle.std.specs.List.{IsDistinct};
 ghost use Rattle.po_text.specs.Texts.{Text, text_eq};
 ghost use Rattle.request_book.specs.Book.{Book, with_record};
-ghost use Rattle.units.specs.Office.{domain_of};
-ghost use Rattle.deliveries.specs.MainAlone.{main_alone};
-ghost use Rattle.deliveries.specs.OfficeRules.{KeepsRules, numbers_in};
-ghost use Rattle.office_maps.specs.OfficeIn.{lent_project};
-ghost use Rattle.office_rules.specs.Given.{AreAll, AreStatusesOf};
-ghost use Rattle.office_rules.specs.Books.{is_status, HasStatuses, AreRecorded, HasRecords, numbers_of, AreSeen};
+ghost use Rattle.deliveries.specs.OfficeRules.{KeepsRules, numbers_in, all_numbers};
+ghost use Rattle.office_maps.specs.OfficeIn.{domain_in, office_in};
+ghost use Rattle.office_rules.specs.Given.{AreAllLangs, AreStatusesOf};
+ghost use Rattle.office_rules.specs.Books.{is_status, HasStatuses, AreRecorded, HasRecords, HaveRecords, numbers_of, AreSeen};
 
-use crate::project_rules::keeps_project_rules;
+use crate::domain_rules::is_office;
 use crate::unit_rules::hold_all;
-use office_maps::ProjectMaps;
+use office_maps::{DomainMaps, OfficeMaps};
 use request_book::Record;
 use std::alloc::{AllocError, Global};
 use std::collections::{BTreeMap, BTreeSet};
@@ -56,12 +54,24 @@ fn is_recorded(statuses: &BTreeMap<Uuid, u16>, unit: &Unit) -> bool
     true
 }
 
-/// Whether the number of each suggestion of a project is recorded.
-fn are_recorded(statuses: &BTreeMap<Uuid, u16>, project: &ProjectMaps<'_>) -> bool
-    ensures { (result ≡ true) ↔ HasRecords statuses.now (lent_project project.now) }
+/// Whether the number of each suggestion of a domain is recorded.
+fn are_recorded(statuses: &BTreeMap<Uuid, u16>, domain: &DomainMaps) -> bool
+    ensures { (result ≡ true) ↔ HasRecords statuses.now (domain_in domain.now) }
 {
-    for (_place, unit) in project.domain.units.iter() {
+    for (_place, unit) in domain.units.iter() {
         if !is_recorded(statuses, unit) {
+            return false;
+        }
+    }
+    true
+}
+
+/// Whether the number of each suggestion of an office is recorded.
+fn have_records(statuses: &BTreeMap<Uuid, u16>, maps: &OfficeMaps) -> bool
+    ensures { (result ≡ true) ↔ HaveRecords statuses.now (office_in maps.now) }
+{
+    for (_name, domain) in maps.domains.iter() {
+        if !are_recorded(statuses, domain) {
             return false;
         }
     }
@@ -82,38 +92,52 @@ fn add_numbers(seen: &mut BTreeSet<Uuid>, unit: &Unit) -> Result<bool, AllocErro
     Ok(true)
 }
 
-/// Whether no two suggestions of a project share a number.
-fn have_own_numbers(alloc: Global, project: &ProjectMaps<'_>) -> Result<bool, AllocError>
-    ensures { IfOk result
-        (λ own. (own ≡ true) ↔ IsDistinct text_eq (numbers_in (domain_of (lent_project project.now)))) }
+/// Adds the numbers of a domain's suggestions to those that were seen, and tells whether none of them was.
+fn add_domain_numbers(seen: &mut BTreeSet<Uuid>, domain: &DomainMaps) -> Result<bool, AllocError>
+    ensures new { (before : List Text) → AreSeen before seen.old → IsDistinct text_eq before
+        → IfOk result (λ new. (new ≡ true) ↔ IsDistinct text_eq (before ++ numbers_in (domain_in domain.now))) }
+    ensures seen { (before : List Text) → AreSeen before seen.old
+        → IfOk result (λ new. new ≡ true → AreSeen (before ++ numbers_in (domain_in domain.now)) seen.new) }
 {
-    let mut seen = BTreeSet::new(alloc);
-    for (_place, unit) in project.domain.units.iter() {
-        if !add_numbers(&mut seen, unit)? {
+    for (_place, unit) in domain.units.iter() {
+        if !add_numbers(seen, unit)? {
             return Ok(false);
         }
     }
     Ok(true)
 }
 
-/// Whether the office whose one domain is `main`, of this project, keeps the rules of one with its book, of whose records these are the
-/// statuses by their numbers. All its languages have to be among `langs`.
+/// Whether no two suggestions of an office share a number.
+fn have_own_numbers(alloc: Global, maps: &OfficeMaps) -> Result<bool, AllocError>
+    ensures { IfOk result (λ own. (own ≡ true) ↔ IsDistinct text_eq (all_numbers (office_in maps.now))) }
+{
+    let mut seen = BTreeSet::new(alloc);
+    for (_name, domain) in maps.domains.iter() {
+        if !add_domain_numbers(&mut seen, domain)? {
+            return Ok(false);
+        }
+    }
+    Ok(true)
+}
+
+/// Whether an office keeps the rules of one with its book, of whose records these are the statuses by their numbers.
+/// All languages of all its domains have to be among `langs`.
 ///
 /// `AllocError` where a growth was refused.
 pub fn keeps_rules(
     alloc: Global,
-    project: &ProjectMaps<'_>,
+    maps: &OfficeMaps,
     langs: &[Lang],
     statuses: &BTreeMap<Uuid, u16>,
 ) -> Result<bool, AllocError>
-    requires all { AreAll (lent_project project.now).headers langs.now }
+    requires all { AreAllLangs (office_in maps.now) langs.now }
     ensures { (book : Book) → AreStatusesOf book statuses.now
-        → IfOk result (λ holds. (holds ≡ true) ↔ KeepsRules (record { office = main_alone (lent_project project.now); book = book })) }
+        → IfOk result (λ holds. (holds ≡ true) ↔ KeepsRules (record { office = office_in maps.now; book = book })) }
 {
-    if !keeps_project_rules(alloc, project, langs)? {
+    if !is_office(alloc, maps, langs)? {
         return Ok(false);
     }
-    let recorded = are_recorded(statuses, project);
-    let own = have_own_numbers(alloc, project)?;
+    let recorded = have_records(statuses, maps);
+    let own = have_own_numbers(alloc, maps)?;
     Ok(hold_all(recorded, own, are_statuses(statuses)))
 }

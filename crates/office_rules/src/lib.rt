@@ -3,7 +3,8 @@
 //!
 //! - `unit_rules`, `place_rules`: a unit, and a unit where it stands
 //! - `template_rules`, `language_rules`, `project_rules`: a template, the languages, and with these the project
-//! - `book_rules`: the numbers and statuses of the book, and with them an office of `main` alone (`keeps_rules`)
+//! - `domain_rules`: an office's domains, each a project with the office's team and policy
+//! - `book_rules`: the numbers and statuses of the book, and with them the office (`keeps_rules`)
 //! - `contents`: the content of a request (`is_content`)
 //!
 //! Specs: `Given` (what callers bring beside the maps, shown row by row in `proofs/GivenLemmas`), `Parts` and `Books`
@@ -12,6 +13,7 @@
 
 mod book_rules;
 mod contents;
+mod domain_rules;
 mod language_rules;
 mod place_rules;
 mod project_rules;

@@ -34,7 +34,7 @@ const REST: u64 = 1;
 /// Takes the next connection of a listener, serves it as `http_api::serve` does, and closes it. A client on whose connection nothing moves
 /// for a minute is given up, with `Read` where it sends nothing and with `Write` where it takes nothing.
 ///
-/// Nothing is known of the bytes of a socket: some messages came, and each was answered from the desk, in their order. `Read` also where
+/// Nothing is known of the bytes of a socket: some messages came, and each came to its outcome at the desk, in their order. `Read` also where
 /// no connection was taken, a second later, `Memory` also where there is no room for its answers; then nothing was served. `Disk` only
 /// where the tables are stopped.
 pub fn serve_next<T: Tables, C: Clock, L: OpenListener<Stream = TcpStream>>(

@@ -69,9 +69,9 @@ counts_told tally row =
     (then_told _ _ _ _ _ _ (integer_told (pos tally.read_only) (column row 6)) (then_told _ _ _ _ _ _ (integer_told (pos tally.suggestions) (column row 7))
     (one_told _ _ _ (integer_told (pos tally.obsolete) (column row 8))))))))
 
-pub row_told : (domain : Text) (c : Counted) (row : Row) → Decides (is_row_of domain c row) (columns (0 ∷ 1 ∷ 2 ∷ 3 ∷ 4 ∷ 5 ∷ 6 ∷ 7 ∷ 8 ∷ []) row ≡ tally_cells domain c.lang.now c.tally)
-row_told domain c row =
-    then_told _ _ _ _ _ _ (words_told domain (column row 0)) (then_told _ _ _ _ _ _ (words_told c.lang.now (column row 1)) (counts_told c.tally row))
+pub row_told : (c : Counted) (row : Row) → Decides (is_row_of c row) (columns (0 ∷ 1 ∷ 2 ∷ 3 ∷ 4 ∷ 5 ∷ 6 ∷ 7 ∷ 8 ∷ []) row ≡ tally_cells c.domain.now c.lang.now c.tally)
+row_told c row =
+    then_told _ _ _ _ _ _ (words_told c.domain.now (column row 0)) (then_told _ _ _ _ _ _ (words_told c.lang.now (column row 1)) (counts_told c.tally row))
 
 -- ---- a sum
 

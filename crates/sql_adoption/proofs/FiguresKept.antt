@@ -52,7 +52,7 @@ module _ (old new : State) (rows : FigureRows) (office : Office) (idle : IsIdleO
   ready clean = looked_ready old new {E = Error} rows ShowsFigures idle it clean
 
   pub refused_rows : HasCleanDisk new → (fault : OpenFault) → RefusesFigureRows rows fault → RefusesFigures office old.now fault
-  refused_rows clean (Foreign UnreadRow) h = λ alone stand. false≢true (sym h ∙ they_stand old.now (ready clean) rows (it.answer clean) alone stand)
+  refused_rows clean (Foreign UnreadRow) h = λ stand. false≢true (sym h ∙ they_stand old.now (ready clean) rows (it.answer clean) stand)
   refused_rows clean (Foreign OtherFigures) h = absurd h
   refused_rows clean (Foreign BrokenRules) h = absurd h
   refused_rows clean (Foreign OtherForm) h = absurd h

@@ -10,7 +10,7 @@ use Rattle.sqlite_rules.specs.Lists.{Has}
 use Rattle.sqlite_rules.proofs.ListLemmas.{test_has, test_from, some_from, has_filtered, has_kept}
 use Rattle.sql_laws.proofs.RowMaps.{texts_are_one}
 use Rattle.po_text.specs.Texts.{Text, text_cmp}
-use Rattle.units.specs.Office.{Office, main}
+use Rattle.units.specs.Office.{Office}
 use Rattle.units.specs.Units.{vote_sum}
 use Rattle.units.specs.declared.votes.VoteValue.{VoteValue}
 use Rattle.deliveries.specs.declared.tally.Tally.{Tally}
@@ -22,7 +22,6 @@ use Rattle.sql_schema.proofs.DomainRows.{one_d_vote, one_d_sum}
 use Rattle.sql_schema.proofs.DomainViews.{is_text}
 use Rattle.sql_schema.proofs.Views.{to_view}
 use Rattle.sql_meaning.specs.Cells.{tally_cells}
-use Rattle.sql_meaning.specs.Meaning.{own_rows}
 use Rattle.sql_meaning.specs.OfficeShown.{votes_shown}
 use Rattle.sql_meaning.specs.Values.{vote_at}
 use Rattle.sql_meaning.proofs.DomainOfficeRows.{on_suggestion}
@@ -31,7 +30,7 @@ use Rattle.sql_meaning.proofs.WholeRows.{kept_listed, fold_mapped}
 use Rattle.sql_decoding.specs.RowTests.{holds_text, is_number, is_vote_row, is_suggestion_row}
 use Rattle.sql_figures.specs.KeptSums.{votes_among, HasSum, HaveSums}
 use Rattle.sql_figures.specs.KeptTallies.{Counts, office_counts, IsTallyOf, tally_columns, HoldsTally, AreTalliesOf}
-use Rattle.sql_adoption.specs.Adoption.{HoldsMainAlone, StandForOffice}
+use Rattle.sql_adoption.specs.Adoption.{StandInDomains}
 use Rattle.sql_adoption.specs.FigureRows.{ShowsFigures, AreTalliesShown, ShowFigures, sum_shown, has_shown_sum, have_shown_sums, votes_stand}
 use Rattle.sql_adoption.specs.Reading.{HoldFigures}
 use Rattle.sql_adoption.specs.declared.figure_rows.FigureRows.{FigureRows}
@@ -148,23 +147,25 @@ module _ (db : Database) (ready : AreOfficeTablesOf by_domain db) (rows : Figure
   pub figures_shown : (office : Office) → HoldFigures office (rows_named db) → ShowFigures (office_counts office) rows
   figures_shown office hold = record { tallies = tallies_shown (office_counts office) hold.tallies; sums = sums_shown hold.sums }
 
-  -- ---- votes and numbers stand for values, where those of an office do that holds `main` alone
+  -- ---- votes and numbers stand for values, where those do that their domains see
 
-  module _ (alone : HoldsMainAlone by_domain (rows_named db)) (stand : StandForOffice (own_rows by_domain (rows_named db))) where
+  module _ (stand : StandInDomains (rows_named db)) where
     abbrev suggestions : List Row
     suggestions = rows_named db (codes "d_suggestion")
 
     vote_stands : (v : Row) → Has votes v → is_vote_row (columns (2 ∷ 3 ∷ 1 ∷ []) v) ≡ true
     vote_stands v there =
         let s = on_suggestion db ready v there in
-        let passes : is_vote_in main suggestions v ≡ true =
-        some_from (λ s. has_text 1 (first_text v) s && has_text 2 main s) suggestions s.0 s.1 (and_from _ _ (is_text 1 (first_text v) s.0 (sym s.2)) (is_text 2 main s.0 (alone.1.suggestions s.0 s.1))) in
-        stand.votes v (to_view (is_vote_in main suggestions) vote_seen votes v there passes)
+        let domain : Text = text_at 2 s.0 in
+        let passes : is_vote_in domain suggestions v ≡ true =
+        some_from (λ s. has_text 1 (first_text v) s && has_text 2 domain s) suggestions s.0 s.1 (and_from _ _ (is_text 1 (first_text v) s.0 (sym s.2)) (is_text 2 domain s.0 refl)) in
+        (stand.each domain).votes v (to_view (is_vote_in domain suggestions) vote_seen votes v there passes)
 
     number_stands : (s : Row) → Has suggestions s → holds_text is_number 0 (columns (1 ∷ []) s) ≡ true
     number_stands s there =
+        let domain : Text = text_at 2 s in
         let it : is_suggestion_row (columns (1 ∷ 4 ∷ 5 ∷ 6 ∷ 2 ∷ 3 ∷ []) (suggestion_seen s)) ≡ true =
-        stand.suggestions (suggestion_seen s) (to_view (has_text 2 main) suggestion_seen suggestions s there (is_text 2 main s (alone.1.suggestions s there))) in
+        (stand.each domain).suggestions (suggestion_seen s) (to_view (has_text 2 domain) suggestion_seen suggestions s there (is_text 2 domain s refl)) in
         (and_parts _ _ (and_parts _ _ it).1).0
 
     pub they_stand : votes_stand rows ≡ true

@@ -1,5 +1,5 @@
 -- An office that was read keeps the rules with the book of the rows, or doesn't.
-use Rattle.std.proofs.Common.{◌≡◌, Result, Ok, Err, IfOk, IfErr, OnOk, MatchResult, codes, refl, sym, subst, arith}
+use Rattle.std.proofs.Common.{◌≡◌, Result, Ok, Err, IfOk, IfErr, OnOk, MatchResult, codes, refl, sym, ap, subst, ◌∙◌, arith}
 use Rattle.sqlite.specs.Effect.{Database}
 use Rattle.sqlite.specs.State.{State, HasCleanDisk}
 use Rattle.request_book.specs.Book.{OfficeWithBook}
@@ -7,73 +7,72 @@ use Rattle.deliveries.specs.OfficeRules.{KeepsRules}
 use Rattle.office_maps.specs.OfficeIn.{office_in}
 use Rattle.units.specs.Office.{Office}
 use Rattle.units.specs.Offices.{IsOffice}
-use Rattle.deliveries.specs.MainAlone.{main_alone}
 use Rattle.sql_figures.specs.KeptTallies.{office_counts, AreTalliesOf}
 use Rattle.sql_schema.specs.Whole.{IsIdleOver, IsLookUp}
-use Rattle.sql_meaning.specs.Meaning.{book_in, project_of_rows, meaning_for, own_rows, AreNumbered}
+use Rattle.sql_meaning.specs.Meaning.{book_in, AreNumbered}
+use Rattle.sql_meaning.specs.Domains.{meaning_for}
 use Rattle.sql_adoption.specs.declared.faults.OpenFault.{OpenFault}
 use Rattle.sql_adoption.specs.declared.faults.OpenFault.TheVariants.{Memory, Disk, Foreign, Exists}
 use Rattle.sql_adoption.specs.declared.faults.Mismatch.TheVariants.{OtherTables, OtherForm, UnreadRow, OtherFigures, BrokenRules}
-use Rattle.sql_adoption.specs.declared.office_read.ReadOffice.{ReadOffice}
+use Rattle.sql_adoption.specs.declared.office_put.ReadOffice.{ReadOffice}
 use Rattle.sql_adoption.specs.Adoption.{KeepsFigures, AreContents, StandForBook, IsAdoptedAs, Lacks, Refuses}
 use Rattle.sql_adoption.proofs.LaidOut.{one_form}
 use Rattle.sql_adoption.specs.Tables.{form_told}
 use Rattle.sql_adoption.specs.declared.office_tables.Form as told
 use Rattle.sql_adoption.specs.declared.tested.Adopted.{Adopted}
-use Rattle.sql_adoption.specs.Reading.{IsReadOf, KeepsBook, KeepsRows, FiguresOf, HoldFigures, RefusesWith, RefusesOf, RefusesBook, RefusesKept, RefusesFigures, RefusesKeptRows}
+use Rattle.sql_adoption.specs.Reading.{HoldsAll, IsReadOf, KeepsBook, KeepsRows, FiguresOf, HoldFigures, RefusesWith, RefusesOf, RefusesBook, RefusesKept, RefusesFigures, RefusesKeptRows}
 use Rattle.sql_adoption.proofs.Looked.{idle_still, if_ok, looked_on, looked_in_vain, both_looked, looked_same}
 use Rattle.sql_schema.specs.Layouts.{Form, for_main, by_domain, HasLayoutOf, NamedRows, rows_named}
 
-module _ (form : Form) where
-  -- where the rules were tested
-  pub book_is_kept : {X E : Type 0} (r : Result X E) (office : Office) (db : Database) → StandForBook (own_rows form (rows_named db)) → AreNumbered (own_rows form (rows_named db))
-      → AreContents (own_rows form (rows_named db)) → OnOk r (KeepsRules (record { office = office; book = book_in (own_rows form (rows_named db)) })) → IfOk r (λ _. KeepsBook form office db)
-  book_is_kept (Ok x) office db stand numbered contents rules = record { stand = stand; numbered = numbered; contents = contents; rules = rules }
-  book_is_kept (Err e) office db stand numbered contents rules = tt
+-- where the rules were tested
+pub book_is_kept : {X E : Type 0} (r : Result X E) (office : Office) (db : Database) → StandForBook (rows_named db) → AreNumbered (rows_named db) → AreContents (rows_named db)
+    → OnOk r (KeepsRules (record { office = office; book = book_in (rows_named db) })) → IfOk r (λ _. KeepsBook office db)
+book_is_kept (Ok x) office db stand numbered contents rules = record { stand = stand; numbered = numbered; contents = contents; rules = rules }
+book_is_kept (Err e) office db stand numbered contents rules = tt
 
-  -- why a book, or an office with it, isn't kept
-  pub book_refused : (office : Office) (db : Database) (fault : OpenFault) → RefusesBook form db fault → RefusesKept form office db fault
-  book_refused office db (Foreign UnreadRow) h = h
-  book_refused office db (Foreign OtherFigures) h = absurd h
-  book_refused office db (Foreign BrokenRules) h = absurd h
-  book_refused office db (Foreign OtherForm) h = absurd h
-  book_refused office db (Foreign OtherTables) h = absurd h
-  book_refused office db Exists h = absurd h
-  book_refused office db Memory h = tt
-  book_refused office db Disk h = tt
+-- why a book, or an office with it, isn't kept
+pub book_refused : (office : Office) (db : Database) (fault : OpenFault) → RefusesBook db fault → RefusesKept office db fault
+book_refused office db (Foreign UnreadRow) h = h
+book_refused office db (Foreign OtherFigures) h = absurd h
+book_refused office db (Foreign BrokenRules) h = absurd h
+book_refused office db (Foreign OtherForm) h = absurd h
+book_refused office db (Foreign OtherTables) h = absurd h
+book_refused office db Exists h = absurd h
+book_refused office db Memory h = tt
+book_refused office db Disk h = tt
 
-  pub rules_refused : (office : Office) (db : Database) (fault : OpenFault) → RefusesWith (record { office = office; book = book_in (own_rows form (rows_named db)) }) fault → RefusesKept form office db fault
-  rules_refused office db (Foreign UnreadRow) h = absurd h
-  rules_refused office db (Foreign OtherFigures) h = absurd h
-  rules_refused office db (Foreign BrokenRules) h = h
-  rules_refused office db (Foreign OtherForm) h = absurd h
-  rules_refused office db (Foreign OtherTables) h = absurd h
-  rules_refused office db Exists h = absurd h
-  rules_refused office db Memory h = tt
-  rules_refused office db Disk h = tt
+pub rules_refused : (office : Office) (db : Database) (fault : OpenFault) → RefusesWith (record { office = office; book = book_in (rows_named db) }) fault → RefusesKept office db fault
+rules_refused office db (Foreign UnreadRow) h = absurd h
+rules_refused office db (Foreign OtherFigures) h = absurd h
+rules_refused office db (Foreign BrokenRules) h = h
+rules_refused office db (Foreign OtherForm) h = absurd h
+rules_refused office db (Foreign OtherTables) h = absurd h
+rules_refused office db Exists h = absurd h
+rules_refused office db Memory h = tt
+rules_refused office db Disk h = tt
 
-  -- also with the figures
-  pub kept_refused : (office : Office) (db : Database) (fault : OpenFault) → RefusesKept form office db fault → RefusesKeptRows form office db fault
-  kept_refused office db (Foreign UnreadRow) h = λ alone stand. h stand.1
-  kept_refused office db (Foreign OtherFigures) h = absurd h
-  kept_refused office db (Foreign BrokenRules) h = h
-  kept_refused office db (Foreign OtherForm) h = absurd h
-  kept_refused office db (Foreign OtherTables) h = absurd h
-  kept_refused office db Exists h = absurd h
-  kept_refused office db Memory h = tt
-  kept_refused office db Disk h = tt
+-- also with the figures
+pub kept_refused : (form : Form) (office : Office) (db : Database) (fault : OpenFault) → RefusesKept office db fault → RefusesKeptRows form office db fault
+kept_refused form office db (Foreign UnreadRow) h = λ stand. h stand.1
+kept_refused form office db (Foreign OtherFigures) h = absurd h
+kept_refused form office db (Foreign BrokenRules) h = h
+kept_refused form office db (Foreign OtherForm) h = absurd h
+kept_refused form office db (Foreign OtherTables) h = absurd h
+kept_refused form office db Exists h = absurd h
+kept_refused form office db Memory h = tt
+kept_refused form office db Disk h = tt
 
 -- ---- the figures
 
 -- those of the office that the rows mean
-pub figures_kept : (form : Form) (office : Office) (db : Database) → office ≡ main_alone (project_of_rows (own_rows form (rows_named db))) → FiguresOf form office db → KeepsFigures form (rows_named db)
+pub figures_kept : (form : Form) (office : Office) (db : Database) → office ≡ (meaning_for form (rows_named db)).office → FiguresOf form office db → KeepsFigures form (rows_named db)
 figures_kept for_main office db is figures = tt
 figures_kept by_domain office db is figures = record {
   tallies = subst (λ (o : Office). AreTalliesOf (office_counts o) (rows_named db (codes "d_tally"))) is figures.tallies;
   sums = figures.sums;
 }
 
-pub figures_of : (form : Form) (office : Office) (db : Database) → office ≡ main_alone (project_of_rows (own_rows form (rows_named db))) → KeepsFigures form (rows_named db) → FiguresOf form office db
+pub figures_of : (form : Form) (office : Office) (db : Database) → office ≡ (meaning_for form (rows_named db)).office → KeepsFigures form (rows_named db) → FiguresOf form office db
 figures_of for_main office db is figures = tt
 figures_of by_domain office db is figures = record {
   tallies = subst (λ (o : Office). AreTalliesOf (office_counts o) (rows_named db (codes "d_tally"))) (sym is) figures.tallies;
@@ -81,8 +80,8 @@ figures_of by_domain office db is figures = record {
 }
 
 -- why an office whose book is kept isn't kept with its figures
-figures_refused : (office : Office) (db : Database) → KeepsBook by_domain office db → (fault : OpenFault) → RefusesFigures office db fault → RefusesKeptRows by_domain office db fault
-figures_refused office db kept (Foreign UnreadRow) h = λ alone stand. h alone stand.0
+figures_refused : (office : Office) (db : Database) → KeepsBook office db → (fault : OpenFault) → RefusesFigures office db fault → RefusesKeptRows by_domain office db fault
+figures_refused office db kept (Foreign UnreadRow) h = λ stand. h stand.0
 figures_refused office db kept (Foreign OtherFigures) h = h kept.rules.office
 figures_refused office db kept (Foreign BrokenRules) h = absurd h
 figures_refused office db kept (Foreign OtherForm) h = absurd h
@@ -92,16 +91,16 @@ figures_refused office db kept Memory h = tt
 figures_refused office db kept Disk h = tt
 
 -- tables without a column for a domain have none
-pub book_alone_kept : {U V : Type 0} (u : U) (v : V) (office : Office) (old new : State) → IsLookUp {E = OpenFault} old new (Ok u) (λ db _. KeepsBook for_main office db)
+pub book_alone_kept : {U V : Type 0} (u : U) (v : V) (office : Office) (old new : State) → IsLookUp {E = OpenFault} old new (Ok u) (λ db _. KeepsBook office db)
     → IsLookUp {E = OpenFault} old new (Ok v) (λ db _. KeepsRows for_main office db)
 book_alone_kept u v office old new it =
-    looked_on old new {E = OpenFault} u (Ok v) (λ db _. KeepsBook for_main office db) (λ db _. KeepsRows for_main office db) it (λ early is_open book. record { book = book; figures = tt })
+    looked_on old new {E = OpenFault} u (Ok v) (λ db _. KeepsBook office db) (λ db _. KeepsRows for_main office db) it (λ early is_open book. record { book = book; figures = tt })
 
-module _ {U V : Type 0} (u : U) (office : Office) (old mid new : State) (r : Result V OpenFault) (one : IsLookUp {E = OpenFault} old mid (Ok u) (λ db _. KeepsBook by_domain office db))
+module _ {U V : Type 0} (u : U) (office : Office) (old mid new : State) (r : Result V OpenFault) (one : IsLookUp {E = OpenFault} old mid (Ok u) (λ db _. KeepsBook office db))
     (two : IsLookUp mid new r (λ db _. IsOffice office → HoldFigures office (rows_named db))) where
   pub rows_are_kept : IsLookUp old new r (λ db _. KeepsRows by_domain office db)
   rows_are_kept =
-      let both = both_looked old mid new u r (λ db _. KeepsBook by_domain office db) (λ db _. IsOffice office → HoldFigures office (rows_named db)) one two in
+      let both = both_looked old mid new u r (λ db _. KeepsBook office db) (λ db _. IsOffice office → HoldFigures office (rows_named db)) one two in
       record {
         answer = λ clean. if_ok r (λ v it. record { book = it.0; figures = it.1 it.0.rules.office }) (both.answer clean);
         same = both.same;
@@ -118,7 +117,7 @@ module _ {U V : Type 0} (u : U) (office : Office) (old mid new : State) (r : Res
       by (Ok v) looked k = tt
       by (Err fault) looked k = λ clean.
           let before : HasCleanDisk mid = omega (arith, clean, looked.survives.clean) in
-          let same = looked_same old mid new u (Err fault) (λ db _. KeepsBook by_domain office db) (λ db _. IsOffice office → HoldFigures office (rows_named db)) one looked clean in
+          let same = looked_same old mid new u (Err fault) (λ db _. KeepsBook office db) (λ db _. IsOffice office → HoldFigures office (rows_named db)) one looked clean in
           figures_refused office old.now (one.answer before) fault (subst (λ db. RefusesFigures office db fault) same (k clean))
 
 -- the rows stay those of a form's tables
@@ -126,16 +125,18 @@ pub read_idle : (form : told.Form) (old mid : State) (read : ReadOffice) → IsI
     → IsIdleOver (form_told form) mid
 read_idle form old mid read idle one = idle_still old mid (Ok read) (IsReadOf (form_told form)) idle one
 
+-- the book is the same in both forms
+abbrev with_book : Office → NamedRows → OfficeWithBook
+with_book office rows = record { office = office; book = book_in rows }
+
+in_both : (form : Form) (rows : NamedRows) → with_book (meaning_for form rows).office rows ≡ meaning_for form rows
+in_both for_main rows = refl
+in_both by_domain rows = refl
+
 -- the office with its languages
-module _ (form : told.Form) (old mid new : State) (read : ReadOffice) (one : IsLookUp {E = OpenFault} old mid (Ok read) (IsReadOf (form_told form))) where
-  abbrev own : Database → NamedRows
-  own db = own_rows (form_told form) (rows_named db)
-
-  abbrev with_book : Database → OfficeWithBook
-  with_book db = record { office = office_in read.maps; book = book_in (own db) }
-
-  meant : (db : Database) → IsReadOf (form_told form) db read → with_book db ≡ meaning_for (form_told form) (rows_named db)
-  meant db is = λ i. record { office = is.office i; book = book_in (own db) }
+module _ (form : told.Form) (old mid new : State) (read : ReadOffice) (all : HoldsAll read) (one : IsLookUp {E = OpenFault} old mid (Ok read) (IsReadOf (form_told form))) where
+  meant : (db : Database) → IsReadOf (form_told form) db read → with_book (office_in read.maps) (rows_named db) ≡ meaning_for (form_told form) (rows_named db)
+  meant db is = ap (λ office. with_book office (rows_named db)) is.office ∙ in_both (form_told form) (rows_named db)
 
   -- what is answered
   abbrev pub Answered : Adopted
@@ -149,10 +150,9 @@ module _ (form : told.Form) (old mid new : State) (read : ReadOffice) (one : IsL
     refl,
     record {
       office = is.office;
-      langs = is.langs;
+      langs = all.langs;
       rows = record {
         told = is.told;
-        alone = is.alone;
         office = is.stand;
         book = kept.book.stand;
         numbered = kept.book.numbered;
@@ -174,7 +174,7 @@ module _ (form : told.Form) (old mid new : State) (read : ReadOffice) (one : IsL
       (looked_in_vain old new (Err f) f _ IsAnswer (both_looked old mid new read (Err f) (IsReadOf (form_told form)) (λ db _. KeepsRows (form_told form) (office_in read.maps) db) one two))
 
   refused_with : (db : Database) → IsReadOf (form_told form) db read → (fault : OpenFault) → RefusesKeptRows (form_told form) (office_in read.maps) db fault → RefusesOf (form_told form) db fault
-  refused_with db is (Foreign UnreadRow) h = h is.alone
+  refused_with db is (Foreign UnreadRow) h = h
   refused_with db is (Foreign OtherFigures) h = λ keeps. h (figures_of (form_told form) (office_in read.maps) db is.office keeps)
   refused_with db is (Foreign BrokenRules) h = λ rules. h (subst KeepsRules (sym (meant db is)) rules)
   refused_with db is (Foreign OtherForm) h = absurd h

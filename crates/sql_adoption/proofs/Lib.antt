@@ -13,9 +13,12 @@ pub mod RowidQueries
 pub mod WholeTest
 pub mod LaidOut
 pub mod LayoutsTold
-pub mod OwnRows
-pub mod MainAlone
-pub mod ReadAlone
+pub mod OwnDomains
+pub mod PutDomains
+pub mod DomainsRead
+pub mod ReadInTurn
+pub mod Unseen
+pub mod ReadByDomain
 pub mod FigureReads
 pub mod FigureTests
 pub mod TalliesTold

@@ -6,9 +6,8 @@ use Rattle.sqlite.specs.Effect.{Database}
 use Rattle.sqlite.specs.Tree.{Trees}
 use Rattle.sqlite.specs.State.{State, HasCleanDisk}
 use Rattle.sqlite_rules.specs.Lists.{Has}
-use Rattle.deliveries.specs.MainAlone.{main_alone}
 use Rattle.deliveries.specs.OfficeRules.{KeepsRules}
-use Rattle.office_rules.specs.Given.{AreAll}
+use Rattle.office_rules.specs.Given.{AreAllLangs}
 use Rattle.office_maps.specs.OfficeIn.{office_in}
 use Rattle.po_text.specs.Valid.{IsValid}
 use Rattle.sql_schema.specs.Keys.{text_at, row_number, columns}
@@ -16,8 +15,11 @@ use Rattle.sql_schema.specs.Whole.{IsIdleOver}
 use Rattle.sql_adoption.specs.Found.{HoldsOfficeOf, HoldsOffice}
 use Rattle.sql_adoption.specs.Tables.{form_told}
 use Rattle.sql_adoption.specs.declared.tested.Adopted.{Adopted}
-use Rattle.sql_meaning.specs.Meaning.{template_in, headers_in, meaning_for, own_rows, project_of_rows, AreNumbered, IsMainAlone, HoldsOneDomain}
-use Rattle.sql_decoding.specs.RowTests.{is_member_row, is_policy_row, is_entry_row, is_language_row, is_unit_row, is_suggestion_row, is_vote_row, is_record_row}
+use Rattle.po_text.specs.Texts.{Text}
+use Rattle.sql_schema.specs.Views.{seen_in}
+use Rattle.sql_meaning.specs.Meaning.{template_in, AreNumbered}
+use Rattle.sql_meaning.specs.Domains.{meaning_for, HoldsOwnDomains}
+use Rattle.sql_decoding.specs.RowTests.{is_domain_row, is_member_row, is_policy_row, is_entry_row, is_language_row, is_unit_row, is_suggestion_row, is_vote_row, is_record_row}
 use Rattle.request_book.specs.Contents.{IsContent}
 use Rattle.sql_adoption.specs.declared.faults.OpenFault.{OpenFault}
 use Rattle.sql_adoption.specs.declared.faults.OpenFault.TheVariants.{Foreign, Exists}
@@ -33,11 +35,6 @@ schema_number by_domain = pos 3
 -- the policy's row says which form the tables have
 abbrev pub TellsForm : Form → NamedRows → Type 0
 TellsForm form tables = (row : Row) × Has (tables (codes "policy")) row × (row_number row ≡ Int (pos 1)) × (column row 2 ≡ Int (schema_number form))
-
--- all rows of tables by domains are those of `main`
-abbrev pub HoldsMainAlone : Form → NamedRows → Type 0
-HoldsMainAlone for_main tables = ⊤
-HoldsMainAlone by_domain tables = IsMainAlone tables × HoldsOneDomain tables
 
 -- the sums and tallies that tables by domains keep are what counting their rows gives
 abbrev pub KeepsFigures : Form → NamedRows → Type 0
@@ -70,20 +67,31 @@ pub record StandForOffice (tables : NamedRows) : Type 0 where
   -- voter, value, number
   pub votes : Each (codes "vote") (2 ∷ 3 ∷ 1 ∷ []) is_vote_row tables
 
+-- The rows of an office's own tables by domains stand for values: each domain has a name, each row with a column for a domain is of one that there is, and
+-- what each domain sees stands for values.
+pub record StandInDomains (tables : NamedRows) : Type 0 where
+  -- name
+  pub names : Each (codes "domain") (1 ∷ []) is_domain_row tables
+  pub own : HoldsOwnDomains tables
+  pub each : (domain : Text) → StandForOffice (seen_in domain tables)
+
+abbrev pub StandForOfficeOf : Form → NamedRows → Type 0
+StandForOfficeOf for_main tables = StandForOffice tables
+StandForOfficeOf by_domain tables = StandInDomains tables
+
 -- The rows of records stand for values, and their contents are requests'.
 pub record StandForBook (tables : NamedRows) : Type 0 where
   -- content, status, body, number
   pub records : Each (codes "record") (2 ∷ 3 ∷ 4 ∷ 1 ∷ []) is_record_row tables
   pub contents : AreContents tables
 
--- The rows are those of an office with its book, in a form of the tables, and of no domain but `main`.
+-- The rows are those of an office with its book, in a form of the tables.
 pub record IsAdoptedOf (form : Form) (db : Database) : Type 0 where
   pub told : TellsForm form (rows_named db)
-  pub alone : HoldsMainAlone form (rows_named db)
-  pub office : StandForOffice (own_rows form (rows_named db))
-  pub book : StandForBook (own_rows form (rows_named db))
-  pub numbered : AreNumbered (own_rows form (rows_named db))
-  pub contents : AreContents (own_rows form (rows_named db))
+  pub office : StandForOfficeOf form (rows_named db)
+  pub book : StandForBook (rows_named db)
+  pub numbered : AreNumbered (rows_named db)
+  pub contents : AreContents (rows_named db)
   pub figures : KeepsFigures form (rows_named db)
   pub rules : KeepsRules (meaning_for form (rows_named db))
 
@@ -91,10 +99,10 @@ pub record IsAdoptedOf (form : Form) (db : Database) : Type 0 where
 abbrev pub IsAdopted : Database → Type 0
 IsAdopted db = (form : Form) × HoldsOfficeOf form db × IsAdoptedOf form db
 
--- in maps, the office of the rows is this, `main` is its one domain, and all its languages are here
+-- in maps, the office of the rows is this, and the languages of all its domains are here
 pub record IsAdoptedAs (db : Database) (adopted : Adopted) : Type 0 where
-  pub office : office_in adopted.maps ≡ main_alone (project_of_rows (own_rows (form_told adopted.form) (rows_named db)))
-  pub langs : AreAll (headers_in (own_rows (form_told adopted.form) (rows_named db))) adopted.langs.items
+  pub office : office_in adopted.maps ≡ (meaning_for (form_told adopted.form) (rows_named db)).office
+  pub langs : AreAllLangs (office_in adopted.maps) adopted.langs.items
   pub rows : IsAdoptedOf (form_told adopted.form) db
 
 -- An open connection between transactions over such rows, and their office in maps.
@@ -121,8 +129,8 @@ Lacks P db = (form : Form) × HasLayoutOf form db × ¬ P form
 -- What is true of rows that are refused so. Of want of memory and of a failed disk nothing is said; that an office is there refuses nothing.
 abbrev pub Refuses : Database → OpenFault → Type 0
 Refuses db (Foreign OtherTables) = ¬ HoldsOffice db
-Refuses db (Foreign OtherForm) = Lacks (λ form. TellsForm form (rows_named db) × HoldsMainAlone form (rows_named db)) db
-Refuses db (Foreign UnreadRow) = Lacks (λ form. StandForOffice (own_rows form (rows_named db)) × StandForBook (own_rows form (rows_named db))) db
+Refuses db (Foreign OtherForm) = Lacks (λ form. TellsForm form (rows_named db)) db
+Refuses db (Foreign UnreadRow) = Lacks (λ form. StandForOfficeOf form (rows_named db) × StandForBook (rows_named db)) db
 Refuses db (Foreign OtherFigures) = Lacks (λ form. KeepsFigures form (rows_named db)) db
 Refuses db (Foreign BrokenRules) = Lacks (λ form. KeepsRules (meaning_for form (rows_named db))) db
 Refuses db Exists = ⊥

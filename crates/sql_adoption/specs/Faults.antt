@@ -14,3 +14,10 @@ open_fault_number Exists = 4
 abbrev pub fault_of : Lost → OpenFault
 fault_of lost.Memory = Memory
 fault_of lost.Disk = Disk
+
+-- what remains of the fault of rows that this program has written
+abbrev pub lost_of : OpenFault → Lost
+lost_of Memory = lost.Memory
+lost_of Disk = lost.Disk
+lost_of (Foreign why) = lost.Disk
+lost_of Exists = lost.Disk

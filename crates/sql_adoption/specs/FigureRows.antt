@@ -1,8 +1,8 @@
 -- What reads of kept figures show, and the tests of what they show. This project's own words.
-use Rattle.std.specs.Prelude.{◌≡◌, ◌&&◌, ◌++◌, pos, ℤ, List, [], ◌∷◌, filter, fold, Bool, true, false, Option, Some, None, IsSome, unwrap_or, String, codes}
+use Rattle.std.specs.Prelude.{◌≡◌, ◌&&◌, ◌++◌, pos, ℤ, List, [], ◌∷◌, map, flat_map, filter, fold, Bool, true, false, Option, Some, None, IsSome, unwrap_or, String, codes}
 use Rattle.std.specs.Borrow.{Bor}
 use Rattle.std.specs.BTreeMap.{BTreeMap, get_by}
-use Rattle.std.specs.List.{list_all}
+use Rattle.std.specs.List.{list_all, list_any}
 use Rattle.std.specs.Ordering.{int_eq}
 use Rattle.sqlite.specs.declared.types.Value.{Value}
 use Rattle.sqlite.specs.declared.types.Value.TheVariants.{Null, Int, Real, Text as Words, Blob}
@@ -70,18 +70,30 @@ shows_counts tally row =
     && is_integer (pos tally.obsolete) (column row 8))))))
 
 -- the row is that of a language of a domain, with what it counts
-abbrev pub is_row_of : Text → Counted → Row → Bool
-is_row_of domain counted row = is_words domain (column row 0) && (is_words counted.lang.now (column row 1) && shows_counts counted.tally row)
+abbrev pub is_row_of : Counted → Row → Bool
+is_row_of counted row = is_words counted.domain.now (column row 0) && (is_words counted.lang.now (column row 1) && shows_counts counted.tally row)
+
+-- each row is that of one of these languages, and each of them has one
+abbrev pub are_rows_of : List Counted → List Row → Bool
+are_rows_of counted rows = list_all (λ row. list_any (λ c. is_row_of c row) counted) rows && list_all (λ c. list_any (is_row_of c) rows) counted
+
+-- a language of a domain
+abbrev pub Place : Type 0
+Place = Text × Text
+
+-- these languages of each of these domains
+abbrev pub places_of : List Text → List Text → List Place
+places_of domains langs = flat_map (λ domain. map (λ lang. (domain, lang)) langs) domains
 
 -- those of these languages that are there, each with what it counts
-pub record AreCounted (counts : Text → Option Tally) (langs : List Text) (counted : List Counted) : Type 0 where
-  pub only : (c : Counted) → Has counted c → counts c.lang.now ≡ Some c.tally
-  pub all : (lang : Text) (tally : Tally) → Has langs lang → counts lang ≡ Some tally → (c : Counted) × Has counted c × (c.lang.now ≡ lang)
+pub record AreCounted (counts : Counts) (places : List Place) (counted : List Counted) : Type 0 where
+  pub only : (c : Counted) → Has counted c → counts c.domain.now c.lang.now ≡ Some c.tally
+  pub all : (place : Place) (tally : Tally) → Has places place → counts place.0 place.1 ≡ Some tally → (c : Counted) × Has counted c × (c.domain.now ≡ place.0) × (c.lang.now ≡ place.1)
 
 -- one language more
-abbrev pub CountsOneMore : Option Tally → Text → List Counted → List Counted → Type 0
-CountsOneMore None lang old new = new ≡ old
-CountsOneMore (Some tally) lang old new = (c : Counted) × (c.lang.now ≡ lang) × (c.tally ≡ tally) × (new ≡ old ++ c ∷ [])
+abbrev pub CountsOneMore : Option Tally → Place → List Counted → List Counted → Type 0
+CountsOneMore None place old new = new ≡ old
+CountsOneMore (Some tally) place old new = (c : Counted) × (c.domain.now ≡ place.0) × (c.lang.now ≡ place.1) × (c.tally ≡ tally) × (new ≡ old ++ c ∷ [])
 
 -- each row that is shown is of a language that is there and holds its counts, and each language that is there has one
 pub record AreTalliesShown (counts : Counts) (rows : List Row) : Type 0 where

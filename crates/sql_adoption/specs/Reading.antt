@@ -1,33 +1,40 @@
 -- What the readers of rows that are to be adopted answer. Only inner clauses and proofs cite this file.
-use Rattle.std.specs.Prelude.{◌≡◌, ◌⊎◌, ◌↔◌, ◌<◌, ⊤, ℕ, false, List, length, Option, Some, All, codes}
+use Rattle.std.specs.Prelude.{◌≡◌, ◌⊎◌, ◌↔◌, ⊤, ℕ, Bool, true, false, List, [], ◌∷◌, map, Contains, Option, Some, IsTrue, codes}
+use Rattle.std.specs.List.{list_any, list_all}
 use Rattle.std.specs.BTreeMap.{BTreeMap}
+use Rattle.std.specs.FinMap as maps
 use Rattle.sqlite.specs.declared.error.Error.{Error}
 use Rattle.sqlite.specs.declared.error.Error.TheVariants.{SqliteFailure}
 use Rattle.sqlite.specs.declared.error.ErrorCode.TheVariants.{OutOfMemory}
 use Rattle.sqlite.specs.declared.types.Value.TheVariants.{Int}
 use Rattle.sqlite.specs.Order.{Row, column}
 use Rattle.sqlite.specs.Effect.{Database}
-use Rattle.po_text.specs.Texts.{Text}
+use Rattle.po_text.specs.declared.entry.Entry.{Entry}
+use Rattle.po_text.specs.Texts.{Text, text_cmp, text_eq}
 use Rattle.tables.specs.declared.faults.Lost.{Lost}
 use Rattle.tables.specs.declared.faults.Lost.TheVariants as lost
-use Rattle.units.specs.Project.{Project}
 use Rattle.units.specs.Office.{Office, main}
+use Rattle.units.specs.Openings.{opening}
 use Rattle.request_book.specs.Book.{OfficeWithBook}
 use Rattle.deliveries.specs.MainAlone.{main_alone}
 use Rattle.deliveries.specs.OfficeRules.{KeepsRules}
 use Rattle.office_maps.specs.OfficeIn.{office_in}
+use Rattle.office_maps.specs.declared.office_maps.OfficeMaps.{OfficeMaps}
 use Rattle.sql_schema.specs.Keys.{text_at}
-use Rattle.sql_meaning.specs.Meaning.{project_of_rows, headers_in, book_in, AreNumbered, own_rows, meaning_for}
+use Rattle.sql_schema.specs.Views.{seen_in}
+use Rattle.sql_meaning.specs.Meaning.{team_in, policy_in, book_in, AreNumbered}
+use Rattle.sql_meaning.specs.Domains.{domain_of_rows, office_of_rows, is_domain, meaning_for}
+use Rattle.sql_statements.specs.Tables.{ShowsTableIn}
 use Rattle.sql_statements.specs.declared.owners.Owners.{Owners}
 use Rattle.sql_statements.specs.declared.whole_office.WholeOffice.{WholeOffice}
-use Rattle.sql_meaning.specs.OfficeShown.{headers_shown, project_shown}
-use Rattle.sql_decoding.specs.RowTests.{AreOfficeRows}
-use Rattle.office_rules.specs.Given.{AreAll, AreStatusesOf}
+use Rattle.sql_meaning.specs.OfficeShown.{project_shown, with_shown}
+use Rattle.sql_decoding.specs.RowTests.{is_domain_row, AreOfficeRows}
+use Rattle.office_rules.specs.Given.{AreAll, AreAllDomains, AreAllLangs, AreStatusesOf}
 use Rattle.sql_adoption.specs.declared.faults.OpenFault.{OpenFault}
 use Rattle.sql_adoption.specs.declared.faults.OpenFault.TheVariants.{Memory, Disk, Foreign, Exists}
 use Rattle.sql_adoption.specs.declared.faults.Mismatch.TheVariants.{OtherTables, OtherForm, UnreadRow, OtherFigures, BrokenRules}
-use Rattle.sql_adoption.specs.declared.office_read.ReadOffice.{ReadOffice}
-use Rattle.sql_adoption.specs.Adoption.{schema_number, TellsForm, HoldsMainAlone, KeepsFigures, AreContents, StandForOffice, StandForBook}
+use Rattle.sql_adoption.specs.declared.office_put.ReadOffice.{ReadOffice}
+use Rattle.sql_adoption.specs.Adoption.{schema_number, TellsForm, KeepsFigures, AreContents, Each, StandForOffice, StandForOfficeOf, StandForBook}
 use Rattle.sql_schema.specs.Layouts.{Form, for_main, by_domain, NamedRows, rows_named}
 use Rattle.units.specs.Offices.{IsOffice}
 use Rattle.sql_figures.specs.KeptSums.{HaveSums}
@@ -49,29 +56,56 @@ unread lost.Disk = Foreign UnreadRow
 
 -- ---- the form
 
--- rows that show one column, whose text is `main`
-abbrev pub AreMain : List Row → Type 0
-AreMain rows = All (λ row. text_at 0 row ≡ main) rows
+-- rows that show one column show these names
+abbrev pub is_shown_among : List Row → Row → Bool
+is_shown_among domains row = list_any (λ d. text_eq (text_at 0 d) (text_at 0 row)) domains
 
--- `main` alone is shown as a domain, and as that of each row
-pub record ShowMainAlone (owners : Owners) : Type 0 where
-  pub some : 0 < length owners.domains.items
-  pub domains : AreMain owners.domains.items
-  pub template : AreMain owners.template.items
-  pub languages : AreMain owners.languages.items
-  pub units : AreMain owners.units.items
-  pub suggestions : AreMain owners.suggestions.items
+-- each row's domain is shown as one that there is
+pub record ShowOwnDomains (owners : Owners) : Type 0 where
+  pub template : list_all (is_shown_among owners.domains.items) owners.template.items ≡ true
+  pub languages : list_all (is_shown_among owners.domains.items) owners.languages.items ≡ true
+  pub units : list_all (is_shown_among owners.domains.items) owners.units.items ≡ true
+  pub suggestions : list_all (is_shown_among owners.domains.items) owners.suggestions.items ≡ true
 
 -- what the policy's row shows
 abbrev pub ShowsForm : Form → Option Row → Type 0
 ShowsForm form found = (row : Row) × (found ≡ Some row) × (column row 0 ≡ Int (schema_number form))
 
+-- ---- languages
+
+-- a language is noted, and so are those that were
+pub record NotesLang (lang : Text) (old new : List Text) : Type 0 where
+  pub here : Contains new lang
+  pub kept : (other : Text) → Contains old other → Contains new other
+
+-- languages are noted, and so are those that were
+pub record NotesLangs (headers : maps.FinMap text_cmp Entry) (old new : List Text) : Type 0 where
+  pub all : AreAll headers new
+  pub kept : (other : Text) → Contains old other → Contains new other
+
 -- ---- the office
 
--- the office of `main` alone that all rows show, which stand for values, and all its languages
+-- all domains of an office are here, and all their languages
+pub record HoldAll (office : Office) (names listed : List Text) : Type 0 where
+  pub domains : AreAllDomains office names
+  pub langs : AreAllLangs office listed
+
+abbrev pub HoldsAll : ReadOffice → Type 0
+HoldsAll read = HoldAll (office_in read.maps) read.domains.items read.langs.items
+
+-- with no domain; one manager
+abbrev pub bare_office : Office
+bare_office = record { domains = maps.empty; team = (opening main).team; policy = (opening main).policy }
+
+-- a domain is put in that rows show, which stand for values
+pub record PutsRows (domain : Text) (rows : WholeOffice) (old new : OfficeMaps) : Type 0 where
+  pub office : office_in new ≡ with_shown (office_in old) domain rows
+  pub stand : AreOfficeRows rows
+
+-- the office of `main` alone that all rows of tables show which have no column for a domain, where they stand for values
 pub record IsOfRows (rows : WholeOffice) (read : ReadOffice) : Type 0 where
   pub office : office_in read.maps ≡ main_alone (project_shown rows)
-  pub langs : AreAll (headers_shown rows.office.languages.items) read.langs.items
+  pub all : HoldsAll read
   pub stand : AreOfficeRows rows
 
 abbrev pub RefusesRows : Form → WholeOffice → OpenFault → Type 0
@@ -83,25 +117,46 @@ RefusesRows form rows (Foreign OtherTables) = ⊥
 RefusesRows form rows Exists = ⊥
 RefusesRows form rows _ = ⊤
 
--- `main` is its one domain, and the languages are all here
-pub record HoldsMain (read : ReadOffice) : Type 0 where
-  pub project : Project
-  pub alone : office_in read.maps ≡ main_alone project
-  pub langs : AreAll project.headers read.langs.items
+-- ---- the domains of tables by domains
+
+-- the names of the domains, in some order
+pub record AreNames (tables : NamedRows) (names : List Text) : Type 0 where
+  pub rows : List Row
+  pub shows : ShowsTableIn (codes "domain") (1 ∷ []) (0 ∷ []) tables rows
+  pub named : names ≡ map (text_at 0) rows
+  pub stand : Each (codes "domain") (1 ∷ []) is_domain_row tables
+
+-- an office with a domain and all that it sees, and with the team and the policy
+abbrev pub with_seen : NamedRows → Office → Text → Office
+with_seen tables office domain = record { domains = maps.insert office.domains domain (domain_of_rows tables domain); team = team_in tables; policy = policy_in tables }
+
+-- a domain is put in with all that it sees, which stands for values, where the policy tells the form
+pub record AddsDomain (domain : Text) (tables : NamedRows) (old new : OfficeMaps) : Type 0 where
+  pub told : TellsForm by_domain tables
+  pub stand : StandForOffice (seen_in domain tables)
+  pub office : office_in new ≡ with_seen tables (office_in old) domain
+
+-- the office of all domains, whatever is of another
+pub record AreDomainsRead (db : Database) (read : ReadOffice) : Type 0 where
+  pub told : TellsForm by_domain (rows_named db)
+  pub names : Each (codes "domain") (1 ∷ []) is_domain_row (rows_named db)
+  pub some : (domain : Text) × IsTrue (is_domain (rows_named db) domain)
+  pub each : (domain : Text) → IsTrue (is_domain (rows_named db) domain) → StandForOffice (seen_in domain (rows_named db))
+  pub office : office_in read.maps ≡ office_of_rows (rows_named db)
+
+-- ---- either form
 
 -- the office of tables whose policy tells their form
 pub record IsReadOf (form : Form) (db : Database) (read : ReadOffice) : Type 0 where
   pub told : TellsForm form (rows_named db)
-  pub alone : HoldsMainAlone form (rows_named db)
-  pub stand : StandForOffice (own_rows form (rows_named db))
-  pub office : office_in read.maps ≡ main_alone (project_of_rows (own_rows form (rows_named db)))
-  pub langs : AreAll (headers_in (own_rows form (rows_named db))) read.langs.items
+  pub stand : StandForOfficeOf form (rows_named db)
+  pub office : office_in read.maps ≡ (meaning_for form (rows_named db)).office
 
 -- what is true of the rows of tables of a form that are refused so
 abbrev pub RefusesOf : Form → Database → OpenFault → Type 0
 RefusesOf form db (Foreign OtherTables) = ⊥
-RefusesOf form db (Foreign OtherForm) = ¬ (TellsForm form (rows_named db) × HoldsMainAlone form (rows_named db))
-RefusesOf form db (Foreign UnreadRow) = ¬ (StandForOffice (own_rows form (rows_named db)) × StandForBook (own_rows form (rows_named db)))
+RefusesOf form db (Foreign OtherForm) = ¬ TellsForm form (rows_named db)
+RefusesOf form db (Foreign UnreadRow) = ¬ (StandForOfficeOf form (rows_named db) × StandForBook (rows_named db))
 RefusesOf form db (Foreign OtherFigures) = ¬ KeepsFigures form (rows_named db)
 RefusesOf form db (Foreign BrokenRules) = ¬ KeepsRules (meaning_for form (rows_named db))
 RefusesOf form db Exists = ⊥
@@ -110,18 +165,18 @@ RefusesOf form db _ = ⊤
 -- ---- the book
 
 -- the statuses of all records, whose numbers and contents stand for some
-pub record AreStatusesIn (form : Form) (db : Database) (statuses : BTreeMap Text ℕ) : Type 0 where
-  pub statuses_are : AreStatusesOf (book_in (own_rows form (rows_named db))) statuses
-  pub stand : StandForBook (own_rows form (rows_named db))
-  pub numbered : AreNumbered (own_rows form (rows_named db))
-  pub contents : AreContents (own_rows form (rows_named db))
+pub record AreStatusesIn (db : Database) (statuses : BTreeMap Text ℕ) : Type 0 where
+  pub statuses_are : AreStatusesOf (book_in (rows_named db)) statuses
+  pub stand : StandForBook (rows_named db)
+  pub numbered : AreNumbered (rows_named db)
+  pub contents : AreContents (rows_named db)
 
 -- an office keeps the rules with the book of the rows
-pub record KeepsBook (form : Form) (office : Office) (db : Database) : Type 0 where
-  pub stand : StandForBook (own_rows form (rows_named db))
-  pub numbered : AreNumbered (own_rows form (rows_named db))
-  pub contents : AreContents (own_rows form (rows_named db))
-  pub rules : KeepsRules (record { office = office; book = book_in (own_rows form (rows_named db)) })
+pub record KeepsBook (office : Office) (db : Database) : Type 0 where
+  pub stand : StandForBook (rows_named db)
+  pub numbered : AreNumbered (rows_named db)
+  pub contents : AreContents (rows_named db)
+  pub rules : KeepsRules (record { office = office; book = book_in (rows_named db) })
 
 -- what is true of an office with its book that is refused so
 abbrev pub RefusesWith : OfficeWithBook → OpenFault → Type 0
@@ -134,19 +189,19 @@ RefusesWith with_book Exists = ⊥
 RefusesWith with_book _ = ⊤
 
 -- what is true of a book's rows that are refused so
-abbrev pub RefusesBook : Form → Database → OpenFault → Type 0
-RefusesBook form db (Foreign UnreadRow) = ¬ StandForBook (own_rows form (rows_named db))
-RefusesBook form db (Foreign OtherFigures) = ⊥
-RefusesBook form db (Foreign BrokenRules) = ⊥
-RefusesBook form db (Foreign OtherForm) = ⊥
-RefusesBook form db (Foreign OtherTables) = ⊥
-RefusesBook form db Exists = ⊥
-RefusesBook form db _ = ⊤
+abbrev pub RefusesBook : Database → OpenFault → Type 0
+RefusesBook db (Foreign UnreadRow) = ¬ StandForBook (rows_named db)
+RefusesBook db (Foreign OtherFigures) = ⊥
+RefusesBook db (Foreign BrokenRules) = ⊥
+RefusesBook db (Foreign OtherForm) = ⊥
+RefusesBook db (Foreign OtherTables) = ⊥
+RefusesBook db Exists = ⊥
+RefusesBook db _ = ⊤
 
 -- what is true of an office and of a book's rows that are refused so together
-abbrev pub RefusesKept : Form → Office → Database → OpenFault → Type 0
-RefusesKept form office db (Foreign UnreadRow) = ¬ StandForBook (own_rows form (rows_named db))
-RefusesKept form office db fault = RefusesWith (record { office = office; book = book_in (own_rows form (rows_named db)) }) fault
+abbrev pub RefusesKept : Office → Database → OpenFault → Type 0
+RefusesKept office db (Foreign UnreadRow) = ¬ StandForBook (rows_named db)
+RefusesKept office db fault = RefusesWith (record { office = office; book = book_in (rows_named db) }) fault
 
 -- ---- the figures
 
@@ -167,7 +222,7 @@ RefusesFigureRows rows _ = ⊤
 
 -- what is true of an office and of tables by domains whose figures are refused so
 abbrev pub RefusesFigures : Office → Database → OpenFault → Type 0
-RefusesFigures office db (Foreign UnreadRow) = HoldsMainAlone by_domain (rows_named db) → ¬ StandForOffice (own_rows by_domain (rows_named db))
+RefusesFigures office db (Foreign UnreadRow) = ¬ StandForOfficeOf by_domain (rows_named db)
 RefusesFigures office db (Foreign OtherFigures) = IsOffice office → ¬ HoldFigures office (rows_named db)
 RefusesFigures office db (Foreign BrokenRules) = ⊥
 RefusesFigures office db (Foreign OtherForm) = ⊥
@@ -184,12 +239,11 @@ FiguresOf by_domain office db = HoldFigures office (rows_named db)
 
 -- an office keeps the rules with the book of the rows, and the figures are its
 pub record KeepsRows (form : Form) (office : Office) (db : Database) : Type 0 where
-  pub book : KeepsBook form office db
+  pub book : KeepsBook office db
   pub figures : FiguresOf form office db
 
 -- what is true of an office and of rows that are refused so together
 abbrev pub RefusesKeptRows : Form → Office → Database → OpenFault → Type 0
-RefusesKeptRows form office db (Foreign UnreadRow) =
-    HoldsMainAlone form (rows_named db) → ¬ (StandForOffice (own_rows form (rows_named db)) × StandForBook (own_rows form (rows_named db)))
+RefusesKeptRows form office db (Foreign UnreadRow) = ¬ (StandForOfficeOf form (rows_named db) × StandForBook (rows_named db))
 RefusesKeptRows form office db (Foreign OtherFigures) = ¬ FiguresOf form office db
-RefusesKeptRows form office db fault = RefusesKept form office db fault
+RefusesKeptRows form office db fault = RefusesKept office db fault

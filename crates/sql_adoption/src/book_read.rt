@@ -1,5 +1,5 @@
 //! The book of the rows, beside an office that was read.
-ghost use Rattle.std.specs.Prelude.{◌≡◌, ◌↔◌, true, false, IfOk, IfErr, OnOk};
+ghost use Rattle.std.specs.Prelude.{◌≡◌, false, IfOk, IfErr, OnOk};
 ghost use Rattle.sqlite.specs.Held.{state};
 ghost use Rattle.sqlite.specs.State.{HasCleanDisk};
 ghost use Rattle.request_book.specs.Book.{Book};
@@ -8,17 +8,16 @@ ghost use Rattle.office_maps.specs.OfficeIn.{office_in};
 ghost use Rattle.sql_schema.specs.Layouts.{Form};
 ghost use Rattle.sql_schema.specs.Whole.{IsIdleOver, IsLookUp};
 ghost use Rattle.office_rules.specs.Given.{AreStatusesOf};
-ghost use Rattle.sql_adoption.specs.Reading.{AreStatusesIn, HoldsMain, KeepsBook, RefusesWith, RefusesBook, RefusesKept};
+ghost use Rattle.sql_adoption.specs.Reading.{AreStatusesIn, HoldsAll, KeepsBook, RefusesWith, RefusesBook, RefusesKept};
 
 use crate::faults::{Mismatch, OpenFault};
 use crate::look_ups::look_up_records;
-use crate::office_read::ReadOffice;
+use crate::office_put::ReadOffice;
 use crate::statuses::statuses_in;
 use office_rules::keeps_rules;
 use sqlite::{Alter, Connection};
-use std::alloc::{AllocError, Global};
+use std::alloc::Global;
 use std::collections::BTreeMap;
-use units::Name;
 use uuid::Uuid;
 
 /// The statuses of all records.
@@ -27,29 +26,13 @@ fn read_statuses<S: Alter>(
     alloc: Global,
 ) -> Result<BTreeMap<Uuid, u16>, OpenFault>
     requires autocommit { connection.old.in_transaction ≡ false }
-    ensures found { (form : Form) → IsIdleOver form (state S.Store connection.old) → IsLookUp (state S.Store connection.old) (state S.Store connection.new) result (AreStatusesIn form) }
-    ensures refused { (form : Form) → IsIdleOver form (state S.Store connection.old) → IfErr result (λ fault. HasCleanDisk (state S.Store connection.new) → RefusesBook form (state S.Store connection.old).now fault) }
+    ensures found { (form : Form) → IsIdleOver form (state S.Store connection.old) → IsLookUp (state S.Store connection.old) (state S.Store connection.new) result AreStatusesIn }
+    ensures refused { (form : Form) → IsIdleOver form (state S.Store connection.old) → IfErr result (λ fault. HasCleanDisk (state S.Store connection.new) → RefusesBook (state S.Store connection.old).now fault) }
 {
     let rows = look_up_records(connection)?;
     match statuses_in(alloc, rows.as_slice()) {
         Ok(statuses) => Ok(statuses),
         Err(failure) => Err(OpenFault::unread(failure)),
-    }
-}
-
-/// Whether the rules hold, for a book of whose records these are the statuses.
-fn holds_rules(
-    alloc: Global,
-    read: &ReadOffice,
-    statuses: &BTreeMap<Uuid, u16>,
-) -> Result<bool, AllocError>
-    requires holds { HoldsMain read.now }
-    ensures { (book : Book) → AreStatusesOf book statuses.now
-        → IfOk result (λ holds. (holds ≡ true) ↔ KeepsRules (record { office = office_in read.now.maps; book = book })) }
-{
-    match read.maps.project(&Name::main_domain()) {
-        Some(project) => keeps_rules(alloc, &project, read.langs.as_slice(), statuses),
-        None => Ok(false),
     }
 }
 
@@ -59,11 +42,11 @@ fn keep_rules(
     read: &ReadOffice,
     statuses: &BTreeMap<Uuid, u16>,
 ) -> Result<(), OpenFault>
-    requires holds { HoldsMain read.now }
+    requires holds { HoldsAll read.now }
     ensures kept { (book : Book) → AreStatusesOf book statuses.now → OnOk result (KeepsRules (record { office = office_in read.now.maps; book = book })) }
     ensures refused { (book : Book) → AreStatusesOf book statuses.now → IfErr result (RefusesWith (record { office = office_in read.now.maps; book = book })) }
 {
-    if holds_rules(alloc, read, statuses)? {
+    if keeps_rules(alloc, &read.maps, read.langs.as_slice(), statuses)? {
         Ok(())
     } else {
         Err(OpenFault::Foreign(Mismatch::BrokenRules))
@@ -77,9 +60,9 @@ pub fn keep_book<S: Alter>(
     read: &ReadOffice,
 ) -> Result<(), OpenFault>
     requires autocommit { connection.old.in_transaction ≡ false }
-    requires holds { HoldsMain read.now }
-    ensures found { (form : Form) → IsIdleOver form (state S.Store connection.old) → IsLookUp (state S.Store connection.old) (state S.Store connection.new) result (λ db _. KeepsBook form (office_in read.now.maps) db) }
-    ensures refused { (form : Form) → IsIdleOver form (state S.Store connection.old) → IfErr result (λ fault. HasCleanDisk (state S.Store connection.new) → RefusesKept form (office_in read.now.maps) (state S.Store connection.old).now fault) }
+    requires holds { HoldsAll read.now }
+    ensures found { (form : Form) → IsIdleOver form (state S.Store connection.old) → IsLookUp (state S.Store connection.old) (state S.Store connection.new) result (λ db _. KeepsBook (office_in read.now.maps) db) }
+    ensures refused { (form : Form) → IsIdleOver form (state S.Store connection.old) → IfErr result (λ fault. HasCleanDisk (state S.Store connection.new) → RefusesKept (office_in read.now.maps) (state S.Store connection.old).now fault) }
 {
     let statuses = read_statuses(connection, alloc)?;
     keep_rules(alloc, read, &statuses)

@@ -4,6 +4,7 @@ use sql_decoding::Failure;
 use sqlite::Error;
 use std::alloc::AllocError;
 use tables::Lost;
+use units::Memory;
 
 /// Why the tables of a database aren't an office's with its book.
 #[derive(Clone, Copy, Debug, Drop, PartialEq, Eq, thiserror::Error)]
@@ -11,10 +12,11 @@ pub enum Mismatch {
     /// The tables aren't those of an office.
     #[error("its tables are others")]
     OtherTables,
-    /// Another form of the tables than the first, or none that is told.
+    /// The policy's row tells another form of the tables, or none.
     #[error("its tables have another form")]
     OtherForm,
-    /// A row stands for no value, the template for no valid catalogue, or what is recorded is no request's content.
+    /// A row stands for no value or is of a domain that isn't there, a template for no valid catalogue, or what is recorded is no request's
+    /// content.
     #[error("a row stands for no value")]
     UnreadRow,
     /// A kept sum of votes, or a language's kept counts, aren't what counting the rows gives.
@@ -70,6 +72,17 @@ impl From<AllocError> for OpenFault {
     }
 }
 
+impl From<Memory> for OpenFault {
+    ghost use Rattle.std.specs.Prelude.{◌≡◌};
+    ghost use Rattle.sql_adoption.specs.declared.faults.OpenFault.TheVariants as variants;
+
+    ghost from_gives = { λ _ fault. fault ≡ variants.Memory };
+
+    fn from(_refused: Memory) -> OpenFault {
+        OpenFault::Memory
+    }
+}
+
 impl From<Failure> for OpenFault {
     ghost use Rattle.std.specs.Prelude.{◌≡◌};
     ghost use Rattle.sql_adoption.specs.Faults.{fault_of};
@@ -97,6 +110,7 @@ impl From<Error> for OpenFault {
 
 impl OpenFault {
     ghost use Rattle.std.specs.Prelude.{◌≡◌};
+    ghost use Rattle.sql_adoption.specs.Faults.{lost_of};
     ghost use Rattle.sql_adoption.specs.Reading.{unread};
 
     /// Of rows that are at hand, and were not read.
@@ -106,6 +120,18 @@ impl OpenFault {
         match failure.lost {
             Lost::Memory => OpenFault::Memory,
             Lost::Disk => OpenFault::Foreign(Mismatch::UnreadRow),
+        }
+    }
+
+    /// What the fault of rows that this program has written comes to: what isn't want of memory is the disk's.
+    pub(crate) fn failure(self) -> Failure
+        ensures { result.lost ≡ lost_of self }
+    {
+        match self {
+            OpenFault::Memory => Failure { lost: Lost::Memory },
+            OpenFault::Disk | OpenFault::Foreign(_) | OpenFault::Exists => Failure {
+                lost: Lost::Disk,
+            },
         }
     }
 }

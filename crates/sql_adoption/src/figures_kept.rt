@@ -8,19 +8,19 @@ ghost use Rattle.sql_figures.specs.KeptTallies.{office_counts};
 ghost use Rattle.sql_schema.specs.Layouts.{by_domain, rows_named};
 ghost use Rattle.sql_schema.specs.Whole.{IsIdleOver, IsLookUp};
 ghost use Rattle.sql_adoption.specs.FigureRows.{ShowFigures};
-ghost use Rattle.sql_adoption.specs.Reading.{HoldsMain, HoldFigures, RefusesFigureRows, RefusesFigures};
+ghost use Rattle.sql_adoption.specs.Reading.{HoldsAll, HoldFigures, RefusesFigureRows, RefusesFigures};
 
 use crate::faults::{Mismatch, OpenFault};
 use crate::figure_rows::{FigureRows, look_up_figures};
 use crate::language_tallies::are_tallies;
-use crate::office_read::ReadOffice;
+use crate::office_put::ReadOffice;
 use crate::suggestion_sums::are_sums;
 use sqlite::{Alter, Connection};
 use std::alloc::Global;
 
 /// Whether rows that show the figures are those of an office.
 fn are_figures(alloc: Global, read: &ReadOffice, rows: &FigureRows) -> Result<bool, OpenFault>
-    requires holds { HoldsMain read.now }
+    requires holds { HoldsAll read.now }
     ensures told { IsOffice (office_in read.now.maps) → IfOk result (λ are. (are ≡ true) ↔ ShowFigures (office_counts (office_in read.now.maps)) rows.now) }
     ensures refused { IfErr result (RefusesFigureRows rows.now) }
 {
@@ -39,7 +39,7 @@ pub(crate) fn keep_figures<S: Alter>(
 ) -> Result<(), OpenFault>
     requires autocommit { connection.old.in_transaction ≡ false }
     requires idle { IsIdleOver by_domain (state S.Store connection.old) }
-    requires holds { HoldsMain read.now }
+    requires holds { HoldsAll read.now }
     ensures found { IsLookUp (state S.Store connection.old) (state S.Store connection.new) result
         (λ db _. IsOffice (office_in read.now.maps) → HoldFigures (office_in read.now.maps) (rows_named db)) }
     ensures refused { IfErr result (λ fault. HasCleanDisk (state S.Store connection.new) → RefusesFigures (office_in read.now.maps) (state S.Store connection.old).now fault) }

@@ -11,9 +11,10 @@
 //!
 //! Rows:
 //!
-//! - `look_ups`: what is read of them, each in a transaction; `main_alone`: whether all are of `main`
-//! - `statuses`: the statuses of all records
-//! - `office_read`, `book_read`: the office, and its book
+//! - `look_ups`: what is read of them, each in a transaction; `own_domains`: whether each is of a domain that there is
+//! - `langs_read`, `office_put`: a domain that is put into an office with all that it sees; `domains_read`: all domains, one after the other
+//! - `office_read`: the office of either form, with no more asked of tables that this program wrote (`load_office`)
+//! - `statuses`, `book_read`: the statuses of all records, and whether the rules hold with the book
 //! - `figure_rows`: the figures that are kept, and the rows that they are of; `language_tallies`, `suggestion_sums`,
 //!   `figures_kept`: whether they are what counting gives
 //! - `tested`: all that is asked (`adopted_office`)
@@ -25,15 +26,18 @@
 #![tactic(auto)]
 
 mod book_read;
+mod domains_read;
 mod faults;
 mod figure_rows;
 mod figures_kept;
+mod langs_read;
 mod language_tallies;
 mod look_ups;
-mod main_alone;
+mod office_put;
 mod office_read;
 mod office_tables;
 mod offices;
+mod own_domains;
 mod rowids;
 mod shapes;
 mod statuses;
@@ -43,5 +47,6 @@ mod table_shapes;
 mod tested;
 
 pub use faults::{Mismatch, OpenFault};
+pub use office_read::load_office;
 pub use office_tables::Form;
 pub use tested::{Adopted, adopted_office};

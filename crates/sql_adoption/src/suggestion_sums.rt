@@ -12,7 +12,7 @@ ghost use Rattle.sql_adoption.specs.FigureRows.{sum_in, sum_shown, is_sum, have_
 ghost use Rattle.sql_adoption.specs.RisingRows.{integer_in};
 
 use crate::figure_rows::FigureRows;
-use crate::main_alone::bytes_of;
+use crate::own_domains::bytes_of;
 use crate::rowids::integer_of;
 use sql_decoding::{Failure, text_in};
 use sql_loading::votes_by_number;

@@ -5,13 +5,14 @@ ghost use Rattle.sqlite.specs.State.{HasCleanDisk};
 ghost use Rattle.sql_schema.specs.Whole.{IsIdleOver, IsLookUp};
 ghost use Rattle.sql_adoption.specs.Adoption.{IsAdoptedAs, IsAdoptedIn, StaysAsItWas, Refuses};
 ghost use Rattle.office_maps.specs.OfficeIn.{office_in};
-ghost use Rattle.sql_adoption.specs.Reading.{HoldsMain, KeepsRows, RefusesKeptRows, RefusesOf};
+ghost use Rattle.sql_adoption.specs.Reading.{HoldsAll, KeepsRows, RefusesKeptRows, RefusesOf};
 ghost use Rattle.sql_adoption.specs.Tables.{form_told};
 
 use crate::book_read::keep_book;
 use crate::faults::{Mismatch, OpenFault};
 use crate::figures_kept::keep_figures;
-use crate::office_read::{ReadOffice, read_office};
+use crate::office_put::ReadOffice;
+use crate::office_read::read_office;
 use crate::office_tables::Form;
 use crate::offices::office_form;
 use office_maps::OfficeMaps;
@@ -19,7 +20,7 @@ use sqlite::{Alter, Connection};
 use std::alloc::Global;
 use units::Lang;
 
-/// An office that was adopted, in maps, with the codes of its languages, and the form of the tables in which it stands.
+/// An office that was adopted, in maps, with the codes of its domains' languages, and the form of the tables in which it stands.
 #[derive(Drop)]
 pub struct Adopted {
     pub form: Form,
@@ -35,7 +36,12 @@ fn where_kept(
 ) -> Result<Adopted, OpenFault>
     ensures { MatchResult kept (λ _. result ≡ Ok (record { form = form; maps = read.maps; langs = read.langs })) (λ fault. result ≡ Err fault) }
 {
-    let ReadOffice { maps, langs } = read;
+    let ReadOffice {
+        maps,
+        domains,
+        langs,
+    } = read;
+    drop(domains);
     match kept {
         Ok(()) => Ok(Adopted { form, maps, langs }),
         Err(fault) => {
@@ -55,7 +61,7 @@ fn keep_rows<S: Alter>(
 ) -> Result<(), OpenFault>
     requires autocommit { connection.old.in_transaction ≡ false }
     requires idle { IsIdleOver (form_told form) (state S.Store connection.old) }
-    requires holds { HoldsMain read.now }
+    requires holds { HoldsAll read.now }
     ensures found { IsLookUp (state S.Store connection.old) (state S.Store connection.new) result (λ db _. KeepsRows (form_told form) (office_in read.now.maps) db) }
     ensures refused { IfErr result (λ fault. HasCleanDisk (state S.Store connection.new) → RefusesKeptRows (form_told form) (office_in read.now.maps) (state S.Store connection.old).now fault) }
 {
@@ -66,7 +72,7 @@ fn keep_rows<S: Alter>(
     }
 }
 
-/// The office of tables of this form, if their rows are those of an office with its book and of no other domain than `main`.
+/// The office of tables of this form, if their rows are those of an office with its book.
 fn tested_tables<S: Alter>(
     connection: &mut Connection<S>,
     alloc: Global,
@@ -82,15 +88,15 @@ fn tested_tables<S: Alter>(
     where_kept(form, read, kept)
 }
 
-/// The office of a connection's tables, if they are an office's in some form that the policy's row tells: each row stands for a value, the
-/// template's for a valid catalogue, each record's content is a request's, all is of the domain `main`, the rules of an office with its
-/// book hold, and the sums of votes and the tallies that tables by domains keep are what counting their rows gives. Nothing is changed: tables
-/// without a column for a domain are told, and stay.
+/// The office of a connection's tables, with all its domains, if they are an office's in some form that the policy's row tells: each row stands
+/// for a value and is of a domain that there is, each template for a valid catalogue, each record's content is a request's, the rules of an
+/// office with its book hold, and the sums of votes and the tallies that tables by domains keep are what counting their rows gives. Nothing is
+/// changed: tables without a column for a domain are told, and stay.
 ///
 /// `Foreign` tells why not: `OtherTables` only where the tables aren't an office's, `OtherForm` only where the policy's row doesn't tell their
-/// form or another domain is there, `UnreadRow` only where a row stands for no value, the template for no valid catalogue, or a record's
-/// content is no request's, `BrokenRules` only where the rules don't hold, `OtherFigures` only where a sum or a tally isn't what counting
-/// gives. `Memory` where a growth was refused, `Disk` where the disk failed.
+/// form, `UnreadRow` only where a row stands for no value or is of a domain that isn't there, a template for no valid catalogue, or a record's
+/// content is no request's, `BrokenRules` only where the rules don't hold, as where there is no `main`, `OtherFigures` only where a sum or a
+/// tally isn't what counting gives. `Memory` where a growth was refused, `Disk` where the disk failed.
 pub fn adopted_office<S: Alter>(
     connection: &mut Connection<S>,
     alloc: Global,

@@ -13,4 +13,4 @@ pub mod LanguageCommits
 pub mod Template
 pub mod TemplateCommits
 pub mod DomainCommits
-pub mod MainSteps
+pub mod DomainWrites

@@ -1,4 +1,4 @@
--- What a commit of a change of an office makes of the rows that `main` sees, by the names of their tables: its request's record, whose number is 16 bytes, and the rows that the change
+-- What a commit of a change of an office makes of the rows that a domain sees, by the names of their tables: its request's record, whose number is 16 bytes, and the rows that the change
 -- writes.
 use Rattle.std.specs.Prelude.{◌≡◌, ℕ, ◌+◌, ℤ, pos, Bool, true, false, List, [], ◌∷◌, Option, Some, None, unwrap_or, codes}
 use Rattle.sqlite.specs.declared.types.Value.TheVariants.{Null, Int, Text as Words}
@@ -7,7 +7,6 @@ use Rattle.po_text.specs.declared.entry.Entry.{Entry}
 use Rattle.po_text.specs.Strings.{is_forms}
 use Rattle.po_text.specs.Texts.{Text}
 use Rattle.units.specs.KeyTexts.{HasStrings}
-use Rattle.units.specs.Office.{main, same_domain}
 use Rattle.units.specs.Rules.{plural_field}
 use Rattle.units.specs.Units.{key_of, key_text}
 use Rattle.units.specs.declared.unit.Policy.{Policy}
@@ -27,7 +26,11 @@ use Rattle.sql_schema.specs.Keys.{first_text, row_number, has_text}
 use Rattle.sql_schema.specs.Rows.{text_or_null}
 use Rattle.sql_meaning.specs.Cells.{record_cells}
 use Rattle.sql_changes.specs.UnitWrites.{LeavesRows, WritesNumberedUnit, WritesUnits, WritesPlansBack}
-use Rattle.sql_schema.specs.Layouts.{NamedRows}
+use Rattle.sqlite.specs.Effect.{Database}
+use Rattle.sql_schema.specs.Layouts.{NamedRows, rows_named}
+use Rattle.sql_schema.specs.Views.{AreSameByName}
+use Rattle.sql_meaning.specs.Domains.{is_domain}
+use Rattle.sql_changes.specs.OnDomains.{OnEach, OnDomainElse}
 use Rattle.sql_meaning.specs.RowChanges.{TakesIn, UnapprovesIn}
 
 abbrev pub PutsNumberedRecord : Record → NamedRows → NamedRows → Type 0
@@ -90,7 +93,7 @@ MakesLanguage row lang language plan = Then (PutsNumberedRecord row) (WritesLang
 
 -- ---- a template
 
--- as `main` sees it: its rowid is the entry's place, and the column of that name is null
+-- as its domain sees it: its rowid is the entry's place, and the column of that name is null
 abbrev pub entry_row : ℕ → Entry → Row
 entry_row place entry =
     Int (pos place) ∷ Null ∷ Words (key_text (key_of entry)) ∷ text_or_null entry.plural ∷ Words (texts_text entry.extracted) ∷ Words (texts_text entry.references) ∷ Words (texts_text entry.flags) ∷ []
@@ -117,15 +120,19 @@ MakesTemplate row entries plans = Then (PutsNumberedRecord row) (WritesTemplate 
 
 -- ---- in a domain
 
--- what is written where it is for `main`; elsewhere the record alone
-abbrev pub MakesIf : Bool → Record → (NamedRows → NamedRows → Type 0) → NamedRows → NamedRows → Type 0
-MakesIf true row Makes = Makes
-MakesIf false row Makes = PutsNumberedRecord row
-
--- The rows are those of `main`: in another domain there is nothing to change.
-abbrev pub MakesIn : Text → Record → (NamedRows → NamedRows → Type 0) → NamedRows → NamedRows → Type 0
-MakesIn domain = MakesIf (same_domain domain main)
-
 abbrev pub MakesDomainChange : Record → DomainChange → NamedRows → NamedRows → Type 0
 MakesDomainChange row (NewLanguage lang language plan tally) = MakesLanguage row lang language plan
 MakesDomainChange row (NewTemplate template plans tallies) = MakesTemplate row template plans.items
+
+-- the record, and otherwise the rows that were there, in whatever order
+abbrev pub PutsRecordAlone : Record → NamedRows → NamedRows → Type 0
+PutsRecordAlone row = Then (PutsNumberedRecord row) AreSameByName
+
+-- in a domain that is there what is written, and elsewhere the record alone
+abbrev pub MakesThere : Bool → Text → Record → (NamedRows → NamedRows → Type 0) → Database → Database → Type 0
+MakesThere true domain row Makes = OnDomainElse domain Makes (PutsRecordAlone row)
+MakesThere false domain row Makes = OnEach (PutsNumberedRecord row)
+
+-- where the domain isn't there, there is nothing to change
+abbrev pub MakesIn : Text → Record → (NamedRows → NamedRows → Type 0) → Database → Database → Type 0
+MakesIn domain row Makes old new = MakesThere (is_domain (rows_named old) domain) domain row Makes old new

@@ -1,3 +1,3 @@
-pub mod OnMain
+pub mod OnDomains
 pub mod UnitWrites
 pub mod Commits

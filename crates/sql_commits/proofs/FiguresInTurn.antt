@@ -13,7 +13,6 @@ use Rattle.sqlite_rules.specs.Lists.{Has}
 use Rattle.po_text.specs.declared.entry.Entry.{Entry}
 use Rattle.po_text.specs.Texts.{Text}
 use Rattle.units.specs.KeyTexts.{HasStrings}
-use Rattle.units.specs.Office.{main, same_domain}
 use Rattle.units.specs.Project.{Project, entry_of}
 use Rattle.units.specs.Units.{key_text}
 use Rattle.units.specs.declared.unit.Key.{Key}
@@ -29,21 +28,22 @@ use Rattle.tables.specs.Tallies.{counted, moved}
 use Rattle.sql_schema.specs.Inside.{AreOfficeTablesOf, IsSteadyOver, IsInsideOf, IsReadOf, OnRows, PutsRow, HoldsValues}
 use Rattle.sql_schema.specs.Keys.{first_text}
 use Rattle.sql_schema.specs.Layouts.{by_domain, NamedRows, rows_named, SparesOthers}
+use Rattle.sql_schema.specs.Views.{seen_in}
 use Rattle.sql_schema.proofs.DomainViews.{unit_found_seen}
 use Rattle.sql_schema.proofs.Layouts.{names_differ}
 use Rattle.sql_statements.specs.Added.{AddsRow}
 use Rattle.sql_statements.specs.DomainAnswers.{ShowsTally, ShowsDomainUnit, ShowsDomainSuggestions}
 use Rattle.sql_statements.specs.DomainRenewed.{is_approved_in_domain, UnapprovesDomainUnits, UnapprovesTallies}
 use Rattle.sql_statements.proofs.SeenAnswers.{suggestions_shown_seen}
-use Rattle.sql_meaning.specs.Meaning.{main_rows}
+use Rattle.sql_meaning.specs.Domains.{is_domain}
 use Rattle.sql_meaning.specs.Shown.{shown_tally, shown_unit, shown_suggestion}
 use Rattle.sql_meaning.proofs.DomainOfficeRows.{domain_rows}
 use Rattle.sql_meaning.proofs.OfficeQueries.{suggestions_found}
 use Rattle.sql_meaning.proofs.Units.{finds_unit}
 use Rattle.sql_figures.specs.KeptTallies.{Counts, counted_at}
 use Rattle.sql_figures.specs.Figures.{with_tally, with_tallies, moved_at, HaveRoom, FiguresFollowWhere, FiguresFollow, FiguresStay}
-use Rattle.sql_figures.proofs.FigureSteps.{stay_first, stay_last, stay_both, stay_where, follow_both, follow_tally, follow_moved, follow_turned, nothing_moves, stay_beside, units_turned, record_beside, policy_beside, record_alone}
-use Rattle.sql_commits.specs.Figures.{PutsTally, AddsWithSum, PutsSum, main_project, IsSourceIn, counted_before, CountsThere, FollowsUnit, FollowsView, FollowsIf, FollowsIn, FollowsDomainChange, turned_unless, FollowsPolicy, FollowsOneChange}
+use Rattle.sql_figures.proofs.FigureSteps.{stay_first, stay_last, stay_both, stay_where, follow_both, follow_tally, follow_moved, follow_turned, nothing_moves, stay_beside, units_turned, record_beside, policy_beside, record_alone, record_leaves_domain}
+use Rattle.sql_commits.specs.Figures.{PutsTally, AddsWithSum, PutsSum, project_at, IsSourceIn, counted_before, CountsThere, FollowsUnit, FollowsView, FollowsIf, FollowsIn, FollowsDomainChange, turned_unless, FollowsPolicy, FollowsOneChange}
 
 module _ (a b : State) where
   -- a query, with what it answers
@@ -70,69 +70,69 @@ module _ (a b : State) where
 pub put_others : {old new : Database} {K : Type 0} {key : Row → K} {IsRow : Row → Type 0} {name : List ℕ} → PutsRow name key IsRow old new → OnRows (SparesOthers name) old new
 put_others it = it.others
 
--- ---- a unit of `main` that gets a view
+-- ---- a unit of a domain that gets a view
 
 -- what rows show of a unit that is looked up, and of its suggestions, is the unit
-pub unit_looked_up : (db : Database) → AreOfficeTablesOf by_domain db → (domain lang column : Text) (key : Key) (found : Option Row) (rows : List Row) → domain ≡ main → column ≡ key_text key → HasStrings key
-    → ShowsDomainUnit domain lang column db found → ShowsDomainSuggestions domain lang column db rows
-    → maps.get (main_project db).units (lang, key) ≡ option_map (shown_unit key (map (shown_suggestion (main_rows (rows_named db))) rows)) found
-unit_looked_up db ready domain lang column key found rows is_main is_key strings unit suggestions =
-    let tables = main_rows (rows_named db) in
-    let office = domain_rows db ready main in
-    let of_unit = subst (λ (x : Text × Text). ShowsDomainUnit x.0 lang x.1 db found) (λ i. (is_main i, is_key i)) unit in
-    let of_suggestions = subst (λ (x : Text × Text). ShowsDomainSuggestions x.0 lang x.1 db rows) (λ i. (is_main i, is_key i)) suggestions in
-    let seen = suggestions_shown_seen main lang (key_text key) db rows of_suggestions in
-    finds_unit tables lang key found office.keyed.one_unit strings (unit_found_seen main lang (key_text key) db found of_unit (tables (codes "unit")) refl)
+pub unit_looked_up : (db : Database) → AreOfficeTablesOf by_domain db → (domain lang : Text) (key : Key) (found : Option Row) (rows : List Row) → HasStrings key
+    → ShowsDomainUnit domain lang (key_text key) db found → ShowsDomainSuggestions domain lang (key_text key) db rows
+    → maps.get (project_at domain db).units (lang, key) ≡ option_map (shown_unit key (map (shown_suggestion (seen_in domain (rows_named db))) rows)) found
+unit_looked_up db ready domain lang key found rows strings unit suggestions =
+    let tables = seen_in domain (rows_named db) in
+    let office = domain_rows db ready domain in
+    let seen = suggestions_shown_seen domain lang (key_text key) db rows suggestions in
+    finds_unit tables lang key found office.keyed.one_unit strings (unit_found_seen domain lang (key_text key) db found unit (tables (codes "unit")) refl)
     ∙ ap (λ ss. option_map (shown_unit key ss) found) (suggestions_found tables office lang (key_text key) rows seen.0 seen.1)
 
 -- what it counts
-pub unit_counted : (db : Database) → AreOfficeTablesOf by_domain db → (domain lang column : Text) (view : UnitView) (found : Option Row) (row : Row) (rows : List Row) (tally : Tally) → domain ≡ main
-    → column ≡ key_text view.unit.key → HasStrings view.unit.key → found ≡ Some row → ShowsDomainUnit domain lang column db found × ShowsDomainSuggestions domain lang column db rows
-    → (IsSourceIn (main_project db) view → (ss : List Suggestion) → length ss ≡ length rows → tally ≡ counted (main_project db).template (shown_unit view.unit.key ss row)) → CountsThere lang view db tally
-unit_counted db ready domain lang column view found row rows tally is_main is_key strings is_found shown counts source =
-    let tables = main_rows (rows_named db) in
+pub unit_counted : (db : Database) → AreOfficeTablesOf by_domain db → (domain lang : Text) (view : UnitView) (found : Option Row) (row : Row) (rows : List Row) (tally : Tally) → HasStrings view.unit.key → found ≡ Some row
+    → ShowsDomainUnit domain lang (key_text view.unit.key) db found × ShowsDomainSuggestions domain lang (key_text view.unit.key) db rows
+    → (IsSourceIn (project_at domain db) view → (ss : List Suggestion) → length ss ≡ length rows → tally ≡ counted (project_at domain db).template (shown_unit view.unit.key ss row)) → CountsThere domain lang view db tally
+unit_counted db ready domain lang view found row rows tally strings is_found shown counts source =
+    let tables = seen_in domain (rows_named db) in
     let ss = map (shown_suggestion tables) rows in
     counts source ss (length-map rows (shown_suggestion tables))
-    ∙ ap (counted_at (main_project db).template) (sym (unit_looked_up db ready domain lang column view.unit.key found rows is_main is_key strings shown.0 shown.1 ∙ ap (option_map (shown_unit view.unit.key ss)) is_found))
+    ∙ ap (counted_at (project_at domain db).template) (sym (unit_looked_up db ready domain lang view.unit.key found rows strings shown.0 shown.1 ∙ ap (option_map (shown_unit view.unit.key ss)) is_found))
 
 -- where there is none
-pub none_counted_there : (db : Database) → AreOfficeTablesOf by_domain db → (domain lang column : Text) (view : UnitView) (found : Option Row) (rows : List Row) (tally : Tally) → domain ≡ main
-    → column ≡ key_text view.unit.key → HasStrings view.unit.key → found ≡ None → ShowsDomainUnit domain lang column db found × ShowsDomainSuggestions domain lang column db rows
-    → tally ≡ counted_at (main_project db).template None → CountsThere lang view db tally
-none_counted_there db ready domain lang column view found rows tally is_main is_key strings is_found shown is_none source =
-    let tables = main_rows (rows_named db) in
+pub none_counted_there : (db : Database) → AreOfficeTablesOf by_domain db → (domain lang : Text) (view : UnitView) (found : Option Row) (rows : List Row) (tally : Tally) → HasStrings view.unit.key → found ≡ None
+    → ShowsDomainUnit domain lang (key_text view.unit.key) db found × ShowsDomainSuggestions domain lang (key_text view.unit.key) db rows
+    → tally ≡ counted_at (project_at domain db).template None → CountsThere domain lang view db tally
+none_counted_there db ready domain lang view found rows tally strings is_found shown is_none source =
+    let tables = seen_in domain (rows_named db) in
     let ss = map (shown_suggestion tables) rows in
     is_none
-    ∙ ap (counted_at (main_project db).template) (sym (unit_looked_up db ready domain lang column view.unit.key found rows is_main is_key strings shown.0 shown.1 ∙ ap (option_map (shown_unit view.unit.key ss)) is_found))
+    ∙ ap (counted_at (project_at domain db).template) (sym (unit_looked_up db ready domain lang view.unit.key found rows strings shown.0 shown.1 ∙ ap (option_map (shown_unit view.unit.key ss)) is_found))
 
 -- its language's tally is looked up, and put moved
-pub moves_row : (domain code lang : Text) (found : Option Row) (row : Row) (tally after was is : Tally) (old mid new : Database) → domain ≡ main → code ≡ lang → found ≡ Some row → tally ≡ shown_tally row
-    → after ≡ moved tally was is → (mid ≡ old) × ShowsTally domain code old found → PutsTally lang after mid new → FiguresFollow (moved_at main lang was is) old new
-moves_row domain code lang found row tally after was is old mid new is_main is_lang is_found is_tally is_after seen put =
-    follow_moved main lang row was is (subst (λ (x : Text × Text × Option Row). ShowsTally x.0 x.1 old x.2) (λ i. (is_main i, is_lang i, is_found i)) seen.1)
-    (subst (λ (db : Database). PutsTally lang (moved (shown_tally row) was is) db new) seen.0
-    (subst (λ (t : Tally). PutsTally lang t mid new) (is_after ∙ ap (λ (t : Tally). moved t was is) is_tally) put))
+pub moves_row : (given code domain lang : Text) (found : Option Row) (row : Row) (tally after was is : Tally) (old mid new : Database) → given ≡ domain → code ≡ lang → found ≡ Some row → tally ≡ shown_tally row
+    → after ≡ moved tally was is → (mid ≡ old) × ShowsTally given code old found → PutsTally domain lang after mid new → FiguresFollow (moved_at domain lang was is) old new
+moves_row given code domain lang found row tally after was is old mid new is_given is_lang is_found is_tally is_after seen put =
+    follow_moved domain lang row was is (subst (λ (x : Text × Text × Option Row). ShowsTally x.0 x.1 old x.2) (λ i. (is_given i, is_lang i, is_found i)) seen.1)
+    (subst (λ (db : Database). PutsTally domain lang (moved (shown_tally row) was is) db new) seen.0
+    (subst (λ (t : Tally). PutsTally domain lang t mid new) (is_after ∙ ap (λ (t : Tally). moved t was is) is_tally) put))
 
 -- what its new view counts, by its template's entry
 abbrev pub CountsView : UnitView → Tally → Type 0
 CountsView view tally = (template : List Entry) → view.source ≡ entry_of template view.unit.key → tally ≡ counted template view.unit
 
-pub moves_nothing : (lang : Text) (view : UnitView) (was is : Tally) (old new : Database) → was ≡ is → CountsView view is → (new ≡ old) × CountsThere lang view old was → FollowsView lang view old new
-moves_nothing lang view was is old new same now before source =
-    subst (FiguresFollow (moved_at main lang (counted_before (main_project old) lang view) (counted (main_project old).template view.unit)) old) (sym before.0)
-    (nothing_moves old main lang (counted_before (main_project old) lang view) (counted (main_project old).template view.unit) (sym (before.1 source) ∙ same ∙ now (main_project old).template source))
+pub moves_nothing : (domain lang : Text) (view : UnitView) (was is : Tally) (old new : Database) → was ≡ is → CountsView view is → (new ≡ old) × CountsThere domain lang view old was → FollowsView domain lang view old new
+moves_nothing domain lang view was is old new same now before source =
+    let project = project_at domain old in
+    subst (FiguresFollow (moved_at domain lang (counted_before project lang view) (counted project.template view.unit)) old) (sym before.0)
+    (nothing_moves old domain lang (counted_before project lang view) (counted project.template view.unit) (sym (before.1 source) ∙ same ∙ now project.template source))
 
-pub moves_view : (lang : Text) (view : UnitView) (was is : Tally) (old mid new : Database) → CountsView view is → (mid ≡ old) × CountsThere lang view old was → FiguresFollow (moved_at main lang was is) mid new
-    → FollowsView lang view old new
-moves_view lang view was is old mid new now before follows source =
+pub moves_view : (domain lang : Text) (view : UnitView) (was is : Tally) (old mid new : Database) → CountsView view is → (mid ≡ old) × CountsThere domain lang view old was
+    → FiguresFollow (moved_at domain lang was is) mid new → FollowsView domain lang view old new
+moves_view domain lang view was is old mid new now before follows source =
     let first = before.1 source in
-    let second = now (main_project old).template source in
-    subst (λ (x : Tally × Tally). FiguresFollow (moved_at main lang x.0 x.1) old new) (λ i. (first i, second i)) (subst (λ (db : Database). FiguresFollow (moved_at main lang was is) db new) before.0 follows)
+    let second = now (project_at domain old).template source in
+    subst (λ (x : Tally × Tally). FiguresFollow (moved_at domain lang x.0 x.1) old new) (λ i. (first i, second i)) (subst (λ (db : Database). FiguresFollow (moved_at domain lang was is) db new) before.0 follows)
 
 -- and the unit is written
-pub view_written : (lang : Text) (view : UnitView) (old mid new : Database) → FollowsView lang view old mid → FiguresStay mid new → FollowsView lang view old new
-view_written lang view old mid new moved stays source =
-    stay_last (λ counts. ⊤) (moved_at main lang (counted_before (main_project old) lang view) (counted (main_project old).template view.unit)) (moved source) stays
+pub view_written : (domain lang : Text) (view : UnitView) (old mid new : Database) → FollowsView domain lang view old mid → FiguresStay mid new → FollowsView domain lang view old new
+view_written domain lang view old mid new moved stays source =
+    let project = project_at domain old in
+    stay_last (λ counts. ⊤) (moved_at domain lang (counted_before project lang view) (counted project.template view.unit)) (moved source) stays
 
 -- ---- a suggestion that is added, with its sum
 
@@ -153,13 +153,13 @@ with_one_more : (domain : Text) (tallies : List (Text × Tally)) (t : Text × Ta
 with_one_more domain [] t counts = refl
 with_one_more domain (first ∷ more) t counts = with_one_more domain more t (with_tally domain first.0 first.1 counts)
 
-pub tallies_next : (tallies : List (Text × Tally)) (i : ℕ) (t : Text × Tally) (old mid new : Database) → i < length tallies → t ≡ get_or tallies i t → FiguresFollow (with_tallies main (take i tallies)) old mid
-    → PutsTally t.0 t.1 mid new → FiguresFollow (with_tallies main (take (i + 1) tallies)) old new
-tallies_next tallies i t old mid new within is front put =
+pub tallies_next : (domain : Text) (tallies : List (Text × Tally)) (i : ℕ) (t : Text × Tally) (old mid new : Database) → i < length tallies → t ≡ get_or tallies i t → FiguresFollow (with_tallies domain (take i tallies)) old mid
+    → PutsTally domain t.0 t.1 mid new → FiguresFollow (with_tallies domain (take (i + 1) tallies)) old new
+tallies_next domain tallies i t old mid new within is front put =
     let taken : take (i + 1) tallies ≡ take i tallies ++ t ∷ [] = take_more tallies i t within ∙ ap (λ v. take i tallies ++ v ∷ []) (sym is) in
-    subst (λ ts. FiguresFollow (with_tallies main ts) old new) (sym taken)
-    (subst (λ (change : Counts → Counts). FiguresFollow change old new) (λ k counts. sym (with_one_more main (take i tallies) t counts) k)
-    (follow_both (with_tallies main (take i tallies)) (with_tally main t.0 t.1) front (follow_tally main t.0 t.1 put)))
+    subst (λ ts. FiguresFollow (with_tallies domain ts) old new) (sym taken)
+    (subst (λ (change : Counts → Counts). FiguresFollow change old new) (λ k counts. sym (with_one_more domain (take i tallies) t counts) k)
+    (follow_both (with_tallies domain (take i tallies)) (with_tally domain t.0 t.1) front (follow_tally domain t.0 t.1 put)))
 
 -- ---- a policy
 
@@ -184,27 +184,28 @@ module _ (old mid new : Database) (others : SparesOthers (codes "record") (rows_
   stays : FiguresStay old mid
   stays = stay_beside (codes "record") record_beside others
 
-  pub view_behind : (domain lang : Text) (view : UnitView) → FollowsIn domain (FollowsView lang view) mid new → FollowsIn domain (FollowsView lang view) old new
-  view_behind domain lang view = by (same_domain domain main)
+  -- what follows in a domain that is there, and elsewhere nothing
+  in_domain : (domain : Text) (Behind Whole : Database → Database → Type 0) → (Behind mid new → Whole old new) → FollowsIn domain Behind mid new → FollowsIn domain Whole old new
+  in_domain domain Behind Whole tells follows =
+      by (is_domain (rows_named old) domain) (subst (λ (b : Bool). FollowsIf b Behind mid new) (record_leaves_domain domain (rows_named old) (rows_named mid) others) follows)
     where
-      by : (b : Bool) → FollowsIf b (FollowsView lang view) mid new → FollowsIf b (FollowsView lang view) old new
-      by true follows =
-          let project = record_alone (rows_named old) (rows_named mid) others in
-          let own : FollowsUnit (main_project old) lang view mid new = subst (λ (p : Project). FollowsUnit p lang view mid new) project follows in
-          λ source. stay_first (λ counts. ⊤) (moved_at main lang (counted_before (main_project old) lang view) (counted (main_project old).template view.unit)) stays (own source)
-      by false follows = stay_both stays follows
+      by : (b : Bool) → FollowsIf b Behind mid new → FollowsIf b Whole old new
+      by true it = tells it
+      by false it = stay_both stays it
 
-  domain_change_behind : (change : DomainChange) → FollowsDomainChange change mid new → FollowsDomainChange change old new
-  domain_change_behind (NewLanguage lang language plan tally) follows = stay_first (λ counts. ⊤) (with_tally main lang tally) stays follows
-  domain_change_behind (NewTemplate template plans tallies) follows = stay_first (λ counts. ⊤) (with_tallies main tallies.items) stays follows
+  pub view_behind : (domain lang : Text) (view : UnitView) → FollowsIn domain (FollowsView domain lang view) mid new → FollowsIn domain (FollowsView domain lang view) old new
+  view_behind domain lang view = in_domain domain (FollowsView domain lang view) (FollowsView domain lang view) (λ follows.
+      let project = record_alone domain (rows_named old) (rows_named mid) others in
+      let own : FollowsUnit domain (project_at domain old) lang view mid new = subst (λ (p : Project). FollowsUnit domain p lang view mid new) project follows in
+      λ source. stay_first (λ counts. ⊤) (moved_at domain lang (counted_before (project_at domain old) lang view) (counted (project_at domain old).template view.unit)) stays (own source))
 
-  in_domain_behind : (b : Bool) (change : DomainChange) → FollowsIf b (FollowsDomainChange change) mid new → FollowsIf b (FollowsDomainChange change) old new
-  in_domain_behind true change follows = domain_change_behind change follows
-  in_domain_behind false change follows = stay_both stays follows
+  domain_change_behind : (domain : Text) (change : DomainChange) → FollowsDomainChange domain change mid new → FollowsDomainChange domain change old new
+  domain_change_behind domain (NewLanguage lang language plan tally) follows = stay_first (λ counts. ⊤) (with_tally domain lang tally) stays follows
+  domain_change_behind domain (NewTemplate template plans tallies) follows = stay_first (λ counts. ⊤) (with_tallies domain tallies.items) stays follows
 
   pub change_behind : (change : Change) → FollowsOneChange change mid new → FollowsOneChange change old new
   change_behind (OneRole name role) follows = stay_both stays follows
   change_behind (NewPolicy policy) follows =
       λ next. stay_first HaveRoom (turned_unless policy.reviews) stays (follows (next_still (rows_named old) (rows_named mid) (others (codes "d_unit") (names_differ refl)) next))
   change_behind (NewDomain domain) follows = stay_both stays follows
-  change_behind (InDomain domain change) follows = in_domain_behind (same_domain domain main) change follows
+  change_behind (InDomain domain change) follows = in_domain domain (FollowsDomainChange domain change) (FollowsDomainChange domain change) (domain_change_behind domain change) follows

@@ -8,3 +8,4 @@ pub mod WholeTransactions
 pub mod ActsWritten
 pub mod ActsMeant
 pub mod TalliesMoved
+pub mod DomainFound

@@ -11,7 +11,7 @@ use Rattle.units.specs.declared.unit.Unit.{Unit}
 use Rattle.deliveries.specs.ProjectActs.{LanguagePlan}
 use Rattle.sql_columns.specs.Numbers.{state_number, flag_number}
 use Rattle.sql_columns.specs.Written.{texts_text, previous_text, header_text}
-use Rattle.sql_schema.specs.Inside.{IsInsideOf, PutsRow, PutsIn, HoldsValues}
+use Rattle.sql_schema.specs.Inside.{AreOfficeTablesOf, IsInsideOf, PutsRow, PutsIn, HoldsValues}
 use Rattle.sql_schema.specs.Layouts.{by_domain, NamedRows}
 use Rattle.sql_meaning.proofs.DomainOfficeRows.{domain_rows}
 use Rattle.sql_schema.specs.Keys.{key_texts, first_text, first_three, row_number, domain_place}
@@ -25,25 +25,24 @@ use Rattle.request_book.specs.Acts.{IsNumber}
 use Rattle.request_book.specs.Words.{number_text}
 use Rattle.request_book.specs.declared.book.Record.{Record}
 use Rattle.sql_meaning.specs.Cells.{record_cells, unit_cells}
-use Rattle.sql_changes.proofs.MainSteps.{on_main_as, record_on_main, policy_on_main, language_on_main, entry_on_main}
-use Rattle.units.specs.Office.{main}
+use Rattle.sql_changes.proofs.DomainWrites.{on_domain_as, on_each_as, record_on_each, policy_on_each, language_on_domain, entry_on_domain}
 use Rattle.sqlite.specs.Effect.{Database}
-use Rattle.sql_changes.specs.OnMain.{OnMain}
+use Rattle.sql_changes.specs.OnDomains.{OnDomain, OnEach}
 
 -- ---- the rows are as a schema asks
 
-module _ (a b : State) {A E : Type 0} (r : Result A E) (Makes : NamedRows → NamedRows → Type 0) where
-  pub leaves_rows : IsInsideOf by_domain a b r (OnMain Makes) → IsInsideOf by_domain a b r (OnMain (LeavesRows Makes))
-  leaves_rows = write_left a b r (OnMain Makes) (OnMain (LeavesRows Makes)) (λ ready. on_main_as Makes (LeavesRows Makes) (λ made. (made, domain_rows b.now ready main)))
+module _ (a b : State) {A E : Type 0} (r : Result A E) (domain : Text) (Makes : NamedRows → NamedRows → Type 0) where
+  pub leaves_rows : IsInsideOf by_domain a b r (OnDomain domain Makes) → IsInsideOf by_domain a b r (OnDomain domain (LeavesRows Makes))
+  leaves_rows = write_left a b r (OnDomain domain Makes) (OnDomain domain (LeavesRows Makes)) (λ ready. on_domain_as domain Makes (LeavesRows Makes) (λ made. (made, domain_rows b.now ready domain)))
 
   -- and what is known of the value that is written
-  pub leaves_with : (F : Type 0) → F → IsInsideOf by_domain a b r (OnMain Makes) → IsInsideOf by_domain a b r (OnMain (λ old new. LeavesRows Makes old new × F))
-  leaves_with F fact = write_left a b r (OnMain Makes) (OnMain (λ old new. LeavesRows Makes old new × F)) (λ ready. on_main_as Makes (λ old new. LeavesRows Makes old new × F) (λ made. ((made, domain_rows b.now ready main), fact)))
+  pub leaves_with : (F : Type 0) → F → IsInsideOf by_domain a b r (OnDomain domain Makes) → IsInsideOf by_domain a b r (OnDomain domain (λ old new. LeavesRows Makes old new × F))
+  leaves_with F fact = write_left a b r (OnDomain domain Makes) (OnDomain domain (λ old new. LeavesRows Makes old new × F)) (λ ready. on_domain_as domain Makes (λ old new. LeavesRows Makes old new × F) (λ made. ((made, domain_rows b.now ready domain), fact)))
 
   -- two facts
-  pub leaves_with_both : (F G : Type 0) → F → G → IsInsideOf by_domain a b r (OnMain Makes) → IsInsideOf by_domain a b r (OnMain (λ old new. LeavesRows Makes old new × F × G))
+  pub leaves_with_both : (F G : Type 0) → F → G → IsInsideOf by_domain a b r (OnDomain domain Makes) → IsInsideOf by_domain a b r (OnDomain domain (λ old new. LeavesRows Makes old new × F × G))
   leaves_with_both F G first second =
-      write_left a b r (OnMain Makes) (OnMain (λ old new. LeavesRows Makes old new × F × G)) (λ ready. on_main_as Makes (λ old new. LeavesRows Makes old new × F × G) (λ made. ((made, domain_rows b.now ready main), first, second)))
+      write_left a b r (OnDomain domain Makes) (OnDomain domain (λ old new. LeavesRows Makes old new × F × G)) (λ ready. on_domain_as domain Makes (λ old new. LeavesRows Makes old new × F × G) (λ made. ((made, domain_rows b.now ready domain), first, second)))
 
 -- ---- one more at the end
 
@@ -108,37 +107,37 @@ plans_all all left old new none (done, is, written) = subst (λ ps. WritesPlansB
 
 -- ---- what is written, by the columns that are given
 
-pub language_told : (domain lang code column rule : Text) (header : Entry) (old new : Database) → domain ≡ main → code ≡ lang → column ≡ header_text header → rule ≡ unwrap_or (plural_field (Some header)) []
-    → PutsRow (codes "d_language") (key_texts (1 ∷ 2 ∷ [])) (HoldsValues (Words domain ∷ Words code ∷ Words column ∷ Words rule ∷ [])) old new
-    → OnMain (PutsIn (codes "language") first_text (HoldsValues (language_cells lang header))) old new
-language_told domain lang code column rule header old new is_main is_code is_column is_rule put =
-    let same : Words domain ∷ Words code ∷ Words column ∷ Words rule ∷ [] ≡ Words main ∷ language_cells lang header = cc in
-    language_on_main (subst (λ cells. PutsRow (codes "d_language") (key_texts (1 ∷ 2 ∷ [])) (HoldsValues cells) old new) same put)
+pub language_told : (domain name lang code column rule : Text) (header : Entry) (old new : Database) → name ≡ domain → code ≡ lang → column ≡ header_text header → rule ≡ unwrap_or (plural_field (Some header)) []
+    → AreOfficeTablesOf by_domain old → PutsRow (codes "d_language") (key_texts (1 ∷ 2 ∷ [])) (HoldsValues (Words name ∷ Words code ∷ Words column ∷ Words rule ∷ [])) old new
+    → OnDomain domain (PutsIn (codes "language") first_text (HoldsValues (language_cells lang header))) old new
+language_told domain name lang code column rule header old new is_name is_code is_column is_rule ready put =
+    let same : Words name ∷ Words code ∷ Words column ∷ Words rule ∷ [] ≡ Words domain ∷ language_cells lang header = cc in
+    language_on_domain ready (subst (λ cells. PutsRow (codes "d_language") (key_texts (1 ∷ 2 ∷ [])) (HoldsValues cells) old new) same put)
 
-pub entry_told : (domain : Text) (place : ℕ) (at : ℤ) (key extracted references flags : Text) (plural : Option Text) (entry : Entry) (old new : Database) → domain ≡ main → at ≡ pos place → key ≡ key_text (key_of entry)
-    → plural ≡ entry.plural → extracted ≡ texts_text entry.extracted → references ≡ texts_text entry.references → flags ≡ texts_text entry.flags
-    → PutsRow (codes "d_template") domain_place (HoldsValues (Words domain ∷ Int at ∷ Words key ∷ text_or_null plural ∷ Words extracted ∷ Words references ∷ Words flags ∷ [])) old new
-    → OnMain (PutsIn (codes "template") row_number (λ row. row ≡ entry_row place entry)) old new
-entry_told domain place at key extracted references flags plural entry old new is_main is_at is_key is_plural is_extracted is_references is_flags put =
-    let same : Words domain ∷ Int at ∷ Words key ∷ text_or_null plural ∷ Words extracted ∷ Words references ∷ Words flags ∷ []
-    ≡ Words main ∷ Int (pos place) ∷ Words (key_text (key_of entry)) ∷ text_or_null entry.plural ∷ Words (texts_text entry.extracted) ∷ Words (texts_text entry.references) ∷ Words (texts_text entry.flags) ∷ [] = cc in
-    entry_on_main (subst (λ cells. PutsRow (codes "d_template") domain_place (HoldsValues cells) old new) same put)
+pub entry_told : (domain name : Text) (place : ℕ) (at : ℤ) (key extracted references flags : Text) (plural : Option Text) (entry : Entry) (old new : Database) → name ≡ domain → at ≡ pos place → key ≡ key_text (key_of entry)
+    → plural ≡ entry.plural → extracted ≡ texts_text entry.extracted → references ≡ texts_text entry.references → flags ≡ texts_text entry.flags → AreOfficeTablesOf by_domain old
+    → PutsRow (codes "d_template") domain_place (HoldsValues (Words name ∷ Int at ∷ Words key ∷ text_or_null plural ∷ Words extracted ∷ Words references ∷ Words flags ∷ [])) old new
+    → OnDomain domain (PutsIn (codes "template") row_number (λ row. row ≡ entry_row place entry)) old new
+entry_told domain name place at key extracted references flags plural entry old new is_name is_at is_key is_plural is_extracted is_references is_flags ready put =
+    let same : Words name ∷ Int at ∷ Words key ∷ text_or_null plural ∷ Words extracted ∷ Words references ∷ Words flags ∷ []
+    ≡ Words domain ∷ Int (pos place) ∷ Words (key_text (key_of entry)) ∷ text_or_null entry.plural ∷ Words (texts_text entry.extracted) ∷ Words (texts_text entry.references) ∷ Words (texts_text entry.flags) ∷ [] = cc in
+    entry_on_domain ready (subst (λ cells. PutsRow (codes "d_template") domain_place (HoldsValues cells) old new) same put)
 
 pub record_told : (row : Record) (number content body : Text) (status : ℤ) (old new : Database) → number ≡ number_text row.number → content ≡ row.content → status ≡ pos row.reply.status → body ≡ row.reply.body
-    → IsNumber row.number → PutsRow (codes "record") first_text (HoldsValues (Words number ∷ Words content ∷ Int status ∷ Words body ∷ [])) old new → OnMain (PutsNumberedRecord row) old new
+    → IsNumber row.number → PutsRow (codes "record") first_text (HoldsValues (Words number ∷ Words content ∷ Int status ∷ Words body ∷ [])) old new → OnEach (PutsNumberedRecord row) old new
 record_told row number content body status old new is_number is_content is_status is_body valid put =
     let same : Words number ∷ Words content ∷ Int status ∷ Words body ∷ [] ≡ record_cells row = cc in
-    on_main_as (PutsIn (codes "record") first_text (HoldsValues (record_cells row))) (PutsNumberedRecord row) (λ made. (made, valid))
-    (record_on_main (subst (λ cells. PutsRow (codes "record") first_text (HoldsValues cells) old new) same put))
+    on_each_as (PutsIn (codes "record") first_text (HoldsValues (record_cells row))) (PutsNumberedRecord row) (λ d made. (made, valid))
+    (record_on_each (subst (λ cells. PutsRow (codes "record") first_text (HoldsValues cells) old new) same put))
 
-pub policy_told : (policy : Policy) (row : Row) (old new : Database) → row ≡ policy_row policy → PutsRow (codes "policy") row_number (λ r. r ≡ row) old new → OnMain (PutsPolicy policy) old new
-policy_told policy row old new is put = policy_on_main (subst (λ cells. PutsRow (codes "policy") row_number (λ r. r ≡ cells) old new) is put)
+pub policy_told : (policy : Policy) (row : Row) (old new : Database) → row ≡ policy_row policy → PutsRow (codes "policy") row_number (λ r. r ≡ row) old new → OnEach (PutsPolicy policy) old new
+policy_told policy row old new is put = policy_on_each (subst (λ cells. PutsRow (codes "policy") row_number (λ r. r ≡ cells) old new) is put)
 
-pub unit_told : (domain lang key : Text) (plural : Option Text) (forms : Text) (stored obsolete revision : ℤ) (comment previous : Text) (unit : Unit) (old new : Database) → domain ≡ main → key ≡ key_text unit.key
+pub unit_told : (domain lang key : Text) (plural : Option Text) (forms : Text) (stored obsolete revision : ℤ) (comment previous : Text) (unit : Unit) (old new : Database) → key ≡ key_text unit.key
     → plural ≡ unit.plural → forms ≡ texts_text unit.forms → stored ≡ state_number unit.state → obsolete ≡ flag_number unit.obsolete → revision ≡ pos unit.revision → comment ≡ texts_text unit.comment
     → previous ≡ previous_text unit.previous
     → PutsRow (codes "d_unit") first_three (HoldsValues (d_unit_row domain lang key plural forms stored obsolete revision comment previous)) old new
-    → PutsRow (codes "d_unit") first_three (HoldsValues (Words main ∷ unit_cells lang unit)) old new
-unit_told domain lang key plural forms stored obsolete revision comment previous unit old new is_main is_key is_plural are_forms is_stored is_obsolete is_revision is_comment is_previous put =
+    → PutsRow (codes "d_unit") first_three (HoldsValues (Words domain ∷ unit_cells lang unit)) old new
+unit_told domain lang key plural forms stored obsolete revision comment previous unit old new is_key is_plural are_forms is_stored is_obsolete is_revision is_comment is_previous put =
     subst (λ (cells : Row). PutsRow (codes "d_unit") first_three (HoldsValues cells) old new)
-    (λ i. d_unit_row (is_main i) lang (is_key i) (is_plural i) (are_forms i) (is_stored i) (is_obsolete i) (is_revision i) (is_comment i) (is_previous i)) put
+    (λ i. d_unit_row domain lang (is_key i) (is_plural i) (are_forms i) (is_stored i) (is_obsolete i) (is_revision i) (is_comment i) (is_previous i)) put

@@ -8,12 +8,12 @@ use Rattle.sqlite_rules.specs.Lists.{Has}
 use Rattle.units.specs.declared.unit.Policy.{Policy}
 use Rattle.request_book.specs.declared.book.Record.{Record}
 use Rattle.sql_schema.proofs.Layouts.{names_differ}
-use Rattle.sql_schema.specs.Layouts.{NamedRows, rows_named}
+use Rattle.sql_schema.specs.Layouts.{NamedRows}
 use Rattle.sql_statements.specs.Renewed.{is_approved_row}
-use Rattle.sql_meaning.specs.Meaning.{main_rows}
 use Rattle.sql_meaning.specs.RowChanges.{HaveNextIn}
 use Rattle.sql_changes.specs.Commits.{PutsNumberedRecord, PutsPolicy, UnapprovesUnless, WritesPolicy}
-use Rattle.sql_changes.specs.OnMain.{OnMainWhere, OnMain}
+use Rattle.sql_changes.specs.OnDomains.{OnDomainsWhere, OnEach}
+use Rattle.sql_changes.proofs.DomainWrites.{seen}
 
 -- where the units are the same, so are their next revisions
 pub same_next : (old new : NamedRows) → new (codes "unit") ≡ old (codes "unit") → HaveNextIn old → HaveNextIn new
@@ -25,10 +25,9 @@ next_behind_policy policy old new put = same_next old new (put.others (codes "un
 pub next_behind_record : (row : Record) (old new : NamedRows) → PutsNumberedRecord row old new → HaveNextIn old → HaveNextIn new
 next_behind_record row old new recorded = same_next old new (recorded.0.others (codes "unit") (names_differ refl))
 
-pub stays_reviewed : (policy : Policy) (old new : Database) → policy.reviews ≡ true → OnMain (PutsPolicy policy) old new → OnMainWhere HaveNextIn (WritesPolicy policy) old new
+pub stays_reviewed : (policy : Policy) (old new : Database) → policy.reviews ≡ true → OnEach (PutsPolicy policy) old new → OnDomainsWhere HaveNextIn (λ domain. WritesPolicy policy) old new
 stays_reviewed policy old new reviews put = record {
-  on = λ held next.
-      let it = put.on held tt in
-      let rows = main_rows (rows_named new) in
-      ((rows, it.0, subst (λ b. UnapprovesUnless b rows rows) (sym reviews) refl), it.1, it.2);
+  on = λ next.
+      let it = put.on (λ d. tt) in
+      (λ d. (seen d new, it.0 d, subst (λ b. UnapprovesUnless b (seen d new) (seen d new)) (sym reviews) refl), it.1);
 }

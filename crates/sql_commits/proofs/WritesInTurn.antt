@@ -30,15 +30,15 @@ use Rattle.sql_changes.specs.UnitWrites.{HaveNumbers, AddsSuggestion, AddsSugges
 use Rattle.sql_schema.specs.Layouts.{by_domain, NamedRows}
 use Rattle.sql_meaning.specs.RowChanges.{AddsIn, ClearsIn}
 use Rattle.sqlite_rules.specs.Lists.{Has}
-use Rattle.units.specs.Office.{main}
 use Rattle.sql_schema.specs.Inside.{AreOfficeTablesOf, IsReadOf, PutsRow}
 use Rattle.sql_schema.specs.Keys.{text_at}
 use Rattle.sql_schema.specs.Layouts.{rows_named}
 use Rattle.sql_schema.proofs.Layouts.{names_differ}
 use Rattle.sql_statements.specs.Added.{AddsRow}
-use Rattle.sql_meaning.specs.Meaning.{main_rows}
-use Rattle.sql_changes.specs.OnMain.{OnMain}
-use Rattle.sql_changes.proofs.MainSteps.{on_main_then, spares_last, nothing_made, suggestion_on_main, sum_on_main, vote_on_main}
+use Rattle.units.specs.Office.{same_domain}
+use Rattle.sql_schema.specs.Views.{AreSameByName}
+use Rattle.sql_changes.specs.OnDomains.{OnDomain, MakesIf, SparesDomains}
+use Rattle.sql_changes.proofs.DomainWrites.{seen, on_domain_then, spares_first, spares_last, nothing_on_domain, suggestion_on_domain, sum_on_domains, vote_on_domain}
 use Rattle.sql_commits.specs.Figures.{PutsSum}
 use Rattle.sql_commits.specs.Votes.{AddsSummed, PutsVotesOn}
 
@@ -128,6 +128,13 @@ module _ (a b c : State) where
         survives = both.survives;
       }
 
+  -- and what the tables are between both
+  pub write_between : {A B E F : Type 0} (x : A) (r : Result B F) (P Q R : Database → Database → Type 0) → (AreOfficeTablesOf by_domain b.now → P a.now b.now → Q b.now c.now → R a.now c.now)
+      → IsInsideOf {E = E} by_domain a b (Ok x) P → IsInsideOf by_domain b c r Q → IsInsideOf by_domain a c r R
+  write_between {A} {B} {E} {F} x r P Q R tells one two =
+      write_then {A = A} {B = B} {E = E} {F = F} x r (λ before after. AreOfficeTablesOf by_domain after × P before after) Q R (λ both. tells both.0 both.1)
+      (write_left a b (Ok x) P (λ before after. AreOfficeTablesOf by_domain after × P before after) (λ ready made. (ready, made)) one) two
+
 module _ (a b c : State) where
   -- an error behind a write, of the next one or of what follows it
   pub write_fails : {A B D E F G : Type 0} (x : A) (r : Result B F) (given : Result D G) (P Q R : Database → Database → Type 0) → IsErr given
@@ -190,16 +197,26 @@ adds_suggestion_next lang key ss i s old mid new within is front put =
     subst (λ xs. AddsNumberedSuggestions lang key xs old new) (sym taken)
     (adds_suggestion_more lang key 0 (take i ss) s old mid new front.0 (subst (λ n. AddsSuggestion lang key n s mid new) place put.0), numbers_more (take i ss) s front.1 put.1)
 
+-- ---- before and behind what no domain sees
+
+module _ {a b c : Database} (domain : Text) (P : NamedRows → NamedRows → Type 0) where
+  pub unseen_first : SparesDomains a b → OnDomain domain P b c → OnDomain domain P a c
+  unseen_first = spares_first (λ rows. ⊤) (λ d. MakesIf (same_domain d domain) P AreSameByName)
+
+  pub unseen_last : OnDomain domain P a b → SparesDomains b c → OnDomain domain P a c
+  unseen_last = spares_last (λ rows. ⊤) (λ d. MakesIf (same_domain d domain) P AreSameByName)
+
 -- ---- what is written, by the columns that are given
 
-pub adds_summed : (number domain lang key : Text) (at sum : ℤ) (place : ℕ) (suggester again forms : Text) (old mid new : Database) → domain ≡ main → at ≡ pos place → again ≡ suggester → AreOfficeTablesOf by_domain old
+-- behind a suggestion that is added to a domain its sum is put, which no domain sees
+pub adds_summed : (number domain lang key : Text) (at sum : ℤ) (place : ℕ) (suggester again forms : Text) (old mid new : Database) → at ≡ pos place → again ≡ suggester → AreOfficeTablesOf by_domain old
     → AddsRow (codes "d_suggestion") first_text (HoldsValues (Words number ∷ Words domain ∷ Words lang ∷ Words key ∷ Int at ∷ Words again ∷ Words forms ∷ [])) old mid
-    → PutsSum number sum mid new → AddsSummed number lang key place suggester forms old new
-adds_summed number domain lang key at sum place suggester again forms old mid new is_main is_at is_again ready added summed =
-    let same : Words number ∷ Words domain ∷ Words lang ∷ Words key ∷ Int at ∷ Words again ∷ Words forms ∷ [] ≡ Words number ∷ Words main ∷ Words lang ∷ Words key ∷ Int (pos place) ∷ Words suggester ∷ Words forms ∷ [] = cc in
-    let own = subst (λ cells. AddsRow (codes "d_suggestion") first_text (HoldsValues cells) old mid) same added in (
-      spares_last (λ rows. ⊤) (AddsIn (codes "suggestion") first_text (HoldsValues (Words number ∷ Words lang ∷ Words key ∷ Int (pos place) ∷ Words suggester ∷ Words forms ∷ [])))
-          (suggestion_on_main ready own) (sum_on_main summed),
+    → PutsSum number sum mid new → AddsSummed domain number lang key place suggester forms old new
+adds_summed number domain lang key at sum place suggester again forms old mid new is_at is_again ready added summed =
+    let same : Words number ∷ Words domain ∷ Words lang ∷ Words key ∷ Int at ∷ Words again ∷ Words forms ∷ [] ≡ Words number ∷ Words domain ∷ Words lang ∷ Words key ∷ Int (pos place) ∷ Words suggester ∷ Words forms ∷ [] = cc in
+    let own = subst (λ cells. AddsRow (codes "d_suggestion") first_text (HoldsValues cells) old mid) same added in
+    let Adds = AddsIn (codes "suggestion") first_text (HoldsValues (Words number ∷ Words lang ∷ Words key ∷ Int (pos place) ∷ Words suggester ∷ Words forms ∷ [])) in (
+      unseen_last domain Adds (suggestion_on_domain ready own) (sum_on_domains summed),
       (
         own.puts.row,
         subst (λ rows. Has rows own.puts.row) (sym (summed.others (codes "d_suggestion") (names_differ refl))) own.puts.put.here,
@@ -209,22 +226,22 @@ adds_summed number domain lang key at sum place suggester again forms old mid ne
     )
 
 -- one vote more
-pub puts_vote_on : (number voter : Text) (value : ℤ) (votes : List (Text × VoteValue)) (i : ℕ) (vote : Text × VoteValue) (old mid new : Database)
-    → i < length votes → vote ≡ get_or votes i vote → voter ≡ vote.0 → value ≡ vote_number (Some vote.1)
-    → PutsVotesOn number (take i votes) old mid → PutsRow (codes "d_vote") first_texts (HoldsValues (Words number ∷ Words voter ∷ Int value ∷ [])) mid new
-    → PutsVotesOn number (take (i + 1) votes) old new
-puts_vote_on number voter value votes i vote old mid new within is is_voter is_value front put has =
+pub puts_vote_on : (domain number voter : Text) (value : ℤ) (votes : List (Text × VoteValue)) (i : ℕ) (vote : Text × VoteValue) (old mid new : Database)
+    → i < length votes → vote ≡ get_or votes i vote → voter ≡ vote.0 → value ≡ vote_number (Some vote.1) → AreOfficeTablesOf by_domain mid
+    → PutsVotesOn domain number (take i votes) old mid → PutsRow (codes "d_vote") first_texts (HoldsValues (Words number ∷ Words voter ∷ Int value ∷ [])) mid new
+    → PutsVotesOn domain number (take (i + 1) votes) old new
+puts_vote_on domain number voter value votes i vote old mid new within is is_voter is_value ready front put has =
     let before = front has in
     let s = before.1 in
-    let one = vote_on_main put s.0 s.1 s.2 (ap first_text put.is_row.1 ∙ sym s.3) in (
-      on_main_then (PutsRows (codes "vote") first_texts (map (vote_cells number) (take i votes))) (PutsIn (codes "vote") first_texts (HoldsValues (Words number ∷ Words voter ∷ Int value ∷ [])))
+    let one = vote_on_domain ready put s.0 s.1 s.2 (ap first_text put.is_row.1 ∙ sym s.3) in (
+      on_domain_then domain (PutsRows (codes "vote") first_texts (map (vote_cells number) (take i votes))) (PutsIn (codes "vote") first_texts (HoldsValues (Words number ∷ Words voter ∷ Int value ∷ [])))
           (PutsRows (codes "vote") first_texts (map (vote_cells number) (take (i + 1) votes)))
-          (puts_vote_next (codes "vote") number voter value votes i vote (main_rows (rows_named old)) (main_rows (rows_named mid)) (main_rows (rows_named new)) within is is_voter is_value) before.0 one,
+          (puts_vote_next (codes "vote") number voter value votes i vote (seen domain old) (seen domain mid) (seen domain new) within is is_voter is_value) before.0 one,
       (s.0, subst (λ rows. Has rows s.0) (sym (put.others (codes "d_suggestion") (names_differ refl))) s.1, s.2, s.3),
     )
 
-pub no_votes_on : (number : Text) (db : Database) → PutsVotesOn number [] db db
-no_votes_on number db has = (nothing_made db, has)
+pub no_votes_on : (domain number : Text) (db : Database) → PutsVotesOn domain number [] db db
+no_votes_on domain number db has = (nothing_on_domain domain (PutsRows (codes "vote") first_texts []) db refl, has)
 
 pub adds_numbered_suggestion : (lang key number again suggester forms : Text) (at : ℤ) (place : ℕ) (s : Suggestion) (old mid new : NamedRows)
     → number ≡ number_text s.number → again ≡ number_text s.number → suggester ≡ s.suggester → forms ≡ texts_text s.forms → at ≡ pos place → IsNumber s.number
@@ -249,12 +266,12 @@ writes_numbered_unit lang key key_all unit ss old mid new is_key is_key_all are 
     (mid, row, (next, gone, put))
 
 -- a suggestion with its sum, and the votes on it
-pub adds_on_main : (lang key number again forms : Text) (place : ℕ) (s : Suggestion) (old mid new : Database)
+pub adds_on_domain : (domain lang key number again forms : Text) (place : ℕ) (s : Suggestion) (old mid new : Database)
     → number ≡ number_text s.number → again ≡ number_text s.number → forms ≡ texts_text s.forms → IsNumber s.number
-    → AddsSummed number lang key place s.suggester forms old mid → PutsVotesOn again (maps.entries s.votes) mid new → OnMain (AddsNumberedSuggestion lang key place s) old new
-adds_on_main lang key number again forms place s old mid new is_number is_again is_forms valid added votes =
-    let on = subst (λ n. PutsVotesOn n (maps.entries s.votes) mid new) (is_again ∙ sym is_number) votes in
-    on_main_then (AddsIn (codes "suggestion") first_text (HoldsValues (Words number ∷ Words lang ∷ Words key ∷ Int (pos place) ∷ Words s.suggester ∷ Words forms ∷ [])))
+    → AddsSummed domain number lang key place s.suggester forms old mid → PutsVotesOn domain again (maps.entries s.votes) mid new → OnDomain domain (AddsNumberedSuggestion lang key place s) old new
+adds_on_domain domain lang key number again forms place s old mid new is_number is_again is_forms valid added votes =
+    let on = subst (λ n. PutsVotesOn domain n (maps.entries s.votes) mid new) (is_again ∙ sym is_number) votes in
+    on_domain_then domain (AddsIn (codes "suggestion") first_text (HoldsValues (Words number ∷ Words lang ∷ Words key ∷ Int (pos place) ∷ Words s.suggester ∷ Words forms ∷ [])))
     (PutsRows (codes "vote") first_texts (map (vote_cells number) (maps.entries s.votes))) (AddsNumberedSuggestion lang key place s)
-    (adds_numbered_suggestion lang key number number s.suggester forms (pos place) place s (main_rows (rows_named old)) (main_rows (rows_named mid)) (main_rows (rows_named new)) is_number is_number refl is_forms refl valid)
+    (adds_numbered_suggestion lang key number number s.suggester forms (pos place) place s (seen domain old) (seen domain mid) (seen domain new) is_number is_number refl is_forms refl valid)
     added.0 (on added.1).0

@@ -1,6 +1,5 @@
--- What a commit makes of the rows that `main` sees, of tables by domains that hold `main` alone: of an act on a unit its record, and its unit's new view, if it
--- has one and the unit is in `main`; of an act on the office its record, and its change, if it has one and this isn't about another domain. And how the figures
--- beside the office's rows follow.
+-- What a commit makes of the rows that each domain sees: of an act on a unit its record, and in the unit's domain, if it is there, its unit's new view, if it has
+-- one; of an act on the office its record, and its change, if it has one. And how the figures beside the office's rows follow.
 use Rattle.std.specs.Prelude.{Option, Some, None}
 use Rattle.sqlite.specs.Effect.{Database}
 use Rattle.po_text.specs.Texts.{Text}
@@ -8,33 +7,27 @@ use Rattle.units.specs.declared.unit.UnitView.{UnitView}
 use Rattle.request_book.specs.declared.book.Record.{Record}
 use Rattle.deliveries.specs.declared.values.Change.{Change}
 use Rattle.deliveries.specs.declared.values.Change.TheVariants.{OneRole, NewPolicy, NewDomain, InDomain}
-use Rattle.sql_changes.specs.Commits.{PutsNumberedRecord, WritesRecordAndUnit, MakesRole, MakesPolicy, MakesIn, MakesDomainChange}
-use Rattle.sql_schema.specs.Layouts.{NamedRows}
+use Rattle.sql_schema.specs.Inside.{Then}
+use Rattle.sql_meaning.specs.Beginnings.{PutsDomain}
 use Rattle.sql_meaning.specs.RowChanges.{HaveNextIn}
-use Rattle.sql_changes.specs.OnMain.{OnMainWhere, OnMain}
+use Rattle.sql_changes.specs.Commits.{PutsNumberedRecord, WritesRecordAndUnit, MakesRole, MakesPolicy, MakesIn, MakesDomainChange}
+use Rattle.sql_changes.specs.OnDomains.{OnDomainsWhere, OnEach}
 use Rattle.sql_commits.specs.Figures.{FollowsAct, FollowsChange}
 
-abbrev pub MakesActRows : Record → Text → Text → Option UnitView → NamedRows → NamedRows → Type 0
-MakesActRows row domain lang None = PutsNumberedRecord row
-MakesActRows row domain lang (Some view) = MakesIn domain row (WritesRecordAndUnit row lang view.unit)
-
 abbrev pub MakesAct : Record → Text → Text → Option UnitView → Database → Database → Type 0
-MakesAct row domain lang view = OnMain (MakesActRows row domain lang view)
+MakesAct row domain lang None = OnEach (PutsNumberedRecord row)
+MakesAct row domain lang (Some view) = MakesIn domain row (WritesRecordAndUnit row lang view.unit)
 
--- the commit of a new domain never succeeds
-abbrev pub MakesOneChange : Record → Change → NamedRows → NamedRows → Type 0
-MakesOneChange row (OneRole name role) = MakesRole row name role
-MakesOneChange row (NewPolicy policy) = MakesPolicy row policy
-MakesOneChange row (NewDomain domain) = λ old new. ⊥
+-- of a policy where 64 bits hold the revision after that of each approved unit
+abbrev pub MakesOneChange : Record → Change → Database → Database → Type 0
+MakesOneChange row (OneRole name role) = OnEach (MakesRole row name role)
+MakesOneChange row (NewPolicy policy) = OnDomainsWhere HaveNextIn (λ domain. MakesPolicy row policy)
+MakesOneChange row (NewDomain domain) = Then (OnEach (PutsNumberedRecord row)) (PutsDomain domain)
 MakesOneChange row (InDomain domain change) = MakesIn domain row (MakesDomainChange row change)
 
-abbrev pub MakesChangeRows : Record → Option Change → NamedRows → NamedRows → Type 0
-MakesChangeRows row None = PutsNumberedRecord row
-MakesChangeRows row (Some change) = MakesOneChange row change
-
--- where 64 bits hold the revision after that of each approved unit
 abbrev pub MakesChange : Record → Option Change → Database → Database → Type 0
-MakesChange row change = OnMainWhere HaveNextIn (MakesChangeRows row change)
+MakesChange row None = OnEach (PutsNumberedRecord row)
+MakesChange row (Some change) = MakesOneChange row change
 
 -- ---- what is committed
 

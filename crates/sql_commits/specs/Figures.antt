@@ -4,7 +4,6 @@ use Rattle.std.specs.FinMap as maps
 use Rattle.sqlite.specs.declared.types.Value.TheVariants.{Int, Text as Words}
 use Rattle.sqlite.specs.Effect.{Database}
 use Rattle.po_text.specs.Texts.{Text}
-use Rattle.units.specs.Office.{main, same_domain}
 use Rattle.units.specs.Project.{Project, entry_of}
 use Rattle.units.specs.declared.unit.Policy.{Policy}
 use Rattle.units.specs.declared.unit.UnitView.{UnitView}
@@ -20,15 +19,15 @@ use Rattle.sql_schema.specs.Layouts.{rows_named}
 use Rattle.sql_statements.specs.Added.{AddsRow}
 use Rattle.sql_statements.specs.DomainRenewed.{HaveNextRevisionsInDomains}
 use Rattle.sql_meaning.specs.Cells.{tally_cells}
-use Rattle.sql_meaning.specs.Meaning.{main_rows, project_of_rows}
+use Rattle.sql_meaning.specs.Domains.{is_domain, project_seen}
 use Rattle.sql_figures.specs.KeptTallies.{Counts, counted_at}
 use Rattle.sql_figures.specs.Figures.{with_tally, with_tallies, moved_at, turned, HaveRoom, FiguresFollowWhere, FiguresFollow, FiguresStay}
 
 -- ---- rows that are written
 
 -- a language's tally
-abbrev pub PutsTally : Text → Tally → Database → Database → Type 0
-PutsTally lang tally = PutsRow (codes "d_tally") (key_texts (1 ∷ 2 ∷ [])) (HoldsValues (tally_cells main lang tally))
+abbrev pub PutsTally : Text → Text → Tally → Database → Database → Type 0
+PutsTally domain lang tally = PutsRow (codes "d_tally") (key_texts (1 ∷ 2 ∷ [])) (HoldsValues (tally_cells domain lang tally))
 
 -- a suggestion's sum
 abbrev pub PutsSum : Text → ℤ → Database → Database → Type 0
@@ -38,10 +37,10 @@ PutsSum number sum = PutsRow (codes "d_vote_sum") first_text (HoldsValues (Words
 abbrev pub AddsWithSum : Text → ℤ → Database → Database → Type 0
 AddsWithSum number sum = Then (AddsRow (codes "d_suggestion") first_text (λ row. first_text row ≡ number)) (PutsSum number sum)
 
--- ---- an act on a unit of `main`
+-- ---- an act on a unit
 
-abbrev pub main_project : Database → Project
-main_project db = project_of_rows (main_rows (rows_named db))
+abbrev pub project_at : Text → Database → Project
+project_at domain db = project_seen domain (rows_named db)
 
 -- the view's entry is the template's of its unit's key
 abbrev pub IsSourceIn : Project → UnitView → Type 0
@@ -52,35 +51,35 @@ abbrev pub counted_before : Project → Text → UnitView → Tally
 counted_before project lang view = counted_at project.template (maps.get project.units (lang, view.unit.key))
 
 -- a count is of the unit that is there
-abbrev pub CountsThere : Text → UnitView → Database → Tally → Type 0
-CountsThere lang view db tally = IsSourceIn (main_project db) view → tally ≡ counted_before (main_project db) lang view
+abbrev pub CountsThere : Text → Text → UnitView → Database → Tally → Type 0
+CountsThere domain lang view db tally = IsSourceIn (project_at domain db) view → tally ≡ counted_before (project_at domain db) lang view
 
--- the language of a project counts the unit no more as it was, and as it is
-abbrev pub FollowsUnit : Project → Text → UnitView → Database → Database → Type 0
-FollowsUnit project lang view old new =
-    IsSourceIn project view → FiguresFollow (moved_at main lang (counted_before project lang view) (counted project.template view.unit)) old new
+-- the language of a domain's project counts the unit no more as it was, and as it is
+abbrev pub FollowsUnit : Text → Project → Text → UnitView → Database → Database → Type 0
+FollowsUnit domain project lang view old new =
+    IsSourceIn project view → FiguresFollow (moved_at domain lang (counted_before project lang view) (counted project.template view.unit)) old new
 
-abbrev pub FollowsView : Text → UnitView → Database → Database → Type 0
-FollowsView lang view old = FollowsUnit (main_project old) lang view old
+abbrev pub FollowsView : Text → Text → UnitView → Database → Database → Type 0
+FollowsView domain lang view old = FollowsUnit domain (project_at domain old) lang view old
 
--- elsewhere nothing is counted
+-- where the domain isn't there, nothing is counted
 abbrev pub FollowsIf : Bool → (Database → Database → Type 0) → Database → Database → Type 0
 FollowsIf true Follows = Follows
 FollowsIf false Follows = FiguresStay
 
 abbrev pub FollowsIn : Text → (Database → Database → Type 0) → Database → Database → Type 0
-FollowsIn domain = FollowsIf (same_domain domain main)
+FollowsIn domain Follows old new = FollowsIf (is_domain (rows_named old) domain) Follows old new
 
 abbrev pub FollowsAct : Text → Text → Option UnitView → Database → Database → Type 0
 FollowsAct domain lang None = FiguresStay
-FollowsAct domain lang (Some view) = FollowsIn domain (FollowsView lang view)
+FollowsAct domain lang (Some view) = FollowsIn domain (FollowsView domain lang view)
 
 -- ---- a change of the office
 
 -- a new language counts what its tally says, and so do those of a new template
-abbrev pub FollowsDomainChange : DomainChange → Database → Database → Type 0
-FollowsDomainChange (NewLanguage lang language plan tally) = FiguresFollow (with_tally main lang tally)
-FollowsDomainChange (NewTemplate template plans tallies) = FiguresFollow (with_tallies main tallies.items)
+abbrev pub FollowsDomainChange : Text → DomainChange → Database → Database → Type 0
+FollowsDomainChange domain (NewLanguage lang language plan tally) = FiguresFollow (with_tally domain lang tally)
+FollowsDomainChange domain (NewTemplate template plans tallies) = FiguresFollow (with_tallies domain tallies.items)
 
 abbrev pub turned_unless : Bool → Counts → Counts
 turned_unless true counts = counts
@@ -94,7 +93,7 @@ abbrev pub FollowsOneChange : Change → Database → Database → Type 0
 FollowsOneChange (OneRole name role) = FiguresStay
 FollowsOneChange (NewPolicy policy) = FollowsPolicy policy
 FollowsOneChange (NewDomain domain) = FiguresStay
-FollowsOneChange (InDomain domain change) = FollowsIn domain (FollowsDomainChange change)
+FollowsOneChange (InDomain domain change) = FollowsIn domain (FollowsDomainChange domain change)
 
 abbrev pub FollowsChange : Option Change → Database → Database → Type 0
 FollowsChange None = FiguresStay

@@ -1,11 +1,10 @@
--- A suggestion of `main` that is added, and the votes on it. Only private clauses and proofs cite this file.
+-- A suggestion of a domain that is added, and the votes on it. Only private clauses and proofs cite this file.
 use Rattle.std.specs.Prelude.{◌≡◌, ℕ, pos, List, [], ◌∷◌, map, codes}
 use Rattle.sqlite.specs.declared.types.Value.TheVariants.{Int, Text as Words}
 use Rattle.sqlite.specs.Effect.{Database}
 use Rattle.sqlite.specs.Order.{Row}
 use Rattle.sqlite_rules.specs.Lists.{Has}
 use Rattle.po_text.specs.Texts.{Text}
-use Rattle.units.specs.Office.{main}
 use Rattle.units.specs.declared.votes.VoteValue.{VoteValue}
 use Rattle.sql_schema.specs.Keys.{text_at, first_text, first_texts}
 use Rattle.sql_schema.specs.Layouts.{NamedRows, rows_named}
@@ -13,17 +12,19 @@ use Rattle.sql_meaning.specs.Cells.{vote_cells}
 use Rattle.sql_schema.specs.Inside.{HoldsValues}
 use Rattle.sql_meaning.specs.RowChanges.{AddsIn}
 use Rattle.sql_meaning.specs.Written.{PutsRows}
-use Rattle.sql_changes.specs.OnMain.{OnMain}
+use Rattle.sql_changes.specs.OnDomains.{OnDomain}
 
--- the suggestion of a number is there, and of `main`
-abbrev pub HasSuggestion : Text → NamedRows → Type 0
-HasSuggestion number rows = (s : Row) × Has (rows (codes "d_suggestion")) s × (text_at 2 s ≡ main) × (first_text s ≡ number)
+-- the suggestion of a number is there, and of a domain
+abbrev pub HasSuggestion : Text → Text → NamedRows → Type 0
+HasSuggestion domain number rows = (s : Row) × Has (rows (codes "d_suggestion")) s × (text_at 2 s ≡ domain) × (first_text s ≡ number)
 
 -- where it is, the votes on it are put, and it is there afterwards
-abbrev pub PutsVotesOn : Text → List (Text × VoteValue) → Database → Database → Type 0
-PutsVotesOn number votes old new = HasSuggestion number (rows_named old) → OnMain (PutsRows (codes "vote") first_texts (map (vote_cells number) votes)) old new × HasSuggestion number (rows_named new)
+abbrev pub PutsVotesOn : Text → Text → List (Text × VoteValue) → Database → Database → Type 0
+PutsVotesOn domain number votes old new =
+    HasSuggestion domain number (rows_named old) → OnDomain domain (PutsRows (codes "vote") first_texts (map (vote_cells number) votes)) old new × HasSuggestion domain number (rows_named new)
 
 -- the suggestion's row is added, with its sum, and it is there afterwards
-abbrev pub AddsSummed : (number lang key : Text) → ℕ → (suggester forms : Text) → Database → Database → Type 0
-AddsSummed number lang key place suggester forms old new =
-    OnMain (AddsIn (codes "suggestion") first_text (HoldsValues (Words number ∷ Words lang ∷ Words key ∷ Int (pos place) ∷ Words suggester ∷ Words forms ∷ []))) old new × HasSuggestion number (rows_named new)
+abbrev pub AddsSummed : (domain number lang key : Text) → ℕ → (suggester forms : Text) → Database → Database → Type 0
+AddsSummed domain number lang key place suggester forms old new =
+    OnDomain domain (AddsIn (codes "suggestion") first_text (HoldsValues (Words number ∷ Words lang ∷ Words key ∷ Int (pos place) ∷ Words suggester ∷ Words forms ∷ []))) old new
+    × HasSuggestion domain number (rows_named new)

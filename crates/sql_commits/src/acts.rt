@@ -1,12 +1,10 @@
-//! Whole transactions, one for acts on a unit and one for acts on the office. The tables, which have a column for a domain, hold `main` alone.
-ghost use Rattle.std.specs.Prelude.{◌≡◌, IsTrue, false};
+//! Whole transactions, one for acts on a unit and one for acts on the office.
+ghost use Rattle.std.specs.Prelude.{◌≡◌, false};
 ghost use Rattle.sqlite.specs.Held.{state};
-ghost use Rattle.sqlite.specs.State.{HasCleanDisk};
 ghost use Rattle.sql_schema.specs.Layouts.{by_domain};
 ghost use Rattle.sql_schema.specs.Inside.{IsSteadyOver, IsInsideOf};
 ghost use Rattle.sql_schema.specs.Whole.{IsIdleOver, IsCommitOf};
-ghost use Rattle.sql_meaning.specs.RowChanges.{HaveNextIn};
-ghost use Rattle.sql_changes.specs.OnMain.{OnMainWhere, OnMain};
+ghost use Rattle.sql_changes.specs.OnDomains.{OnDomain};
 ghost use Rattle.sql_changes.specs.UnitWrites.{WritesNumberedUnit};
 ghost use Rattle.sql_commits.specs.Acts.{MakesAct, MakesChange, CommitsAct, CommitsChange};
 ghost use Rattle.sql_commits.specs.Changes.{WritesDomainChange, WritesIn, WritesChange};
@@ -22,13 +20,13 @@ use crate::transactions::finish;
 use crate::unit_writes::write_unit;
 use deliveries::{Change, DomainChange};
 use request_book::Record;
-use sql_decoding::{Failure, is_main};
+use sql_decoding::Failure;
+use sql_statements::domains::{find_domain, put_domain};
 use sqlite::{Alter, Connection, Transaction};
 use std::alloc::Global;
-use tables::Lost;
 use units::{Lang, Name, UnitView};
 
-/// Records a request and writes the unit's new view, if it has one and its domain is `main`: its row and its suggestions, in the place of
+/// Records a request and writes the unit's new view, if it has one and its domain is there: its row and its suggestions, in the place of
 /// those that are there, the suggestions' sums, and its language's tally.
 pub fn commit_act<S: Alter>(
     connection: &mut Connection<S>,
@@ -47,7 +45,7 @@ pub fn commit_act<S: Alter>(
     finish(tx, put)
 }
 
-/// Writes a request's record, and the unit's new view, if it has one and its domain is `main`.
+/// Writes a request's record, and the unit's new view, if it has one and its domain is there.
 fn put_record_and_view<S: Alter>(
     tx: &mut Transaction<'_, S>,
     alloc: Global,
@@ -68,7 +66,7 @@ fn put_record_and_view<S: Alter>(
     }
 }
 
-/// Writes a unit's new view in `main`; in another domain nothing.
+/// Writes a unit's new view in a domain that is there; in another nothing.
 fn write_view_in<S: Alter>(
     tx: &mut Transaction<'_, S>,
     alloc: Global,
@@ -77,39 +75,39 @@ fn write_view_in<S: Alter>(
     view: &UnitView,
 ) -> Result<(), Failure>
     requires steady { IsSteadyOver by_domain (state S.Store tx.old.conn.now) }
-    requires open { HasCleanDisk (state S.Store tx.old.conn.now) → IsTrue (state S.Store tx.old.conn.now).is_open }
     ensures same_reference { tx.new.conn.ghost_name ≡ tx.old.conn.ghost_name }
-    ensures put { IsInsideOf by_domain (state S.Store tx.old.conn.now) (state S.Store tx.new.conn.now) result (OnMain (WritesIn domain.now (WritesNumberedUnit lang.now view.now.unit))) }
-    ensures figures { IsInsideOf by_domain (state S.Store tx.old.conn.now) (state S.Store tx.new.conn.now) result (FollowsIn domain.now (FollowsView lang.now view.now)) }
+    ensures put { IsInsideOf by_domain (state S.Store tx.old.conn.now) (state S.Store tx.new.conn.now) result (WritesIn domain.now (WritesNumberedUnit lang.now view.now.unit)) }
+    ensures figures { IsInsideOf by_domain (state S.Store tx.old.conn.now) (state S.Store tx.new.conn.now) result (FollowsIn domain.now (FollowsView domain.now lang.now view.now)) }
 {
-    if is_main(domain) {
-        write_view(tx, alloc, lang, view)
-    } else {
-        Ok(())
+    let found = find_domain(tx, domain.as_str())?;
+    match found {
+        Some(row) => {
+            drop(row);
+            write_view(tx, alloc, domain, lang, view)
+        }
+        None => Ok(()),
     }
 }
 
-/// Writes a unit's new view in `main`, and moves its language's tally.
+/// Writes a unit's new view in a domain, and moves its language's tally.
 fn write_view<S: Alter>(
     tx: &mut Transaction<'_, S>,
     alloc: Global,
+    domain: &Name,
     lang: &Lang,
     view: &UnitView,
 ) -> Result<(), Failure>
     requires steady { IsSteadyOver by_domain (state S.Store tx.old.conn.now) }
-    requires open { HasCleanDisk (state S.Store tx.old.conn.now) → IsTrue (state S.Store tx.old.conn.now).is_open }
     ensures same_reference { tx.new.conn.ghost_name ≡ tx.old.conn.ghost_name }
-    ensures put { IsInsideOf by_domain (state S.Store tx.old.conn.now) (state S.Store tx.new.conn.now) result (OnMain (WritesNumberedUnit lang.now view.now.unit)) }
-    ensures figures { IsInsideOf by_domain (state S.Store tx.old.conn.now) (state S.Store tx.new.conn.now) result (FollowsView lang.now view.now) }
+    ensures put { IsInsideOf by_domain (state S.Store tx.old.conn.now) (state S.Store tx.new.conn.now) result (OnDomain domain.now (WritesNumberedUnit lang.now view.now.unit)) }
+    ensures figures { IsInsideOf by_domain (state S.Store tx.old.conn.now) (state S.Store tx.new.conn.now) result (FollowsView domain.now lang.now view.now) }
 {
-    move_tally(tx, alloc, lang, view)?;
-    write_unit(tx, alloc, lang, &view.unit)
+    move_tally(tx, alloc, domain, lang, view)?;
+    write_unit(tx, alloc, domain, lang, &view.unit)
 }
 
-/// Records a request and writes what its act on the office changes, if it changes anything. A change of another domain than `main` writes
-/// nothing behind the record: there is no other.
-///
-/// A new domain is refused as want of memory is, and nothing is written: no act asks for one.
+/// Records a request and writes what its act on the office changes, if it changes anything. A change of a domain that isn't there writes
+/// nothing behind the record.
 pub fn commit_change<S: Alter>(
     connection: &mut Connection<S>,
     alloc: Global,
@@ -144,16 +142,15 @@ fn put_record_and_change<S: Alter>(
     }
 }
 
-/// Writes a change of the office. A new domain is refused, as where memory is wanted.
+/// Writes a change of the office.
 fn write_change<S: Alter>(
     tx: &mut Transaction<'_, S>,
     alloc: Global,
     change: &Change,
 ) -> Result<(), Failure>
     requires steady { IsSteadyOver by_domain (state S.Store tx.old.conn.now) }
-    requires open { HasCleanDisk (state S.Store tx.old.conn.now) → IsTrue (state S.Store tx.old.conn.now).is_open }
     ensures same_reference { tx.new.conn.ghost_name ≡ tx.old.conn.ghost_name }
-    ensures put { IsInsideOf by_domain (state S.Store tx.old.conn.now) (state S.Store tx.new.conn.now) result (OnMainWhere HaveNextIn (WritesChange change.now)) }
+    ensures put { IsInsideOf by_domain (state S.Store tx.old.conn.now) (state S.Store tx.new.conn.now) result (WritesChange change.now) }
     ensures figures { IsInsideOf by_domain (state S.Store tx.old.conn.now) (state S.Store tx.new.conn.now) result (FollowsOneChange change.now) }
 {
     match change {
@@ -161,12 +158,12 @@ fn write_change<S: Alter>(
             write_role(tx, name.as_str(), *role).map_err(Failure::from)
         }
         Change::NewPolicy(policy) => write_policy(tx, policy).map_err(Failure::from),
-        Change::NewDomain(_) => Err(Failure { lost: Lost::Memory }),
+        Change::NewDomain(domain) => put_domain(tx, domain.as_str()).map_err(Failure::from),
         Change::InDomain(domain, change) => write_change_in(tx, alloc, domain, change),
     }
 }
 
-/// Writes a change of `main`; of another domain nothing.
+/// Writes a change of a domain that is there; of another nothing.
 fn write_change_in<S: Alter>(
     tx: &mut Transaction<'_, S>,
     alloc: Global,
@@ -174,33 +171,37 @@ fn write_change_in<S: Alter>(
     change: &DomainChange,
 ) -> Result<(), Failure>
     requires steady { IsSteadyOver by_domain (state S.Store tx.old.conn.now) }
-    requires open { HasCleanDisk (state S.Store tx.old.conn.now) → IsTrue (state S.Store tx.old.conn.now).is_open }
     ensures same_reference { tx.new.conn.ghost_name ≡ tx.old.conn.ghost_name }
-    ensures put { IsInsideOf by_domain (state S.Store tx.old.conn.now) (state S.Store tx.new.conn.now) result (OnMain (WritesIn domain.now (WritesDomainChange change.now))) }
-    ensures figures { IsInsideOf by_domain (state S.Store tx.old.conn.now) (state S.Store tx.new.conn.now) result (FollowsIn domain.now (FollowsDomainChange change.now)) }
+    ensures put { IsInsideOf by_domain (state S.Store tx.old.conn.now) (state S.Store tx.new.conn.now) result (WritesIn domain.now (WritesDomainChange change.now)) }
+    ensures figures { IsInsideOf by_domain (state S.Store tx.old.conn.now) (state S.Store tx.new.conn.now) result (FollowsIn domain.now (FollowsDomainChange domain.now change.now)) }
 {
-    if is_main(domain) {
-        write_domain_change(tx, alloc, change)
-    } else {
-        Ok(())
+    let found = find_domain(tx, domain.as_str())?;
+    match found {
+        Some(row) => {
+            drop(row);
+            write_domain_change(tx, alloc, domain, change)
+        }
+        None => Ok(()),
     }
 }
 
-/// Writes a change of `main`.
+/// Writes a change of a domain.
 fn write_domain_change<S: Alter>(
     tx: &mut Transaction<'_, S>,
     alloc: Global,
+    domain: &Name,
     change: &DomainChange,
 ) -> Result<(), Failure>
     requires steady { IsSteadyOver by_domain (state S.Store tx.old.conn.now) }
     ensures same_reference { tx.new.conn.ghost_name ≡ tx.old.conn.ghost_name }
-    ensures put { IsInsideOf by_domain (state S.Store tx.old.conn.now) (state S.Store tx.new.conn.now) result (OnMain (WritesDomainChange change.now)) }
-    ensures figures { IsInsideOf by_domain (state S.Store tx.old.conn.now) (state S.Store tx.new.conn.now) result (FollowsDomainChange change.now) }
+    ensures put { IsInsideOf by_domain (state S.Store tx.old.conn.now) (state S.Store tx.new.conn.now) result (OnDomain domain.now (WritesDomainChange change.now)) }
+    ensures figures { IsInsideOf by_domain (state S.Store tx.old.conn.now) (state S.Store tx.new.conn.now) result (FollowsDomainChange domain.now change.now) }
 {
     match change {
         DomainChange::NewLanguage(lang, language, plan, tally) => write_language(
             tx,
             alloc,
+            domain,
             lang,
             &language.header,
             plan.units.as_slice(),
@@ -209,6 +210,7 @@ fn write_domain_change<S: Alter>(
         DomainChange::NewTemplate(template, plans, tallies) => write_template(
             tx,
             alloc,
+            domain,
             template.entries(),
             plans.as_slice(),
             tallies.as_slice(),

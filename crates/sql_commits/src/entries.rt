@@ -5,7 +5,7 @@ ghost use Rattle.sqlite.specs.State.{HasCleanDisk};
 ghost use Rattle.units.specs.Units.{key_text, key_of};
 ghost use Rattle.sql_schema.specs.Layouts.{by_domain};
 ghost use Rattle.sql_schema.specs.Inside.{IsSteadyOver, IsInsideOf};
-ghost use Rattle.sql_changes.specs.OnMain.{OnMain};
+ghost use Rattle.sql_changes.specs.OnDomains.{OnDomain};
 ghost use Rattle.sql_changes.specs.Commits.{PutsEntry, PutsEntries};
 ghost use Rattle.sql_commits.specs.Columns.{columns_of_entry};
 ghost use Rattle.sql_figures.specs.Figures.{FiguresStay};
@@ -19,20 +19,21 @@ use sqlite::{Alter, Transaction};
 use std::alloc::{AllocError, Global};
 use units::Name;
 
-/// Writes entries, from the first place on.
+/// Writes entries of a domain's template, from the first place on.
 pub fn put_entries<S: Alter>(
     tx: &mut Transaction<'_, S>,
     alloc: Global,
+    domain: &Name,
     entries: &[Entry],
 ) -> Result<(), Failure>
     requires steady { IsSteadyOver by_domain (state S.Store tx.old.conn.now) }
     requires open { HasCleanDisk (state S.Store tx.old.conn.now) → IsTrue (state S.Store tx.old.conn.now).is_open }
     ensures same_reference { tx.new.conn.ghost_name ≡ tx.old.conn.ghost_name }
-    ensures put { IsInsideOf by_domain (state S.Store tx.old.conn.now) (state S.Store tx.new.conn.now) result (OnMain (PutsEntries 0 entries.now)) }
+    ensures put { IsInsideOf by_domain (state S.Store tx.old.conn.now) (state S.Store tx.new.conn.now) result (OnDomain domain.now (PutsEntries 0 entries.now)) }
     ensures figures { IsInsideOf by_domain (state S.Store tx.old.conn.now) (state S.Store tx.new.conn.now) result FiguresStay }
 {
     for (place, entry) in entries.iter().enumerate() {
-        put_entry(tx, alloc, place, entry)?;
+        put_entry(tx, alloc, domain, place, entry)?;
     }
     Ok(())
 }
@@ -70,22 +71,22 @@ fn key_column(alloc: Global, entry: &Entry) -> Result<Text, AllocError>
     Ok(Text::from_string(text))
 }
 
-/// Writes an entry at its place, where none stands.
+/// Writes an entry of a domain's template at its place, where none stands.
 fn put_entry<S: Alter>(
     tx: &mut Transaction<'_, S>,
     alloc: Global,
+    domain: &Name,
     place: usize,
     entry: &Entry,
 ) -> Result<(), Failure>
     requires fits { place < 2 ^ 63 }
     requires steady { IsSteadyOver by_domain (state S.Store tx.old.conn.now) }
     ensures same_reference { tx.new.conn.ghost_name ≡ tx.old.conn.ghost_name }
-    ensures put { IsInsideOf by_domain (state S.Store tx.old.conn.now) (state S.Store tx.new.conn.now) result (OnMain (PutsEntry place entry.now)) }
+    ensures put { IsInsideOf by_domain (state S.Store tx.old.conn.now) (state S.Store tx.new.conn.now) result (OnDomain domain.now (PutsEntry place entry.now)) }
     ensures figures { IsInsideOf by_domain (state S.Store tx.old.conn.now) (state S.Store tx.new.conn.now) result FiguresStay }
 {
     entry_key_fits(entry);
     let columns = columns_of(alloc, entry)?;
-    let domain = Name::main_domain();
     put_domain_entry(
         tx,
         domain.as_str(),

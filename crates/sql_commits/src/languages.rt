@@ -4,10 +4,9 @@ ghost use Rattle.sqlite.specs.Held.{state};
 ghost use Rattle.units.specs.Rules.{plural_field};
 ghost use Rattle.sql_schema.specs.Layouts.{by_domain};
 ghost use Rattle.sql_schema.specs.Inside.{IsSteadyOver, IsInsideOf};
-ghost use Rattle.sql_changes.specs.OnMain.{OnMain};
+ghost use Rattle.sql_changes.specs.OnDomains.{OnDomain};
 ghost use Rattle.sql_changes.specs.Commits.{PutsLanguage, WritesLanguage};
 ghost use Rattle.sql_figures.specs.Figures.{with_tally, FiguresFollow, FiguresStay};
-ghost use Rattle.units.specs.Office.{main};
 
 use crate::planned_units::write_units;
 use crate::tallies::put_tally_of;
@@ -21,10 +20,11 @@ use sqlite::{Alter, Transaction};
 use std::alloc::Global;
 use units::{Lang, Name, Unit};
 
-/// Writes a language, which must be new, with its units and their tally.
+/// Writes a language, which must be new to the domain, with its units and their tally.
 pub fn write_language<S: Alter>(
     tx: &mut Transaction<'_, S>,
     alloc: Global,
+    domain: &Name,
     lang: &Lang,
     header: &Entry,
     units: &[Unit],
@@ -32,29 +32,29 @@ pub fn write_language<S: Alter>(
 ) -> Result<(), Failure>
     requires steady { IsSteadyOver by_domain (state S.Store tx.old.conn.now) }
     ensures same_reference { tx.new.conn.ghost_name ≡ tx.old.conn.ghost_name }
-    ensures put { IsInsideOf by_domain (state S.Store tx.old.conn.now) (state S.Store tx.new.conn.now) result (OnMain (WritesLanguage lang.now header.now units.now)) }
-    ensures figures { IsInsideOf by_domain (state S.Store tx.old.conn.now) (state S.Store tx.new.conn.now) result (FiguresFollow (with_tally main lang.now tally)) }
+    ensures put { IsInsideOf by_domain (state S.Store tx.old.conn.now) (state S.Store tx.new.conn.now) result (OnDomain domain.now (WritesLanguage lang.now header.now units.now)) }
+    ensures figures { IsInsideOf by_domain (state S.Store tx.old.conn.now) (state S.Store tx.new.conn.now) result (FiguresFollow (with_tally domain.now lang.now tally)) }
 {
-    put_language_of(tx, alloc, lang, header)?;
-    write_units(tx, alloc, lang, units)?;
-    put_tally_of(tx, lang, tally)
+    put_language_of(tx, alloc, domain, lang, header)?;
+    write_units(tx, alloc, domain, lang, units)?;
+    put_tally_of(tx, domain, lang, tally)
 }
 
-/// Writes a language's row.
+/// Writes the row of a domain's language.
 pub fn put_language_of<S: Alter>(
     tx: &mut Transaction<'_, S>,
     alloc: Global,
+    domain: &Name,
     lang: &Lang,
     header: &Entry,
 ) -> Result<(), Failure>
     requires steady { IsSteadyOver by_domain (state S.Store tx.old.conn.now) }
     ensures same_reference { tx.new.conn.ghost_name ≡ tx.old.conn.ghost_name }
-    ensures put { IsInsideOf by_domain (state S.Store tx.old.conn.now) (state S.Store tx.new.conn.now) result (OnMain (PutsLanguage lang.now header.now)) }
+    ensures put { IsInsideOf by_domain (state S.Store tx.old.conn.now) (state S.Store tx.new.conn.now) result (OnDomain domain.now (PutsLanguage lang.now header.now)) }
     ensures figures { IsInsideOf by_domain (state S.Store tx.old.conn.now) (state S.Store tx.new.conn.now) result FiguresStay }
 {
     language_fits(lang, header);
     let column = header_column(alloc, header)?;
-    let domain = Name::main_domain();
     put_domain_language(
         tx,
         domain.as_str(),

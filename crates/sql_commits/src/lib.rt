@@ -1,6 +1,6 @@
 //! Whole transactions that write: a request's record and what its act changes, with the sums of votes and the tallies
-//! that are kept, or neither. The tables, which have a column for a domain, hold `main` alone: of another domain's act
-//! the record is written.
+//! that are kept, or neither. Each domain has its own rows: what is written of one leaves those of the others, and of an
+//! act in a domain that isn't there the record is written.
 //!
 //! - `acts`: the transactions: for acts on a unit (`commit_act`), and for acts on the office (`commit_change`)
 //! - `records`, `roles`, `policies`, `languages`, `templates`, `entries`, `unit_writes`, `planned_units`: what is

@@ -4,7 +4,7 @@ ghost use Rattle.sqlite.specs.Held.{state};
 ghost use Rattle.sqlite.specs.State.{HasCleanDisk};
 ghost use Rattle.sql_schema.specs.Layouts.{by_domain};
 ghost use Rattle.sql_schema.specs.Inside.{IsSteadyOver, IsInsideOf};
-ghost use Rattle.sql_changes.specs.OnMain.{OnMain};
+ghost use Rattle.sql_changes.specs.OnDomains.{OnDomain};
 ghost use Rattle.sql_changes.specs.UnitWrites.{WritesPlanned, WritesUnits, WritesUnitsBack, WritesPlansBack};
 ghost use Rattle.sql_figures.specs.Figures.{FiguresStay};
 
@@ -14,40 +14,42 @@ use sql_keepable::{key_fits, previous_fits};
 use sqlite::{Alter, Transaction};
 use std::alloc::Global;
 use template_update::Plan;
-use units::{Lang, Unit};
+use units::{Lang, Name, Unit};
 
-/// Writes a unit of a plan.
+/// Writes a unit of a plan in a domain.
 pub fn write_planned<S: Alter>(
     tx: &mut Transaction<'_, S>,
     alloc: Global,
+    domain: &Name,
     lang: &Lang,
     unit: &Unit,
 ) -> Result<(), Failure>
     requires steady { IsSteadyOver by_domain (state S.Store tx.old.conn.now) }
     ensures same_reference { tx.new.conn.ghost_name ≡ tx.old.conn.ghost_name }
-    ensures put { IsInsideOf by_domain (state S.Store tx.old.conn.now) (state S.Store tx.new.conn.now) result (OnMain (WritesPlanned lang.now unit.now)) }
+    ensures put { IsInsideOf by_domain (state S.Store tx.old.conn.now) (state S.Store tx.new.conn.now) result (OnDomain domain.now (WritesPlanned lang.now unit.now)) }
     ensures figures { IsInsideOf by_domain (state S.Store tx.old.conn.now) (state S.Store tx.new.conn.now) result FiguresStay }
 {
     key_fits(&unit.key);
     previous_fits(&unit.previous);
-    write_unit(tx, alloc, lang, unit)
+    write_unit(tx, alloc, domain, lang, unit)
 }
 
 /// Writes units from the first on: of two of one key the last stays.
 pub fn write_units<S: Alter>(
     tx: &mut Transaction<'_, S>,
     alloc: Global,
+    domain: &Name,
     lang: &Lang,
     units: &[Unit],
 ) -> Result<(), Failure>
     requires steady { IsSteadyOver by_domain (state S.Store tx.old.conn.now) }
     requires open { HasCleanDisk (state S.Store tx.old.conn.now) → IsTrue (state S.Store tx.old.conn.now).is_open }
     ensures same_reference { tx.new.conn.ghost_name ≡ tx.old.conn.ghost_name }
-    ensures put { IsInsideOf by_domain (state S.Store tx.old.conn.now) (state S.Store tx.new.conn.now) result (OnMain (WritesUnits lang.now units.now)) }
+    ensures put { IsInsideOf by_domain (state S.Store tx.old.conn.now) (state S.Store tx.new.conn.now) result (OnDomain domain.now (WritesUnits lang.now units.now)) }
     ensures figures { IsInsideOf by_domain (state S.Store tx.old.conn.now) (state S.Store tx.new.conn.now) result FiguresStay }
 {
     for unit in units {
-        write_planned(tx, alloc, lang, unit)?;
+        write_planned(tx, alloc, domain, lang, unit)?;
     }
     Ok(())
 }
@@ -56,18 +58,19 @@ pub fn write_units<S: Alter>(
 fn write_units_back<S: Alter>(
     tx: &mut Transaction<'_, S>,
     alloc: Global,
+    domain: &Name,
     lang: &Lang,
     units: &[Unit],
 ) -> Result<(), Failure>
     requires steady { IsSteadyOver by_domain (state S.Store tx.old.conn.now) }
     requires open { HasCleanDisk (state S.Store tx.old.conn.now) → IsTrue (state S.Store tx.old.conn.now).is_open }
     ensures same_reference { tx.new.conn.ghost_name ≡ tx.old.conn.ghost_name }
-    ensures put { IsInsideOf by_domain (state S.Store tx.old.conn.now) (state S.Store tx.new.conn.now) result (OnMain (WritesUnitsBack lang.now units.now)) }
+    ensures put { IsInsideOf by_domain (state S.Store tx.old.conn.now) (state S.Store tx.new.conn.now) result (OnDomain domain.now (WritesUnitsBack lang.now units.now)) }
     ensures figures { IsInsideOf by_domain (state S.Store tx.old.conn.now) (state S.Store tx.new.conn.now) result FiguresStay }
 {
     let mut left = units;
     while let Some((last, others)) = left.split_last() {
-        write_planned(tx, alloc, lang, last)?;
+        write_planned(tx, alloc, domain, lang, last)?;
         left = others;
     }
     Ok(())
@@ -77,18 +80,19 @@ fn write_units_back<S: Alter>(
 pub fn write_plans_back<S: Alter>(
     tx: &mut Transaction<'_, S>,
     alloc: Global,
+    domain: &Name,
     plans: &[(Lang, Plan)],
 ) -> Result<(), Failure>
     requires steady { IsSteadyOver by_domain (state S.Store tx.old.conn.now) }
     requires open { HasCleanDisk (state S.Store tx.old.conn.now) → IsTrue (state S.Store tx.old.conn.now).is_open }
     ensures same_reference { tx.new.conn.ghost_name ≡ tx.old.conn.ghost_name }
-    ensures put { IsInsideOf by_domain (state S.Store tx.old.conn.now) (state S.Store tx.new.conn.now) result (OnMain (WritesPlansBack plans.now)) }
+    ensures put { IsInsideOf by_domain (state S.Store tx.old.conn.now) (state S.Store tx.new.conn.now) result (OnDomain domain.now (WritesPlansBack plans.now)) }
     ensures figures { IsInsideOf by_domain (state S.Store tx.old.conn.now) (state S.Store tx.new.conn.now) result FiguresStay }
 {
     let mut left = plans;
     while let Some((last, others)) = left.split_last() {
         let (lang, plan) = last;
-        write_units_back(tx, alloc, lang, plan.units.as_slice())?;
+        write_units_back(tx, alloc, domain, lang, plan.units.as_slice())?;
         left = others;
     }
     Ok(())

@@ -4,7 +4,7 @@ ghost use Rattle.sqlite.specs.Held.{state};
 ghost use Rattle.sql_schema.specs.Layouts.{by_domain, SparesOthers};
 ghost use Rattle.sql_schema.specs.Inside.{IsSteadyOver, IsInsideOf, OnRows};
 ghost use Rattle.sql_meaning.specs.RowChanges.{HaveNextIn};
-ghost use Rattle.sql_changes.specs.OnMain.{OnMainWhere, OnMain};
+ghost use Rattle.sql_changes.specs.OnDomains.{OnDomainsWhere, OnEach};
 ghost use Rattle.sql_changes.specs.Commits.{PutsPolicy, WritesPolicy};
 ghost use Rattle.sql_commits.specs.Figures.{FollowsPolicy};
 
@@ -18,12 +18,12 @@ use units::Policy;
 /// The number of the tables' form.
 const SCHEMA: i64 = 3;
 
-/// Writes the policy. Under one without reviews each approved unit, also an obsolete one, becomes translated at its next revision,
-/// and is counted so.
+/// Writes the policy. Under one without reviews each approved unit of each domain, also an obsolete one, becomes translated at its next
+/// revision, and is counted so.
 pub fn write_policy<S: Alter>(tx: &mut Transaction<'_, S>, policy: &Policy) -> Result<(), Error>
     requires steady { IsSteadyOver by_domain (state S.Store tx.old.conn.now) }
     ensures same_reference { tx.new.conn.ghost_name ≡ tx.old.conn.ghost_name }
-    ensures put { IsInsideOf by_domain (state S.Store tx.old.conn.now) (state S.Store tx.new.conn.now) result (OnMainWhere HaveNextIn (WritesPolicy policy.now)) }
+    ensures put { IsInsideOf by_domain (state S.Store tx.old.conn.now) (state S.Store tx.new.conn.now) result (OnDomainsWhere HaveNextIn (λ domain. WritesPolicy policy.now)) }
     ensures figures { IsInsideOf by_domain (state S.Store tx.old.conn.now) (state S.Store tx.new.conn.now) result (FollowsPolicy policy.now) }
 {
     put_policy_of(tx, policy)?;
@@ -39,7 +39,7 @@ pub fn write_policy<S: Alter>(tx: &mut Transaction<'_, S>, policy: &Policy) -> R
 pub fn put_policy_of<S: Alter>(tx: &mut Transaction<'_, S>, policy: &Policy) -> Result<(), Error>
     requires steady { IsSteadyOver by_domain (state S.Store tx.old.conn.now) }
     ensures same_reference { tx.new.conn.ghost_name ≡ tx.old.conn.ghost_name }
-    ensures put { IsInsideOf by_domain (state S.Store tx.old.conn.now) (state S.Store tx.new.conn.now) result (OnMain (PutsPolicy policy.now)) }
+    ensures put { IsInsideOf by_domain (state S.Store tx.old.conn.now) (state S.Store tx.new.conn.now) result (OnEach (PutsPolicy policy.now)) }
     ensures others { IsInsideOf by_domain (state S.Store tx.old.conn.now) (state S.Store tx.new.conn.now) result (OnRows (SparesOthers (codes "policy"))) }
 {
     let columns = policy_columns(policy);

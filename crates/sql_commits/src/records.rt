@@ -3,7 +3,7 @@ ghost use Rattle.std.specs.Prelude.{◌≡◌, codes};
 ghost use Rattle.sqlite.specs.Held.{state};
 ghost use Rattle.sql_schema.specs.Layouts.{by_domain, SparesOthers};
 ghost use Rattle.sql_schema.specs.Inside.{IsSteadyOver, IsInsideOf, OnRows};
-ghost use Rattle.sql_changes.specs.OnMain.{OnMain};
+ghost use Rattle.sql_changes.specs.OnDomains.{OnEach};
 ghost use Rattle.sql_changes.specs.Commits.{PutsNumberedRecord};
 
 use request_book::Record;
@@ -21,7 +21,7 @@ pub fn put_record_of<S: Alter>(
 ) -> Result<(), Failure>
     requires steady { IsSteadyOver by_domain (state S.Store tx.old.conn.now) }
     ensures same_reference { tx.new.conn.ghost_name ≡ tx.old.conn.ghost_name }
-    ensures put { IsInsideOf by_domain (state S.Store tx.old.conn.now) (state S.Store tx.new.conn.now) result (OnMain (PutsNumberedRecord row.now)) }
+    ensures put { IsInsideOf by_domain (state S.Store tx.old.conn.now) (state S.Store tx.new.conn.now) result (OnEach (PutsNumberedRecord row.now)) }
     ensures others { IsInsideOf by_domain (state S.Store tx.old.conn.now) (state S.Store tx.new.conn.now) result (OnRows (SparesOthers (codes "record"))) }
 {
     let number = number_column(alloc, row.number)?;

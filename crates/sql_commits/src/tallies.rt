@@ -4,7 +4,7 @@ ghost use Rattle.sqlite.specs.Held.{state};
 ghost use Rattle.sqlite.specs.State.{HasCleanDisk};
 ghost use Rattle.sql_schema.specs.Layouts.{by_domain};
 ghost use Rattle.sql_schema.specs.Inside.{IsSteadyOver, IsInsideOf};
-ghost use Rattle.sql_changes.specs.OnMain.{SparesMain};
+ghost use Rattle.sql_changes.specs.OnDomains.{SparesDomains};
 ghost use Rattle.deliveries.specs.Counting.{none_counted, one_more};
 ghost use Rattle.tables.specs.Tallies.{counted as counts_one, moved as moves};
 ghost use Rattle.units.specs.Project.{entry_of};
@@ -13,7 +13,6 @@ ghost use Rattle.units.specs.declared.unit.Unit.{Unit as UnitValue};
 ghost use Rattle.po_text.specs.declared.entry.Entry.{Entry as EntryValue};
 ghost use Rattle.sql_commits.specs.Figures.{PutsTally, FollowsView, CountsThere};
 ghost use Rattle.sql_figures.specs.Figures.{with_tallies, moved_at, FiguresFollow};
-ghost use Rattle.units.specs.Office.{main};
 
 use deliveries::Tally;
 use po_text::Entry;
@@ -44,12 +43,13 @@ fn count_column(count: usize) -> Result<i64, Failure>
 /// Writes a language's tally: anew if it has none, and else in the place of the one that is there.
 pub fn put_tally_of<S: Alter>(
     tx: &mut Transaction<'_, S>,
+    domain: &Name,
     lang: &Lang,
     tally: Tally,
 ) -> Result<(), Failure>
     requires steady { IsSteadyOver by_domain (state S.Store tx.old.conn.now) }
     ensures same_reference { tx.new.conn.ghost_name ≡ tx.old.conn.ghost_name }
-    ensures put { IsInsideOf by_domain (state S.Store tx.old.conn.now) (state S.Store tx.new.conn.now) result (PutsTally lang.now tally) }
+    ensures put { IsInsideOf by_domain (state S.Store tx.old.conn.now) (state S.Store tx.new.conn.now) result (PutsTally domain.now lang.now tally) }
 {
     let untranslated = count_column(tally.untranslated)?;
     let needs_editing = count_column(tally.needs_editing)?;
@@ -58,7 +58,6 @@ pub fn put_tally_of<S: Alter>(
     let read_only = count_column(tally.read_only)?;
     let suggestions = count_column(tally.suggestions)?;
     let obsolete = count_column(tally.obsolete)?;
-    let domain = Name::main_domain();
     put_tally(
         tx,
         domain.as_str(),
@@ -77,16 +76,17 @@ pub fn put_tally_of<S: Alter>(
 /// Writes the tallies of languages.
 pub fn put_tallies<S: Alter>(
     tx: &mut Transaction<'_, S>,
+    domain: &Name,
     tallies: &[(Lang, Tally)],
 ) -> Result<(), Failure>
     requires steady { IsSteadyOver by_domain (state S.Store tx.old.conn.now) }
     requires open { HasCleanDisk (state S.Store tx.old.conn.now) → IsTrue (state S.Store tx.old.conn.now).is_open }
     ensures same_reference { tx.new.conn.ghost_name ≡ tx.old.conn.ghost_name }
-    ensures spares { IsInsideOf by_domain (state S.Store tx.old.conn.now) (state S.Store tx.new.conn.now) result SparesMain }
-    ensures figures { IsInsideOf by_domain (state S.Store tx.old.conn.now) (state S.Store tx.new.conn.now) result (FiguresFollow (with_tallies main tallies.now)) }
+    ensures spares { IsInsideOf by_domain (state S.Store tx.old.conn.now) (state S.Store tx.new.conn.now) result SparesDomains }
+    ensures figures { IsInsideOf by_domain (state S.Store tx.old.conn.now) (state S.Store tx.new.conn.now) result (FiguresFollow (with_tallies domain.now tallies.now)) }
 {
     for tallied in tallies {
-        put_tally_of(tx, &tallied.0, tallied.1)?;
+        put_tally_of(tx, domain, &tallied.0, tallied.1)?;
     }
     Ok(())
 }
@@ -96,43 +96,43 @@ pub fn put_tallies<S: Alter>(
 pub fn move_tally<S: Alter>(
     tx: &mut Transaction<'_, S>,
     alloc: Global,
+    domain: &Name,
     lang: &Lang,
     view: &UnitView,
 ) -> Result<(), Failure>
     requires steady { IsSteadyOver by_domain (state S.Store tx.old.conn.now) }
-    requires open { HasCleanDisk (state S.Store tx.old.conn.now) → IsTrue (state S.Store tx.old.conn.now).is_open }
     ensures same_reference { tx.new.conn.ghost_name ≡ tx.old.conn.ghost_name }
-    ensures spares { IsInsideOf by_domain (state S.Store tx.old.conn.now) (state S.Store tx.new.conn.now) result SparesMain }
-    ensures figures { IsInsideOf by_domain (state S.Store tx.old.conn.now) (state S.Store tx.new.conn.now) result (FollowsView lang.now view.now) }
+    ensures spares { IsInsideOf by_domain (state S.Store tx.old.conn.now) (state S.Store tx.new.conn.now) result SparesDomains }
+    ensures figures { IsInsideOf by_domain (state S.Store tx.old.conn.now) (state S.Store tx.new.conn.now) result (FollowsView domain.now lang.now view.now) }
 {
-    let was = counted_there(tx, alloc, lang, view)?;
+    let was = counted_there(tx, alloc, domain, lang, view)?;
     let is = counted(&view.source, &view.unit)?;
     if was == is {
         Ok(())
     } else {
-        put_moved(tx, lang, was, is)
+        put_moved(tx, domain, lang, was, is)
     }
 }
 
 /// Puts a language's tally without what one unit counted and with what another counts.
 fn put_moved<S: Alter>(
     tx: &mut Transaction<'_, S>,
+    domain: &Name,
     lang: &Lang,
     was: Tally,
     is: Tally,
 ) -> Result<(), Failure>
     requires steady { IsSteadyOver by_domain (state S.Store tx.old.conn.now) }
     ensures same_reference { tx.new.conn.ghost_name ≡ tx.old.conn.ghost_name }
-    ensures spares { IsInsideOf by_domain (state S.Store tx.old.conn.now) (state S.Store tx.new.conn.now) result SparesMain }
-    ensures figures { IsInsideOf by_domain (state S.Store tx.old.conn.now) (state S.Store tx.new.conn.now) result (FiguresFollow (moved_at main lang.now was is)) }
+    ensures spares { IsInsideOf by_domain (state S.Store tx.old.conn.now) (state S.Store tx.new.conn.now) result SparesDomains }
+    ensures figures { IsInsideOf by_domain (state S.Store tx.old.conn.now) (state S.Store tx.new.conn.now) result (FiguresFollow (moved_at domain.now lang.now was is)) }
 {
-    let domain = Name::main_domain();
     let found = find_tally(tx, domain.as_str(), lang.as_str())?;
     match found {
         Some(row) => {
             let tally = tally_in(&row)?;
             let after = moved(tally, was, is)?;
-            put_tally_of(tx, lang, after)
+            put_tally_of(tx, domain, lang, after)
         }
         None => Err(Failure { lost: Lost::Disk }),
     }
@@ -143,16 +143,16 @@ fn put_moved<S: Alter>(
 fn counted_there<S: Alter>(
     tx: &mut Transaction<'_, S>,
     alloc: Global,
+    domain: &Name,
     lang: &Lang,
     view: &UnitView,
 ) -> Result<Tally, Failure>
     requires steady { IsSteadyOver by_domain (state S.Store tx.old.conn.now) }
     ensures same_reference { tx.new.conn.ghost_name ≡ tx.old.conn.ghost_name }
     ensures spares { IsInsideOf by_domain (state S.Store tx.old.conn.now) (state S.Store tx.new.conn.now) result (λ old new. new ≡ old) }
-    ensures counted { HasCleanDisk (state S.Store tx.new.conn.now) → IfOk result (CountsThere lang.now view.now (state S.Store tx.old.conn.now).now) }
+    ensures counted { HasCleanDisk (state S.Store tx.new.conn.now) → IfOk result (CountsThere domain.now lang.now view.now (state S.Store tx.old.conn.now).now) }
 {
     key_fits(&view.unit.key);
-    let domain = Name::main_domain();
     let key = view.unit.key.text(alloc)?;
     let found = find_domain_unit(tx, domain.as_str(), lang.as_str(), key.as_str())?;
     let suggestions = domain_suggestions_of(tx, domain.as_str(), lang.as_str(), key.as_str())?;

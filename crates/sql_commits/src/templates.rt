@@ -3,10 +3,9 @@ ghost use Rattle.std.specs.Prelude.{◌≡◌};
 ghost use Rattle.sqlite.specs.Held.{state};
 ghost use Rattle.sql_schema.specs.Layouts.{by_domain};
 ghost use Rattle.sql_schema.specs.Inside.{IsSteadyOver, IsInsideOf};
-ghost use Rattle.sql_changes.specs.OnMain.{OnMain};
+ghost use Rattle.sql_changes.specs.OnDomains.{OnDomain};
 ghost use Rattle.sql_changes.specs.Commits.{WritesTemplate};
 ghost use Rattle.sql_figures.specs.Figures.{with_tallies, FiguresFollow};
-ghost use Rattle.units.specs.Office.{main};
 
 use crate::entries::put_entries;
 use crate::planned_units::write_plans_back;
@@ -20,23 +19,23 @@ use std::alloc::Global;
 use template_update::Plan;
 use units::{Lang, Name};
 
-/// Writes a template, and in each language the units of its plan and their tally. All entries are taken out and written anew, also those
-/// that stay as they are; units are written over those that are there.
+/// Writes a domain's template, and in each language the units of its plan and their tally. All entries of the domain are taken out and
+/// written anew, also those that stay as they are; units are written over those that are there.
 pub fn write_template<S: Alter>(
     tx: &mut Transaction<'_, S>,
     alloc: Global,
+    domain: &Name,
     entries: &[Entry],
     plans: &[(Lang, Plan)],
     tallies: &[(Lang, Tally)],
 ) -> Result<(), Failure>
     requires steady { IsSteadyOver by_domain (state S.Store tx.old.conn.now) }
     ensures same_reference { tx.new.conn.ghost_name ≡ tx.old.conn.ghost_name }
-    ensures put { IsInsideOf by_domain (state S.Store tx.old.conn.now) (state S.Store tx.new.conn.now) result (OnMain (WritesTemplate entries.now plans.now)) }
-    ensures figures { IsInsideOf by_domain (state S.Store tx.old.conn.now) (state S.Store tx.new.conn.now) result (FiguresFollow (with_tallies main tallies.now)) }
+    ensures put { IsInsideOf by_domain (state S.Store tx.old.conn.now) (state S.Store tx.new.conn.now) result (OnDomain domain.now (WritesTemplate entries.now plans.now)) }
+    ensures figures { IsInsideOf by_domain (state S.Store tx.old.conn.now) (state S.Store tx.new.conn.now) result (FiguresFollow (with_tallies domain.now tallies.now)) }
 {
-    let domain = Name::main_domain();
     empty_domain_template(tx, domain.as_str())?;
-    put_entries(tx, alloc, entries)?;
-    write_plans_back(tx, alloc, plans)?;
-    put_tallies(tx, tallies)
+    put_entries(tx, alloc, domain, entries)?;
+    write_plans_back(tx, alloc, domain, plans)?;
+    put_tallies(tx, domain, tallies)
 }

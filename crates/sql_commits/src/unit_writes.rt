@@ -6,9 +6,8 @@ ghost use Rattle.sqlite.specs.State.{HasCleanDisk};
 ghost use Rattle.sql_schema.specs.Layouts.{by_domain};
 ghost use Rattle.sql_schema.specs.Inside.{IsSteadyOver, IsInsideOf, OnRows, PutsRow, HoldsValues};
 ghost use Rattle.sql_schema.specs.Keys.{first_texts, first_three};
-ghost use Rattle.sql_changes.specs.OnMain.{OnMain};
+ghost use Rattle.sql_changes.specs.OnDomains.{OnDomain};
 ghost use Rattle.sqlite.specs.declared.types.Value.TheVariants.{Text as Words};
-ghost use Rattle.units.specs.Office.{main};
 ghost use Rattle.sql_meaning.specs.Cells.{unit_cells, vote_cells};
 ghost use Rattle.sql_changes.specs.UnitWrites.{AddsNumberedSuggestion, AddsNumberedSuggestions, WritesNumberedUnit};
 ghost use Rattle.sql_commits.specs.Columns.{columns_of_unit};
@@ -32,20 +31,21 @@ use sqlite::{Alter, Error, Transaction};
 use std::alloc::{AllocError, Global};
 use units::{Lang, Name, Suggestion, Unit, Votes};
 
-/// Writes a unit: its row in the place of the one that is there, and its suggestions in the place of those that are there.
+/// Writes a unit of a domain: its row in the place of the one that is there, and its suggestions in the place of those that are there.
 pub fn write_unit<S: Alter>(
     tx: &mut Transaction<'_, S>,
     alloc: Global,
+    domain: &Name,
     lang: &Lang,
     unit: &Unit,
 ) -> Result<(), Failure>
     requires steady { IsSteadyOver by_domain (state S.Store tx.old.conn.now) }
     ensures same_reference { tx.new.conn.ghost_name ≡ tx.old.conn.ghost_name }
-    ensures put { IsInsideOf by_domain (state S.Store tx.old.conn.now) (state S.Store tx.new.conn.now) result (OnMain (WritesNumberedUnit lang.now unit.now)) }
+    ensures put { IsInsideOf by_domain (state S.Store tx.old.conn.now) (state S.Store tx.new.conn.now) result (OnDomain domain.now (WritesNumberedUnit lang.now unit.now)) }
     ensures figures { IsInsideOf by_domain (state S.Store tx.old.conn.now) (state S.Store tx.new.conn.now) result FiguresStay }
 {
     let columns = columns_of(alloc, unit)?;
-    write_columns(tx, alloc, lang.as_str(), unit, &columns)
+    write_columns(tx, alloc, domain.as_str(), lang.as_str(), unit, &columns)
 }
 
 /// The columns of a unit that take memory.
@@ -72,6 +72,7 @@ fn columns_of(alloc: Global, unit: &Unit) -> Result<UnitColumns, AllocError>
 fn write_columns<S: Alter>(
     tx: &mut Transaction<'_, S>,
     alloc: Global,
+    domain: &str,
     lang: &str,
     unit: &Unit,
     columns: &UnitColumns,
@@ -79,15 +80,15 @@ fn write_columns<S: Alter>(
     requires columns { columns.now ≡ columns_of_unit unit.now }
     requires steady { IsSteadyOver by_domain (state S.Store tx.old.conn.now) }
     ensures same_reference { tx.new.conn.ghost_name ≡ tx.old.conn.ghost_name }
-    ensures put { IsInsideOf by_domain (state S.Store tx.old.conn.now) (state S.Store tx.new.conn.now) result (OnMain (WritesNumberedUnit lang.now unit.now)) }
+    ensures put { IsInsideOf by_domain (state S.Store tx.old.conn.now) (state S.Store tx.new.conn.now) result (OnDomain domain.now (WritesNumberedUnit lang.now unit.now)) }
     ensures figures { IsInsideOf by_domain (state S.Store tx.old.conn.now) (state S.Store tx.new.conn.now) result FiguresStay }
 {
-    put_row(tx, lang, unit, columns)?;
-    let domain = Name::main_domain();
-    clear_domain_suggestions(tx, domain.as_str(), lang, columns.key.as_str())?;
+    put_row(tx, domain, lang, unit, columns)?;
+    clear_domain_suggestions(tx, domain, lang, columns.key.as_str())?;
     add_suggestions(
         tx,
         alloc,
+        domain,
         lang,
         columns.key.as_str(),
         unit.suggestions.as_slice(),
@@ -97,6 +98,7 @@ fn write_columns<S: Alter>(
 /// Writes the row of a unit that has these columns.
 fn put_row<S: Alter>(
     tx: &mut Transaction<'_, S>,
+    domain: &str,
     lang: &str,
     unit: &Unit,
     columns: &UnitColumns,
@@ -105,13 +107,12 @@ fn put_row<S: Alter>(
     requires steady { IsSteadyOver by_domain (state S.Store tx.old.conn.now) }
     ensures same_reference { tx.new.conn.ghost_name ≡ tx.old.conn.ghost_name }
     ensures put { IsInsideOf by_domain (state S.Store tx.old.conn.now) (state S.Store tx.new.conn.now) result
-        (PutsRow (codes "d_unit") first_three (HoldsValues (Words main ∷ unit_cells lang.now unit.now))) }
+        (PutsRow (codes "d_unit") first_three (HoldsValues (Words domain.now ∷ unit_cells lang.now unit.now))) }
     ensures figures { IsInsideOf by_domain (state S.Store tx.old.conn.now) (state S.Store tx.new.conn.now) result FiguresStay }
 {
-    let domain = Name::main_domain();
     put_domain_unit(
         tx,
-        domain.as_str(),
+        domain,
         lang,
         columns.key.as_str(),
         plural_column(&unit.plural),
@@ -129,6 +130,7 @@ fn put_row<S: Alter>(
 fn add_suggestions<S: Alter>(
     tx: &mut Transaction<'_, S>,
     alloc: Global,
+    domain: &str,
     lang: &str,
     key: &str,
     suggestions: &[Suggestion],
@@ -136,11 +138,11 @@ fn add_suggestions<S: Alter>(
     requires steady { IsSteadyOver by_domain (state S.Store tx.old.conn.now) }
     requires open { HasCleanDisk (state S.Store tx.old.conn.now) → IsTrue (state S.Store tx.old.conn.now).is_open }
     ensures same_reference { tx.new.conn.ghost_name ≡ tx.old.conn.ghost_name }
-    ensures put { IsInsideOf by_domain (state S.Store tx.old.conn.now) (state S.Store tx.new.conn.now) result (OnMain (AddsNumberedSuggestions lang.now key.now suggestions.now)) }
+    ensures put { IsInsideOf by_domain (state S.Store tx.old.conn.now) (state S.Store tx.new.conn.now) result (OnDomain domain.now (AddsNumberedSuggestions lang.now key.now suggestions.now)) }
     ensures figures { IsInsideOf by_domain (state S.Store tx.old.conn.now) (state S.Store tx.new.conn.now) result FiguresStay }
 {
     for (place, suggestion) in suggestions.iter().enumerate() {
-        add_suggestion(tx, alloc, lang, key, place, suggestion)?;
+        add_suggestion(tx, alloc, domain, lang, key, place, suggestion)?;
     }
     Ok(())
 }
@@ -149,6 +151,7 @@ fn add_suggestions<S: Alter>(
 fn add_suggestion<S: Alter>(
     tx: &mut Transaction<'_, S>,
     alloc: Global,
+    domain: &str,
     lang: &str,
     key: &str,
     place: usize,
@@ -157,13 +160,14 @@ fn add_suggestion<S: Alter>(
     requires fits { place < 2 ^ 63 }
     requires steady { IsSteadyOver by_domain (state S.Store tx.old.conn.now) }
     ensures same_reference { tx.new.conn.ghost_name ≡ tx.old.conn.ghost_name }
-    ensures put { IsInsideOf by_domain (state S.Store tx.old.conn.now) (state S.Store tx.new.conn.now) result (OnMain (AddsNumberedSuggestion lang.now key.now place suggestion.now)) }
+    ensures put { IsInsideOf by_domain (state S.Store tx.old.conn.now) (state S.Store tx.new.conn.now) result (OnDomain domain.now (AddsNumberedSuggestion lang.now key.now place suggestion.now)) }
     ensures figures { IsInsideOf by_domain (state S.Store tx.old.conn.now) (state S.Store tx.new.conn.now) result FiguresStay }
 {
     let number = number_column(alloc, suggestion.number)?;
     let forms = forms_column(alloc, &suggestion.forms)?;
     add_summed(
         tx,
+        domain,
         number.as_str(),
         lang,
         key,
@@ -171,12 +175,13 @@ fn add_suggestion<S: Alter>(
         suggestion,
         forms.as_str(),
     )?;
-    put_votes(tx, number.as_str(), &suggestion.votes)
+    put_votes(tx, domain, number.as_str(), &suggestion.votes)
 }
 
 /// Adds the row of a suggestion that has this number and these forms, and its sum.
 fn add_summed<S: Alter>(
     tx: &mut Transaction<'_, S>,
+    domain: &str,
     number: &str,
     lang: &str,
     key: &str,
@@ -188,14 +193,13 @@ fn add_summed<S: Alter>(
     requires steady { IsSteadyOver by_domain (state S.Store tx.old.conn.now) }
     ensures same_reference { tx.new.conn.ghost_name ≡ tx.old.conn.ghost_name }
     ensures added { IsInsideOf by_domain (state S.Store tx.old.conn.now) (state S.Store tx.new.conn.now) result
-        (AddsSummed number.now lang.now key.now place suggestion.now.suggester forms.now) }
+        (AddsSummed domain.now number.now lang.now key.now place suggestion.now.suggester forms.now) }
     ensures summed { IsInsideOf by_domain (state S.Store tx.old.conn.now) (state S.Store tx.new.conn.now) result (AddsWithSum number.now (vote_sum suggestion.now.votes)) }
 {
-    let domain = Name::main_domain();
     add_domain_suggestion(
         tx,
         number,
-        domain.as_str(),
+        domain,
         lang,
         key,
         place as i64,
@@ -208,6 +212,7 @@ fn add_summed<S: Alter>(
 /// Writes the votes on the suggestion of this number, which is there.
 fn put_votes<S: Alter>(
     tx: &mut Transaction<'_, S>,
+    domain: &str,
     number: &str,
     votes: &Votes,
 ) -> Result<(), Failure>
@@ -215,7 +220,7 @@ fn put_votes<S: Alter>(
     requires open { HasCleanDisk (state S.Store tx.old.conn.now) → IsTrue (state S.Store tx.old.conn.now).is_open }
     ensures same_reference { tx.new.conn.ghost_name ≡ tx.old.conn.ghost_name }
     ensures put { IsInsideOf by_domain (state S.Store tx.old.conn.now) (state S.Store tx.new.conn.now) result
-        (PutsVotesOn number.now (maps.entries votes.now)) }
+        (PutsVotesOn domain.now number.now (maps.entries votes.now)) }
     ensures rows { IsInsideOf by_domain (state S.Store tx.old.conn.now) (state S.Store tx.new.conn.now) result (OnRows (PutsRows (codes "d_vote") first_texts (map (vote_cells number.now) (maps.entries votes.now)))) }
 {
     for vote in votes.as_slice() {

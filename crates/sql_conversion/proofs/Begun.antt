@@ -1,4 +1,4 @@
--- What `main` sees once the tables by domains are made beside the eight, with the one domain and the policy: records, members and the policy, and nothing else yet.
+-- What each domain sees once the tables by domains are made beside the eight, with the one domain and the policy: records, members and the policy, and nothing else yet.
 use Rattle.std.proofs.Common.{◌≡◌, ◌≢◌, inl, ℕ, List, [], ◌∷◌, true, refl, sym, ap, subst, ◌∙◌, codes}
 use Rattle.sqlite.specs.Effect.{Database}
 use Rattle.sqlite.specs.Order.{Row, column}
@@ -14,10 +14,11 @@ use Rattle.sql_schema.specs.Inside.{AreOfficeTables}
 use Rattle.sql_schema.specs.Keys.{first_text, has_text, row_number, columns}
 use Rattle.sql_schema.specs.Layouts.{for_main, Layout, made_new, HasLayout, schema_of, NamedRows, rows_in, rows_named}
 use Rattle.sqlite.specs.Schema.{Schema}
-use Rattle.sql_schema.specs.Views.{viewed, entry_seen, language_seen, unit_seen, suggestion_seen, is_vote_in, vote_seen}
+use Rattle.sql_schema.specs.Views.{viewed, entry_seen, language_seen, unit_seen, suggestion_seen, is_vote_in, vote_seen, seen_in}
 use Rattle.sql_schema.proofs.Layouts.{names_differ}
 use Rattle.sql_meaning.specs.Beginnings.{PutsMain}
-use Rattle.sql_meaning.specs.Meaning.{main_rows, AreOfMain, IsMainAlone, HoldsOneDomain, policy_in}
+use Rattle.sql_meaning.specs.Domains.{IsMainAlone}
+use Rattle.sql_meaning.specs.Meaning.{policy_in}
 use Rattle.sql_meaning.specs.RowKeys.{AreOfficeRows, HoldsIntegers}
 use Rattle.sql_meaning.specs.Values.{integer_at}
 use Rattle.sql_meaning.proofs.DomainOfficeRows.{domain_rows}
@@ -26,13 +27,13 @@ use Rattle.sql_meaning.proofs.MainBeginnings.{main_stays}
 use Rattle.sql_meaning.proofs.OfficeRows.{office_rows}
 use Rattle.sql_meaning.proofs.Openings.{no_template}
 use Rattle.sql_changes.specs.Commits.{PutsPolicy}
-use Rattle.sql_changes.specs.OnMain.{IsElsewhere, SparesElsewhere}
-use Rattle.sql_changes.proofs.MainSteps.{domain_elsewhere}
+use Rattle.sql_changes.specs.OnDomains.{IsElsewhere, SparesElsewhere}
+use Rattle.sql_changes.proofs.DomainWrites.{domain_elsewhere}
 use Rattle.sql_changes.proofs.Policy.{policy_put}
 use Rattle.sql_decoding.specs.RowTests.{is_policy_row}
 use Rattle.sql_adoption.specs.Adoption.{StandForOffice, StandForBook}
 use Rattle.sql_files.specs.Files.{StandForAll}
-use Rattle.sql_files.proofs.Opened.{nothing_valid}
+use Rattle.sql_files.proofs.InDomains.{SeesNothing, nothing_valid}
 use Rattle.sql_files.proofs.PolicyKept.{PolicyStands, policy_stands}
 use Rattle.sql_files.proofs.Puts.{no_row, all_put}
 use Rattle.sql_conversion.specs.Conversion.{TellsPolicy}
@@ -54,39 +55,25 @@ none_in made_new trees = record { domains = refl; template = refl; languages = r
 pub none_named : (db : Database) → HasLayout db → HasNone (rows_named db)
 none_named db (layout, is) = subst (λ (s : Schema). HasNone (rows_in s db.trees)) (sym is) (none_in layout db.trees)
 
-none_of_main : (place : ℕ) (rows : List Row) → rows ≡ [] → AreOfMain place rows
-none_of_main place rows none x there = no_row rows x none there
-
 -- ---- what there is before the domain is written
 
--- What the eight tables hold of the whole office is there, and nothing of the domain.
+-- What the eight tables hold of the whole office is there, and nothing of any domain.
 pub record HasBegun (old told : Database) : Type 0 where
   pub alone : IsMainAlone (rows_named told)
-  pub held : HoldsOneDomain (rows_named told)
-  pub ready : AreOfficeRows (main_rows (rows_named told))
-  pub stand : StandForAll (main_rows (rows_named told))
-  pub policy : policy_in (main_rows (rows_named told)) ≡ policy_in (rows_named old)
-  pub records : main_rows (rows_named told) (codes "record") ≡ rows_named old (codes "record")
-  pub team : main_rows (rows_named told) (codes "team") ≡ rows_named old (codes "team")
-  pub template : main_rows (rows_named told) (codes "template") ≡ []
-  pub languages : main_rows (rows_named told) (codes "language") ≡ []
-  pub units : main_rows (rows_named told) (codes "unit") ≡ []
+  pub ready : AreOfficeRows (seen_in main (rows_named told))
+  pub stand : (domain : Text) → StandForAll (seen_in domain (rows_named told))
+  pub policy : policy_in (rows_named told) ≡ policy_in (rows_named old)
+  pub records : rows_named told (codes "record") ≡ rows_named old (codes "record")
+  pub team : rows_named told (codes "team") ≡ rows_named old (codes "team")
+  pub template : (domain : Text) → seen_in domain (rows_named told) (codes "template") ≡ []
+  pub languages : (domain : Text) → seen_in domain (rows_named told) (codes "language") ≡ []
+  pub units : (domain : Text) → seen_in domain (rows_named told) (codes "unit") ≡ []
+  pub nothing : (domain : Text) → SeesNothing (seen_in domain (rows_named told))
   pub others : (name : Text) → IsElsewhere name → name ≢ codes "domain" → rows_named told name ≡ rows_named old name
 
 module _ (old made named told : Database) (ready : AreOfficeTables old) (keeps : KeepsNamedRows old made) (puts : PutsMain made named) (tells : TellsPolicy (policy_in (rows_named old)) named told) where
   none : HasNone (rows_named old)
   none = none_named old ready.schema
-
-  seen_named : (name : List ℕ) → main_rows (rows_named named) name ≡ main_rows (rows_named made) name
-  seen_named name = ap (λ (rows : NamedRows). rows name) (all_unseen main made named (codes "domain") (inl refl) puts.others)
-
-  held_named : HoldsOneDomain (rows_named named)
-  held_named = record {
-    template = none_of_main 1 _ (puts.others (codes "d_template") (names_differ refl) ∙ keeps (codes "d_template") ∙ none.template);
-    languages = none_of_main 1 _ (puts.others (codes "d_language") (names_differ refl) ∙ keeps (codes "d_language") ∙ none.languages);
-    units = none_of_main 1 _ (puts.others (codes "d_unit") (names_differ refl) ∙ keeps (codes "d_unit") ∙ none.units);
-    suggestions = none_of_main 2 _ (puts.others (codes "d_suggestion") (names_differ refl) ∙ keeps (codes "d_suggestion") ∙ none.suggestions);
-  }
 
   alone_named : IsMainAlone (rows_named named)
   alone_named = record {
@@ -95,79 +82,99 @@ module _ (old made named told : Database) (ready : AreOfficeTables old) (keeps :
         (λ row there. no_row _ row (keeps (codes "domain") ∙ none.domains) there) (ap first_text puts.is_row.1);
   }
 
-  on : PutsPolicy (policy_in (rows_named old)) (main_rows (rows_named named)) (main_rows (rows_named told)) × HoldsOneDomain (rows_named told) × SparesElsewhere (rows_named named) (rows_named told)
-  on = tells.0.on held_named tt
+  on : ((domain : Text) → PutsPolicy (policy_in (rows_named old)) (seen_in domain (rows_named named)) (seen_in domain (rows_named told))) × SparesElsewhere (rows_named named) (rows_named told)
+  on = tells.0.on (λ domain. tt)
 
-  put : PutsPolicy (policy_in (rows_named old)) (main_rows (rows_named named)) (main_rows (rows_named told))
-  put = on.0
+  -- ---- what is of the whole office
 
-  policies_named : main_rows (rows_named named) (codes "policy") ≡ rows_named old (codes "policy")
-  policies_named = seen_named (codes "policy") ∙ keeps (codes "policy")
+  named_same : (name : List ℕ) → name ≢ codes "domain" → rows_named named name ≡ rows_named old name
+  named_same name apart = puts.others name apart ∙ keeps name
 
-  team_same : main_rows (rows_named told) (codes "team") ≡ rows_named old (codes "team")
-  team_same = put.others (codes "team") (names_differ refl) ∙ seen_named (codes "team") ∙ keeps (codes "team")
+  policies_named : rows_named named (codes "policy") ≡ rows_named old (codes "policy")
+  policies_named = named_same (codes "policy") (names_differ refl)
 
-  records_same : main_rows (rows_named told) (codes "record") ≡ rows_named old (codes "record")
-  records_same = put.others (codes "record") (names_differ refl) ∙ seen_named (codes "record") ∙ keeps (codes "record")
+  team_same : rows_named told (codes "team") ≡ rows_named old (codes "team")
+  team_same = (on.0 main).others (codes "team") (names_differ refl) ∙ named_same (codes "team") (names_differ refl)
 
-  no_entries : main_rows (rows_named told) (codes "template") ≡ []
-  no_entries =
-      put.others (codes "template") (names_differ refl) ∙ seen_named (codes "template") ∙ ap (viewed (has_text 1 main) entry_seen) (keeps (codes "d_template") ∙ none.template)
+  records_same : rows_named told (codes "record") ≡ rows_named old (codes "record")
+  records_same = (on.0 main).others (codes "record") (names_differ refl) ∙ named_same (codes "record") (names_differ refl)
 
-  no_languages : main_rows (rows_named told) (codes "language") ≡ []
-  no_languages =
-      put.others (codes "language") (names_differ refl) ∙ seen_named (codes "language") ∙ ap (viewed (has_text 1 main) language_seen) (keeps (codes "d_language") ∙ none.languages)
-
-  no_units : main_rows (rows_named told) (codes "unit") ≡ []
-  no_units = put.others (codes "unit") (names_differ refl) ∙ seen_named (codes "unit") ∙ ap (viewed (has_text 1 main) unit_seen) (keeps (codes "d_unit") ∙ none.units)
-
-  no_suggestions : main_rows (rows_named told) (codes "suggestion") ≡ []
-  no_suggestions =
-      put.others (codes "suggestion") (names_differ refl) ∙ seen_named (codes "suggestion") ∙ ap (viewed (has_text 2 main) suggestion_seen) (keeps (codes "d_suggestion") ∙ none.suggestions)
-
-  no_votes : main_rows (rows_named told) (codes "vote") ≡ []
-  no_votes =
-      put.others (codes "vote") (names_differ refl) ∙ seen_named (codes "vote")
-      ∙ ap (viewed (is_vote_in main (rows_named made (codes "d_suggestion"))) vote_seen) (keeps (codes "d_vote") ∙ none.votes)
-
-  policy_same : policy_in (main_rows (rows_named told)) ≡ policy_in (rows_named old)
+  policy_same : policy_in (rows_named told) ≡ policy_in (rows_named old)
   policy_same =
-      policy_put (main_rows (rows_named named)) (main_rows (rows_named told)) (policy_in (rows_named old))
+      policy_put (seen_in main (rows_named named)) (seen_in main (rows_named told)) (policy_in (rows_named old))
       (subst (OneEach (integer_at 0)) (sym policies_named) (office_rows old ready).keyed.one_policy)
-      (subst (HoldsIntegers 0) (sym policies_named) (office_rows old ready).typed.policy_numbers) put
+      (subst (HoldsIntegers 0) (sym policies_named) (office_rows old ready).typed.policy_numbers) (on.0 main)
 
-  stands : StandForOffice (rows_named old) → StandForBook (rows_named old) → is_accept_at (policy_in (rows_named old)).accept_at ≡ true → StandForAll (main_rows (rows_named told))
-  stands office book accepts = record {
-    form = (put.row, put.put.here, ap row_number put.is_row, ap (λ row. column row 2) put.is_row);
-    office = record {
-      members = λ row there. office.members row (subst (λ rows. Has rows row) team_same there);
-      policy = all_put row_number PolicyStands (main_rows (rows_named named) (codes "policy")) (main_rows (rows_named told) (codes "policy")) put.row put.put
-          (λ row there. office.policy row (subst (λ rows. Has rows row) policies_named there))
-          (λ at_one. ap (λ row. is_policy_row (columns (2 ∷ 3 ∷ 4 ∷ 5 ∷ 6 ∷ 7 ∷ 8 ∷ []) row)) put.is_row ∙ policy_stands (policy_in (rows_named old)) accepts);
+  -- ---- what a domain sees
+
+  module _ (domain : Text) where
+    put : PutsPolicy (policy_in (rows_named old)) (seen_in domain (rows_named named)) (seen_in domain (rows_named told))
+    put = on.0 domain
+
+    seen_named : (name : List ℕ) → seen_in domain (rows_named named) name ≡ seen_in domain (rows_named made) name
+    seen_named name = ap (λ (rows : NamedRows). rows name) (all_unseen domain made named (codes "domain") (inl refl) puts.others)
+
+    no_entries : seen_in domain (rows_named told) (codes "template") ≡ []
+    no_entries =
+        put.others (codes "template") (names_differ refl) ∙ seen_named (codes "template") ∙ ap (viewed (has_text 1 domain) entry_seen) (keeps (codes "d_template") ∙ none.template)
+
+    no_languages : seen_in domain (rows_named told) (codes "language") ≡ []
+    no_languages =
+        put.others (codes "language") (names_differ refl) ∙ seen_named (codes "language") ∙ ap (viewed (has_text 1 domain) language_seen) (keeps (codes "d_language") ∙ none.languages)
+
+    no_units : seen_in domain (rows_named told) (codes "unit") ≡ []
+    no_units = put.others (codes "unit") (names_differ refl) ∙ seen_named (codes "unit") ∙ ap (viewed (has_text 1 domain) unit_seen) (keeps (codes "d_unit") ∙ none.units)
+
+    no_suggestions : seen_in domain (rows_named told) (codes "suggestion") ≡ []
+    no_suggestions =
+        put.others (codes "suggestion") (names_differ refl) ∙ seen_named (codes "suggestion")
+        ∙ ap (viewed (has_text 2 domain) suggestion_seen) (keeps (codes "d_suggestion") ∙ none.suggestions)
+
+    no_votes : seen_in domain (rows_named told) (codes "vote") ≡ []
+    no_votes =
+        put.others (codes "vote") (names_differ refl) ∙ seen_named (codes "vote")
+        ∙ ap (viewed (is_vote_in domain (rows_named made (codes "d_suggestion"))) vote_seen) (keeps (codes "d_vote") ∙ none.votes)
+
+    nothing_seen : SeesNothing (seen_in domain (rows_named told))
+    nothing_seen = record {
       entries = λ row there. no_row _ row no_entries there;
-      template = subst IsValid (sym (no_template (main_rows (rows_named told)) no_entries)) nothing_valid;
       languages = λ row there. no_row _ row no_languages there;
       units = λ row there. no_row _ row no_units there;
       suggestions = λ row there. no_row _ row no_suggestions there;
-      votes = λ row there. no_row _ row no_votes there;
-    };
-    book = record {
-      records = λ row there. book.records row (subst (λ rows. Has rows row) records_same there);
-      contents = λ row there. book.contents row (subst (λ rows. Has rows row) records_same there);
-    };
-  }
+    }
+
+    stands : StandForOffice (rows_named old) → StandForBook (rows_named old) → is_accept_at (policy_in (rows_named old)).accept_at ≡ true → StandForAll (seen_in domain (rows_named told))
+    stands office book accepts = record {
+      form = (put.row, put.put.here, ap row_number put.is_row, ap (λ row. column row 2) put.is_row);
+      office = record {
+        members = λ row there. office.members row (subst (λ rows. Has rows row) team_same there);
+        policy = all_put row_number PolicyStands (rows_named named (codes "policy")) (rows_named told (codes "policy")) put.row put.put
+            (λ row there. office.policy row (subst (λ rows. Has rows row) policies_named there))
+            (λ at_one. ap (λ row. is_policy_row (columns (2 ∷ 3 ∷ 4 ∷ 5 ∷ 6 ∷ 7 ∷ 8 ∷ []) row)) put.is_row ∙ policy_stands (policy_in (rows_named old)) accepts);
+        entries = λ row there. no_row _ row no_entries there;
+        template = subst IsValid (sym (no_template (seen_in domain (rows_named told)) no_entries)) nothing_valid;
+        languages = λ row there. no_row _ row no_languages there;
+        units = λ row there. no_row _ row no_units there;
+        suggestions = λ row there. no_row _ row no_suggestions there;
+        votes = λ row there. no_row _ row no_votes there;
+      };
+      book = record {
+        records = λ row there. book.records row (subst (λ rows. Has rows row) records_same there);
+        contents = λ row there. book.contents row (subst (λ rows. Has rows row) records_same there);
+      };
+    }
 
   pub has_begun : StandForOffice (rows_named old) → StandForBook (rows_named old) → is_accept_at (policy_in (rows_named old)).accept_at ≡ true → HasBegun old told
   has_begun office book accepts = record {
-    alone = main_stays (rows_named named) (rows_named told) (on.2 (codes "domain") domain_elsewhere) alone_named;
-    held = on.1;
+    alone = main_stays (rows_named named) (rows_named told) (on.1 (codes "domain") domain_elsewhere) alone_named;
     ready = domain_rows told tells.1 main;
-    stand = stands office book accepts;
+    stand = λ domain. stands domain office book accepts;
     policy = policy_same;
     records = records_same;
     team = team_same;
     template = no_entries;
     languages = no_languages;
     units = no_units;
-    others = λ name apart domain. on.2 name apart ∙ puts.others name domain ∙ keeps name;
+    nothing = nothing_seen;
+    others = λ name apart domain. on.1 name apart ∙ named_same name domain;
   }

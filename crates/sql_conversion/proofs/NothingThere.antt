@@ -13,13 +13,12 @@ use Rattle.deliveries.proofs.domains.InDomains.{no_domain_yet}
 use Rattle.sql_schema.specs.Creation.{KeepsNamedRows}
 use Rattle.sql_schema.specs.Inside.{IsInsideOf, OnRows, PutsRow, Then}
 use Rattle.sql_schema.specs.Keys.{first_text}
-use Rattle.sql_schema.specs.Layouts.{by_domain, NamedRows, rows_named, SparesOthers}
+use Rattle.sql_schema.specs.Layouts.{by_domain, NamedRows, SparesOthers}
 use Rattle.sql_schema.proofs.Layouts.{names_differ}
 use Rattle.sql_decoding.specs.declared.faults.Failure.{Failure}
 use Rattle.sql_meaning.specs.Beginnings.{PutsMain}
-use Rattle.sql_meaning.specs.Meaning.{main_rows}
-use Rattle.sql_changes.specs.OnMain.{OnMain}
-use Rattle.sql_changes.proofs.MainSteps.{nothing_on_main}
+use Rattle.sql_changes.specs.OnDomains.{OnDomain}
+use Rattle.sql_changes.proofs.DomainWrites.{seen, nothing_on_domain}
 use Rattle.sql_figures.specs.Figures.{FiguresStay}
 use Rattle.sql_figures.proofs.FigureSteps.{IsBeside, stay_both, stay_beside, put_beside, policy_beside}
 use Rattle.sql_commits.proofs.WritesInTurn.{write_told, write_then}
@@ -34,10 +33,10 @@ no_languages project (lang ∷ langs) rows none =
 nothing_written : (office : Office) (langs : List Text) (rows : NamedRows) → WritesProject (as_project office empty_domain) langs rows rows
 nothing_written office langs rows = (rows, (refl, (λ entry there. absurd there)), no_languages (as_project office empty_domain) langs rows refl)
 
-pub nothing_there : (office : Office) (langs : List Text) (db : Database) → maps.contains_key office.domains main ≡ false → OnMain (WritesProject (project_in office main) langs) db db
+pub nothing_there : (office : Office) (langs : List Text) (db : Database) → maps.contains_key office.domains main ≡ false → OnDomain main (WritesProject (project_in office main) langs) db db
 nothing_there office langs db missing =
-    nothing_on_main (WritesProject (project_in office main) langs) db
-    (subst (λ (p : Project). WritesProject p langs (main_rows (rows_named db)) (main_rows (rows_named db))) (sym (no_domain_yet office main missing)) (nothing_written office langs (main_rows (rows_named db))))
+    nothing_on_domain main (WritesProject (project_in office main) langs) db
+    (subst (λ (p : Project). WritesProject p langs (seen main db) (seen main db)) (sym (no_domain_yet office main missing)) (nothing_written office langs (seen main db)))
 
 -- ---- the steps
 
@@ -49,7 +48,7 @@ MakesDomain = Then KeepsNamedRows PutsMain
 abbrev pub Begins : Office → Database → Database → Type 0
 Begins office = Then MakesDomain (TellsPolicy office.policy)
 
-pub anew_then : (office : Office) (langs : List Text) (old told new : Database) → Begins office old told → OnMain (WritesProject (project_in office main) langs) told new → WritesAnew office langs old new
+pub anew_then : (office : Office) (langs : List Text) (old told new : Database) → Begins office old told → OnDomain main (WritesProject (project_in office main) langs) told new → WritesAnew office langs old new
 anew_then office langs old told new (named, (made, keeps, puts), tells) written = (made, keeps, (named, puts, (told, tells, written)))
 
 -- ---- the first of them count nothing

@@ -6,8 +6,8 @@ use Rattle.po_text.specs.Texts.{Text}
 use Rattle.sql_laws.proofs.RowMaps.{texts_are_one}
 use Rattle.sql_schema.proofs.Layouts.{names_differ}
 use Rattle.sql_schema.specs.Layouts.{is_office_table, NamedRows}
-use Rattle.sql_changes.proofs.MainSteps.{elsewhere}
-use Rattle.sql_changes.specs.OnMain.{IsElsewhere}
+use Rattle.sql_changes.proofs.DomainWrites.{elsewhere}
+use Rattle.sql_changes.specs.OnDomains.{IsElsewhere}
 
 either : (a b : Bool) → (a || b) ≡ true → (a ≡ true) ⊎ (b ≡ true)
 either true b is = inl refl

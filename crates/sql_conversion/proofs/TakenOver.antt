@@ -8,7 +8,8 @@ use Rattle.request_book.specs.Book.{OfficeWithBook}
 use Rattle.sql_schema.specs.Inside.{AreOfficeTablesOf}
 use Rattle.sql_schema.specs.Layouts.{for_main, by_domain, rows_named}
 use Rattle.sql_schema.specs.Whole.{IsIdleOver, IsCommitOf}
-use Rattle.sql_meaning.specs.Meaning.{meaning_in, meaning_for, DatabaseMeans, TreesMean}
+use Rattle.sql_meaning.specs.Meaning.{meaning_in}
+use Rattle.sql_meaning.specs.Domains.{meaning_by_domain, DatabaseMeans, TreesMean}
 use Rattle.sql_adoption.specs.Adoption.{IsAdopted, IsAdoptedOf, IsAdoptedIn, StaysAsItWas, Refuses}
 use Rattle.sql_adoption.specs.Tables.{form_told}
 use Rattle.sql_adoption.specs.declared.faults.OpenFault.{OpenFault}
@@ -111,7 +112,7 @@ as_they_stand s adopted it form ended =
       means = λ clean. (by_domain, (ready clean).schema, refl);
       file = λ clean.
           let own = rows clean in
-          record { ready = ready clean; rows = record { form_told = own.told; alone = own.alone; office = own.office; book = own.book; figures = own.figures; rules = own.rules } };
+          record { ready = ready clean; rows = record { form_told = own.told; office = own.office; book = own.book; figures = own.figures; rules = own.rules } };
       committed = λ clean. idle.settled clean (it.is_open clean);
       ended = ended;
       stops = λ clean db leaves. inl leaves;
@@ -149,7 +150,7 @@ module _ (old mid new : State) (first : StaysAsItWas old mid) where
       is_open = second.is_open;
       idle = second.idle;
       rows = λ clean. subst IsAdopted (same_now (second.honest clean)) (second.rows clean);
-      means = λ clean. subst (λ d. DatabaseMeans d (meaning_for by_domain (rows_named new.now))) (same_now (second.honest clean)) (second.means clean);
+      means = λ clean. subst (λ d. DatabaseMeans d (meaning_by_domain (rows_named new.now))) (same_now (second.honest clean)) (second.means clean);
       file = second.file;
       committed = second.committed;
       ended = second.ended;

@@ -1,39 +1,51 @@
 -- What is written anew means what was there, and is an office's, with the figures that counting gives.
-use Rattle.std.proofs.Common.{◌≡◌, ◌≢◌, inl, inr, suc, List, [], ◌∷◌, All, refl, sym, ap, subst, ◌∙◌, arith, codes}
+use Rattle.std.proofs.Common.{◌≡◌, ◌≢◌, inl, inr, suc, List, [], ◌∷◌, Bool, true, false, All, refl, sym, ap, subst, ◌∙◌, arith, codes}
 use Rattle.std.specs.FinMap as maps
 use Rattle.sqlite.specs.Effect.{Database}
+use Rattle.sqlite.specs.declared.types.Value.TheVariants.{Text as Words}
 use Rattle.sqlite.specs.Order.{Row}
 use Rattle.sqlite_rules.specs.Lists.{Has}
 use Rattle.deliveries.specs.MainAlone.{main_alone}
 use Rattle.deliveries.specs.OfficeRules.{KeepsRules}
+use Rattle.deliveries.proofs.domains.InDomains.{equal_domains}
 use Rattle.deliveries.proofs.domains.MainAlone.{in-main}
 use Rattle.office_rules.proofs.MainAlone.{project_keeps}
 use Rattle.office_rules.specs.Given.{AreAll}
 use Rattle.po_text.specs.Texts.{Text}
 use Rattle.po_text.specs.Valid.{IsValid}
 use Rattle.po_text.specs.declared.entry.Entry.{Entry}
-use Rattle.units.specs.Office.{Office}
+use Rattle.units.specs.Limits.{is_name}
+use Rattle.units.specs.Office.{Office, main, same_domain, project_in}
 use Rattle.units.specs.Project.{Project}
 use Rattle.units.specs.Projects.{IsProject, IsTemplateEntry}
 use Rattle.request_book.specs.Book.{OfficeWithBook}
 use Rattle.sql_schema.specs.Inside.{AreOfficeTables, AreOfficeTablesOf}
 use Rattle.sql_schema.specs.Layouts.{for_main, by_domain, NamedRows, rows_named}
+use Rattle.sql_schema.specs.Views.{seen_in, AreSameByName}
+use Rattle.sql_schema.proofs.DomainRows.{domain_names}
 use Rattle.sql_schema.proofs.Layouts.{names_differ}
-use Rattle.sql_meaning.specs.Meaning.{main_rows, own_rows, meaning_in, book_in, project_of_rows, template_in, headers_in, units_in, team_in, policy_in}
+use Rattle.sql_meaning.specs.Domains.{meaning_by_domain, meaning_for, is_domain, IsMainAlone}
+use Rattle.sql_meaning.specs.Meaning.{meaning_in, book_in, project_of_rows, template_in, headers_in, units_in, team_in, policy_in}
 use Rattle.sql_meaning.specs.RowKeys.{AreOfficeRows}
-use Rattle.sql_meaning.proofs.MainBeginnings.{main_stays}
+use Rattle.sql_meaning.proofs.DomainOfficeRows.{one_domain_each}
+use Rattle.sql_meaning.proofs.MainBeginnings.{main_stays, main_is_there}
+use Rattle.sql_meaning.proofs.MainRows.{meaning_of_main}
 use Rattle.sql_meaning.proofs.Openings.{no_headers, no_units}
 use Rattle.sql_meaning.proofs.WrittenAnew.{anew, emptied, written_so}
 use Rattle.sql_changes.specs.Commits.{PutsEntries}
-use Rattle.sql_changes.specs.OnMain.{OnMain}
-use Rattle.sql_changes.proofs.MainSteps.{domain_elsewhere}
+use Rattle.sql_changes.specs.OnDomains.{OnDomain, MakesIf, SparesElsewhere}
+use Rattle.sql_changes.proofs.DomainWrites.{domain_elsewhere, its_made, others_made}
+use Rattle.sql_decoding.specs.RowTests.{text_passes, is_domain_row}
+use Rattle.sql_decoding.proofs.ColumnsTested.{text_stands}
 use Rattle.sql_changes.proofs.Template.{template_put, entries_spare, entries_ready}
-use Rattle.sql_adoption.specs.Adoption.{IsAdoptedOf, IsAdoptedAs}
+use Rattle.sql_adoption.specs.Adoption.{Each, IsAdoptedOf, IsAdoptedAs, StandInDomains}
 use Rattle.sql_adoption.specs.Tables.{form_told}
 use Rattle.sql_adoption.specs.declared.office_tables.Form.TheVariants.{ForMain}
 use Rattle.sql_adoption.specs.declared.tested.Adopted.{Adopted}
 use Rattle.office_maps.specs.OfficeIn.{office_in}
 use Rattle.sql_files.specs.Files.{StandForAll}
+use Rattle.sql_files.proofs.DomainKept.{plain}
+use Rattle.sql_files.proofs.InDomains.{SeesNothing, nothing_same, own_domains, stand_alone}
 use Rattle.sql_files.proofs.TemplateKept.{entries_stand, template_step}
 use Rattle.sql_conversion.specs.Conversion.{WritesLanguages, WritesProject, WritesAnew, FollowsLanguages, Converts}
 use Rattle.sql_conversion.proofs.Begun.{HasBegun, none_named, has_begun}
@@ -57,7 +69,7 @@ module _ (old told : Database) (langs : List Text) (adopted : IsAdoptedOf for_ma
   is = project_keeps was (book_in (rows_named old)) adopted.rules
 
   abbrev first : NamedRows
-  first = main_rows (rows_named told)
+  first = seen_in main (rows_named told)
 
   module _ (mid new : NamedRows) (put : PutsEntries 0 was.template first mid) (keepable : AreKeepableEntries was.template) (written : WritesLanguages was langs mid new) where
     ready : AreOfficeRows mid
@@ -67,13 +79,13 @@ module _ (old told : Database) (langs : List Text) (adopted : IsAdoptedOf for_ma
     apart = entries_spare 0 was.template first mid put
 
     template_is : template_in mid ≡ template_in (rows_named old)
-    template_is = template_put was.template first mid begun.ready (λ row there. subst (λ rows. Has rows row) begun.template there) put (each_plain was.template is.template_plain)
+    template_is = template_put was.template first mid begun.ready (λ row there. subst (λ rows. Has rows row) (begun.template main) there) put (each_plain was.template is.template_plain)
 
     headers_are : headers_in mid ≡ maps.empty
-    headers_are = no_headers mid (apart (codes "language") (names_differ refl) ∙ begun.languages)
+    headers_are = no_headers mid (apart (codes "language") (names_differ refl) ∙ begun.languages main)
 
     units_are : units_in mid ≡ maps.empty
-    units_are = no_units mid (apart (codes "unit") (names_differ refl) ∙ begun.units)
+    units_are = no_units mid (apart (codes "unit") (names_differ refl) ∙ begun.units main)
 
     team_is : team_in mid ≡ team_in (rows_named old)
     team_is = ap (λ (rows : List Row). team_in (λ name. rows)) (apart (codes "team") (names_differ refl) ∙ begun.team)
@@ -101,7 +113,7 @@ module _ (old told : Database) (langs : List Text) (adopted : IsAdoptedOf for_ma
     pub all_stand : StandForAll new
     all_stand =
         left.stands (template_step first mid apart (subst IsValid (sym template_is) adopted.office.template)
-        (entries_stand 0 was.template keepable first mid put (λ row there. absurd (subst (λ rows. Has rows row) begun.template there))) begun.stand)
+        (entries_stand 0 was.template keepable first mid put (λ row there. absurd (subst (λ rows. Has rows row) (begun.template main) there))) (begun.stand main))
 
     pub meaning_stays : meaning_in new ≡ meaning_in (rows_named old)
     meaning_stays =
@@ -110,44 +122,77 @@ module _ (old told : Database) (langs : List Text) (adopted : IsAdoptedOf for_ma
 
 -- ---- the whole
 
+-- the one domain has a name
+main_named : (db : Database) → AreOfficeTablesOf by_domain db → IsMainAlone (rows_named db) → Each (codes "domain") (1 ∷ []) is_domain_row (rows_named db)
+main_named db ready alone row there =
+    ap (text_passes is_name) (domain_names.0 db ready.schema ready.sound row there ∙ ap Words (alone.only row there))
+    ∙ text_stands 0 (Words main ∷ []) main refl is_name (plain main refl) refl
+
 module _ (old new : Database) (langs : List Text) (adopted : IsAdoptedOf for_main old) (all : AreAll (headers_in (rows_named old)) langs) (was_ready : AreOfficeTables old)
     (ready : AreOfficeTablesOf by_domain new) where
   abbrev before : Project
   before = project_of_rows (rows_named old)
 
-  converts_project : (told : Database) → HasBegun old told → OnMain (WritesProject before langs) told new → FollowsLanguages (main_alone before) langs old new → Converts old new
-  converts_project told begun made follows =
-      let none = none_named old was_ready.schema in
-      let on = made.on begun.held tt in
-      let mid = on.0.0 in
-      let put = on.0.1.0 in
-      let keepable = on.0.1.1 in
-      let written = on.0.2 in
-      let rows = main_rows (rows_named new) in
-      let stand = all_stand old told langs adopted begun all mid rows put keepable written in
-      let meaning = meaning_stays old told langs adopted begun all mid rows put keepable written in
-      record {
-        meaning = meaning;
-        file = record {
-          ready = ready;
-          rows = record {
-            form_told = stand.form;
-            alone = (main_stays (rows_named told) (rows_named new) (on.2 (codes "domain") domain_elsewhere) begun.alone, on.1);
-            office = stand.office;
-            book = stand.book;
-            figures = figures_counted before langs all old new none.tallies none.suggestions adopted.rules.office (ap (λ (m : OfficeWithBook). m.office) meaning) follows;
-            rules = subst KeepsRules (sym meaning) adopted.rules;
+  module _ (told : Database) (begun : HasBegun old told) (made : OnDomain main (WritesProject before langs) told new) where
+    on : ((domain : Text) → MakesIf (same_domain domain main) (WritesProject before langs) AreSameByName (seen_in domain (rows_named told)) (seen_in domain (rows_named new))) × SparesElsewhere (rows_named told) (rows_named new)
+    on = made.on (λ domain. tt)
+
+    own : WritesProject before langs (seen_in main (rows_named told)) (seen_in main (rows_named new))
+    own = its_made main (WritesProject before langs) AreSameByName (seen_in main (rows_named told)) (seen_in main (rows_named new)) (on.0 main)
+
+    others : (domain : Text) → same_domain domain main ≡ false → AreSameByName (seen_in domain (rows_named told)) (seen_in domain (rows_named new))
+    others domain apart =
+        others_made main (WritesProject before langs) AreSameByName (seen_in domain (rows_named told)) (seen_in domain (rows_named new)) domain apart (on.0 domain)
+
+    alone : IsMainAlone (rows_named new)
+    alone = main_stays (rows_named told) (rows_named new) (on.1 (codes "domain") domain_elsewhere) begun.alone
+
+    stand : StandForAll (seen_in main (rows_named new))
+    stand = all_stand old told langs adopted begun all own.0 (seen_in main (rows_named new)) own.1.0 own.1.1 own.2
+
+    -- a domain that isn't there still sees no row of its own
+    none_elsewhere : (domain : Text) → is_domain (rows_named new) domain ≡ false → SeesNothing (seen_in domain (rows_named new))
+    none_elsewhere domain missing = by (same_domain domain main) refl
+      where
+        by : (b : Bool) → same_domain domain main ≡ b → SeesNothing (seen_in domain (rows_named new))
+        by true same = absurd (
+            let there : is_domain (rows_named new) domain ≡ true = subst (λ d. is_domain (rows_named new) d ≡ true) (sym (equal_domains domain main same)) (main_is_there (rows_named new) alone) in
+            let wrong : true ≡ false = sym there ∙ missing in
+            cc)
+        by false apart = nothing_same (seen_in domain (rows_named told)) (seen_in domain (rows_named new)) (others domain apart) (begun.nothing domain)
+
+    in_domains : StandInDomains (rows_named new)
+    in_domains = stand_alone (rows_named new) alone (own_domains (rows_named new) none_elsewhere) (main_named new ready alone) stand.office
+
+    means : meaning_by_domain (rows_named new) ≡ meaning_in (rows_named old)
+    means =
+        meaning_of_main (rows_named new) (one_domain_each new ready) alone.there.0 alone.there.1 alone.only
+        ∙ meaning_stays old told langs adopted begun all own.0 (seen_in main (rows_named new)) own.1.0 own.1.1 own.2
+
+    converts_project : FollowsLanguages (main_alone before) langs old new → Converts old new
+    converts_project follows =
+        let none = none_named old was_ready.schema in
+        record {
+          meaning = means;
+          file = record {
+            ready = ready;
+            rows = record {
+              form_told = stand.form;
+              office = in_domains;
+              book = record { records = stand.book.records; contents = stand.book.contents };
+              figures = figures_counted before langs all old new none.tallies none.suggestions adopted.rules.office (ap (λ (m : OfficeWithBook). m.office) means) follows;
+              rules = subst KeepsRules (sym means) adopted.rules;
+            };
           };
-        };
-        kept = old_tables_stay (rows_named old) (rows_named new) (records_stay old told langs adopted begun all mid rows put keepable written)
-            (team_stays old told langs adopted begun all mid rows put keepable written) (λ name apart domain. on.2 name apart ∙ begun.others name apart domain);
-      }
+          kept = old_tables_stay (rows_named old) (rows_named new) (records_stay old told langs adopted begun all own.0 (seen_in main (rows_named new)) own.1.0 own.1.1 own.2)
+              (team_stays old told langs adopted begun all own.0 (seen_in main (rows_named new)) own.1.0 own.1.1 own.2) (λ name apart domain. on.1 name apart ∙ begun.others name apart domain);
+        }
 
   converts_alone : WritesAnew (main_alone before) langs old new → FollowsLanguages (main_alone before) langs old new → Converts old new
   converts_alone (made, keeps, (named, puts, (told, tells, written))) follows =
       converts_project told
       (has_begun old made named told was_ready keeps puts tells adopted.office adopted.book (project_keeps before (book_in (rows_named old)) adopted.rules).accepting)
-      (subst (λ (p : Project). OnMain (WritesProject p langs) told new) (in-main before) written) follows
+      (subst (λ (p : Project). OnDomain main (WritesProject p langs) told new) (in-main before) written) follows
 
   pub converts : (office : Office) → office ≡ main_alone before → WritesAnew office langs old new × FollowsLanguages office langs old new → Converts old new
   converts office is written =
@@ -158,5 +203,8 @@ pub converts_adopted : (old new : Database) (adopted : Adopted) → adopted.form
     → WritesAnew (office_in adopted.maps) adopted.langs.items old new × FollowsLanguages (office_in adopted.maps) adopted.langs.items old new → Converts old new
 converts_adopted old new adopted form is was_ready ready written =
     let told : form_told adopted.form ≡ for_main = ap form_told form in
-    converts old new adopted.langs.items (subst (λ f. IsAdoptedOf f old) told is.rows) (subst (λ f. AreAll (headers_in (own_rows f (rows_named old))) adopted.langs.items) told is.langs) was_ready ready
-    (office_in adopted.maps) (is.office ∙ ap (λ f. main_alone (project_of_rows (own_rows f (rows_named old)))) told) written
+    let before = project_of_rows (rows_named old) in
+    let office : office_in adopted.maps ≡ main_alone before = is.office ∙ ap (λ f. (meaning_for f (rows_named old)).office) told in
+    let project : project_in (office_in adopted.maps) main ≡ before = ap (λ (o : Office). project_in o main) office ∙ in-main before in
+    converts old new adopted.langs.items (subst (λ f. IsAdoptedOf f old) told is.rows) (subst (λ (p : Project). AreAll p.headers adopted.langs.items) project (is.langs main)) was_ready ready
+    (office_in adopted.maps) office written

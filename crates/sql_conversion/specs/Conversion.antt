@@ -19,10 +19,11 @@ use Rattle.sql_schema.specs.Inside.{Then, AreOfficeTablesOf}
 use Rattle.sql_schema.specs.Layouts.{by_domain, is_office_table, NamedRows, rows_named}
 use Rattle.sql_schema.specs.Whole.{IsIdleOver}
 use Rattle.sql_meaning.specs.Beginnings.{PutsMain}
-use Rattle.sql_meaning.specs.Meaning.{meaning_in, meaning_for, DatabaseMeans, TreesMean}
+use Rattle.sql_meaning.specs.Meaning.{meaning_in}
+use Rattle.sql_meaning.specs.Domains.{meaning_by_domain, DatabaseMeans, TreesMean}
 use Rattle.sql_changes.specs.Commits.{PutsEntries, PutsPolicy, PutsLanguage}
 use Rattle.sql_changes.specs.UnitWrites.{WritesUnits}
-use Rattle.sql_changes.specs.OnMain.{OnMain}
+use Rattle.sql_changes.specs.OnDomains.{OnEach, OnDomain}
 use Rattle.sql_figures.specs.Figures.{with_tallies, FiguresFollow}
 use Rattle.sql_keepable.specs.Keepable.{IsKeepableLanguage, AreKeepableUnits, AreKeepableEntries}
 use Rattle.sql_adoption.specs.Adoption.{IsAdopted}
@@ -60,11 +61,11 @@ WritesProject project langs = Then (WritesEntries project.template) (WritesLangu
 
 -- the policy's row, which tells the form of the tables
 abbrev pub TellsPolicy : Policy → Database → Database → Type 0
-TellsPolicy policy old new = OnMain (PutsPolicy policy) old new × AreOfficeTablesOf by_domain new
+TellsPolicy policy old new = OnEach (PutsPolicy policy) old new × AreOfficeTablesOf by_domain new
 
 -- the tables, the one domain, the policy and what the domain has
 abbrev pub WritesAnew : Office → List Text → Database → Database → Type 0
-WritesAnew office langs = Then KeepsNamedRows (Then PutsMain (Then (TellsPolicy office.policy) (OnMain (WritesProject (project_in office main) langs))))
+WritesAnew office langs = Then KeepsNamedRows (Then PutsMain (Then (TellsPolicy office.policy) (OnDomain main (WritesProject (project_in office main) langs))))
 
 -- ---- what is counted
 
@@ -78,16 +79,20 @@ abbrev pub tallies_of : Project → List Text → List (Text × Tally)
 tallies_of project [] = []
 tallies_of project (lang ∷ langs) = tallied (counts_of project lang) lang (tallies_of project langs)
 
--- these languages of `main` count their units, where the office keeps its rules
+-- these languages of a domain count their units, where the office keeps its rules
+abbrev pub FollowsLanguagesIn : Text → Office → List Text → Database → Database → Type 0
+FollowsLanguagesIn domain office langs old new = IsOffice office → FiguresFollow (with_tallies domain (tallies_of (project_in office domain) langs)) old new
+
+-- those of `main`
 abbrev pub FollowsLanguages : Office → List Text → Database → Database → Type 0
-FollowsLanguages office langs old new = IsOffice office → FiguresFollow (with_tallies main (tallies_of (project_in office main) langs)) old new
+FollowsLanguages = FollowsLanguagesIn main
 
 -- ---- what it comes to
 
 -- The rows of tables by domains mean what those of the eight tables meant, and are an office's, with the sums and tallies that counting them gives. The
 -- eight tables keep their rows, but for the policy's, which tells the form.
 pub record Converts (old new : Database) : Type 0 where
-  pub meaning : meaning_for by_domain (rows_named new) ≡ meaning_in (rows_named old)
+  pub meaning : meaning_by_domain (rows_named new) ≡ meaning_in (rows_named old)
   pub file : IsOfficeDatabase by_domain new
   pub kept : (name : List ℕ) → is_office_table name ≡ true → name ≢ codes "policy" → rows_named new name ≡ rows_named old name
 
@@ -104,7 +109,7 @@ pub record IsTakenOver (old new : State) : Type 0 where
   pub is_open : HasCleanDisk new → IsTrue new.is_open
   pub idle : IsIdleOver by_domain new
   pub rows : HasCleanDisk new → IsAdopted old.now
-  pub means : HasCleanDisk new → DatabaseMeans old.now (meaning_for by_domain (rows_named new.now))
+  pub means : HasCleanDisk new → DatabaseMeans old.now (meaning_by_domain (rows_named new.now))
   pub file : HasCleanDisk new → IsOfficeDatabase by_domain new.now
   pub committed : HasCleanDisk new → new.now ≡ new.committed
   pub ended : new.in_transaction ≡ false

@@ -2,7 +2,7 @@
 //! all that they hold is written by domains beside them, with the sums and tallies that counting it gives, in one
 //! transaction. Their own rows stay, and aren't read any more.
 //!
-//! - `writing`: the office of `main`, written inside a transaction
+//! - `writing`: the tables, their one domain `main` and the office, written inside a transaction
 //! - `converting`: the transaction (`convert`)
 //! - `taking`: adoption, and conversion where it is wanted (`take_over`)
 //!

@@ -1,8 +1,8 @@
-//! The office of `main`, written by domains inside a transaction, where nothing of it is yet.
+//! The office of one domain, written by domains inside a transaction, where nothing of it is yet.
 ghost use Rattle.std.specs.Prelude.{◌≡◌, [], ◌∷◌, unwrap_or, IfOk, IsTrue};
 ghost use Rattle.sqlite.specs.Held.{state};
 ghost use Rattle.sqlite.specs.State.{HasCleanDisk};
-ghost use Rattle.units.specs.Office.{main, project_in};
+ghost use Rattle.units.specs.Office.{project_in};
 ghost use Rattle.units.specs.Offices.{IsOffice};
 ghost use Rattle.units.specs.Project.{units_of};
 ghost use Rattle.deliveries.specs.Counting.{none_counted};
@@ -10,9 +10,9 @@ ghost use Rattle.deliveries.specs.Tally.{counts_of};
 ghost use Rattle.office_maps.specs.OfficeIn.{lent_project, office_in};
 ghost use Rattle.sql_schema.specs.Layouts.{by_domain};
 ghost use Rattle.sql_schema.specs.Inside.{IsSteady, IsSteadyOver, IsInsideOf};
-ghost use Rattle.sql_changes.specs.OnMain.{OnMain};
+ghost use Rattle.sql_changes.specs.OnDomains.{OnDomain};
 ghost use Rattle.sql_figures.specs.Figures.{FiguresStay};
-ghost use Rattle.sql_conversion.specs.Conversion.{WritesKept, WritesThere, WritesLanguages, WritesProject, WritesAnew, FollowsLanguages};
+ghost use Rattle.sql_conversion.specs.Conversion.{WritesKept, WritesThere, WritesLanguages, WritesProject, WritesAnew, FollowsLanguages, FollowsLanguagesIn};
 
 use deliveries::Tally;
 use office_maps::{OfficeMaps, Place, ProjectMaps};
@@ -30,6 +30,7 @@ use units::{Lang, Name};
 fn write_units_of<S: Alter>(
     tx: &mut Transaction<'_, S>,
     alloc: Global,
+    domain: &Name,
     project: &ProjectMaps<'_>,
     lang: &Lang,
 ) -> Result<(), Failure>
@@ -37,7 +38,7 @@ fn write_units_of<S: Alter>(
     requires open { HasCleanDisk (state S.Store tx.old.conn.now) → IsTrue (state S.Store tx.old.conn.now).is_open }
     ensures same_reference { tx.new.conn.ghost_name ≡ tx.old.conn.ghost_name }
     ensures put { IsInsideOf by_domain (state S.Store tx.old.conn.now) (state S.Store tx.new.conn.now) result
-        (OnMain (WritesKept lang.now (units_of (lent_project project.now) lang.now))) }
+        (OnDomain domain.now (WritesKept lang.now (units_of (lent_project project.now) lang.now))) }
     ensures figures { IsInsideOf by_domain (state S.Store tx.old.conn.now) (state S.Store tx.new.conn.now) result FiguresStay }
 {
     let first = Place::first_of(alloc, lang)?;
@@ -46,16 +47,16 @@ fn write_units_of<S: Alter>(
             break;
         }
         unit_fits(lang, unit);
-        write_planned(tx, alloc, lang, unit)?;
+        write_planned(tx, alloc, domain, lang, unit)?;
     }
     Ok(())
 }
 
-/// The tally of a language of `main`, of an office that keeps its rules; nothing is counted where the language isn't there.
-fn tally_of(alloc: Global, maps: &OfficeMaps, lang: &Lang) -> Result<Tally, Failure>
-    ensures { IsOffice (office_in maps.now) → IfOk result (λ tally. tally ≡ unwrap_or (counts_of (project_in (office_in maps.now) main) lang.now) none_counted) }
+/// The tally of a domain's language, of an office that keeps its rules; nothing is counted where the language isn't there.
+fn tally_of(alloc: Global, maps: &OfficeMaps, domain: &Name, lang: &Lang) -> Result<Tally, Failure>
+    ensures { IsOffice (office_in maps.now) → IfOk result (λ tally. tally ≡ unwrap_or (counts_of (project_in (office_in maps.now) domain.now) lang.now) none_counted) }
 {
-    match counts_in(alloc, maps, &Name::main_domain(), lang)? {
+    match counts_in(alloc, maps, domain, lang)? {
         Some(tally) => Ok(tally),
         None => Ok(Tally::none()),
     }
@@ -66,24 +67,25 @@ fn write_language_of<S: Alter>(
     tx: &mut Transaction<'_, S>,
     alloc: Global,
     maps: &OfficeMaps,
+    domain: &Name,
     project: &ProjectMaps<'_>,
     lang: &Lang,
 ) -> Result<(), Failure>
     requires steady { IsSteadyOver by_domain (state S.Store tx.old.conn.now) }
     requires open { HasCleanDisk (state S.Store tx.old.conn.now) → IsTrue (state S.Store tx.old.conn.now).is_open }
-    requires lent { lent_project project.now ≡ project_in (office_in maps.now) main }
+    requires lent { lent_project project.now ≡ project_in (office_in maps.now) domain.now }
     ensures same_reference { tx.new.conn.ghost_name ≡ tx.old.conn.ghost_name }
     ensures put { IsInsideOf by_domain (state S.Store tx.old.conn.now) (state S.Store tx.new.conn.now) result
-        (OnMain (WritesThere (lent_project project.now) lang.now)) }
-    ensures figures { IsInsideOf by_domain (state S.Store tx.old.conn.now) (state S.Store tx.new.conn.now) result (FollowsLanguages (office_in maps.now) (lang.now ∷ [])) }
+        (OnDomain domain.now (WritesThere (lent_project project.now) lang.now)) }
+    ensures figures { IsInsideOf by_domain (state S.Store tx.old.conn.now) (state S.Store tx.new.conn.now) result (FollowsLanguagesIn domain.now (office_in maps.now) (lang.now ∷ [])) }
 {
     match project.domain.languages.get(lang) {
         Some(language) => {
             language_fits(lang, &language.header);
-            put_language_of(tx, alloc, lang, &language.header)?;
-            write_units_of(tx, alloc, project, lang)?;
-            let tally = tally_of(alloc, maps, lang)?;
-            put_tally_of(tx, lang, tally)
+            put_language_of(tx, alloc, domain, lang, &language.header)?;
+            write_units_of(tx, alloc, domain, project, lang)?;
+            let tally = tally_of(alloc, maps, domain, lang)?;
+            put_tally_of(tx, domain, lang, tally)
         }
         None => Ok(()),
     }
@@ -94,19 +96,20 @@ fn write_languages<S: Alter>(
     tx: &mut Transaction<'_, S>,
     alloc: Global,
     maps: &OfficeMaps,
+    domain: &Name,
     project: &ProjectMaps<'_>,
     langs: &[Lang],
 ) -> Result<(), Failure>
     requires steady { IsSteadyOver by_domain (state S.Store tx.old.conn.now) }
     requires open { HasCleanDisk (state S.Store tx.old.conn.now) → IsTrue (state S.Store tx.old.conn.now).is_open }
-    requires lent { lent_project project.now ≡ project_in (office_in maps.now) main }
+    requires lent { lent_project project.now ≡ project_in (office_in maps.now) domain.now }
     ensures same_reference { tx.new.conn.ghost_name ≡ tx.old.conn.ghost_name }
     ensures put { IsInsideOf by_domain (state S.Store tx.old.conn.now) (state S.Store tx.new.conn.now) result
-        (OnMain (WritesLanguages (lent_project project.now) langs.now)) }
-    ensures figures { IsInsideOf by_domain (state S.Store tx.old.conn.now) (state S.Store tx.new.conn.now) result (FollowsLanguages (office_in maps.now) langs.now) }
+        (OnDomain domain.now (WritesLanguages (lent_project project.now) langs.now)) }
+    ensures figures { IsInsideOf by_domain (state S.Store tx.old.conn.now) (state S.Store tx.new.conn.now) result (FollowsLanguagesIn domain.now (office_in maps.now) langs.now) }
 {
     for lang in langs {
-        write_language_of(tx, alloc, maps, project, lang)?;
+        write_language_of(tx, alloc, maps, domain, project, lang)?;
     }
     Ok(())
 }
@@ -116,21 +119,22 @@ fn write_project<S: Alter>(
     tx: &mut Transaction<'_, S>,
     alloc: Global,
     maps: &OfficeMaps,
+    domain: &Name,
     project: &ProjectMaps<'_>,
     langs: &[Lang],
 ) -> Result<(), Failure>
     requires steady { IsSteadyOver by_domain (state S.Store tx.old.conn.now) }
     requires open { HasCleanDisk (state S.Store tx.old.conn.now) → IsTrue (state S.Store tx.old.conn.now).is_open }
-    requires lent { lent_project project.now ≡ project_in (office_in maps.now) main }
+    requires lent { lent_project project.now ≡ project_in (office_in maps.now) domain.now }
     ensures same_reference { tx.new.conn.ghost_name ≡ tx.old.conn.ghost_name }
     ensures put { IsInsideOf by_domain (state S.Store tx.old.conn.now) (state S.Store tx.new.conn.now) result
-        (OnMain (WritesProject (lent_project project.now) langs.now)) }
-    ensures figures { IsInsideOf by_domain (state S.Store tx.old.conn.now) (state S.Store tx.new.conn.now) result (FollowsLanguages (office_in maps.now) langs.now) }
+        (OnDomain domain.now (WritesProject (lent_project project.now) langs.now)) }
+    ensures figures { IsInsideOf by_domain (state S.Store tx.old.conn.now) (state S.Store tx.new.conn.now) result (FollowsLanguagesIn domain.now (office_in maps.now) langs.now) }
 {
     let entries = project.domain.template.catalogue.entries();
     entries_fit(entries);
-    put_entries(tx, alloc, entries)?;
-    write_languages(tx, alloc, maps, project, langs)
+    put_entries(tx, alloc, domain, entries)?;
+    write_languages(tx, alloc, maps, domain, project, langs)
 }
 
 /// Makes the tables by domains beside the eight, and writes the office of `main` into them, with the languages of these codes and their
@@ -152,7 +156,7 @@ pub(crate) fn write_anew<S: Alter>(
     put_domain(tx, domain.as_str())?;
     put_policy_of(tx, &maps.policy)?;
     match maps.project(&domain) {
-        Some(project) => write_project(tx, alloc, maps, &project, langs),
+        Some(project) => write_project(tx, alloc, maps, &domain, &project, langs),
         None => Ok(()),
     }
 }

@@ -139,6 +139,10 @@ is_status = natural_passes (λ n. nat_lt n 65536)
 
 -- ---- rows
 
+-- name
+abbrev pub is_domain_row : Row → Bool
+is_domain_row = holds_text is_name 0
+
 -- role, name
 abbrev pub is_member_row : Row → Bool
 is_member_row row = holds_integer is_role 0 row && holds_text is_name 1 row

@@ -10,7 +10,7 @@ ghost use Rattle.units.specs.Units.{no_previous as nothing_previous};
 ghost use Rattle.sql_schema.specs.Keys as keys;
 ghost use Rattle.sql_meaning.specs.Meaning as meaning;
 ghost use Rattle.sql_meaning.specs.Values as values;
-ghost use Rattle.sql_decoding.specs.RowTests.{holds_text, holds_text_or_null, holds_integer, is_key, are_texts, are_previous, is_role, IsUnread};
+ghost use Rattle.sql_decoding.specs.RowTests.{holds_text, holds_text_or_null, holds_integer, is_key, are_texts, are_previous, is_role, is_domain_row, IsUnread};
 
 use crate::faults::Failure;
 use crate::integers::integer_at;
@@ -20,7 +20,7 @@ use sql_columns::{name_from, plural_from};
 use sqlite::Row;
 use sqlite::types::ValueRef;
 use std::alloc::Global;
-use units::{Key, Lang, Role, no_previous};
+use units::{Key, Lang, Name, Role, no_previous};
 
 /// Whether a column is this text.
 pub(crate) fn is_text(row: &Row, at: usize, text: &str) -> bool
@@ -101,6 +101,15 @@ pub fn name_text_at(alloc: Global, row: &Row, at: usize) -> Result<String, Failu
     let name = name_from(alloc, column.as_str())?;
     drop(name);
     Ok(column)
+}
+
+/// The domain's name that a row shows.
+pub fn domain_at(alloc: Global, row: &Row) -> Result<Name, Failure>
+    ensures shown { IfOk result (λ v. v ≡ keys.text_at 0 row.now) }
+    ensures stands { OnOk result (is_domain_row row.now ≡ true) }
+    ensures unread { IfErr result (IsUnread (is_domain_row row.now)) }
+{
+    text_at::<Name>(alloc, row, 0)
 }
 
 /// The language in a column.

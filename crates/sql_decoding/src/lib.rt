@@ -9,7 +9,6 @@
 //! - `tallies`: how many units of a language are in each state
 //! - `entries_read`: the entries of an export
 //! - `kept_rule`: the plural rule that was read last
-//! - `domains`: whether a domain is `main`, the one that the tables hold (`is_main`)
 //! - `faults`: what a failure comes to: want of memory and a failed disk are told apart
 //!
 //! Specs: `RowTests` (which rows stand for values; `proofs/ColumnsTested` has columns that pass and that don't,
@@ -17,7 +16,6 @@
 #![tactic(auto)]
 
 mod columns;
-mod domains;
 mod entries_read;
 mod faults;
 mod integers;
@@ -29,8 +27,7 @@ mod texts;
 mod units_read;
 mod views;
 
-pub use columns::{key_at, lang_at, name_text_at, role_at, text_in};
-pub use domains::is_main;
+pub use columns::{domain_at, key_at, lang_at, name_text_at, role_at, text_in};
 pub use entries_read::{message_in, obsolete_in};
 pub use faults::Failure;
 pub use kept_rule::KeptRule;

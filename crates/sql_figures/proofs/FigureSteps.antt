@@ -5,6 +5,7 @@ use Rattle.std.proofs.lemmas.Bool.{lt-ltb}
 use Rattle.std.specs.Cmp.Lexicographic.{slice_cmp}
 use Rattle.std.specs.Ordering.{nat_cmp, is_eq}
 use Rattle.std.specs.FinMap as maps
+use Rattle.std.specs.List.{list_any}
 use Rattle.sqlite.specs.declared.types.Value.TheVariants.{Int, Text as Words}
 use Rattle.sqlite.specs.Order.{Row, column}
 use Rattle.sqlite.specs.Effect.{Database}
@@ -12,7 +13,6 @@ use Rattle.sqlite_sql.specs.Ops.{fits_i64}
 use Rattle.sqlite_rules.specs.Edit.{id_in}
 use Rattle.sqlite_rules.specs.Lists.{Has}
 use Rattle.po_text.specs.Texts.{Text, text_cmp}
-use Rattle.units.specs.Office.{main}
 use Rattle.units.specs.Units.{vote_sum}
 use Rattle.units.specs.declared.votes.VoteValue.{VoteValue}
 use Rattle.deliveries.specs.declared.tally.Tally.{Tally}
@@ -28,7 +28,8 @@ use Rattle.sql_statements.specs.DomainCleared.{ClearsDomainUnit}
 use Rattle.sql_statements.specs.DomainRenewed.{HaveNextRevisionsInDomains, UnapprovesDomainUnits, HaveTallySums, UnapprovesTallies}
 use Rattle.sql_statements.specs.Taken.{TakesRows}
 use Rattle.sql_meaning.specs.Cells.{tally_cells, vote_cells}
-use Rattle.sql_meaning.specs.Meaning.{main_rows, project_of_rows}
+use Rattle.sql_meaning.specs.Domains.{project_seen, is_domain}
+use Rattle.sql_meaning.specs.Meaning.{project_of_rows}
 use Rattle.sql_meaning.specs.Shown.{shown_tally}
 use Rattle.sql_meaning.specs.Written.{PutsRows}
 use Rattle.sql_figures.specs.KeptSums.{HaveSums}
@@ -93,6 +94,9 @@ language_beside = beside refl refl refl refl
 
 pub unit_beside : IsBeside (codes "d_unit")
 unit_beside = beside refl refl refl refl
+
+pub domain_beside : IsBeside (codes "domain")
+domain_beside = beside refl refl refl refl
 
 -- the tallies alone change
 beside_tallies : (old new : NamedRows) → SparesOthers (codes "d_tally") old new → HaveSums old → HaveSums new
@@ -178,10 +182,10 @@ pub nothing_moves : (db : Database) (domain lang : Text) (was is : Tally) → wa
 nothing_moves db domain lang was is same =
     follow_as (λ counts. ⊤) (λ counts. counts) (moved_at domain lang was is) (λ counts d l. nothing_moved counts domain lang was is same d l) (nothing_follows db)
 
--- ---- what a record leaves of a project
+-- ---- what a record leaves of a project, and of the domains
 
-pub record_alone : (old new : NamedRows) → SparesOthers (codes "record") old new → project_of_rows (main_rows new) ≡ project_of_rows (main_rows old)
-record_alone old new others =
+pub record_alone : (domain : Text) (old new : NamedRows) → SparesOthers (codes "record") old new → project_seen domain new ≡ project_seen domain old
+record_alone domain old new others =
     let team = others (codes "team") (names_differ refl) in
     let policy = others (codes "policy") (names_differ refl) in
     let template = others (codes "d_template") (names_differ refl) in
@@ -189,5 +193,8 @@ record_alone old new others =
     let units = others (codes "d_unit") (names_differ refl) in
     let suggestions = others (codes "d_suggestion") (names_differ refl) in
     let votes = others (codes "d_vote") (names_differ refl) in
-    λ i. project_of_rows (named_so [] (team i) (policy i) (viewed (has_text 1 main) entry_seen (template i)) (viewed (has_text 1 main) language_seen (languages i))
-    (viewed (has_text 1 main) unit_seen (units i)) (viewed (has_text 2 main) suggestion_seen (suggestions i)) (viewed (is_vote_in main (suggestions i)) vote_seen (votes i)))
+    λ i. project_of_rows (named_so [] (team i) (policy i) (viewed (has_text 1 domain) entry_seen (template i)) (viewed (has_text 1 domain) language_seen (languages i))
+    (viewed (has_text 1 domain) unit_seen (units i)) (viewed (has_text 2 domain) suggestion_seen (suggestions i)) (viewed (is_vote_in domain (suggestions i)) vote_seen (votes i)))
+
+pub record_leaves_domain : (domain : Text) (old new : NamedRows) → SparesOthers (codes "record") old new → is_domain new domain ≡ is_domain old domain
+record_leaves_domain domain old new others = ap (list_any (has_text 1 domain)) (others (codes "domain") (names_differ refl))

@@ -7,15 +7,15 @@ use Rattle.units.specs.Office.{same_domain}
 use Rattle.deliveries.specs.declared.tally.Tally.{Tally}
 use Rattle.tables.specs.Tallies.{moved, none_approved}
 use Rattle.sql_schema.specs.Layouts.{NamedRows, rows_named}
-use Rattle.sql_meaning.specs.Meaning.{main_rows, meaning_in}
+use Rattle.sql_meaning.specs.Domains.{office_of_rows}
 use Rattle.sql_figures.specs.KeptSums.{HaveSums}
 use Rattle.sql_figures.specs.KeptTallies.{Counts, office_counts, AreTalliesOf}
 
 -- ---- what they are
 
--- Sums and tallies of rows by domains that are `main`'s alone are what counting these rows gives.
+-- Sums and tallies of rows by domains are what counting these rows gives.
 pub record HasFigures (rows : NamedRows) : Type 0 where
-  pub tallies : AreTalliesOf (office_counts (meaning_in (main_rows rows)).office) (rows (codes "d_tally"))
+  pub tallies : AreTalliesOf (office_counts (office_of_rows rows)) (rows (codes "d_tally"))
   pub sums : HaveSums rows
 
 -- ---- how counts change

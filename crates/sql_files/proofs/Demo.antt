@@ -1,6 +1,6 @@
 -- The rows of the demo are an office's.
-use Rattle.std.proofs.Common.{◌≡◌, ◌≢◌, ◌<◌, ℕ, pos, List, [], ◌∷◌, true, Some, codes, arith, refl, sym, ap, subst, ◌∙◌}
-use Rattle.std.specs.Prelude.{All, IsTrue, IsUtf8, nat_lt, false, unwrap_or, bytes_eq}
+use Rattle.std.proofs.Common.{◌≡◌, ◌≢◌, ℕ, pos, List, [], ◌∷◌, true, Some, codes, arith, refl, sym, ap, subst, ◌∙◌}
+use Rattle.std.specs.Prelude.{IsTrue, nat_lt, false, unwrap_or, bytes_eq}
 use Rattle.std.specs.Option.{option_map_or}
 use Rattle.json.specs.Print.{escape_byte}
 use Rattle.po_text.specs.Header.{field_value}
@@ -9,10 +9,7 @@ use Rattle.units.specs.Rules.{plural_field}
 use Rattle.deliveries.proofs.rows.DemoRequests.{demo_project, header_de}
 use Rattle.std.specs.List.{list_all}
 use Rattle.std.specs.FinMap as maps
-use Rattle.std.proofs.lemmas.Bool.{and_from, ltb-true}
-use Rattle.std.proofs.lemmas.List.Sums.{AllPass-from_list_all}
-use Rattle.std.proofs.lemmas.Str.Ascii.{IsAscii-from_all}
-use Rattle.std.proofs.lemmas.Str.{IsUtf8-from_ascii}
+use Rattle.std.proofs.lemmas.Bool.{and_from}
 use Rattle.sqlite.specs.declared.types.Value.TheVariants.{Null, Int, Text as Words}
 use Rattle.sqlite.specs.Order.{Row, column}
 use Rattle.sqlite_rules.specs.Lists.{Has}
@@ -29,29 +26,27 @@ use Rattle.sql_schema.specs.Keys.{first_text, first_texts, row_number, columns}
 use Rattle.sql_meaning.specs.Beginnings.{closed_row, hello_row, MakesDemo}
 use Rattle.sql_meaning.specs.Meaning.{project_of_rows, book_in, meaning_in}
 use Rattle.sql_meaning.proofs.Openings.{opens_demo, demo_keeps}
-use Rattle.sql_decoding.specs.RowTests.{is_key, is_policy_row, is_entry_row, is_language_row, is_rule_of}
+use Rattle.sql_decoding.specs.RowTests.{is_key, is_domain_row, is_policy_row, is_entry_row, is_language_row, is_rule_of}
 use Rattle.sql_decoding.specs.ShownFound.{header_of_column}
 use Rattle.sql_decoding.proofs.ColumnsTested.{text_stands, null_stands, key_stands, header_stands, no_texts_stand, language_stands}
 use Rattle.sql_keepable.specs.Keepable.{IsKeepableUnit}
 use Rattle.office_rules.proofs.MainAlone.{project_keeps}
 use Rattle.sql_files.specs.Files.{HoldsOfficeRows, StandForAll}
+use Rattle.sql_files.proofs.InDomains.{whole_book, stand_alone}
+use Rattle.sql_files.proofs.DomainKept.{plain, main_named}
 use Rattle.sql_files.proofs.Puts.{no_row, all_put}
 use Rattle.sql_files.proofs.StartFigures.{demo_figures}
 use Rattle.sql_files.proofs.RoleKept.{member_stands, MemberStands}
 use Rattle.sql_files.proofs.UnitKept.{unit_stands, UnitStands}
 use Rattle.sql_schema.specs.Creation.{HaveNoRows}
 use Rattle.sql_schema.proofs.Layouts.{names_differ}
+use Rattle.sql_schema.specs.Views.{seen_in}
+use Rattle.sql_adoption.specs.Adoption.{Each}
+use Rattle.units.specs.Office.{main}
 use Rattle.sql_schema.specs.Layouts.{by_domain, NamedRows, rows_named}
 use Rattle.sqlite.specs.Effect.{Database}
-use Rattle.sql_meaning.specs.Meaning.{main_rows}
-use Rattle.sql_meaning.proofs.MainBeginnings.{demo_in, demo_is_main}
+use Rattle.sql_meaning.proofs.MainBeginnings.{demo_in, demo_is_main, demo_means}
 use Rattle.sql_meaning.specs.BeginningRows.{PutsMemberIn, PutsClosedPolicyIn, PutsDemoEntryIn, PutsDemoLanguageIn, PutsDemoUnitIn, MakesDemoIn}
-
-all_small : (bs : List ℕ) → list_all (λ b. nat_lt b 128) bs ≡ true → All (λ b. b < 128) bs
-all_small bs small = let each = AllPass-from_list_all (λ b. nat_lt b 128) bs small in λ k d within. ltb-true _ 128 (each k d within)
-
-plain : (bs : List ℕ) → list_all (λ b. nat_lt b 128) bs ≡ true → IsUtf8 bs
-plain bs small = IsUtf8-from_ascii bs (IsAscii-from_all bs (all_small bs small))
 
 strings : HasStrings demo_unit.key
 strings = record { ctx = refl; id = refl }
@@ -189,9 +184,23 @@ demo_seen : (old new : NamedRows) → MakesDemoIn old new → KeepsRules (meanin
 demo_seen old new (made, empty, ((two, (one, root, ann), (closed, policy, (hello, entry, (german, language, unit)))))) rules =
     rows_of_demo made one two closed hello german new empty root ann policy entry language unit rules
 
+demo_named : (old new : Database) → MakesDemo old new → Each (codes "domain") (1 ∷ []) is_domain_row (rows_named new)
+demo_named old new (made, tables, (team, (one, root, ann), (closed, policy, (hello, entry, (german, language, (unit, put, tally)))))) row there =
+    let stays =
+    tally.others (codes "domain") (names_differ refl) ∙ put.others (codes "domain") (names_differ refl) ∙ language.others (codes "domain") (names_differ refl) ∙ entry.others (codes "domain") (names_differ refl)
+    ∙ policy.others (codes "domain") (names_differ refl) ∙ ann.others (codes "domain") (names_differ refl) ∙ root.others (codes "domain") (names_differ refl) in
+    main_named old made tables row (subst (λ rows. Has rows row) stays there)
+
 pub demo_rows : (old new : Database) → MakesDemo old new → HoldsOfficeRows by_domain (rows_named new)
 demo_rows old new made =
     let it = demo_in old new made in
-    let rules = subst KeepsRules (sym (opens_demo (main_rows (rows_named old)) (main_rows (rows_named new)) it).0) demo_keeps in
-    let all = demo_seen (main_rows (rows_named old)) (main_rows (rows_named new)) it rules in
-    record { form_told = all.form; alone = demo_is_main old new made; office = all.office; book = all.book; figures = demo_figures old new made; rules = rules }
+    let seen = opens_demo (seen_in main (rows_named old)) (seen_in main (rows_named new)) it in
+    let all = demo_seen (seen_in main (rows_named old)) (seen_in main (rows_named new)) it (subst KeepsRules (sym seen.0) demo_keeps) in
+    let alone = demo_is_main old new made in
+    record {
+      form_told = all.form;
+      office = stand_alone (rows_named new) alone.0 alone.1 (demo_named old new made) all.office;
+      book = whole_book (rows_named new) main all.book;
+      figures = demo_figures old new made;
+      rules = subst KeepsRules (sym (demo_means old new made).0) demo_keeps;
+    }

@@ -6,7 +6,7 @@ use Rattle.std.specs.FinMap as maps
 use Rattle.sqlite.specs.Effect.{Database}
 use Rattle.po_text.specs.declared.entry.Entry.{Entry}
 use Rattle.po_text.specs.Texts.{Text}
-use Rattle.units.specs.Office.{Office, main, same_domain, project_in}
+use Rattle.units.specs.Office.{Office, project_in, with_project}
 use Rattle.units.specs.Offices.{IsOffice}
 use Rattle.units.specs.Orders.{place_total}
 use Rattle.units.specs.Project.{Project, entry_of, units_of}
@@ -14,31 +14,33 @@ use Rattle.units.specs.declared.unit.Key.{Key}
 use Rattle.units.specs.declared.unit.UnitView.{UnitView}
 use Rattle.deliveries.specs.Counting.{AreWithin}
 use Rattle.deliveries.specs.Tally.{counts_in}
-use Rattle.deliveries.specs.OfficeChanges.{changed_project, changed, changed_by, IsPossible, IsPossibleChange, IsPossibleIn}
+use Rattle.deliveries.specs.OfficeChanges.{changed_project, changed, changed_by, IsPossible, IsPossibleChange}
 use Rattle.deliveries.specs.UnitAccess.{with_view, with_view_in}
 use Rattle.deliveries.specs.declared.values.Change.{Change}
 use Rattle.deliveries.specs.declared.values.Change.TheVariants.{OneRole, NewPolicy, NewDomain, InDomain}
 use Rattle.deliveries.specs.declared.values.DomainChange.{DomainChange}
 use Rattle.deliveries.specs.declared.values.DomainChange.TheVariants.{NewLanguage, NewTemplate}
-use Rattle.deliveries.proofs.domains.InDomains.{equal_domains, its_own_domain, project_own, with_project-same}
+use Rattle.deliveries.proofs.domains.InDomains.{nothing_put, project_own, with_project-same}
 use Rattle.deliveries.proofs.rules.DomainsKept.{any_project}
-use Rattle.deliveries.proofs.domains.MainAlone.{has-main, in-main, put-another}
 use Rattle.office_laws.proofs.OfficeCounts.{new_domain_counts}
 use Rattle.tables.proofs.OfficeUnits.{few_counted}
 use Rattle.tables.specs.Tallies.{counted}
-use Rattle.sql_schema.specs.Keys.{has_text}
+use Rattle.sql_schema.specs.Inside.{AreOfficeTablesOf}
+use Rattle.sql_schema.specs.Keys.{text_at, has_text}
 use Rattle.sql_schema.specs.Layouts.{by_domain, rows_named}
-use Rattle.sql_schema.specs.Views.{unit_seen}
+use Rattle.sql_schema.specs.Views.{unit_seen, seen_in}
 use Rattle.sql_schema.proofs.DomainViews.{is_text}
 use Rattle.sql_schema.proofs.Views.{to_view}
 use Rattle.sql_statements.specs.DomainRenewed.{HaveNextRevisionsInDomains}
-use Rattle.sql_meaning.specs.Meaning.{main_rows}
+use Rattle.sql_meaning.specs.Domains.{is_domain}
+use Rattle.sql_meaning.proofs.DomainChanges.{has_domain_of_rows}
 use Rattle.sql_figures.specs.KeptSums.{HaveSums}
 use Rattle.sql_figures.specs.KeptTallies.{Counts, AreTalliesOf, office_counts, counted_at}
 use Rattle.sql_figures.specs.Figures.{HasFigures, FiguresFollow, FiguresStay, HaveRoom, with_tally, with_tallies, moved_at}
 use Rattle.sql_figures.proofs.TallyRows.{tallies_alike}
-use Rattle.sql_commits.specs.Figures.{main_project, IsSourceIn, counted_before, FollowsView, FollowsIf, FollowsAct, FollowsDomainChange, FollowsOneChange, FollowsChange, turned_unless}
+use Rattle.sql_commits.specs.Figures.{project_at, IsSourceIn, counted_before, FollowsView, FollowsIf, FollowsAct, FollowsDomainChange, FollowsOneChange, FollowsChange, turned_unless}
 use Rattle.sql_files.specs.Files.{IsOfficeDatabase, office_of}
+use Rattle.sql_files.proofs.InDomains.{project_there}
 use Rattle.sql_files.proofs.PolicyKept.{next_revisions}
 use Rattle.sql_files.proofs.CountsFollow.{view_counts, language_counted, policy_counted, template_counted}
 
@@ -46,7 +48,7 @@ use Rattle.sql_files.proofs.CountsFollow.{view_counts, language_counted, policy_
 figures_are : (db : Database) (counts : Counts) → ((d l : Text) → office_counts (office_of db) d l ≡ counts d l) → AreTalliesOf counts (rows_named db (codes "d_tally")) → HaveSums (rows_named db) → HasFigures (rows_named db)
 figures_are db counts same tallies sums = record { tallies = tallies_alike counts (office_counts (office_of db)) (rows_named db (codes "d_tally")) same tallies; sums = sums }
 
-module _ (old new : Database) (figures : HasFigures (rows_named old)) where
+module _ (old new : Database) (ready : AreOfficeTablesOf by_domain old) (figures : HasFigures (rows_named old)) where
   -- where the counts stay
   figures_stay : ((d l : Text) → office_counts (office_of new) d l ≡ office_counts (office_of old) d l) → FiguresStay old new → HasFigures (rows_named new)
   figures_stay same stays = figures_are new (office_counts (office_of old)) same (stays.tallies (office_counts (office_of old)) tt figures.tallies) (stays.sums figures.sums)
@@ -60,47 +62,54 @@ module _ (old new : Database) (figures : HasFigures (rows_named old)) where
 
   -- ---- an act on a unit
 
-  view_follows : (lang : Text) (view : UnitView) → IsSourceIn (main_project old) view → office_of new ≡ with_view_in (office_of old) main lang view.unit.key (Some view) → FollowsView lang view old new → HasFigures (rows_named new)
-  view_follows lang view source is follows =
-      figures_follow (moved_at main lang (counted_before (main_project old) lang view) (counted (main_project old).template view.unit))
-      (λ d l. ap (λ (o : Office). office_counts o d l) is ∙ view_counts (office_of old) main lang view.unit.key view (has-main (main_project old) main ∙ its_own_domain main) d l
-      ∙ ap (λ (p : Project). moved_at main lang (counted_at p.template (maps.get p.units (lang, view.unit.key))) (counted p.template view.unit) (office_counts (office_of old)) d l) (in-main (main_project old)))
-      (follows source)
+  module _ (domain : Text) (there : is_domain (rows_named old) domain ≡ true) where
+    has : maps.contains_key (office_of old).domains domain ≡ true
+    has = sym (has_domain_of_rows (rows_named old) domain) ∙ there
 
-  -- ---- of the unit at a key
+    -- the project of a domain that is there is what it sees
+    seen : project_in (office_of old) domain ≡ project_at domain old
+    seen = project_there old ready domain there
 
-  there : maps.contains_key (office_of old).domains main ≡ true
-  there = has-main (main_project old) main ∙ its_own_domain main
+    view_follows : (lang : Text) (view : UnitView) → IsSourceIn (project_at domain old) view → office_of new ≡ with_view_in (office_of old) domain lang view.unit.key (Some view) → FollowsView domain lang view old new
+        → HasFigures (rows_named new)
+    view_follows lang view source is follows =
+        figures_follow (moved_at domain lang (counted_before (project_at domain old) lang view) (counted (project_at domain old).template view.unit))
+        (λ d l. ap (λ (o : Office). office_counts o d l) is ∙ view_counts (office_of old) domain lang view.unit.key view has d l
+        ∙ ap (λ (p : Project). moved_at domain lang (counted_at p.template (maps.get p.units (lang, view.unit.key))) (counted p.template view.unit) (office_counts (office_of old)) d l) seen)
+        (follows source)
 
-  module _ (lang : Text) (key : Key) (view : UnitView) (rules : IsOffice (office_of new)) (is : office_of new ≡ with_view_in (office_of old) main lang key (Some view)) where
-    -- the rules ask that a unit stands at its key
-    own_key : view.unit.key ≡ key
-    own_key =
-        let project = project_in (office_of old) main in
-        let next : project_in (office_of new) main ≡ with_view project lang key (Some view) =
-        ap (λ (o : Office). project_in o main) is ∙ project_own (office_of old) main (with_view project lang key (Some view)) there (refl, refl) in
-        let found : maps.get (with_view project lang key (Some view)).units (lang, key) ≡ Some view.unit =
-        maps.get-insert place_total project.units (lang, key) view.unit (lang, key)
-        ∙ ap (λ b. cond b (Some view.unit) (maps.get project.units (lang, key))) ((eq_by_cmp_equiv place_total).refl (lang, key)) in
-        ((any_project (office_of new) rules main).placed (lang, key) view.unit (ap (λ (p : Project). maps.get p.units (lang, key)) next ∙ found)).0
+    -- ---- of the unit at a key
 
-    at_key_follows : view.source ≡ entry_of (project_in (office_of old) main).template key → FollowsView lang view old new → HasFigures (rows_named new)
-    at_key_follows source follows =
-        view_follows lang view
-        (source ∙ ap (λ (p : Project). entry_of p.template key) (in-main (main_project old)) ∙ ap (λ k. entry_of (main_project old).template k) (sym own_key))
-        (is ∙ ap (λ k. with_view_in (office_of old) main lang k (Some view)) (sym own_key)) follows
+    module _ (lang : Text) (key : Key) (view : UnitView) (rules : IsOffice (office_of new)) (is : office_of new ≡ with_view_in (office_of old) domain lang key (Some view)) where
+      -- the rules ask that a unit stands at its key
+      own_key : view.unit.key ≡ key
+      own_key =
+          let project = project_in (office_of old) domain in
+          let next : project_in (office_of new) domain ≡ with_view project lang key (Some view) =
+          ap (λ (o : Office). project_in o domain) is ∙ project_own (office_of old) domain (with_view project lang key (Some view)) has (refl, refl) in
+          let found : maps.get (with_view project lang key (Some view)).units (lang, key) ≡ Some view.unit =
+          maps.get-insert place_total project.units (lang, key) view.unit (lang, key)
+          ∙ ap (λ b. cond b (Some view.unit) (maps.get project.units (lang, key))) ((eq_by_cmp_equiv place_total).refl (lang, key)) in
+          ((any_project (office_of new) rules domain).placed (lang, key) view.unit (ap (λ (p : Project). maps.get p.units (lang, key)) next ∙ found)).0
+
+      at_key_follows : view.source ≡ entry_of (project_in (office_of old) domain).template key → FollowsView domain lang view old new → HasFigures (rows_named new)
+      at_key_follows source follows =
+          view_follows lang view
+          (source ∙ ap (λ (p : Project). entry_of p.template key) seen ∙ ap (λ k. entry_of (project_at domain old).template k) (sym own_key))
+          (is ∙ ap (λ k. with_view_in (office_of old) domain lang k (Some view)) (sym own_key)) follows
+
+  -- nothing is put into a domain that isn't there
+  nothing_there : (domain : Text) (next : Project) → is_domain (rows_named old) domain ≡ false → office_of new ≡ with_project (office_of old) domain next → FiguresStay old new → HasFigures (rows_named new)
+  nothing_there domain next missing is stays = office_stays (is ∙ nothing_put (office_of old) domain next (sym (has_domain_of_rows (rows_named old) domain) ∙ missing)) stays
 
   view_figures : (domain lang : Text) (key : Key) (view : Option UnitView) → IsOffice (office_of new) → office_of new ≡ with_view_in (office_of old) domain lang key view
       → IfSome view (λ v. v.source ≡ entry_of (project_in (office_of old) domain).template key) → FollowsAct domain lang view old new → HasFigures (rows_named new)
   view_figures domain lang key None rules is source stays = office_stays (is ∙ with_project-same (office_of old) domain) stays
-  view_figures domain lang key (Some view) rules is source follows = by (same_domain domain main) refl follows
+  view_figures domain lang key (Some view) rules is source follows = by (is_domain (rows_named old) domain) refl follows
     where
-      by : (b : Bool) → same_domain domain main ≡ b → FollowsIf b (FollowsView lang view) old new → HasFigures (rows_named new)
-      by true same it =
-          let at = equal_domains domain main same in
-          at_key_follows lang key view rules (is ∙ ap (λ (d : Text). with_view_in (office_of old) d lang key (Some view)) at)
-          (source ∙ ap (λ (d : Text). entry_of (project_in (office_of old) d).template key) at) it
-      by false other it = office_stays (is ∙ put-another (main_project old) (with_view (project_in (office_of old) domain) lang key (Some view)) domain other) it
+      by : (b : Bool) → is_domain (rows_named old) domain ≡ b → FollowsIf b (FollowsView domain lang view) old new → HasFigures (rows_named new)
+      by true there it = at_key_follows domain there lang key view rules is source it
+      by false missing it = nothing_there domain (with_view (project_in (office_of old) domain) lang key (Some view)) missing is it
 
   -- ---- a change of the office
 
@@ -118,24 +127,22 @@ module _ (old new : Database) (figures : HasFigures (rows_named old)) where
           let few = subst AreWithin same (few_counted project l (any_project (office_of old) rules d)) in
           omega (arith, few.translated, few.approved)
 
-  domain_change_figures : (change : DomainChange) → IsOffice (office_of old) → IsPossibleIn (project_in (office_of old) main) change → office_of new ≡ changed (office_of old) (InDomain main change) → FollowsDomainChange change old new
-      → HasFigures (rows_named new)
-  domain_change_figures (NewLanguage lang language plan tally) rules possible is follows =
-      figures_follow (with_tally main lang tally)
+  domain_change_figures : (domain : Text) (change : DomainChange) → IsOffice (office_of old) → IsPossible (office_of old) (InDomain domain change) → office_of new ≡ changed (office_of old) (InDomain domain change)
+      → FollowsDomainChange domain change old new → HasFigures (rows_named new)
+  domain_change_figures domain (NewLanguage lang language plan tally) rules possible is follows =
+      figures_follow (with_tally domain lang tally)
       (λ d l. ap (λ (o : Office). office_counts o d l) is
-      ∙ language_counted (office_of old) rules main lang language.header plan tally there possible.new (possible.apart (any_project (office_of old) rules main)) possible.tallied d l) follows
-  domain_change_figures (NewTemplate template plans tallies) rules possible is follows =
-      figures_follow (with_tallies main tallies.items)
+      ∙ language_counted (office_of old) rules domain lang language.header plan tally possible.0 possible.1.new (possible.1.apart (any_project (office_of old) rules domain)) possible.1.tallied d l) follows
+  domain_change_figures domain (NewTemplate template plans tallies) rules possible is follows =
+      figures_follow (with_tallies domain tallies.items)
       (λ d l. ap (λ (o : Office). office_counts o d l) is
-      ∙ template_counted (office_of old) main template plans.items there possible.each (possible.apart (any_project (office_of old) rules main)) d l
-      ∙ ap (λ ts. with_tallies main ts (office_counts (office_of old)) d l) (sym possible.tallied)) follows
+      ∙ template_counted (office_of old) domain template plans.items possible.0 possible.1.each (possible.1.apart (any_project (office_of old) rules domain)) d l
+      ∙ ap (λ ts. with_tallies domain ts (office_counts (office_of old)) d l) (sym possible.1.tallied)) follows
 
   in_domain_figures : (domain : Text) (change : DomainChange) → IsOffice (office_of old) → IsPossible (office_of old) (InDomain domain change) → office_of new ≡ changed (office_of old) (InDomain domain change)
-      → (b : Bool) → same_domain domain main ≡ b → FollowsIf b (FollowsDomainChange change) old new → HasFigures (rows_named new)
-  in_domain_figures domain change rules possible is true same follows =
-      let at = equal_domains domain main same in
-      domain_change_figures change rules (subst (λ (d : Text). IsPossibleIn (project_in (office_of old) d) change) at possible.1) (is ∙ ap (λ (d : Text). changed (office_of old) (InDomain d change)) at) follows
-  in_domain_figures domain change rules possible is false other stays = office_stays (is ∙ put-another (main_project old) (changed_project (project_in (office_of old) domain) change) domain other) stays
+      → (b : Bool) → is_domain (rows_named old) domain ≡ b → FollowsIf b (FollowsDomainChange domain change) old new → HasFigures (rows_named new)
+  in_domain_figures domain change rules possible is true there follows = domain_change_figures domain change rules possible is follows
+  in_domain_figures domain change rules possible is false missing stays = nothing_there domain (changed_project (project_in (office_of old) domain) change) missing is stays
 
   one_change_figures : (change : Change) → IsOffice (office_of old) → IsPossible (office_of old) change → HaveNextRevisionsInDomains old → office_of new ≡ changed (office_of old) change → FollowsOneChange change old new
       → HasFigures (rows_named new)
@@ -146,7 +153,7 @@ module _ (old new : Database) (figures : HasFigures (rows_named old)) where
       (it.tallies (office_counts (office_of old)) (have_room rules) figures.tallies) (it.sums figures.sums)
   one_change_figures (NewDomain domain) rules possible next is stays =
       figures_stay (λ d l. ap (λ (o : Office). office_counts o d l) is ∙ new_domain_counts (office_of old) domain d l possible) stays
-  one_change_figures (InDomain domain change) rules possible next is follows = in_domain_figures domain change rules possible is (same_domain domain main) refl follows
+  one_change_figures (InDomain domain change) rules possible next is follows = in_domain_figures domain change rules possible is (is_domain (rows_named old) domain) refl follows
 
   any_change_figures : (change : Option Change) → IsOffice (office_of old) → IsPossibleChange (office_of old) change → HaveNextRevisionsInDomains old → office_of new ≡ changed_by (office_of old) change → FollowsChange change old new
       → HasFigures (rows_named new)
@@ -158,14 +165,15 @@ module _ (old new : Database) (figures : HasFigures (rows_named old)) where
 -- the rules bound the revisions, so that 64 bits hold the next ones
 next_in_domains : (db : Database) → IsOfficeDatabase by_domain db → HaveNextRevisionsInDomains db
 next_in_domains db file row there approved =
-    next_revisions (main_rows (rows_named db)) file.rows.office.units (unit_seen row)
-    (to_view (has_text 1 main) unit_seen (rows_named db (codes "d_unit")) row there (is_text 1 main row (file.rows.alone.1.units row there))) approved
+    let domain = text_at 1 row in
+    next_revisions (seen_in domain (rows_named db)) (file.rows.office.each domain).units (unit_seen row)
+    (to_view (has_text 1 domain) unit_seen (rows_named db (codes "d_unit")) row there (is_text 1 domain row refl)) approved
 
 pub act_figures : (old new : Database) (domain lang : Text) (key : Key) (view : Option UnitView) → IsOfficeDatabase by_domain old → IsOffice (office_of new)
     → office_of new ≡ with_view_in (office_of old) domain lang key view → IfSome view (λ v. v.source ≡ entry_of (project_in (office_of old) domain).template key)
     → FollowsAct domain lang view old new → HasFigures (rows_named new)
-act_figures old new domain lang key view file rules is source follows = view_figures old new file.rows.figures domain lang key view rules is source follows
+act_figures old new domain lang key view file rules is source follows = view_figures old new file.ready file.rows.figures domain lang key view rules is source follows
 
 pub change_figures : (old new : Database) (change : Option Change) → IsOfficeDatabase by_domain old → IsPossibleChange (office_of old) change
     → office_of new ≡ changed_by (office_of old) change → FollowsChange change old new → HasFigures (rows_named new)
-change_figures old new change file possible is follows = any_change_figures old new file.rows.figures change file.rows.rules.office possible (next_in_domains old file) is follows
+change_figures old new change file possible is follows = any_change_figures old new file.ready file.rows.figures change file.rows.rules.office possible (next_in_domains old file) is follows

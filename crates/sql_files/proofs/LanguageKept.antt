@@ -23,27 +23,27 @@ use Rattle.sql_columns.specs.Written.{IsHeaderEntry, header_text}
 use Rattle.sql_columns.proofs.Readers.{header_found, only_same}
 use Rattle.sql_schema.specs.Inside.{Then, AreOfficeTablesOf}
 use Rattle.sql_schema.specs.Keys.{first_text, columns}
-use Rattle.sql_meaning.specs.Meaning.{header_of_row, headers_in, project_of_rows, book_in, meaning_in, main_rows}
-use Rattle.sql_changes.specs.Commits.{PutsNumberedRecord, PutsLanguage, WritesLanguage, MakesLanguage}
+use Rattle.sql_meaning.specs.Meaning.{header_of_row, headers_in, project_of_rows}
+use Rattle.sql_meaning.specs.Domains.{meaning_by_domain}
+use Rattle.sql_changes.specs.Commits.{PutsNumberedRecord, PutsLanguage, WritesLanguage, MakesLanguage, MakesIn}
 use Rattle.sql_changes.specs.UnitWrites.{WritesUnits}
 use Rattle.sql_changes.proofs.PlannedUnits.{units_in_turn}
 use Rattle.sql_decoding.specs.RowTests.{is_language_row, is_rule_of}
 use Rattle.sql_decoding.specs.ShownFound.{header_of_column}
 use Rattle.sql_decoding.proofs.ColumnsTested.{text_stands, header_stands, language_stands}
 use Rattle.sql_keepable.specs.Keepable.{IsKeepableLanguage, AreKeepableUnits}
-use Rattle.office_rules.proofs.MainAlone.{project_keeps}
+use Rattle.units.specs.Projects.{IsProject}
 use Rattle.sql_figures.specs.Figures.{HasFigures}
 use Rattle.sql_files.specs.Files.{IsKeepable, StandForAll, IsOfficeDatabase}
 use Rattle.sql_files.proofs.Puts.{all_put, template_same, form_same, book_same}
 use Rattle.sql_files.proofs.UnitKept.{units_keep}
-use Rattle.sql_files.proofs.ActKept.{stand_all, record_step}
+use Rattle.sql_files.proofs.ActKept.{record_step, kept_in}
 use Rattle.sql_schema.specs.Layouts.{by_domain, NamedRows, rows_named}
 use Rattle.sql_schema.proofs.Layouts.{names_differ}
 use Rattle.sql_meaning.specs.RowKeys.{AreOfficeRows}
 use Rattle.sqlite.specs.Effect.{Database}
 use Rattle.sql_meaning.proofs.DomainOfficeRows.{domain_rows}
-use Rattle.units.specs.Office.{main}
-use Rattle.sql_changes.specs.OnMain.{OnMain}
+use Rattle.sql_schema.specs.Views.{seen_in}
 
 -- ---- a language's row
 
@@ -101,7 +101,7 @@ put_step lang header fits entry fine old new put it =
 -- ---- the commit
 
 module _ (mid next after : NamedRows) (lang : Text) (header : Entry) (units : List Unit) (fits : IsKeepableLanguage lang header) (entry : IsHeaderEntry header) (put : PutsLanguage lang header mid next)
-    (written : WritesUnits lang units next after) (ready : AreOfficeRows after) (rules : KeepsRules (meaning_in after)) where
+    (written : WritesUnits lang units next after) (ready : AreOfficeRows after) (project : IsProject (project_of_rows after)) where
   stands_there : Has (after (codes "language")) put.0.0.row
   stands_there = subst (λ rows. Has rows put.0.0.row) (sym (units_in_turn lang units next after put.0.1 written).others.languages) put.0.0.put.here
 
@@ -115,19 +115,20 @@ module _ (mid next after : NamedRows) (lang : Text) (header : Entry) (units : Li
       ∙ ap (λ r. Some (header_of_row r)) put.0.0.is_row.1 ∙ ap Some (header_back header entry)
 
   changed_step : AreKeepableUnits lang units → StandForAll mid → StandForAll after
-  changed_step all it = units_keep lang units all next after written (put_step lang header fits entry ((project_keeps (project_of_rows after) (book_in after) rules).ruled lang header header_is).2 mid next put it)
+  changed_step all it = units_keep lang units all next after written (put_step lang header fits entry (project.ruled lang header header_is).2 mid next put it)
 
 makes_language : (old new : NamedRows) (row : Record) (lang : Text) (header : Entry) (units : List Unit) → Then (PutsNumberedRecord row) (WritesLanguage lang header units) old new
-    → AreOfficeRows new → IsKeepable row → IsKeepableLanguage lang header → IsHeaderEntry header → AreKeepableUnits lang units → KeepsRules (meaning_in new) → StandForAll old → StandForAll new
-makes_language old new row lang header units (mid, recorded, (next, put, written)) ready keepable fits entry all rules it =
-    changed_step mid next new lang header units fits entry put written ready rules all (record_step old mid row recorded keepable it)
+    → AreOfficeRows new → IsKeepable row → IsKeepableLanguage lang header → IsHeaderEntry header → AreKeepableUnits lang units → IsProject (project_of_rows new) → StandForAll old → StandForAll new
+makes_language old new row lang header units (mid, recorded, (next, put, written)) ready keepable fits entry all project it =
+    changed_step mid next new lang header units fits entry put written ready project all (record_step old mid row recorded keepable it)
 
-pub stand_after_language : (old new : NamedRows) (row : Record) (lang : Text) (language : Language) (plan : Plan) → MakesLanguage row lang language plan old new → AreOfficeRows new
-    → IsKeepable row → IsKeepableLanguage lang language.header → IsHeaderEntry language.header → AreKeepableUnits lang plan.units → KeepsRules (meaning_in new) → StandForAll old → StandForAll new
+stand_after_language : (old new : NamedRows) (row : Record) (lang : Text) (language : Language) (plan : Plan) → MakesLanguage row lang language plan old new → AreOfficeRows new
+    → IsKeepable row → IsKeepableLanguage lang language.header → IsHeaderEntry language.header → AreKeepableUnits lang plan.units → IsProject (project_of_rows new) → StandForAll old → StandForAll new
 unfolding MakesLanguage
-stand_after_language old new row lang language plan it ready keepable fits entry all rules = makes_language old new row lang language.header plan.units it ready keepable fits entry all rules
+stand_after_language old new row lang language plan it ready keepable fits entry all project = makes_language old new row lang language.header plan.units it ready keepable fits entry all project
 
-pub language_keeps : (old new : Database) (row : Record) (lang : Text) (language : Language) (plan : Plan) → OnMain (MakesLanguage row lang language plan) old new → AreOfficeTablesOf by_domain new
-    → IsKeepable row → IsKeepableLanguage lang language.header → IsHeaderEntry language.header → AreKeepableUnits lang plan.units → KeepsRules (meaning_in (main_rows (rows_named new))) → HasFigures (rows_named new) → IsOfficeDatabase by_domain old → IsOfficeDatabase by_domain new
-language_keeps old new row lang language plan it ready keepable fits entry all rules figures file =
-    stand_all old new it ready rules figures file (λ made. stand_after_language (main_rows (rows_named old)) (main_rows (rows_named new)) row lang language plan made (domain_rows new ready main) keepable fits entry all rules)
+pub language_keeps : (old new : Database) (row : Record) (domain lang : Text) (language : Language) (plan : Plan) → MakesIn domain row (MakesLanguage row lang language plan) old new → AreOfficeTablesOf by_domain new
+    → IsKeepable row → IsKeepableLanguage lang language.header → IsHeaderEntry language.header → AreKeepableUnits lang plan.units → KeepsRules (meaning_by_domain (rows_named new)) → HasFigures (rows_named new) → IsOfficeDatabase by_domain old → IsOfficeDatabase by_domain new
+language_keeps old new row domain lang language plan it ready keepable fits entry all rules figures file =
+    kept_in old new row ready keepable rules figures file domain (MakesLanguage row lang language plan) it
+    (λ made project. stand_after_language (seen_in domain (rows_named old)) (seen_in domain (rows_named new)) row lang language plan made (domain_rows new ready domain) keepable fits entry all project)

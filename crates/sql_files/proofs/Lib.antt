@@ -1,11 +1,13 @@
 pub mod Listed
 pub mod Refused
 pub mod Puts
+pub mod InDomains
 pub mod RecordKept
 pub mod Stops
 pub mod Opened
 pub mod UnitKept
 pub mod ActKept
+pub mod DomainKept
 pub mod RoleKept
 pub mod Demo
 pub mod PolicyKept

@@ -9,24 +9,25 @@ use Rattle.deliveries.specs.OfficeRules.{KeepsRules}
 use Rattle.po_text.specs.Texts.{Text}
 use Rattle.po_text.specs.Valid.{IsValid}
 use Rattle.units.specs.Limits.{is_name}
+use Rattle.units.specs.Office.{main}
 use Rattle.sql_schema.specs.Keys.{first_text, row_number, columns}
 use Rattle.sql_meaning.specs.Beginnings.{closed_row, MakesOpening}
-use Rattle.sql_meaning.proofs.Openings.{no_template, opens, opening_keeps}
-use Rattle.sql_decoding.specs.RowTests.{is_member_row, is_policy_row}
+use Rattle.sql_meaning.proofs.Openings.{no_template, opening_keeps}
+use Rattle.sql_decoding.specs.RowTests.{is_domain_row, is_member_row, is_policy_row}
 use Rattle.sql_decoding.proofs.ColumnsTested.{text_stands}
 use Rattle.sql_files.specs.Files.{HoldsOfficeRows, StandForAll}
+use Rattle.sql_files.proofs.InDomains.{nothing_valid, whole_book, stand_alone}
+use Rattle.sql_files.proofs.DomainKept.{main_named}
 use Rattle.sql_files.proofs.Puts.{no_row, all_put}
 use Rattle.sql_files.proofs.StartFigures.{opening_figures}
 use Rattle.sql_schema.specs.Creation.{HaveNoRows}
 use Rattle.sql_schema.proofs.Layouts.{names_differ}
+use Rattle.sql_schema.specs.Views.{seen_in}
+use Rattle.sql_adoption.specs.Adoption.{Each}
 use Rattle.sql_schema.specs.Layouts.{by_domain, NamedRows, rows_named}
 use Rattle.sqlite.specs.Effect.{Database}
-use Rattle.sql_meaning.specs.Meaning.{main_rows}
-use Rattle.sql_meaning.proofs.MainBeginnings.{opening_in, opening_is_main}
+use Rattle.sql_meaning.proofs.MainBeginnings.{opening_in, opening_is_main, opening_means}
 use Rattle.sql_meaning.specs.BeginningRows.{PutsMemberIn, PutsClosedPolicyIn}
-
-pub nothing_valid : IsValid []
-nothing_valid = record { each = tt; unique = tt; header = tt }
 
 module _ (name : Text) (named : is_name name ≡ true) (utf8 : IsUtf8 name) (made first last : NamedRows) (empty : HaveNoRows made)
     (member : PutsMemberIn name (pos 3) made first) (policy : PutsClosedPolicyIn first last) where
@@ -73,15 +74,20 @@ module _ (name : Text) (named : is_name name ≡ true) (utf8 : IsUtf8 name) (mad
     };
   }
 
+opening_named : (name : Text) (old new : Database) → MakesOpening name old new → Each (codes "domain") (1 ∷ []) is_domain_row (rows_named new)
+opening_named name old new (made, tables, (first, member, policy)) row there =
+    let stays = policy.others (codes "domain") (names_differ refl) ∙ member.others (codes "domain") (names_differ refl) in
+    main_named old made tables row (subst (λ rows. Has rows row) stays there)
+
 pub opening_rows : (name : Text) → is_name name ≡ true → IsUtf8 name → (old new : Database) → MakesOpening name old new → HoldsOfficeRows by_domain (rows_named new)
 opening_rows name named utf8 old new made =
     let it = opening_in name old new made in
-    let all = rows_of_opening name named utf8 it.0 it.2.0 (main_rows (rows_named new)) it.1 it.2.1 it.2.2 in
+    let all = rows_of_opening name named utf8 it.0 it.2.0 (seen_in main (rows_named new)) it.1 it.2.1 it.2.2 in
+    let alone = opening_is_main name old new made in
     record {
       form_told = all.form;
-      alone = opening_is_main name old new made;
-      office = all.office;
-      book = all.book;
+      office = stand_alone (rows_named new) alone.0 alone.1 (opening_named name old new made) all.office;
+      book = whole_book (rows_named new) main all.book;
       figures = opening_figures name old new made;
-      rules = subst KeepsRules (sym (opens name (main_rows (rows_named old)) (main_rows (rows_named new)) it).0) (opening_keeps name);
+      rules = subst KeepsRules (sym (opening_means name old new made).0) (opening_keeps name);
     }

@@ -20,7 +20,8 @@ use Rattle.units.specs.Orders.{place_total, place_IsAntisymmetric}
 use Rattle.units.specs.declared.unit.Policy.{Policy}
 use Rattle.sql_schema.specs.Keys.{row_number, columns}
 use Rattle.sql_statements.specs.Renewed.{unapproved_row}
-use Rattle.sql_meaning.specs.Meaning.{place_of_row, unit_of_row, units_in, policy_in, project_of_rows, book_in, meaning_in, main_rows}
+use Rattle.sql_meaning.specs.Meaning.{place_of_row, unit_of_row, units_in, policy_in, project_of_rows}
+use Rattle.sql_meaning.specs.Domains.{meaning_by_domain}
 use Rattle.sql_meaning.specs.Values.{integer_at, natural, natural_at}
 use Rattle.sql_meaning.proofs.Units.{by_place}
 use Rattle.sql_changes.specs.Commits.{policy_row, PutsPolicy, UnapprovesUnless, MakesPolicy}
@@ -28,13 +29,14 @@ use Rattle.sql_changes.proofs.Changed.{Spares, spares_same}
 use Rattle.sql_changes.proofs.Policy.{policy_put}
 use Rattle.sql_decoding.specs.RowTests.{integer_passes, holds_integer, natural_passes, is_flag, is_state, has_place, has_unit_numbers, has_unit_texts, is_unit, is_policy_row}
 use Rattle.sql_decoding.proofs.ColumnsTested.{integer_is, flag_stands, natural_stands}
-use Rattle.office_rules.proofs.MainAlone.{project_keeps}
+use Rattle.units.specs.Projects.{IsProject}
 use Rattle.sql_adoption.specs.Adoption.{TellsForm}
 use Rattle.sql_figures.specs.Figures.{HasFigures}
 use Rattle.sql_files.specs.Files.{IsKeepable, StandForAll, IsOfficeDatabase}
 use Rattle.sql_files.proofs.Puts.{all_put, template_same, book_same}
 use Rattle.sql_files.proofs.UnitKept.{UnitStands, units_step}
-use Rattle.sql_files.proofs.ActKept.{stand_all, record_step}
+use Rattle.sql_files.proofs.InDomains.{SeesNothing, nothing_more, stand_still}
+use Rattle.sql_files.proofs.ActKept.{record_step, record_nothing}
 use Rattle.sql_schema.specs.Layouts.{by_domain, NamedRows, rows_named}
 use Rattle.sql_schema.proofs.Layouts.{names_differ}
 use Rattle.sql_meaning.specs.RowKeys.{AreOfficeRows, HoldsIntegers}
@@ -42,8 +44,8 @@ use Rattle.sql_meaning.specs.RowChanges.{HaveNextIn}
 use Rattle.sql_schema.specs.Inside.{AreOfficeTablesOf}
 use Rattle.sqlite.specs.Effect.{Database}
 use Rattle.sql_meaning.proofs.DomainOfficeRows.{domain_rows}
-use Rattle.units.specs.Office.{main}
-use Rattle.sql_changes.specs.OnMain.{OnMain}
+use Rattle.sql_changes.specs.OnDomains.{OnDomainsWhere}
+use Rattle.sql_schema.specs.Views.{seen_in}
 
 -- ---- the policy's row
 
@@ -135,7 +137,7 @@ unapproved_stands row stands revised =
 
 -- ---- what the rules say of the revision of a unit's row
 
-module _ (db : NamedRows) (ready : AreOfficeRows db) (rules : KeepsRules (meaning_in db)) (row : Row) (there : Has (db (codes "unit")) row) where
+module _ (db : NamedRows) (ready : AreOfficeRows db) (project : IsProject (project_of_rows db)) (row : Row) (there : Has (db (codes "unit")) row) where
   stands_at : maps.get (units_in db) (place_of_row row) ≡ Some (unit_of_row db row)
   stands_at =
       get-is place_cmp place_total place_IsAntisymmetric place_of_row (unit_of_row db) (db (codes "unit")) (place_of_row row) (Some (unit_of_row db row))
@@ -143,7 +145,7 @@ module _ (db : NamedRows) (ready : AreOfficeRows db) (rules : KeepsRules (meanin
 
   revised : is_revision (natural_at 7 row) ≡ true
   revised =
-      let it = ((project_keeps (project_of_rows db) (book_in db) rules).each (place_of_row row) (unit_of_row db row) stands_at).revised in
+      let it = (project.each (place_of_row row) (unit_of_row db row) stands_at).revised in
       and_from _ _ (le-leb 1 (natural_at 7 row) it.0) (le-leb (natural_at 7 row) revision_limit it.1)
 
 -- ---- all units
@@ -156,19 +158,19 @@ module _ (old new : NamedRows) (units : (row : Row) → Has (old (codes "unit"))
   unapproves_spare true is = spares_same (codes "unit") old new is
   unapproves_spare false unapproves = (unapproves (next_revisions old units)).others
 
-  unapproved_units : (reviews : Bool) → UnapprovesUnless reviews old new → AreOfficeRows new → KeepsRules (meaning_in new) → (row : Row) → Has (new (codes "unit")) row → UnitStands row
-  unapproved_units true is ready rules row there = units row (subst (λ rows. Has rows row) (ap (λ (d : NamedRows). d (codes "unit")) is) there)
-  unapproved_units false unapproves ready rules row there = elim ((unapproves (next_revisions old units)).rows.only row there) [
+  unapproved_units : (reviews : Bool) → UnapprovesUnless reviews old new → AreOfficeRows new → IsProject (project_of_rows new) → (row : Row) → Has (new (codes "unit")) row → UnitStands row
+  unapproved_units true is ready project row there = units row (subst (λ rows. Has rows row) (ap (λ (d : NamedRows). d (codes "unit")) is) there)
+  unapproved_units false unapproves ready project row there = elim ((unapproves (next_revisions old units)).rows.only row there) [
     | inl was ↦ units row was.0
     | inr made ↦
         subst UnitStands (sym made.3)
-        (unapproved_stands made.0 (units made.0 made.1) (subst (λ r. is_revision (natural_at 7 r) ≡ true) made.3 (revised new ready rules row there)))
+        (unapproved_stands made.0 (units made.0 made.1) (subst (λ r. is_revision (natural_at 7 r) ≡ true) made.3 (revised new ready project row there)))
   ]
 
-unapproved_step : (old new : NamedRows) (reviews : Bool) → UnapprovesUnless reviews old new → AreOfficeRows new → KeepsRules (meaning_in new) → StandForAll old → StandForAll new
-unapproved_step old new reviews made ready rules it =
+unapproved_step : (old new : NamedRows) (reviews : Bool) → UnapprovesUnless reviews old new → AreOfficeRows new → IsProject (project_of_rows new) → StandForAll old → StandForAll new
+unapproved_step old new reviews made ready project it =
     let same = unapproves_spare old new it.office.units reviews made in
-    units_step old new (λ t no_unit no_suggestion no_vote. same t no_unit) (unapproved_units old new it.office.units reviews made ready rules)
+    units_step old new (λ t no_unit no_suggestion no_vote. same t no_unit) (unapproved_units old new it.office.units reviews made ready project)
     (λ row there. it.office.suggestions row (subst (λ rows. Has rows row) (same (codes "suggestion") (names_differ refl)) there))
     (λ row there. it.office.votes row (subst (λ rows. Has rows row) (same (codes "vote") (names_differ refl)) there))
     it
@@ -176,7 +178,7 @@ unapproved_step old new reviews made ready rules it =
 -- ---- the commit
 
 module _ (mid next after : NamedRows) (policy : Policy) (put : PutsPolicy policy mid next) (made : UnapprovesUnless policy.reviews next after)
-    (ready : AreOfficeRows after) (rules : KeepsRules (meaning_in after))
+    (ready : AreOfficeRows after) (project : IsProject (project_of_rows after))
     (one : OneEach (integer_at 0) (mid (codes "policy"))) (whole : HoldsIntegers 0 (mid (codes "policy"))) where
   units_there_next : StandForAll mid → (row : Row) → Has (next (codes "unit")) row → UnitStands row
   units_there_next it row there = it.office.units row (subst (λ rows. Has rows row) (put.others (codes "unit") (names_differ refl)) there)
@@ -185,20 +187,41 @@ module _ (mid next after : NamedRows) (policy : Policy) (put : PutsPolicy policy
   accepts it =
       let same = unapproves_spare next after (units_there_next it) policy.reviews made (codes "policy") (names_differ refl) in
       let is : policy_in after ≡ policy = ap (λ (rows : List Row). policy_in (λ name. rows)) same ∙ policy_put mid next policy one whole put in
-      subst (λ (p : Policy). is_accept_at p.accept_at ≡ true) is (project_keeps (project_of_rows after) (book_in after) rules).accepting
+      subst (λ (p : Policy). is_accept_at p.accept_at ≡ true) is project.accepting
 
   changed_step : StandForAll mid → StandForAll after
-  changed_step it = unapproved_step next after policy.reviews made ready rules (put_step policy (accepts it) mid next put it)
+  changed_step it = unapproved_step next after policy.reviews made ready project (put_step policy (accepts it) mid next put it)
 
-pub stand_after_policy : (old new : NamedRows) (row : Record) (policy : Policy) → MakesPolicy row policy old new → AreOfficeRows old → AreOfficeRows new
-    → IsKeepable row → KeepsRules (meaning_in new) → StandForAll old → StandForAll new
-stand_after_policy old new row policy (mid, recorded, (next, put, made)) ready is_ready keepable rules all =
+stand_after_policy : (old new : NamedRows) (row : Record) (policy : Policy) → MakesPolicy row policy old new → AreOfficeRows old → AreOfficeRows new
+    → IsKeepable row → IsProject (project_of_rows new) → StandForAll old → StandForAll new
+stand_after_policy old new row policy (mid, recorded, (next, put, made)) ready is_ready keepable project all =
     let policies = sym (recorded.0.others (codes "policy") (names_differ refl)) in
     let one = subst (OneEach (integer_at 0)) policies ready.keyed.one_policy in
     let whole = subst (HoldsIntegers 0) policies ready.typed.policy_numbers in
-    changed_step mid next new policy put made is_ready rules one whole (record_step old mid row recorded keepable all)
+    changed_step mid next new policy put made is_ready project one whole (record_step old mid row recorded keepable all)
 
-pub policy_keeps : (old new : Database) (row : Record) (policy : Policy) → OnMain (MakesPolicy row policy) old new → AreOfficeTablesOf by_domain new
-    → IsKeepable row → KeepsRules (meaning_in (main_rows (rows_named new))) → HasFigures (rows_named new) → IsOfficeDatabase by_domain old → IsOfficeDatabase by_domain new
+-- where no unit is, none is unapproved
+unapproved_nothing : (old new : NamedRows) (reviews : Bool) → UnapprovesUnless reviews old new → SeesNothing old → SeesNothing new
+unapproved_nothing old new true is none = subst SeesNothing (sym is) none
+unapproved_nothing old new false unapproves none =
+    let made = unapproves (λ row there approved. absurd (none.units row there)) in
+    record {
+      entries = λ row there. none.entries row (subst (λ rows. Has rows row) (made.others (codes "template") (names_differ refl)) there);
+      languages = λ row there. none.languages row (subst (λ rows. Has rows row) (made.others (codes "language") (names_differ refl)) there);
+      units = λ row there. elim (made.rows.only row there) [ inl was ↦ none.units row was.0 | inr made ↦ none.units made.0 made.1 ];
+      suggestions = λ row there. none.suggestions row (subst (λ rows. Has rows row) (made.others (codes "suggestion") (names_differ refl)) there);
+    }
+
+policy_nothing : (old new : NamedRows) (row : Record) (policy : Policy) → MakesPolicy row policy old new → SeesNothing old → SeesNothing new
+policy_nothing old new row policy (mid, recorded, (next, put, made)) none =
+    unapproved_nothing next new policy.reviews made
+    (nothing_more mid next (put.others (codes "template") (names_differ refl)) (put.others (codes "language") (names_differ refl)) (put.others (codes "unit") (names_differ refl))
+    (put.others (codes "suggestion") (names_differ refl)) (record_nothing old mid row recorded none))
+
+pub policy_keeps : (old new : Database) (row : Record) (policy : Policy) → OnDomainsWhere HaveNextIn (λ domain. MakesPolicy row policy) old new → AreOfficeTablesOf by_domain new
+    → IsKeepable row → KeepsRules (meaning_by_domain (rows_named new)) → HasFigures (rows_named new) → IsOfficeDatabase by_domain old → IsOfficeDatabase by_domain new
 policy_keeps old new row policy it ready keepable rules figures file =
-    stand_all old new it ready rules figures file (λ made. stand_after_policy (main_rows (rows_named old)) (main_rows (rows_named new)) row policy made (domain_rows old file.ready main) (domain_rows new ready main) keepable rules)
+    stand_still old new ready rules figures file it (λ domain. next_revisions (seen_in domain (rows_named old)) (file.rows.office.each domain).units)
+    (λ domain missing made none. policy_nothing (seen_in domain (rows_named old)) (seen_in domain (rows_named new)) row policy made none)
+    (λ domain project made.
+    stand_after_policy (seen_in domain (rows_named old)) (seen_in domain (rows_named new)) row policy made (domain_rows old file.ready domain) (domain_rows new ready domain) keepable project)

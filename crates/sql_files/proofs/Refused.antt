@@ -3,8 +3,8 @@ use Rattle.std.proofs.Common.{inl, inr, refl}
 use Rattle.sqlite.specs.Effect.{Database, IsDatabase}
 use Rattle.deliveries.specs.OfficeRules.{KeepsRules}
 use Rattle.sql_schema.specs.Layouts.{Form, rows_named}
-use Rattle.sql_meaning.specs.Meaning.{own_rows, meaning_for}
-use Rattle.sql_adoption.specs.Adoption.{Refuses, TellsForm, HoldsMainAlone, KeepsFigures, StandForOffice, StandForBook, IsAdopted}
+use Rattle.sql_meaning.specs.Domains.{meaning_for}
+use Rattle.sql_adoption.specs.Adoption.{Refuses, TellsForm, KeepsFigures, StandForOfficeOf, StandForBook, IsAdopted}
 use Rattle.sql_adoption.proofs.Kept.{lacks_own}
 use Rattle.sql_adoption.specs.declared.faults.OpenFault.{OpenFault}
 use Rattle.sql_adoption.specs.declared.faults.OpenFault.TheVariants.{Memory, Disk, Foreign, Exists}
@@ -16,10 +16,9 @@ lost_of : (form : Form) (db : Database) → IsOfficeDatabase form db → (fault 
 lost_of form db file Memory refused = inl refl
 lost_of form db file Disk refused = inr refl
 lost_of form db file (Foreign OtherTables) refused = absurd (refused (form, record { schema = file.ready.schema; tables = file.ready.tables }))
-lost_of form db file (Foreign OtherForm) refused =
-    absurd (lacks_own (λ f. TellsForm f (rows_named db) × HoldsMainAlone f (rows_named db)) db form file.ready.schema refused (file.rows.form_told, file.rows.alone))
+lost_of form db file (Foreign OtherForm) refused = absurd (lacks_own (λ f. TellsForm f (rows_named db)) db form file.ready.schema refused file.rows.form_told)
 lost_of form db file (Foreign UnreadRow) refused =
-    absurd (lacks_own (λ f. StandForOffice (own_rows f (rows_named db)) × StandForBook (own_rows f (rows_named db))) db form file.ready.schema refused (file.rows.office, file.rows.book))
+    absurd (lacks_own (λ f. StandForOfficeOf f (rows_named db) × StandForBook (rows_named db)) db form file.ready.schema refused (file.rows.office, file.rows.book))
 lost_of form db file (Foreign OtherFigures) refused = absurd (lacks_own (λ f. KeepsFigures f (rows_named db)) db form file.ready.schema refused file.rows.figures)
 lost_of form db file (Foreign BrokenRules) refused = absurd (lacks_own (λ f. KeepsRules (meaning_for f (rows_named db))) db form file.ready.schema refused file.rows.rules)
 lost_of form db file Exists refused = absurd refused
@@ -30,5 +29,5 @@ lost_alone db shown file = let it = database_read db shown file in lost_of it.0 
 pub adopted_file : (db : Database) → IsDatabase db → IsAdopted db → IsOfficeFile db.trees
 adopted_file db shown (form, holds, it) = file_left form db (record {
   ready = record { schema = holds.schema; sound = shown; tables = holds.tables };
-  rows = record { form_told = it.told; alone = it.alone; office = it.office; book = it.book; figures = it.figures; rules = it.rules };
+  rows = record { form_told = it.told; office = it.office; book = it.book; figures = it.figures; rules = it.rules };
 })

@@ -12,19 +12,21 @@ use Rattle.sql_columns.specs.Numbers.{role_number}
 use Rattle.units.specs.Limits.{is_name}
 use Rattle.units.specs.declared.unit.Role.{Role}
 use Rattle.sql_schema.specs.Keys.{first_text, columns}
-use Rattle.sql_meaning.specs.Meaning.{main_rows, meaning_in}
+use Rattle.sql_meaning.specs.Domains.{meaning_by_domain}
 use Rattle.sql_changes.specs.Commits.{WritesRole, MakesRole}
 use Rattle.sql_decoding.specs.RowTests.{is_role, is_member_row}
 use Rattle.sql_decoding.proofs.ColumnsTested.{text_stands, integer_is, role_stands}
 use Rattle.sql_figures.specs.Figures.{HasFigures}
 use Rattle.sql_files.specs.Files.{IsKeepable, StandForAll, IsOfficeDatabase}
 use Rattle.sql_files.proofs.Puts.{all_put, template_same, form_same, book_same}
-use Rattle.sql_files.proofs.ActKept.{stand_all, record_step}
+use Rattle.sql_files.proofs.InDomains.{SeesNothing, nothing_more, stand_still}
+use Rattle.sql_files.proofs.ActKept.{record_step, record_nothing}
 use Rattle.sql_schema.specs.Layouts.{by_domain, NamedRows, rows_named}
 use Rattle.sql_schema.proofs.Layouts.{names_differ}
 use Rattle.sql_schema.specs.Inside.{AreOfficeTablesOf}
 use Rattle.sqlite.specs.Effect.{Database}
-use Rattle.sql_changes.specs.OnMain.{OnMain}
+use Rattle.sql_changes.specs.OnDomains.{OnEach}
+use Rattle.sql_schema.specs.Views.{seen_in}
 
 abbrev pub MemberStands : Row → Type 0
 MemberStands row = IsTrue (is_member_row (columns (2 ∷ 1 ∷ []) row))
@@ -61,11 +63,24 @@ role_step name named utf8 role (Some n) is old new put it =
 role_step name named utf8 role None is old new takes it =
     team_step old new takes.others (λ row there. it.office.members row (takes.rows.only row there).0) it
 
-pub stand_after_role : (old new : NamedRows) (row : Record) (name : Text) (role : Role) → MakesRole row name role old new → IsKeepable row → is_name name ≡ true → IsUtf8 name
+stand_after_role : (old new : NamedRows) (row : Record) (name : Text) (role : Role) → MakesRole row name role old new → IsKeepable row → is_name name ≡ true → IsUtf8 name
     → StandForAll old → StandForAll new
 stand_after_role old new row name role it keepable named utf8 all = role_step name named utf8 role (role_number role) refl it.0 new it.2 (record_step old it.0 row it.1 keepable all)
 
-pub role_keeps : (old new : Database) (row : Record) (name : Text) (role : Role) → OnMain (MakesRole row name role) old new → AreOfficeTablesOf by_domain new
-    → IsKeepable row → is_name name ≡ true → IsUtf8 name → KeepsRules (meaning_in (main_rows (rows_named new))) → HasFigures (rows_named new) → IsOfficeDatabase by_domain old → IsOfficeDatabase by_domain new
+role_nothing : (old new : NamedRows) (row : Record) (name : Text) (role : Role) → MakesRole row name role old new → SeesNothing old → SeesNothing new
+role_nothing old new row name role (mid, recorded, writes) none = by (role_number role) writes
+  where
+    beside : ((t : List ℕ) → t ≢ codes "team" → new t ≡ mid t) → SeesNothing new
+    beside others =
+        nothing_more mid new (others (codes "template") (names_differ refl)) (others (codes "language") (names_differ refl)) (others (codes "unit") (names_differ refl))
+        (others (codes "suggestion") (names_differ refl)) (record_nothing old mid row recorded none)
+
+    by : (n : Option ℤ) → WritesRole name n mid new → SeesNothing new
+    by (Some n) put = beside put.others
+    by None takes = beside takes.others
+
+pub role_keeps : (old new : Database) (row : Record) (name : Text) (role : Role) → OnEach (MakesRole row name role) old new → AreOfficeTablesOf by_domain new
+    → IsKeepable row → is_name name ≡ true → IsUtf8 name → KeepsRules (meaning_by_domain (rows_named new)) → HasFigures (rows_named new) → IsOfficeDatabase by_domain old → IsOfficeDatabase by_domain new
 role_keeps old new row name role it ready keepable named utf8 rules figures file =
-    stand_all old new it ready rules figures file (λ made. stand_after_role (main_rows (rows_named old)) (main_rows (rows_named new)) row name role made keepable named utf8)
+    stand_still old new ready rules figures file it (λ domain. tt) (λ domain missing made none. role_nothing (seen_in domain (rows_named old)) (seen_in domain (rows_named new)) row name role made none)
+    (λ domain project made. stand_after_role (seen_in domain (rows_named old)) (seen_in domain (rows_named new)) row name role made keepable named utf8)

@@ -19,9 +19,7 @@ use Rattle.deliveries.proofs.rows.DemoRequests.{demo_project}
 use Rattle.sql_schema.specs.Layouts.{NamedRows, rows_named}
 use Rattle.sql_schema.proofs.Layouts.{names_differ}
 use Rattle.sql_meaning.specs.Beginnings.{MakesOpening, MakesDemo}
-use Rattle.sql_meaning.specs.Meaning.{main_rows}
-use Rattle.sql_meaning.proofs.MainBeginnings.{opening_in, demo_in}
-use Rattle.sql_meaning.proofs.Openings.{opens, opens_demo}
+use Rattle.sql_meaning.proofs.MainBeginnings.{opening_means, demo_means}
 use Rattle.sql_meaning.proofs.RowsPut.{no_entries}
 use Rattle.sql_figures.specs.Figures.{HasFigures, with_tally}
 use Rattle.sql_figures.specs.KeptSums.{HaveSums}
@@ -74,7 +72,7 @@ opening_none name old new (made, tables, (first, member, policy)) t no_team no_p
 
 pub opening_figures : (name : Text) (old new : Database) → MakesOpening name old new → HasFigures (rows_named new)
 opening_figures name old new made =
-    let is = (opens name (main_rows (rows_named old)) (main_rows (rows_named new)) (opening_in name old new made)).0 in
+    let is = (opening_means name old new made).0 in
     let none = opening_none name old new made in
     record {
       tallies = tallies_alike none_counts (office_counts (office_of new)) (rows_named new (codes "d_tally"))
@@ -124,7 +122,7 @@ demo_kept old new (made, tables, (team, (one, root, ann), (closed, policy, (hell
 
 pub demo_figures : (old new : Database) → MakesDemo old new → HasFigures (rows_named new)
 demo_figures old new made =
-    let is = (opens_demo (main_rows (rows_named old)) (main_rows (rows_named new)) (demo_in old new made)).0 in
+    let is = (demo_means old new made).0 in
     let it = demo_kept old new made in
     record {
       tallies = tallies_alike (with_tally main (codes "de") demo_tally none_counts) (office_counts (office_of new)) (rows_named new (codes "d_tally"))

@@ -14,25 +14,27 @@ use Rattle.request_book.specs.declared.book.Record.{Record}
 use Rattle.sql_columns.specs.Written.{texts_text}
 use Rattle.sql_schema.specs.Inside.{Then, AreOfficeTablesOf}
 use Rattle.sql_schema.specs.Keys.{row_number, columns}
-use Rattle.sql_meaning.specs.Meaning.{template_in, project_of_rows, book_in, meaning_in, main_rows}
-use Rattle.sql_changes.specs.Commits.{PutsNumberedRecord, entry_row, PutsEntries, WritesTemplate, MakesTemplate}
+use Rattle.po_text.specs.Texts.{Text}
+use Rattle.units.specs.Projects.{IsProject}
+use Rattle.sql_meaning.specs.Meaning.{template_in, project_of_rows}
+use Rattle.sql_meaning.specs.Domains.{meaning_by_domain}
+use Rattle.sql_changes.specs.Commits.{PutsNumberedRecord, entry_row, PutsEntries, WritesTemplate, MakesTemplate, MakesIn}
 use Rattle.sql_changes.specs.UnitWrites.{LeavesRows, WritesPlansBack}
 use Rattle.sql_changes.proofs.PlannedUnits.{plans_from_last}
 use Rattle.sql_changes.proofs.Template.{entries_spare, entries_ready}
 use Rattle.sql_decoding.specs.RowTests.{is_key, are_texts, is_entry_row}
 use Rattle.sql_decoding.proofs.ColumnsTested.{text_stands, key_stands, texts_stand}
 use Rattle.sql_keepable.specs.Keepable.{IsKeepableEntry, AreKeepableEntries, AreKeepablePlans}
-use Rattle.office_rules.proofs.MainAlone.{project_keeps}
 use Rattle.sql_figures.specs.Figures.{HasFigures}
 use Rattle.sql_files.specs.Files.{IsKeepable, StandForAll, IsOfficeDatabase}
 use Rattle.sql_files.proofs.Puts.{all_put, template_same, form_same, book_same}
 use Rattle.sql_files.proofs.UnitKept.{plural_stands, plans_keep}
-use Rattle.sql_files.proofs.ActKept.{stand_all, record_step}
+use Rattle.sql_files.proofs.ActKept.{record_step, kept_in}
 use Rattle.sql_schema.specs.Layouts.{by_domain, NamedRows, rows_named}
 use Rattle.sql_schema.proofs.Layouts.{names_differ}
 use Rattle.sql_meaning.specs.RowChanges.{TakesIn}
 use Rattle.sqlite.specs.Effect.{Database}
-use Rattle.sql_changes.specs.OnMain.{OnMain}
+use Rattle.sql_schema.specs.Views.{seen_in}
 
 -- ---- an entry's row
 
@@ -79,7 +81,7 @@ template_step old new apart valid entries it =
 -- ---- the commit
 
 module _ (mid gone next after : NamedRows) (entries : List Entry) (plans : List LanguagePlan) (taken : LeavesRows (TakesIn (codes "template") (λ row. true)) mid gone)
-    (put : PutsEntries 0 entries gone next) (written : WritesPlansBack plans next after) (rules : KeepsRules (meaning_in after)) where
+    (put : PutsEntries 0 entries gone next) (written : WritesPlansBack plans next after) (project : IsProject (project_of_rows after)) where
   template_stays : after (codes "template") ≡ next (codes "template")
   template_stays = (plans_from_last plans next after (entries_ready 0 entries gone next taken.1 put) written).others.template
 
@@ -89,21 +91,22 @@ module _ (mid gone next after : NamedRows) (entries : List Entry) (plans : List 
   changed_step : AreKeepableEntries entries → AreKeepablePlans plans → StandForAll mid → StandForAll after
   changed_step fits all it =
       plans_keep plans all next after written
-      (template_step mid next others_spared (template_same after next (sym template_stays) (project_keeps (project_of_rows after) (book_in after) rules).template_valid)
+      (template_step mid next others_spared (template_same after next (sym template_stays) project.template_valid)
       (entries_stand 0 entries fits gone next put (λ row there. absurd (let no = (taken.0.rows.only row there).1 in cc))) it)
 
 makes_template : (old new : NamedRows) (row : Record) (entries : List Entry) (plans : List LanguagePlan) → Then (PutsNumberedRecord row) (WritesTemplate entries plans) old new
-    → IsKeepable row → AreKeepableEntries entries → AreKeepablePlans plans → KeepsRules (meaning_in new) → StandForAll old → StandForAll new
-makes_template old new row entries plans (mid, recorded, (next, (gone, taken, put), written)) keepable fits all rules it =
-    changed_step mid gone next new entries plans taken put written rules fits all (record_step old mid row recorded keepable it)
+    → IsKeepable row → AreKeepableEntries entries → AreKeepablePlans plans → IsProject (project_of_rows new) → StandForAll old → StandForAll new
+makes_template old new row entries plans (mid, recorded, (next, (gone, taken, put), written)) keepable fits all project it =
+    changed_step mid gone next new entries plans taken put written project fits all (record_step old mid row recorded keepable it)
 
-pub stand_after_template : (old new : NamedRows) (row : Record) (entries : List Entry) (plans : List LanguagePlan) → MakesTemplate row entries plans old new
-    → IsKeepable row → AreKeepableEntries entries → AreKeepablePlans plans → KeepsRules (meaning_in new) → StandForAll old → StandForAll new
+stand_after_template : (old new : NamedRows) (row : Record) (entries : List Entry) (plans : List LanguagePlan) → MakesTemplate row entries plans old new
+    → IsKeepable row → AreKeepableEntries entries → AreKeepablePlans plans → IsProject (project_of_rows new) → StandForAll old → StandForAll new
 unfolding MakesTemplate
-stand_after_template old new row entries plans it keepable fits all rules = makes_template old new row entries plans it keepable fits all rules
+stand_after_template old new row entries plans it keepable fits all project = makes_template old new row entries plans it keepable fits all project
 
-pub template_keeps : (old new : Database) (row : Record) (entries : List Entry) (plans : List LanguagePlan) → OnMain (MakesTemplate row entries plans) old new → AreOfficeTablesOf by_domain new
-    → IsKeepable row → AreKeepableEntries entries → AreKeepablePlans plans → KeepsRules (meaning_in (main_rows (rows_named new)))
+pub template_keeps : (old new : Database) (row : Record) (domain : Text) (entries : List Entry) (plans : List LanguagePlan) → MakesIn domain row (MakesTemplate row entries plans) old new → AreOfficeTablesOf by_domain new
+    → IsKeepable row → AreKeepableEntries entries → AreKeepablePlans plans → KeepsRules (meaning_by_domain (rows_named new))
     → HasFigures (rows_named new) → IsOfficeDatabase by_domain old → IsOfficeDatabase by_domain new
-template_keeps old new row entries plans it ready keepable fits all rules figures file =
-    stand_all old new it ready rules figures file (λ made. stand_after_template (main_rows (rows_named old)) (main_rows (rows_named new)) row entries plans made keepable fits all rules)
+template_keeps old new row domain entries plans it ready keepable fits all rules figures file =
+    kept_in old new row ready keepable rules figures file domain (MakesTemplate row entries plans) it
+    (λ made project. stand_after_template (seen_in domain (rows_named old)) (seen_in domain (rows_named new)) row entries plans made keepable fits all project)

@@ -7,7 +7,7 @@ ghost use Rattle.std.specs.Prelude.{◌≡◌};
 ghost use Rattle.deliveries.specs.OfficeRules.{KeepsRules};
 ghost use Rattle.request_book.specs.declared.book.Record.{Record};
 ghost use Rattle.sql_schema.specs.Inside.{AreOfficeTablesOf};
-ghost use Rattle.sql_meaning.specs.Meaning.{main_rows, meaning_in};
+ghost use Rattle.sql_meaning.specs.Domains.{meaning_by_domain};
 ghost use Rattle.sql_changes.specs.Commits.{PutsNumberedRecord};
 ghost use Rattle.std.specs.Prelude.{true, ⊤, List, Option, Result, IfSome, IsUtf8};
 ghost use Rattle.sqlite.specs.Held.{Held, state};
@@ -18,7 +18,7 @@ ghost use Rattle.po_text.specs.Texts.{Text};
 ghost use Rattle.units.specs.Limits.{is_name};
 ghost use Rattle.sql_schema.specs.Whole.{IsCommitOf};
 ghost use Rattle.sql_meaning.specs.Beginnings.{MakesDemo, MakesOpening};
-ghost use Rattle.sql_changes.specs.OnMain.{OnMain};
+ghost use Rattle.sql_changes.specs.OnDomains.{OnDomainsWhere, OnEach};
 ghost use Rattle.sql_files.specs.Files.{HoldsOfficeRows, IsOfficeDatabase, IsOfficeFile, IsKeepable, IsLost, KeepsFile, LeavesFiles, MakesFiles, StandForAll};
 ghost use Rattle.sql_keepable.specs.Keepable.{IsKeepableUnit, AreKeepableUnits, AreKeepablePlans, IsKeepableLanguage, AreKeepableEntries};
 ghost use Rattle.sql_columns.specs.Written.{IsHeaderEntry};
@@ -26,7 +26,10 @@ ghost use Rattle.units.specs.declared.unit.Unit.{Unit};
 ghost use Rattle.sql_changes.specs.UnitWrites.{WritesNumberedUnit};
 ghost use Rattle.units.specs.declared.unit.Role.{Role};
 ghost use Rattle.sqlite_catalog.specs.Listing.{IsSound};
-ghost use Rattle.sql_changes.specs.Commits.{MakesRole, MakesPolicy, MakesLanguage, MakesTemplate};
+ghost use Rattle.sql_changes.specs.Commits.{MakesRole, MakesPolicy, MakesIn, MakesLanguage, MakesTemplate};
+ghost use Rattle.sql_schema.specs.Inside.{Then};
+ghost use Rattle.sql_meaning.specs.Beginnings.{PutsDomain};
+ghost use Rattle.sql_meaning.specs.RowChanges.{HaveNextIn};
 ghost use Rattle.units.specs.declared.unit.Policy.{Policy};
 ghost use Rattle.deliveries.specs.declared.values.Language.{Language};
 ghost use Rattle.template_update.specs.declared.plans.Plan.{Plan};
@@ -58,8 +61,8 @@ pub fn whatever_is_adopted()
 
 /// A record alone, put where the rules and the figures go on to hold, keeps an office's database one.
 pub fn records_keep_files()
-    ensures { (old new : Database) (row : Record) → OnMain (PutsNumberedRecord row) old new → AreOfficeTablesOf by_domain new
-        → IsKeepable row → KeepsRules (meaning_in (main_rows (rows_named new))) → HasFigures (rows_named new) → IsOfficeDatabase by_domain old → IsOfficeDatabase by_domain new }
+    ensures { (old new : Database) (row : Record) → OnEach (PutsNumberedRecord row) old new → AreOfficeTablesOf by_domain new
+        → IsKeepable row → KeepsRules (meaning_by_domain (rows_named new)) → HasFigures (rows_named new) → IsOfficeDatabase by_domain old → IsOfficeDatabase by_domain new }
 {}
 
 /// Where what the commit of an act on a unit makes of an office's file is one, the connection keeps it, and a stop leaves one.
@@ -83,35 +86,42 @@ pub fn units_keep_rows()
 /// The commit of an act on a unit, where the rules and the figures go on to hold, keeps an office's database one.
 pub fn acts_keep_files()
     ensures { (old new : Database) (row : Record) (domain lang : Text) (view : Option UnitView) → MakesAct row domain lang view old new → AreOfficeTablesOf by_domain new
-        → IsKeepable row → IfSome view (λ v. IsKeepableUnit lang v.unit) → KeepsRules (meaning_in (main_rows (rows_named new)))
+        → IsKeepable row → IfSome view (λ v. IsKeepableUnit lang v.unit) → KeepsRules (meaning_by_domain (rows_named new))
         → HasFigures (rows_named new) → IsOfficeDatabase by_domain old → IsOfficeDatabase by_domain new }
 {}
 
 /// The commit of a role, where the rules and the figures go on to hold, keeps an office's database one.
 pub fn roles_keep_files()
-    ensures { (old new : Database) (row : Record) (name : Text) (role : Role) → OnMain (MakesRole row name role) old new → AreOfficeTablesOf by_domain new
-        → IsKeepable row → is_name name ≡ true → IsUtf8 name → KeepsRules (meaning_in (main_rows (rows_named new)))
+    ensures { (old new : Database) (row : Record) (name : Text) (role : Role) → OnEach (MakesRole row name role) old new → AreOfficeTablesOf by_domain new
+        → IsKeepable row → is_name name ≡ true → IsUtf8 name → KeepsRules (meaning_by_domain (rows_named new))
         → HasFigures (rows_named new) → IsOfficeDatabase by_domain old → IsOfficeDatabase by_domain new }
 {}
 
 /// The commit of a policy, where the rules and the figures go on to hold, keeps an office's database one.
 pub fn policies_keep_files()
-    ensures { (old new : Database) (row : Record) (policy : Policy) → OnMain (MakesPolicy row policy) old new → AreOfficeTablesOf by_domain new
-        → IsKeepable row → KeepsRules (meaning_in (main_rows (rows_named new))) → HasFigures (rows_named new) → IsOfficeDatabase by_domain old → IsOfficeDatabase by_domain new }
+    ensures { (old new : Database) (row : Record) (policy : Policy) → OnDomainsWhere HaveNextIn (λ domain. MakesPolicy row policy) old new → AreOfficeTablesOf by_domain new
+        → IsKeepable row → KeepsRules (meaning_by_domain (rows_named new)) → HasFigures (rows_named new) → IsOfficeDatabase by_domain old → IsOfficeDatabase by_domain new }
+{}
+
+/// The commit of a new domain, where the rules and the figures go on to hold, keeps an office's database one.
+pub fn domains_keep_files()
+    ensures { (old new : Database) (row : Record) (domain : Text) → Then (OnEach (PutsNumberedRecord row)) (PutsDomain domain) old new → AreOfficeTablesOf by_domain new
+        → IsKeepable row → is_name domain ≡ true → IsUtf8 domain → KeepsRules (meaning_by_domain (rows_named new))
+        → HasFigures (rows_named new) → IsOfficeDatabase by_domain old → IsOfficeDatabase by_domain new }
 {}
 
 /// The commit of a language, where the rules and the figures go on to hold, keeps an office's database one.
 pub fn languages_keep_files()
-    ensures { (old new : Database) (row : Record) (lang : Text) (language : Language) (plan : Plan) → OnMain (MakesLanguage row lang language plan) old new
+    ensures { (old new : Database) (row : Record) (domain lang : Text) (language : Language) (plan : Plan) → MakesIn domain row (MakesLanguage row lang language plan) old new
         → AreOfficeTablesOf by_domain new → IsKeepable row → IsKeepableLanguage lang language.header → IsHeaderEntry language.header
-        → AreKeepableUnits lang plan.units → KeepsRules (meaning_in (main_rows (rows_named new))) → HasFigures (rows_named new) → IsOfficeDatabase by_domain old → IsOfficeDatabase by_domain new }
+        → AreKeepableUnits lang plan.units → KeepsRules (meaning_by_domain (rows_named new)) → HasFigures (rows_named new) → IsOfficeDatabase by_domain old → IsOfficeDatabase by_domain new }
 {}
 
 /// The commit of a template with the units that are fitted to it, where the rules and the figures go on to hold, keeps an office's database one.
 pub fn templates_keep_files()
-    ensures { (old new : Database) (row : Record) (entries : List Entry) (plans : List LanguagePlan) → OnMain (MakesTemplate row entries plans) old new
+    ensures { (old new : Database) (row : Record) (domain : Text) (entries : List Entry) (plans : List LanguagePlan) → MakesIn domain row (MakesTemplate row entries plans) old new
         → AreOfficeTablesOf by_domain new → IsKeepable row → AreKeepableEntries entries → AreKeepablePlans plans
-        → KeepsRules (meaning_in (main_rows (rows_named new))) → HasFigures (rows_named new) → IsOfficeDatabase by_domain old → IsOfficeDatabase by_domain new }
+        → KeepsRules (meaning_by_domain (rows_named new)) → HasFigures (rows_named new) → IsOfficeDatabase by_domain old → IsOfficeDatabase by_domain new }
 {}
 
 /// An opening of trees that list the tables of a layout reads that schema, however the texts are spelled.

@@ -10,8 +10,8 @@
 mod laws;
 
 pub use laws::{
-    acts_keep_files, adopted_unless_lost, commits_keep_files, demos_are_rows, figures_follow_acts,
-    languages_keep_files, listed_schemas_are_read, openings_are_rows, policies_keep_files,
-    records_keep_files, roles_keep_files, templates_keep_files, units_keep_rows,
-    whatever_is_adopted,
+    acts_keep_files, adopted_unless_lost, commits_keep_files, demos_are_rows, domains_keep_files,
+    figures_follow_acts, languages_keep_files, listed_schemas_are_read, openings_are_rows,
+    policies_keep_files, records_keep_files, roles_keep_files, templates_keep_files,
+    units_keep_rows, whatever_is_adopted,
 };

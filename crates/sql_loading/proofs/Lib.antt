@@ -1,3 +1,4 @@
 pub mod TwoTexts
 pub mod PutAnew
 pub mod OfficePut
+pub mod Lending

@@ -1,1 +1,1 @@
-pub mod MainChanged
+pub mod DomainChanged

@@ -1,15 +1,15 @@
-//! The whole office, whose one domain is `main`, from all rows of its tables into maps.
+//! An office from all rows of its tables into maps, a domain at a time.
 //!
-//! - `office_read`: the whole office (`office_in`)
+//! - `office_read`: a domain, with the team and the policy of its office (`add_domain`)
 //! - `office_tables`: the team, the policy, the template and the languages, put in
 //! - `unit_tables`: votes and suggestions, found by their numbers and units (`votes_by_number`)
 //!
-//! The spec `MainChanged` is for inner functions.
+//! The spec `DomainChanged` is for inner functions.
 #![tactic(auto)]
 
 mod office_read;
 mod office_tables;
 mod unit_tables;
 
-pub use office_read::office_in;
+pub use office_read::add_domain;
 pub use unit_tables::votes_by_number;

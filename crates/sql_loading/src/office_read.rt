@@ -1,23 +1,21 @@
-//! The whole office, as all rows of its tables are read.
+//! A domain with the team and the policy of its office, as all rows of its tables are read.
 ghost use Rattle.std.specs.Prelude.{◌≡◌, ◌&&◌, true, IfOk, IfErr, OnOk, fold};
 ghost use Rattle.std.specs.List.{list_all};
 ghost use Rattle.std.specs.FinMap as finite;
-ghost use Rattle.units.specs.Office.{main};
 ghost use Rattle.units.specs.Project.{with_unit};
-ghost use Rattle.units.specs.Openings.{opening};
-ghost use Rattle.deliveries.specs.MainAlone.{main_alone};
 ghost use Rattle.office_maps.specs.OfficeIn.{office_in, place_of};
 ghost use Rattle.sql_meaning.specs.Meaning.{key_at};
-ghost use Rattle.sql_meaning.specs.OfficeShown.{project_shown, unit_shown, place_shown};
-ghost use Rattle.sql_loading.specs.MainChanged.{ChangesMain};
+ghost use Rattle.sql_meaning.specs.OfficeShown.{with_shown, unit_shown, place_shown};
+ghost use Rattle.sql_loading.specs.DomainChanged.{ChangesDomain};
 ghost use Rattle.sql_decoding.specs.TablesRead.{with_suggestions};
 ghost use Rattle.sql_decoding.specs.RowTests.{has_place, is_unit, is_unit_row, are_unit_tables, AreOfficeRows, IsUnread};
-ghost use Rattle.tables.specs.declared.faults.Lost.TheVariants.{Memory, Disk};
+ghost use Rattle.tables.specs.declared.faults.Lost.TheVariants.{Disk};
 
 use crate::office_tables::{put_languages, put_policy, put_team, put_template};
 use crate::unit_tables::{all_suggestions, suggestions_on};
+use deliveries::Change;
 use office_maps::{OfficeMaps, OrderedKey, Place};
-use po_text::Items;
+use po_text::{Duplicate, Items};
 use sql_decoding::{Failure, key_at, lang_at, unit_with};
 use sql_statements::whole_office::{UnitTables, WholeOffice};
 use sqlite::Row;
@@ -57,7 +55,7 @@ fn unit_of(
     unit_with(alloc, key, row, own)
 }
 
-/// Puts the unit of a row at its place in `main`, whose name is handed in.
+/// Puts the unit of a row at its place in a domain.
 fn put_unit(
     alloc: Global,
     maps: &mut OfficeMaps,
@@ -65,8 +63,7 @@ fn put_unit(
     suggestions: &BTreeMap<(String, String), Items<Suggestion>>,
     row: &Row,
 ) -> Result<(), Failure>
-    requires { domain.now ≡ main }
-    ensures shown { OnOk result (ChangesMain maps.old maps.new (λ project. with_unit project (place_shown row.now) (with_suggestions suggestions.now row.now))) }
+    ensures shown { OnOk result (ChangesDomain domain.now maps.old maps.new (λ project. with_unit project (place_shown row.now) (with_suggestions suggestions.now row.now))) }
     ensures stands { OnOk result (is_unit_row row.now ≡ true) }
     ensures unread { IfErr result (IsUnread (is_unit_row row.now)) }
 {
@@ -76,7 +73,7 @@ fn put_unit(
     Ok(())
 }
 
-/// Puts the units of rows at their places in `main`, whose name is handed in.
+/// Puts the units of rows at their places in a domain.
 fn put_each_unit(
     alloc: Global,
     maps: &mut OfficeMaps,
@@ -84,8 +81,7 @@ fn put_each_unit(
     suggestions: &BTreeMap<(String, String), Items<Suggestion>>,
     rows: &[Row],
 ) -> Result<(), Failure>
-    requires { domain.now ≡ main }
-    ensures shown { OnOk result (ChangesMain maps.old maps.new
+    ensures shown { OnOk result (ChangesDomain domain.now maps.old maps.new
         (λ project. fold (λ p row. with_unit p (place_shown row) (with_suggestions suggestions.now row)) project rows.now)) }
     ensures stands { OnOk result (list_all is_unit_row rows.now ≡ true) }
     ensures unread { IfErr result (IsUnread (list_all is_unit_row rows.now)) }
@@ -96,54 +92,46 @@ fn put_each_unit(
     Ok(())
 }
 
-/// Puts the units of whole tables in.
-fn put_units(alloc: Global, maps: &mut OfficeMaps, rows: &UnitTables) -> Result<(), Failure>
-    ensures shown { OnOk result (ChangesMain maps.old maps.new (λ project.
+/// Puts the units of whole tables into a domain.
+fn put_units(
+    alloc: Global,
+    maps: &mut OfficeMaps,
+    domain: &Name,
+    rows: &UnitTables,
+) -> Result<(), Failure>
+    ensures shown { OnOk result (ChangesDomain domain.now maps.old maps.new (λ project.
         record project { units = fold (λ units row. finite.insert units (place_shown row) (unit_shown rows.now row)) project.units rows.now.units.items })) }
     ensures stands { OnOk result (are_unit_tables rows.now ≡ true) }
     ensures unread { IfErr result (IsUnread (are_unit_tables rows.now)) }
 {
     let suggestions = all_suggestions(alloc, rows)?;
-    let domain = Name::main_domain();
-    put_each_unit(alloc, maps, &domain, &suggestions, rows.units.as_slice())?;
+    put_each_unit(alloc, maps, domain, &suggestions, rows.units.as_slice())?;
     Ok(())
 }
 
 // ---- all of it
 
-/// An office with nothing but one member, whose name doesn't matter: the rows' team takes its place.
-fn bare_office(alloc: Global) -> Result<OfficeMaps, Failure>
-    ensures opening { IfOk result (λ maps. office_in maps ≡ opening main) }
-    ensures memory { IfErr result (λ failure. failure.lost ≡ Memory) }
-{
-    Ok(OfficeMaps::opening(alloc, &Name::main_domain())?)
-}
-
-/// Puts all that rows stand for into an office with nothing but one member.
-fn put_tables(alloc: Global, maps: &mut OfficeMaps, rows: &WholeOffice) -> Result<(), Failure>
-    requires { office_in maps.old ≡ opening main }
-    ensures shown { OnOk result (office_in maps.new ≡ main_alone (project_shown rows.now)) }
-    ensures stands { OnOk result (AreOfficeRows rows.now) }
-    ensures unread { IfErr result (λ failure. failure.lost ≡ Disk → ¬ AreOfficeRows rows.now) }
-{
-    put_template(alloc, maps, rows.office.template.as_slice())?;
-    put_languages(alloc, maps, rows.office.languages.as_slice())?;
-    put_team(alloc, maps, rows.office.team.as_slice())?;
-    put_policy(maps, &rows.office.policy)?;
-    put_units(alloc, maps, &rows.units)?;
-    Ok(())
-}
-
-/// The office that all rows of its tables stand for, in maps: its one domain is `main`.
+/// Puts a domain that all rows of its tables stand for into an office, with their team and policy. It is put in anew where there is one
+/// of its name.
 ///
 /// `Memory` where a growth was refused, and `Disk` exactly where a row stands for no value, or the template's entries are no valid
-/// catalogue.
-pub fn office_in(alloc: Global, rows: &WholeOffice) -> Result<OfficeMaps, Failure>
-    ensures shown { IfOk result (λ maps. office_in maps ≡ main_alone (project_shown rows.now)) }
+/// catalogue; then a part of them may be put in.
+pub fn add_domain(
+    alloc: Global,
+    maps: &mut OfficeMaps,
+    domain: &Name,
+    rows: &WholeOffice,
+) -> Result<(), Failure>
+    ensures shown { OnOk result (office_in maps.new ≡ with_shown (office_in maps.old) domain.now rows.now) }
     ensures stands { OnOk result (AreOfficeRows rows.now) }
     ensures unread { IfErr result (λ failure. failure.lost ≡ Disk → ¬ AreOfficeRows rows.now) }
 {
-    let mut maps = bare_office(alloc)?;
-    put_tables(alloc, &mut maps, rows)?;
-    Ok(maps)
+    let own = domain.duplicate()?;
+    maps.change(alloc, Change::NewDomain(own))?;
+    put_template(alloc, maps, domain, rows.office.template.as_slice())?;
+    put_languages(alloc, maps, domain, rows.office.languages.as_slice())?;
+    put_team(alloc, maps, rows.office.team.as_slice())?;
+    put_policy(alloc, maps, &rows.office.policy)?;
+    put_units(alloc, maps, domain, &rows.units)?;
+    Ok(())
 }

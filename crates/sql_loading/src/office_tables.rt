@@ -1,11 +1,12 @@
-//! The team, the policy, the template and the languages of whole tables, put into an office whose one domain is `main`.
-ghost use Rattle.std.specs.Prelude.{◌≡◌, true, IfOk, IfErr, OnOk, fold, option_map, unwrap_or};
+//! The team, the policy, the template and the languages of whole tables, put into a domain of an office.
+ghost use Rattle.std.specs.Prelude.{◌≡◌, true, IfOk, IfErr, OnOk, fold};
 ghost use Rattle.std.specs.List.{list_all};
 ghost use Rattle.std.specs.Option.{option_map_or};
+ghost use Rattle.po_text.specs.Texts.{Text};
 ghost use Rattle.sql_schema.specs.Keys.{text_at};
-ghost use Rattle.sql_meaning.specs.Shown.{shown_header, shown_policy};
-ghost use Rattle.sql_meaning.specs.OfficeShown.{team_shown, template_shown};
-ghost use Rattle.sql_loading.specs.MainChanged.{ChangesMain};
+ghost use Rattle.sql_meaning.specs.Shown.{shown_header};
+ghost use Rattle.sql_meaning.specs.OfficeShown.{team_shown, policy_shown, template_shown};
+ghost use Rattle.sql_loading.specs.DomainChanged.{ChangesDomain};
 ghost use Rattle.sql_decoding.specs.RowTests.{is_member_row, is_policy_row, is_entry_row, is_language, is_language_row, IsTemplate, IsUnread};
 ghost use Rattle.tables.specs.declared.faults.Lost.TheVariants.{Disk};
 ghost use Rattle.std.specs.FinMap as finite;
@@ -14,7 +15,7 @@ ghost use Rattle.sql_meaning.specs.Values as values;
 
 use deliveries::{Change, DomainChange, Language, Tally};
 use office_maps::OfficeMaps;
-use po_text::{Catalogue, Entry, Items};
+use po_text::{Catalogue, Duplicate, Entry, Items};
 use sql_columns::rule_from;
 use sql_decoding::{
     Failure, header_in, lang_at, name_text_at, policy_in, role_at, template_entry, text_in,
@@ -24,7 +25,7 @@ use std::alloc::Global;
 use std::collections::BTreeMap;
 use tables::Lost;
 use template_update::{Counts, Plan};
-use units::{Name, Role};
+use units::{Name, Policy, Role};
 
 // ---- the team and the policy
 
@@ -55,7 +56,7 @@ fn team_in(alloc: Global, rows: &[Row]) -> Result<BTreeMap<String, Role>, Failur
 
 /// Puts the team of rows in.
 pub(crate) fn put_team(alloc: Global, maps: &mut OfficeMaps, rows: &[Row]) -> Result<(), Failure>
-    ensures shown { OnOk result (ChangesMain maps.old maps.new (λ project. record project { team = team_shown rows.now })) }
+    ensures shown { OnOk result ((domain : Text) → ChangesDomain domain maps.old maps.new (λ project. record project { team = team_shown rows.now })) }
     ensures stands { OnOk result (list_all is_member_row rows.now ≡ true) }
     ensures unread { IfErr result (IsUnread (list_all is_member_row rows.now)) }
 {
@@ -63,20 +64,36 @@ pub(crate) fn put_team(alloc: Global, maps: &mut OfficeMaps, rows: &[Row]) -> Re
     Ok(())
 }
 
-/// Puts the policy of a row in the place of the one that is there, which stays without a row.
-pub(crate) fn put_policy(maps: &mut OfficeMaps, row: &Option<Row>) -> Result<(), Failure>
-    ensures shown { OnOk result (ChangesMain maps.old maps.new (λ project. record project { policy = unwrap_or (option_map shown_policy row.now) project.policy })) }
+/// The policy of a row, and without a row the one that an office opens with.
+fn policy_of(alloc: Global, row: &Option<Row>) -> Result<Policy, Failure>
+    ensures shown { IfOk result (λ policy. policy ≡ policy_shown row.now) }
     ensures stands { OnOk result (option_map_or is_policy_row row.now true ≡ true) }
     ensures unread { IfErr result (IsUnread (option_map_or is_policy_row row.now true)) }
 {
     match row {
-        Some(row) => {
-            maps.policy = policy_in(row)?;
-            Ok(())
+        Some(row) => policy_in(row),
+        None => {
+            let bare = OfficeMaps::opening(alloc, &Name::main_domain())?;
+            Ok(bare.policy)
         }
-        None => Ok(()),
     }
 }
+
+/// Puts the policy of a row in.
+pub(crate) fn put_policy(
+    alloc: Global,
+    maps: &mut OfficeMaps,
+    row: &Option<Row>,
+) -> Result<(), Failure>
+    ensures shown { OnOk result ((domain : Text) → ChangesDomain domain maps.old maps.new (λ project. record project { policy = policy_shown row.now })) }
+    ensures stands { OnOk result (option_map_or is_policy_row row.now true ≡ true) }
+    ensures unread { IfErr result (IsUnread (option_map_or is_policy_row row.now true)) }
+{
+    maps.policy = policy_of(alloc, row)?;
+    Ok(())
+}
+
+// ---- the template
 
 /// The template's entries of rows.
 fn entries_in(alloc: Global, rows: &[Row]) -> Result<Vec<Entry>, Failure>
@@ -104,20 +121,22 @@ fn template_in(alloc: Global, rows: &[Row]) -> Result<Catalogue, Failure>
     }
 }
 
-/// Puts the template of rows in, and no unit.
+/// Puts the template of rows into a domain, and no unit.
 pub(crate) fn put_template(
     alloc: Global,
     maps: &mut OfficeMaps,
+    domain: &Name,
     rows: &[Row],
 ) -> Result<(), Failure>
-    ensures shown { OnOk result (ChangesMain maps.old maps.new (λ project. record project { template = template_shown rows.now; units = finite.empty })) }
+    ensures shown { OnOk result (ChangesDomain domain.now maps.old maps.new (λ project. record project { template = template_shown rows.now; units = finite.empty })) }
     ensures stands { OnOk result (IsTemplate rows.now) }
     ensures unread { IfErr result (λ failure. failure.lost ≡ Disk → ¬ IsTemplate rows.now) }
 {
+    let own = domain.duplicate()?;
     let template = template_in(alloc, rows)?;
     let tallies = Vec::new(alloc);
     let bare = DomainChange::NewTemplate(template, Vec::new(alloc), tallies);
-    maps.change(alloc, Change::InDomain(Name::main_domain(), bare))?;
+    maps.change(alloc, Change::InDomain(own, bare))?;
     Ok(())
 }
 
@@ -140,13 +159,19 @@ fn language_in(alloc: Global, row: &Row) -> Result<Language, Failure>
     }
 }
 
-/// Puts the language of a row in, without units.
-fn put_language(alloc: Global, maps: &mut OfficeMaps, row: &Row) -> Result<(), Failure>
-    ensures shown { OnOk result (ChangesMain maps.old maps.new
+/// Puts the language of a row into a domain, without units.
+fn put_language(
+    alloc: Global,
+    maps: &mut OfficeMaps,
+    domain: &Name,
+    row: &Row,
+) -> Result<(), Failure>
+    ensures shown { OnOk result (ChangesDomain domain.now maps.old maps.new
         (λ project. record project { headers = finite.insert project.headers (text_at 2 row.now) (shown_header row.now) })) }
     ensures stands { OnOk result (is_language_row row.now ≡ true) }
     ensures unread { IfErr result (IsUnread (is_language_row row.now)) }
 {
+    let own = domain.duplicate()?;
     let lang = lang_at(alloc, row, 2)?;
     let language = language_in(alloc, row)?;
     let plan = Plan {
@@ -158,23 +183,24 @@ fn put_language(alloc: Global, maps: &mut OfficeMaps, row: &Row) -> Result<(), F
         },
     };
     let loaded = DomainChange::NewLanguage(lang, language, plan, Tally::none());
-    maps.change(alloc, Change::InDomain(Name::main_domain(), loaded))?;
+    maps.change(alloc, Change::InDomain(own, loaded))?;
     Ok(())
 }
 
-/// Puts the languages of rows in, without units.
+/// Puts the languages of rows into a domain, without units.
 pub(crate) fn put_languages(
     alloc: Global,
     maps: &mut OfficeMaps,
+    domain: &Name,
     rows: &[Row],
 ) -> Result<(), Failure>
-    ensures shown { OnOk result (ChangesMain maps.old maps.new (λ project.
+    ensures shown { OnOk result (ChangesDomain domain.now maps.old maps.new (λ project.
         record project { headers = fold (λ headers row. finite.insert headers (text_at 2 row) (shown_header row)) project.headers rows.now })) }
     ensures stands { OnOk result (list_all is_language_row rows.now ≡ true) }
     ensures unread { IfErr result (IsUnread (list_all is_language_row rows.now)) }
 {
     for row in rows {
-        put_language(alloc, maps, row)?;
+        put_language(alloc, maps, domain, row)?;
     }
     Ok(())
 }

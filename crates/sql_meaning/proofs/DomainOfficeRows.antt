@@ -20,6 +20,7 @@ use Rattle.sqlite_trees.proofs.ListLemmas.{all-map}
 use Rattle.sqlite_rules.specs.Lists.{Has}
 use Rattle.sqlite_rules.proofs.ListLemmas.{all_has, all_from, has_filtered, some_has}
 use Rattle.sql_laws.specs.ApartRows.{AreOnce}
+use Rattle.sql_laws.specs.RowMaps.{OneEach}
 use Rattle.sql_laws.proofs.Comparisons.{texts_compared}
 use Rattle.sql_laws.proofs.RowMaps.{texts_are_one}
 use Rattle.po_text.specs.Texts.{Text}
@@ -30,7 +31,7 @@ use Rattle.sql_schema.specs.Schema.{is_between, d_unit_table}
 use Rattle.sql_schema.specs.Views.{viewed, entry_seen, unit_seen, suggestion_seen, seen_in}
 use Rattle.sql_schema.proofs.DomainViews.{is_text}
 use Rattle.sql_schema.proofs.DomainParents.{d_suggestion_on_unit, d_vote_on_suggestion}
-use Rattle.sql_schema.proofs.DomainRows.{one_d_entry_place, d_entry_places, d_unit_texts, d_suggestion_units, d_suggestion_texts, d_suggestion_places, d_vote_texts}
+use Rattle.sql_schema.proofs.DomainRows.{one_domain_name, one_d_entry_place, d_entry_places, d_unit_texts, d_suggestion_units, d_suggestion_texts, d_suggestion_places, d_vote_texts}
 use Rattle.sql_schema.proofs.Layouts.{d_unit_placed}
 use Rattle.sql_schema.proofs.TextKeys.{holds_int, passes_rule}
 use Rattle.sql_schema.proofs.Views.{from_view, to_view}
@@ -87,6 +88,10 @@ agreed_three u s a b p q x y u1 s2 u2 s3 u3 s4 agreed =
     (texts_are_one a b parts.0, texts_are_one p q rest.0, texts_are_one x y (and_parts _ _ rest.1).0)
 
 module _ (db : Database) (ready : AreOfficeTablesOf by_domain db) where
+  -- no two domains have one name
+  pub one_domain_each : OneEach first_text (rows_named db (codes "domain"))
+  one_domain_each = one_domain_name db ready.schema ready.sound (ready.tables (codes "domain") refl)
+
   -- a vote is on a suggestion, of whatever domain
   pub on_suggestion : (v : Row) → Has (rows_named db (codes "d_vote")) v → (s : Row) × Has (rows_named db (codes "d_suggestion")) s × (first_text v ≡ first_text s)
   on_suggestion v there =

@@ -30,6 +30,8 @@ pub mod Openings
 pub mod WritableUnits
 pub mod CommitLaws
 pub mod SameRows
+pub mod OneDomainRules
+pub mod OfficeOfDomains
 pub mod DomainChanges
 pub mod DomainUnits
 pub mod WrittenAnew

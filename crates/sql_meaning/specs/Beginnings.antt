@@ -15,9 +15,13 @@ use Rattle.sql_schema.specs.Keys.{key_texts, first_text, first_three, row_number
 use Rattle.sql_schema.specs.Rows.{text_or_null}
 use Rattle.sql_meaning.specs.Cells.{unit_cells, tally_cells}
 
+-- a domain's name
+abbrev pub PutsDomain : Text → Database → Database → Type 0
+PutsDomain domain = PutsRow (codes "domain") first_text (HoldsValues (Words domain ∷ []))
+
 -- the one domain
 abbrev pub PutsMain : Database → Database → Type 0
-PutsMain = PutsRow (codes "domain") first_text (HoldsValues (Words main ∷ []))
+PutsMain = PutsDomain main
 
 -- the tables, with it
 abbrev pub MakesMainTables : Database → Database → Type 0

@@ -6,6 +6,7 @@ use Rattle.sqlite.specs.Order.{Row}
 use Rattle.po_text.specs.declared.entry.Entry.{Entry}
 use Rattle.po_text.specs.Texts.{Text, text_cmp}
 use Rattle.units.specs.Project.{Project, Place, place_cmp}
+use Rattle.units.specs.Office.{Office, domain_of}
 use Rattle.units.specs.Openings.{closed_policy}
 use Rattle.units.specs.declared.unit.Unit.{Unit}
 use Rattle.units.specs.declared.unit.Suggestion.{Suggestion}
@@ -64,12 +65,20 @@ place_shown row = (text_at 7 row, key_at 8 row)
 abbrev pub units_shown : UnitTables → maps.FinMap place_cmp Unit
 units_shown rows = each_put place_shown (unit_shown rows) rows.units.items
 
--- `main`, with the team and the policy of the office
+-- a domain, with the team and the policy of the office
 abbrev pub project_shown : WholeOffice → Project
 project_shown rows = record {
   template = template_shown rows.office.template.items;
   headers = headers_shown rows.office.languages.items;
   units = units_shown rows.units;
+  team = team_shown rows.office.team.items;
+  policy = policy_shown rows.office.policy;
+}
+
+-- an office with a domain that rows show, and with their team and policy
+abbrev pub with_shown : Office → Text → WholeOffice → Office
+with_shown office domain rows = record {
+  domains = maps.insert office.domains domain (domain_of (project_shown rows));
   team = team_shown rows.office.team.items;
   policy = policy_shown rows.office.policy;
 }

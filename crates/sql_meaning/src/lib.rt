@@ -1,8 +1,9 @@
-//! What the rows of the tables stand for: an office, whose one domain is `main`, with its book; of tables by domains it
-//! is what `main` sees. And the same as a function of all rows as reads of whole tables show them. It has no code.
+//! What the rows of the tables stand for: an office with its book. In tables without a column for a domain its one domain
+//! is `main`; in tables by domains each domain is what such tables stand for, of the rows that it sees. And the same as a
+//! function of all rows as reads of whole tables show them. It has no code.
 //!
-//! - Spec `Meaning`: the office with its book; `Domains`: an office of several domains; `Values`: the value of a column;
-//!   `Cells`: the row that is written for a value
+//! - Spec `Meaning`: the office of `main` alone, with its book; `Domains`: an office of all its domains, and the meaning of
+//!   either form; `Values`: the value of a column; `Cells`: the row that is written for a value
 //! - Specs `RowKeys`, `RowChanges`: what a schema asks of rows by the names of their tables, wherever these are, and what
 //!   statements make of them
 //! - Specs `Shown`, `OfficeShown`: what the rows that queries and reads of whole tables show stand for

@@ -12,8 +12,7 @@ use Rattle.tables.specs.declared.faults.Lost.{Lost}
 use Rattle.tables.specs.declared.faults.Lost.TheVariants.{Disk}
 use Rattle.sql_schema.specs.Whole.{IsLookUp}
 use Rattle.office_maps.specs.OfficeIn.{office_in}
-use Rattle.deliveries.specs.MainAlone.{main_alone}
-use Rattle.sql_meaning.specs.Meaning.{main_rows, project_of_rows}
+use Rattle.sql_meaning.specs.Domains.{office_of_rows}
 use Rattle.store_sql.specs.Kept.{KeepsOffice, IsAtHand, is_honest, is_whole, means, may_leave, is_stopped}
 use Rattle.store_sql.proofs.StillKept.{left_means, IsSettled}
 use Rattle.sql_schema.specs.Layouts.{rows_named}
@@ -31,22 +30,22 @@ at_hand_still old new x P None looked h = tt
 at_hand_still old new x P (Some maps) looked h = λ clean.
     let is_open : IsTrue new.is_open = looked.is_open clean in
     let early : HasCleanDisk old = omega (arith, clean, looked.survives.clean) in
-    (is_open, (h early).1 ∙ sym (ap (λ (d : Database). main_alone (project_of_rows (main_rows (rows_named d)))) (looked.same clean is_open).now))
+    (is_open, (h early).1 ∙ sym (ap (λ (d : Database). office_of_rows (rows_named d)) (looked.same clean is_open).now))
 
 -- the office that was read is at hand
 pub at_hand_read : (old new : State) {E : Type 0} (maps : OfficeMaps) (office : Option OfficeMaps) → office ≡ Some maps
-    → IsLookUp {E = E} old new (Ok maps) (λ db maps. office_in maps ≡ main_alone (project_of_rows (main_rows (rows_named db)))) → IsAtHand new office
+    → IsLookUp {E = E} old new (Ok maps) (λ db maps. office_in maps ≡ office_of_rows (rows_named db)) → IsAtHand new office
 at_hand_read old new maps office is looked =
     subst (IsAtHand new) (sym is) (λ clean.
     let is_open : IsTrue new.is_open = looked.is_open clean in
-    (is_open, looked.answer clean ∙ sym (ap (λ (d : Database). main_alone (project_of_rows (main_rows (rows_named d)))) (looked.same clean is_open).now)))
+    (is_open, looked.answer clean ∙ sym (ap (λ (d : Database). office_of_rows (rows_named d)) (looked.same clean is_open).now)))
 
 -- behind an office at hand the connection is open
 pub at_hand_open : (s : State) (office : Option OfficeMaps) → is_some office ≡ true → IsAtHand s office → HasCleanDisk s → IsTrue s.is_open
 at_hand_open s None there h clean = absurd (let no : false ≡ true = there in cc)
 at_hand_open s (Some maps) there h clean = (h clean).0
 
-pub at_hand_is : (s : State) (office : Option OfficeMaps) (maps : OfficeMaps) → office ≡ Some maps → IsAtHand s office → HasCleanDisk s → IsTrue s.is_open × (office_in maps ≡ main_alone (project_of_rows (main_rows (rows_named s.now))))
+pub at_hand_is : (s : State) (office : Option OfficeMaps) (maps : OfficeMaps) → office ≡ Some maps → IsAtHand s office → HasCleanDisk s → IsTrue s.is_open × (office_in maps ≡ office_of_rows (rows_named s.now))
 at_hand_is s office maps is h clean = subst (IsAtHand s) is h clean
 
 module _ {S : Type 0} (g : store.Ghosts S) where

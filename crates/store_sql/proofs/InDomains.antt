@@ -1,38 +1,44 @@
--- What is found in a domain of an office that has `main` alone, and what a commit there leaves of it.
-use Rattle.std.proofs.Common.{◌≡◌, [], true, false, Result, ap, ◌∙◌}
-use Rattle.std.specs.Option.{option_map_or}
-use Rattle.std.specs.FinMap as maps
-use Rattle.std.proofs.lemmas.Result.{IfOk-weaker}
-use Rattle.sqlite.specs.Effect.{Database}
-use Rattle.sqlite.specs.State.{State}
-use Rattle.po_text.specs.Texts.{Text, text_cmp}
-use Rattle.units.specs.Project.{Project}
-use Rattle.units.specs.Office.{main, empty_domain, same_domain, as_project, project_in}
-use Rattle.deliveries.specs.ExportedEntries.{catalogue_of}
-use Rattle.deliveries.specs.MainAlone.{main_alone}
-use Rattle.deliveries.proofs.domains.InDomains.{equal_domains}
-use Rattle.deliveries.proofs.domains.MainAlone.{in-main, in-another}
-use Rattle.tables.specs.Entries.{entries_of}
-use Rattle.sql_schema.specs.Whole.{IsLookUp}
+-- What is found in a domain is what it sees: the project of one that is there, and of another one with no message and no language.
+use Rattle.std.proofs.Common.{◌≡◌, inl, List, [], ◌∷◌, Bool, true, false, IsTrue, refl, sym, subst, ◌∙◌, codes}
+use Rattle.sqlite.specs.Order.{Row}
+use Rattle.sqlite.specs.State.{State, HasCleanDisk}
+use Rattle.sqlite_rules.specs.Lists.{Has}
+use Rattle.po_text.specs.Texts.{Text}
+use Rattle.units.specs.Office.{has_domain, empty_domain, as_project, project_in}
+use Rattle.units.specs.Projects.{IsProject}
+use Rattle.deliveries.proofs.domains.InDomains.{no_domain_yet}
+use Rattle.deliveries.proofs.rules.DomainsKept.{any_project}
+use Rattle.sql_schema.specs.Layouts.{rows_named}
+use Rattle.sql_schema.specs.Views.{seen_in}
+use Rattle.sql_meaning.specs.Domains.{project_seen, office_of_rows, is_domain}
+use Rattle.sql_meaning.proofs.DomainChanges.{has_domain_of_rows}
+use Rattle.sql_meaning.proofs.Openings.{no_template, no_headers, no_units}
+use Rattle.sql_files.proofs.InDomains.{SeesNothing, HasNoRow, sees_nothing, project_there}
+use Rattle.store_sql.specs.Kept.{KeepsOffice}
+use Rattle.store_sql.proofs.RowsHeld.{own_domains}
 
--- ---- an office of `main` alone
+without_rows : (rows : List Row) → HasNoRow rows → rows ≡ []
+without_rows [] none = refl
+without_rows (row ∷ rows) none = absurd (none row (inl refl))
 
-module _ (project : Project) (domain : Text) where
-  pub in_main : same_domain domain main ≡ true → project_in (main_alone project) domain ≡ project
-  in_main is = ap (project_in (main_alone project)) (equal_domains domain main is) ∙ in-main project
+module _ (s : State) (keeps : KeepsOffice s) (clean : HasCleanDisk s) (is_open : IsTrue s.is_open) (domain : Text) where
+  project_missing : is_domain (rows_named s.now) domain ≡ false → project_in (office_of_rows (rows_named s.now)) domain ≡ project_seen domain (rows_named s.now)
+  project_missing missing =
+      let seen = seen_in domain (rows_named s.now) in
+      let none : SeesNothing seen = sees_nothing (rows_named s.now) (own_domains s keeps clean is_open) domain missing in
+      let template = no_template seen (without_rows (seen (codes "template")) none.entries) in
+      let headers = no_headers seen (without_rows (seen (codes "language")) none.languages) in
+      let units = no_units seen (without_rows (seen (codes "unit")) none.units) in
+      no_domain_yet (office_of_rows (rows_named s.now)) domain (sym (has_domain_of_rows (rows_named s.now) domain) ∙ missing)
+      ∙ sym (λ i. record (project_seen domain (rows_named s.now)) { template = template i; headers = headers i; units = units i })
 
-  pub nothing_handed : same_domain domain main ≡ false → (lang : Text) → entries_of (project_in (main_alone project) domain) lang ≡ []
-  nothing_handed apart lang =
-      ap (λ (p : Project). entries_of p lang) (in-another project domain apart)
-      ∙ ap (λ o. option_map_or (catalogue_of (as_project (main_alone project) empty_domain) lang) o []) (maps.get-empty text_cmp lang)
+  pub project_as_seen : project_in (office_of_rows (rows_named s.now)) domain ≡ project_seen domain (rows_named s.now)
+  project_as_seen = by (is_domain (rows_named s.now) domain) refl
+    where
+      by : (b : Bool) → is_domain (rows_named s.now) domain ≡ b → project_in (office_of_rows (rows_named s.now)) domain ≡ project_seen domain (rows_named s.now)
+      by true there = project_there s.now (keeps.idle.ready clean is_open) domain there
+      by false missing = project_missing missing
 
--- ---- an answer that says less
-
-pub looked_as : (old new : State) {A E : Type 0} (r : Result A E) (P Q : Database → A → Type 0) → ((db : Database) (x : A) → P db x → Q db x) → IsLookUp old new r P → IsLookUp old new r Q
-looked_as old new r P Q weaker it = record {
-  answer = λ clean. IfOk-weaker r (P old.now) (Q old.now) (weaker old.now) (it.answer clean);
-  same = it.same;
-  is_open = it.is_open;
-  ended = it.ended;
-  survives = it.survives;
-}
+  -- and it keeps the rules of one
+  pub keeps_project : IsProject (project_seen domain (rows_named s.now))
+  keeps_project = subst IsProject project_as_seen (any_project (office_of_rows (rows_named s.now)) (keeps.rules clean is_open).office domain)

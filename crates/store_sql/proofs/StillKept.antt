@@ -14,7 +14,8 @@ use Rattle.tables.specs.declared.faults.Lost.{Lost}
 use Rattle.tables.specs.declared.faults.Lost.TheVariants.{Disk}
 use Rattle.sql_schema.specs.Inside.{AreOfficeTablesOf}
 use Rattle.sql_schema.specs.Whole.{IsIdleOver, StaysIdle, IsLookUp, IsCommitOf}
-use Rattle.sql_meaning.specs.Meaning.{main_rows, meaning_in, AreNumbered, TreesMean}
+use Rattle.sql_meaning.specs.Meaning.{AreNumbered}
+use Rattle.sql_meaning.specs.Domains.{meaning_by_domain, TreesMean}
 use Rattle.sql_files.specs.Files.{MakesFiles}
 use Rattle.sql_files.proofs.Stops.{look_up_keeps, look_up_leaves, commit_keeps, commit_leaves}
 use Rattle.store_sql.specs.Kept.{KeepsOffice, LeavesItsOwn, LeavesOwnTrees, is_honest, is_whole, means, may_leave, is_stopped}
@@ -31,7 +32,7 @@ module _ {S : Type 0} (g : store.Ghosts S) where
 
   -- what a stop leaves of a connection that isn't shut means what its rows mean
   pub left_means : (h : Held S) → IsSettled → IsIdleOver by_domain (state g h) → HasCleanDisk (state g h) → IsTrue (state g h).is_open → (meaning : OfficeWithBook)
-      → (trees : Trees) × (state g h).may_leave trees × TreesMean trees meaning → meaning ≡ meaning_in (main_rows (rows_named (state g h).now))
+      → (trees : Trees) × (state g h).may_leave trees × TreesMean trees meaning → meaning ≡ meaning_by_domain (rows_named (state g h).now)
   left_means h settled idle clean is_open meaning left =
       let same : left.0 ≡ (state g h).now.trees = settled h left.0 is_open left.1 ∙ sym (ap (λ (d : Database). d.trees) (idle.settled clean is_open)) in
       database_means_only by_domain (state g h).now (idle.ready clean is_open) meaning (subst (λ trees. TreesMean trees meaning) same left.2)
@@ -40,7 +41,7 @@ module _ {S : Type 0} (g : store.Ghosts S) where
   pub left_trees : (h : Held S) → IsSettled → IsIdleOver by_domain (state g h) → LeavesOwnTrees (state g h)
   left_trees h settled idle clean is_open trees left =
       let same : trees ≡ (state g h).now.trees = settled h trees is_open left ∙ sym (ap (λ (d : Database). d.trees) (idle.settled clean is_open)) in
-      subst (λ t. TreesMean t (meaning_in (main_rows (rows_named (state g h).now)))) (sym same) (database_means by_domain (state g h).now (idle.ready clean is_open))
+      subst (λ t. TreesMean t (meaning_by_domain (rows_named (state g h).now))) (sym same) (database_means by_domain (state g h).now (idle.ready clean is_open))
 
   -- tables that aren't shut leave what they mean
   pub leaves_own : (tables : Held S × (Bool × Bool)) → IsSettled → KeepsOffice (state g tables.0) → LeavesItsOwn g tables
@@ -74,16 +75,16 @@ module _ {S : Type 0} (g : store.Ghosts S) where
       };
       numbered = λ clean is_open.
           let same = looked.same clean is_open in
-          subst (λ (d : Database). AreNumbered (main_rows (rows_named d))) (sym same.now) (keeps.numbered (early clean) same.was_open);
+          subst (λ (d : Database). AreNumbered (rows_named d)) (sym same.now) (keeps.numbered (early clean) same.was_open);
       rules = λ clean is_open.
           let same = looked.same clean is_open in
-          subst (λ (d : Database). KeepsRules (meaning_in (main_rows (rows_named d)))) (sym same.now) (keeps.rules (early clean) same.was_open);
+          subst (λ (d : Database). KeepsRules (meaning_by_domain (rows_named d))) (sym same.now) (keeps.rules (early clean) same.was_open);
       file = look_up_keeps (state g old) (state g new) r P looked keeps.file;
       leaves = look_up_leaves (state g old) (state g new) r P looked keeps.file keeps.leaves;
     }
 
-    pub means_still : HasCleanDisk (state g new) → IsTrue (state g new).is_open → meaning_in (main_rows (rows_named (state g new).now)) ≡ meaning_in (main_rows (rows_named (state g old).now))
-    means_still clean is_open = ap (λ (d : Database). meaning_in (main_rows (rows_named d))) (looked.same clean is_open).now
+    pub means_still : HasCleanDisk (state g new) → IsTrue (state g new).is_open → meaning_by_domain (rows_named (state g new).now) ≡ meaning_by_domain (rows_named (state g old).now)
+    means_still clean is_open = ap (λ (d : Database). meaning_by_domain (rows_named d)) (looked.same clean is_open).now
 
     -- the result of the call is that of the look-up, or says less; `gone` is its fault where the disk failed
     pub kept_looked_up_or : {B F : Type 0} (gone : F) (s : Result B F) (before after : Bool × Bool) → IsSettled → IsLeft → before.0 ≡ false
@@ -113,7 +114,7 @@ module _ {S : Type 0} (g : store.Ghosts S) where
   -- the connection keeps its office where the transaction makes what keeps the rules
   module _ {A E : Type 0} (old new : Held S) (r : Result A E) (Makes : Database → Database → Type 0) (keeps : KeepsOffice (state g old)) (commits : IsCommitOf by_domain (state g old) (state g new) r Makes)
       (meaning : OfficeWithBook) (rules : HasCleanDisk (state g old) → KeepsRules meaning)
-      (makes : (db : Database) → HasCleanDisk (state g old) → IsTrue (state g old).is_open → AreOfficeTablesOf by_domain db → Makes (state g old).now db → (meaning_in (main_rows (rows_named db)) ≡ meaning) × AreNumbered (main_rows (rows_named db)))
+      (makes : (db : Database) → HasCleanDisk (state g old) → IsTrue (state g old).is_open → AreOfficeTablesOf by_domain db → Makes (state g old).now db → (meaning_by_domain (rows_named db) ≡ meaning) × AreNumbered (rows_named db))
       (files : MakesFiles Makes (state g old)) where
     clean_before : HasCleanDisk (state g new) → HasCleanDisk (state g old)
     clean_before clean = omega (arith, commits.survives.clean)
@@ -122,20 +123,20 @@ module _ {S : Type 0} (g : store.Ghosts S) where
     by_result (Ok x) f h ok err = f ok
     by_result (Err e) f h ok err = h err
 
-    pub means_made : HasCleanDisk (state g new) → OnOk r (meaning_in (main_rows (rows_named (state g new).now)) ≡ meaning)
+    pub means_made : HasCleanDisk (state g new) → OnOk r (meaning_by_domain (rows_named (state g new).now) ≡ meaning)
     means_made clean = on_ok_mapped r (λ is. is) (made_by r (commits.made clean) (commits.is_open clean))
       where
         made_by : (s : Result A E) → OnOk s (Makes (state g old).now (state g new).now × AreOfficeTablesOf by_domain (state g new).now × ((state g new).now ≡ (state g new).committed)) → OnOk s (IsTrue (state g new).is_open)
-            → OnOk s (meaning_in (main_rows (rows_named (state g new).now)) ≡ meaning)
+            → OnOk s (meaning_by_domain (rows_named (state g new).now) ≡ meaning)
         made_by (Ok x) made is_open = (makes (state g new).now (clean_before clean) (commits.was_open clean is_open) made.1 made.0).0
         made_by (Err e) made is_open = tt
 
-    pub means_as_before : HasCleanDisk (state g new) → IsTrue (state g new).is_open → OnErr r (meaning_in (main_rows (rows_named (state g new).now)) ≡ meaning_in (main_rows (rows_named (state g old).now)))
+    pub means_as_before : HasCleanDisk (state g new) → IsTrue (state g new).is_open → OnErr r (meaning_by_domain (rows_named (state g new).now) ≡ meaning_by_domain (rows_named (state g old).now))
     means_as_before clean is_open = as_before r (commits.same clean is_open)
       where
-        as_before : (s : Result A E) → OnErr s (StaysIdle (state g old) (state g new)) → OnErr s (meaning_in (main_rows (rows_named (state g new).now)) ≡ meaning_in (main_rows (rows_named (state g old).now)))
+        as_before : (s : Result A E) → OnErr s (StaysIdle (state g old) (state g new)) → OnErr s (meaning_by_domain (rows_named (state g new).now) ≡ meaning_by_domain (rows_named (state g old).now))
         as_before (Ok x) same = tt
-        as_before (Err e) same = ap (λ (d : Database). meaning_in (main_rows (rows_named d))) same.now
+        as_before (Err e) same = ap (λ (d : Database). meaning_by_domain (rows_named d)) same.now
 
     pub keeps_committed : KeepsOffice (state g new)
     keeps_committed = record {
@@ -147,10 +148,10 @@ module _ {S : Type 0} (g : store.Ghosts S) where
       };
       numbered = λ clean is_open. by_result r (λ (made : Makes (state g old).now (state g new).now × AreOfficeTablesOf by_domain (state g new).now × ((state g new).now ≡ (state g new).committed)).
           (makes (state g new).now (clean_before clean) (commits.was_open clean is_open) made.1 made.0).1)
-          (λ (same : StaysIdle (state g old) (state g new)). subst (λ (d : Database). AreNumbered (main_rows (rows_named d))) (sym same.now) (keeps.numbered (clean_before clean) same.was_open)) (commits.made clean) (commits.same clean is_open);
+          (λ (same : StaysIdle (state g old) (state g new)). subst (λ (d : Database). AreNumbered (rows_named d)) (sym same.now) (keeps.numbered (clean_before clean) same.was_open)) (commits.made clean) (commits.same clean is_open);
       rules = λ clean is_open. by_result r (λ (made : Makes (state g old).now (state g new).now × AreOfficeTablesOf by_domain (state g new).now × ((state g new).now ≡ (state g new).committed)).
           subst KeepsRules (sym (makes (state g new).now (clean_before clean) (commits.was_open clean is_open) made.1 made.0).0) (rules (clean_before clean)))
-          (λ (same : StaysIdle (state g old) (state g new)). subst (λ (d : Database). KeepsRules (meaning_in (main_rows (rows_named d)))) (sym same.now) (keeps.rules (clean_before clean) same.was_open)) (commits.made clean) (commits.same clean is_open);
+          (λ (same : StaysIdle (state g old) (state g new)). subst (λ (d : Database). KeepsRules (meaning_by_domain (rows_named d))) (sym same.now) (keeps.rules (clean_before clean) same.was_open)) (commits.made clean) (commits.same clean is_open);
       file = commit_keeps (state g old) (state g new) r Makes commits files keeps.file;
       leaves = commit_leaves (state g old) (state g new) r Makes commits files keeps.file keeps.leaves;
     }

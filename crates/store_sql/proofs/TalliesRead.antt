@@ -4,19 +4,18 @@ use Rattle.sqlite.specs.Order.{Row}
 use Rattle.sqlite.specs.State.{State, HasCleanDisk}
 use Rattle.po_text.specs.Texts.{Text}
 use Rattle.units.specs.Office.{project_in}
-use Rattle.deliveries.specs.MainAlone.{main_alone}
 use Rattle.deliveries.specs.Tally.{counts_of}
 use Rattle.sql_statements.specs.DomainAnswers.{ShowsTally}
 use Rattle.sql_schema.specs.Layouts.{rows_named}
-use Rattle.sql_meaning.specs.Meaning.{main_rows, meaning_in, project_of_rows}
+use Rattle.sql_meaning.specs.Domains.{office_of_rows}
 use Rattle.sql_meaning.specs.Shown.{shown_tally}
 use Rattle.sql_figures.specs.KeptTallies.{office_counts}
 use Rattle.sql_figures.proofs.TallyRows.{tally_found}
 use Rattle.store_sql.specs.Kept.{KeepsOffice}
-use Rattle.store_sql.proofs.OneDomain.{own_figures}
+use Rattle.store_sql.proofs.RowsHeld.{own_figures}
 
 pub reads_tally : (s : State) (domain lang asked_domain asked_lang : Text) (found : Option Row) → KeepsOffice s → asked_domain ≡ domain → asked_lang ≡ lang → HasCleanDisk s → IsTrue s.is_open
-    → ShowsTally asked_domain asked_lang s.now found → counts_of (project_in (main_alone (project_of_rows (main_rows (rows_named s.now)))) domain) lang ≡ option_map shown_tally found
+    → ShowsTally asked_domain asked_lang s.now found → counts_of (project_in (office_of_rows (rows_named s.now)) domain) lang ≡ option_map shown_tally found
 reads_tally s domain lang asked_domain asked_lang found keeps is_domain is_lang clean is_open shows =
-    tally_found (office_counts (meaning_in (main_rows (rows_named s.now))).office) (rows_named s.now (codes "d_tally")) domain lang found
+    tally_found (office_counts (office_of_rows (rows_named s.now))) (rows_named s.now (codes "d_tally")) domain lang found
     (subst (λ (asked : Text × Text). ShowsTally asked.0 asked.1 s.now found) (λ i. (is_domain i, is_lang i)) shows) (own_figures s keeps clean is_open).tallies

@@ -13,5 +13,5 @@ IsKeepableDomainChange (NewTemplate template plans tallies) = AreKeepableEntries
 abbrev pub IsKeepableChange : Change → Type 0
 IsKeepableChange (OneRole name role) = IsNamed name
 IsKeepableChange (NewPolicy policy) = ⊤
-IsKeepableChange (NewDomain domain) = ⊤
+IsKeepableChange (NewDomain domain) = IsNamed domain
 IsKeepableChange (InDomain domain change) = IsKeepableDomainChange change

@@ -48,8 +48,8 @@ pub(crate) fn change_fits(change: &Option<Change>)
     ensures { IfSome change.now IsKeepableChange }
 {
     match change {
-        None | Some(Change::NewPolicy(_) | Change::NewDomain(_)) => {}
-        Some(Change::OneRole(name, _)) => name_fits(name),
+        None | Some(Change::NewPolicy(_)) => {}
+        Some(Change::OneRole(name, _) | Change::NewDomain(name)) => name_fits(name),
         Some(Change::InDomain(_, change)) => domain_change_fits(change),
     }
 }

@@ -1,5 +1,5 @@
 //! Whole transactions that read. Each ends by a commit, since only that tells that the connection is still open.
-ghost use Rattle.std.specs.Prelude.{◌≡◌, false};
+ghost use Rattle.std.specs.Prelude.{◌≡◌, ⊤, false};
 ghost use Rattle.sqlite.specs.Held.{state};
 ghost use Rattle.sql_statements.specs.Answers.{ShowsMember, ShowsPolicy, ShowsRecord};
 ghost use Rattle.sql_statements.specs.DomainAnswers.{ShowsTally};
@@ -9,6 +9,7 @@ ghost use Rattle.sql_statements.specs.DomainUnitRows.{ShowsDomainOfficeRows, Sho
 ghost use Rattle.sql_schema.specs.Whole.{IsIdleOver, IsLookUp};
 ghost use Rattle.sql_schema.specs.Layouts.{by_domain};
 
+use sql_decoding::Failure;
 use sql_statements::domain_languages::find_domain_language;
 use sql_statements::domain_suggestions::domain_suggestions_of;
 use sql_statements::domain_template::find_domain_entry;
@@ -67,7 +68,7 @@ pub(crate) fn look_up_member<S: Alter>(
 }
 
 /// The policy. None, where it wasn't written.
-pub(crate) fn look_up_policy<S: Alter>(connection: &mut Connection<S>) -> Result<Option<Row>, Error>
+fn look_up_policy<S: Alter>(connection: &mut Connection<S>) -> Result<Option<Row>, Error>
     requires autocommit { connection.old.in_transaction ≡ false }
     requires idle { IsIdleOver by_domain (state S.Store connection.old) }
     ensures found { IsLookUp (state S.Store connection.old) (state S.Store connection.new) result
@@ -76,6 +77,17 @@ pub(crate) fn look_up_policy<S: Alter>(connection: &mut Connection<S>) -> Result
     let mut tx = connection.transaction();
     let found = find_policy(&mut tx)?;
     tx.commit().and(Ok(found))
+}
+
+/// Looks at the connection alone: an answer tells that it is still open.
+pub(crate) fn look<S: Alter>(connection: &mut Connection<S>) -> Result<(), Failure>
+    requires autocommit { connection.old.in_transaction ≡ false }
+    requires idle { IsIdleOver by_domain (state S.Store connection.old) }
+    ensures looked { IsLookUp (state S.Store connection.old) (state S.Store connection.new) result (λ _ _. ⊤) }
+{
+    let policy = look_up_policy(connection)?;
+    drop(policy);
+    Ok(())
 }
 
 /// The tally of a domain's language. None, where there is no such language.

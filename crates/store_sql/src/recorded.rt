@@ -6,8 +6,7 @@ ghost use Rattle.sql_schema.specs.Layouts.{by_domain};
 ghost use Rattle.sql_schema.specs.Whole.{IsIdleOver, IsLookUp};
 ghost use Rattle.store_sql.specs.RecordsBehind.{HoldsHeads, IsPlaceOf, IsTold, WereHanded};
 
-use crate::domains::look;
-use crate::look_ups::look_up_place;
+use crate::look_ups::{look, look_up_place};
 use sql_columns::number_column;
 use sql_decoding::Failure;
 use sql_statements::record_queries::{walk_records, walk_records_behind};

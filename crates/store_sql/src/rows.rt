@@ -35,13 +35,13 @@ ghost use Rattle.store_sql.specs.Making.{AreMade, IsHandedBack};
 ghost use Rattle.store_sql.specs.RecordsBehind.{WereHanded};
 ghost use Rattle.store_sql.specs.declared.recorded.HandingFault.TheVariants.{NoTables as Unreadable};
 
-use crate::domains::{hand_in, view_in};
+use crate::entries::hand_entries;
 use crate::keepable_values::{change_fits, record_fits, view_fits};
 use crate::making::make;
 use crate::recorded::{HandingFault, hand_records};
 use crate::records::read_record;
 use crate::tallies::read_tally;
-use crate::unit_views::read_role;
+use crate::unit_views::{read_role, read_view};
 use crate::whole_office::{forget, keep, read_office};
 use deliveries::{ActContext, Change, Tally};
 use office_maps::OfficeMaps;
@@ -249,7 +249,7 @@ impl<S: Alter> Rows<S> {
         if self.stopped {
             return Err(Lost::Disk);
         }
-        match view_in(
+        match read_view(
             &mut self.connection,
             self.alloc,
             domain,
@@ -266,7 +266,7 @@ impl<S: Alter> Rows<S> {
         }
     }
 
-    /// Reads what acts on the office need: team, policy, and the template, headers and units of `main`. `office` then shows it.
+    /// Reads what acts on the office need: team, policy, and the template, headers and units of each domain. `office` then shows it.
     pub(crate) fn office_rows(&mut self) -> Result<(), Lost>
         ensures loaded { OnOk result (is_loaded S.Store self.new) }
         ensures same { is_honest S.Store self.new → is_whole S.Store self.new → means S.Store self.new ≡ means S.Store self.old }
@@ -317,7 +317,7 @@ impl<S: Alter> Rows<S> {
         if self.stopped {
             return Err(EachFault::NoTables(Lost::Disk));
         }
-        match hand_in(&mut self.connection, self.alloc, domain, lang, sink) {
+        match hand_entries(&mut self.connection, self.alloc, domain, lang, sink) {
             Ok(()) => Ok(()),
             Err(fault) => {
                 forget(self.alloc, &mut self.office);

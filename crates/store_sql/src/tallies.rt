@@ -2,11 +2,10 @@
 ghost use Rattle.std.specs.Prelude.{◌≡◌, false};
 ghost use Rattle.sqlite.specs.Held.{state};
 ghost use Rattle.units.specs.Office.{project_in};
-ghost use Rattle.deliveries.specs.MainAlone.{main_alone};
 ghost use Rattle.deliveries.specs.Tally.{counts_of};
 ghost use Rattle.sql_schema.specs.Layouts.{rows_named};
 ghost use Rattle.sql_schema.specs.Whole.{IsLookUp};
-ghost use Rattle.sql_meaning.specs.Meaning.{main_rows, project_of_rows};
+ghost use Rattle.sql_meaning.specs.Domains.{office_of_rows};
 ghost use Rattle.store_sql.specs.Kept.{KeepsOffice};
 
 use crate::look_ups::look_up_tally;
@@ -24,7 +23,7 @@ pub(crate) fn read_tally<S: Alter>(
     requires autocommit { connection.old.in_transaction ≡ false }
     requires keeps { KeepsOffice (state S.Store connection.old) }
     ensures found { IsLookUp (state S.Store connection.old) (state S.Store connection.new) result
-        (λ db counts. counts ≡ counts_of (project_in (main_alone (project_of_rows (main_rows (rows_named db)))) domain.now) lang.now) }
+        (λ db counts. counts ≡ counts_of (project_in (office_of_rows (rows_named db)) domain.now) lang.now) }
 {
     let found = look_up_tally(connection, domain.as_str(), lang.as_str())?;
     match found {

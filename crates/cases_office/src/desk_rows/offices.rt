@@ -1,9 +1,9 @@
-//! Two offices that get the same requests, one in maps, and one on SQLite in memory; or one in maps alone.
+//! Two offices that get the same requests, one in maps, and one on SQLite in memory.
 ghost use Rattle.std.specs.Prelude.{◌≡◌, false};
 
 use crate::desk_rows::asked::{Asked, answer};
 use crate::desk_rows::counts::counts_of;
-use crate::desks::{desk_in_maps, desk_opened, start};
+use crate::desks::{desk_in_maps, start};
 use office::Desk;
 use request_book::Request;
 use sqlite::{Alter, Connection, MemStore};
@@ -20,7 +20,7 @@ pub(crate) trait Offices: Drop {
     /// What they answer.
     fn told(&mut self, alloc: Global, asked: Asked<'_>) -> Option<String>;
 
-    /// Closes them, and tells how many rows the tables on SQLite have, if there are any such.
+    /// Closes them, and tells how many rows the tables on SQLite have.
     fn close(self, alloc: Global) -> Option<String>;
 }
 
@@ -101,30 +101,5 @@ impl Offices for Both {
         let Both { in_maps, on_sqlite } = self;
         drop(in_maps);
         counts_of(alloc, on_sqlite.into_tables().into_connection())
-    }
-}
-
-/// An office in maps alone.
-#[derive(Drop)]
-pub(crate) struct InMaps {
-    desk: Desk<PlainTables>,
-}
-
-impl Offices for InMaps {
-    fn open(alloc: Global, who: &str) -> Option<InMaps> {
-        match desk_opened(alloc, who) {
-            Some(desk) => Some(InMaps { desk }),
-            None => None,
-        }
-    }
-
-    fn told(&mut self, alloc: Global, asked: Asked<'_>) -> Option<String> {
-        answer(alloc, &mut self.desk, asked)
-    }
-
-    fn close(self, alloc: Global) -> Option<String> {
-        let InMaps { desk } = self;
-        drop(desk);
-        Some(String::new(alloc))
     }
 }

@@ -3,7 +3,7 @@ use Rattle.std.specs.Bool.{Decides}
 use Rattle.std.specs.List.{IsDistinct}
 use Rattle.po_text.specs.Texts.{text_eq}
 use Rattle.units.specs.declared.unit.Suggestion.{Suggestion}
-use Rattle.office_rules.proofs.BookTests.{numbers_in, not_true, not_false, one_added, number_twice}
+use Rattle.office_rules.proofs.BookTests.{numbers_among, not_true, not_false, one_added, number_twice}
 use Rattle.office_rules.proofs.book_rules.add_numbers.Goals as goal
 
 pub loop-suggestion-preserved : goal.loop-suggestion-preserved
@@ -13,6 +13,6 @@ loop-suggestion-preserved c =
 
 pub returns-then-not-branch-clause-new : goal.returns-then-not-branch-clause-new
 returns-then-not-branch-clause-new c = λ before are distinct.
-    subst (λ (xs : List Suggestion). Decides false (IsDistinct text_eq (before ++ numbers_in xs))) c.as_slice-suggestion-items.ensures
+    subst (λ (xs : List Suggestion). Decides false (IsDistinct text_eq (before ++ numbers_among xs))) c.as_slice-suggestion-items.ensures
     (number_twice c.args.seen.now c.loop-suggestion.seen c.as_slice-suggestion-items.result.now c.loop-suggestion.suggestion-index c.suggestion-item.result c.suggestion-item.result.number
     c.loop-suggestion-test.true c.suggestion-item.is refl (not_false _ (sym c.in_ok-insert.ensures.added ∙ c.if-not-branch.true)) c.loop-suggestion.invariant before are distinct)

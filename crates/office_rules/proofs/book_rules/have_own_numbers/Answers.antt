@@ -1,28 +1,29 @@
 use Rattle.std.proofs.Common.{◌∙◌}
 use Rattle.std.specs.Map.Iter.{deref_pair}
 use Rattle.std.proofs.lemmas.Map.Iter.{rest_more, rest_all}
-use Rattle.office_rules.proofs.BookTests.{begun, gathered_more, shared, gathered, own_told}
+use Rattle.office_rules.proofs.BookTests.{domain_numbers, begun, gathered_more, shared, all_own, own_told}
 use Rattle.office_rules.proofs.book_rules.have_own_numbers.Goals as goal
 
-pub loop-place-init : goal.loop-place-init
-loop-place-init c =
-    begun c.args.project.now.domain.now.units.entries c.into_iter-place-iterator.result c.new-seen.result (c.into_iter-place-iterator.ensures.into_iter_gives ∙ c.iter-place-items.ensures.rest) c.new-seen.ensures.empty
+pub loop-name-init : goal.loop-name-init
+loop-name-init c =
+    begun domain_numbers c.args.maps.now.domains.entries c.new-seen.result c.into_iter-name-iterator.result (c.into_iter-name-iterator.ensures.into_iter_gives ∙ c.iter-name-items.ensures.rest)
 
-pub loop-place-preserved : goal.loop-place-preserved
-loop-place-preserved c =
-    gathered_more c.args.project.now.domain.now.units.entries c.loop-place._place-iterator c.next.new.self (c.in-Some._place.now, c.in-Some.unit.now) c.loop-place.seen c.add_numbers.new.seen c.in_ok-add_numbers.field-0
-    (rest_more deref_pair c.loop-place._place-iterator c.next.new.self c.next.result (c.in-Some._place, c.in-Some.unit) c.in-Some.is c.next.ensures.steps) c.in_ok-add_numbers.ensures.new
-    c.in_ok-add_numbers.ensures.seen c.if-not-branch.false c.loop-place.invariant
+pub loop-name-preserved : goal.loop-name-preserved
+loop-name-preserved c =
+    gathered_more domain_numbers c.args.maps.now.domains.entries c.new-seen.result c.loop-name._name-iterator c.next.new.self (c.in-Some._name.now, c.in-Some.domain.now) c.loop-name.seen
+    c.add_domain_numbers.new.seen c.in_ok-add_domain_numbers.field-0
+    (rest_more deref_pair c.loop-name._name-iterator c.next.new.self c.next.result (c.in-Some._name, c.in-Some.domain) c.in-Some.is c.next.ensures.steps)
+    c.in_ok-add_domain_numbers.ensures.new c.in_ok-add_domain_numbers.ensures.seen c.if-not-branch.false c.loop-name.invariant
 
 pub returns-then-not-branch : goal.returns-then-not-branch
 returns-then-not-branch c =
-    own_told c.args.project.now _ c.iter-place-items.ensures.ordered
-    (shared c.args.project.now.domain.now.units.entries c.loop-place._place-iterator c.next.new.self (c.in-Some._place.now, c.in-Some.unit.now) c.loop-place.seen c.in_ok-add_numbers.field-0
-    (rest_more deref_pair c.loop-place._place-iterator c.next.new.self c.next.result (c.in-Some._place, c.in-Some.unit) c.in-Some.is c.next.ensures.steps) c.in_ok-add_numbers.ensures.new c.if-not-branch.true
-    c.loop-place.invariant)
+    own_told c.args.maps.now c.new-seen.result _ c.new-seen.ensures.empty c.iter-name-items.ensures.ordered
+    (shared domain_numbers c.args.maps.now.domains.entries c.new-seen.result c.loop-name._name-iterator c.next.new.self (c.in-Some._name.now, c.in-Some.domain.now) c.loop-name.seen
+    c.in_ok-add_domain_numbers.field-0 (rest_more deref_pair c.loop-name._name-iterator c.next.new.self c.next.result (c.in-Some._name, c.in-Some.domain) c.in-Some.is c.next.ensures.steps)
+    c.in_ok-add_domain_numbers.ensures.new c.if-not-branch.true c.loop-name.invariant)
 
 pub returns : goal.returns
 returns c =
-    own_told c.args.project.now _ c.iter-place-items.ensures.ordered
-    (gathered c.args.project.now.domain.now.units.entries c.loop-place._place-iterator c.loop-place.seen (rest_all deref_pair c.loop-place._place-iterator c.next.new.self c.next.result c.in-None.is c.next.ensures.steps)
-    c.loop-place.invariant)
+    own_told c.args.maps.now c.new-seen.result _ c.new-seen.ensures.empty c.iter-name-items.ensures.ordered
+    (all_own domain_numbers c.args.maps.now.domains.entries c.new-seen.result c.loop-name._name-iterator c.loop-name.seen
+    (rest_all deref_pair c.loop-name._name-iterator c.next.new.self c.next.result c.in-None.is c.next.ensures.steps) c.loop-name.invariant)

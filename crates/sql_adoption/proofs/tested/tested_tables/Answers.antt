@@ -5,14 +5,14 @@ use Rattle.sql_adoption.proofs.tested.tested_tables.Goals as goal
 pub returns-clause-adopted : goal.returns-clause-adopted
 returns-clause-adopted g c =
     let mid = state g.S.Store c.read_office.new.connection in
-    office_adopted c.args.form (state g.S.Store c.args.connection.now) mid (state g.S.Store c.keep_rows-kept.new.connection) c.in_ok-read.read c.in_ok-read.ensures.found
+    office_adopted c.args.form (state g.S.Store c.args.connection.now) mid (state g.S.Store c.keep_rows-kept.new.connection) c.in_ok-read.read c.in_ok-read.ensures.holds c.in_ok-read.ensures.found
     c.keep_rows-kept.result c.where_kept.result
     c.keep_rows-kept.ensures.found c.where_kept.ensures
 
 pub returns-clause-refused : goal.returns-clause-refused
 returns-clause-refused g c =
     let mid = state g.S.Store c.read_office.new.connection in
-    office_refused c.args.form (state g.S.Store c.args.connection.now) mid (state g.S.Store c.keep_rows-kept.new.connection) c.in_ok-read.read c.in_ok-read.ensures.found
+    office_refused c.args.form (state g.S.Store c.args.connection.now) mid (state g.S.Store c.keep_rows-kept.new.connection) c.in_ok-read.read c.in_ok-read.ensures.holds c.in_ok-read.ensures.found
     c.keep_rows-kept.result c.where_kept.result c.keep_rows-kept.ensures.found c.keep_rows-kept.ensures.refused c.where_kept.ensures
 
 pub keep_rows-kept-requires-clause-idle : goal.keep_rows-kept-requires-clause-idle

@@ -1,15 +1,11 @@
 use Rattle.std.proofs.Common.{Ok, codes}
 use Rattle.sqlite.specs.Held.{state}
-use Rattle.sql_schema.specs.Layouts.{rows_named, SparesOthers}
-use Rattle.sql_meaning.specs.Meaning.{main_rows}
-use Rattle.sql_meaning.specs.RowChanges.{HaveNextIn}
+use Rattle.sql_schema.specs.Layouts.{SparesOthers}
 use Rattle.sql_changes.specs.Commits.{PutsNumberedRecord}
-use Rattle.sql_changes.specs.OnMain.{OnMainWhere, OnMain}
-use Rattle.sql_changes.proofs.MainSteps.{main_then, main_where}
+use Rattle.sql_changes.specs.OnDomains.{OnEach}
 use Rattle.sql_commits.specs.Acts.{MakesOneChange}
 use Rattle.sql_commits.specs.Changes.{WritesChange}
 use Rattle.sql_commits.proofs.ActsWritten.{makes_change}
-use Rattle.sql_commits.proofs.PolicyTurns.{next_behind_record}
 use Rattle.sql_commits.proofs.WritesInTurn.{write_as, write_then}
 use Rattle.sql_schema.specs.Inside.{OnRows}
 use Rattle.sql_commits.specs.Figures.{FollowsOneChange}
@@ -25,19 +21,12 @@ returns-in-Some-clause-put g c =
     let new = state g.S.Store c.write_change.new.tx.conn.now in
     let row = c.args.row.now in
     let change = c.in-Some.change in
-    let before = main_rows (rows_named old.now) in
-    let between = main_rows (rows_named mid.now) in
-    rw c.in-Some.is (write_then old mid new c.in_ok-put_record_of.field-0 c.write_change.result (OnMain (PutsNumberedRecord row)) (OnMainWhere HaveNextIn (WritesChange change)) (OnMainWhere HaveNextIn (MakesOneChange row change))
-    (λ recorded. main_then HaveNextIn (PutsNumberedRecord row) (WritesChange change) (MakesOneChange row change)
-    (λ recorded. makes_change row before between (main_rows (rows_named new.now)) recorded change) (next_behind_record row before between) (main_where HaveNextIn (PutsNumberedRecord row) recorded))
+    rw c.in-Some.is (write_then old mid new c.in_ok-put_record_of.field-0 c.write_change.result (OnEach (PutsNumberedRecord row)) (WritesChange change) (MakesOneChange row change)
+    (λ recorded. makes_change row old.now mid.now new.now recorded change)
     c.in_ok-put_record_of.ensures.put c.write_change.ensures.put)
 
 pub returns-in-None-clause-put : goal.returns-in-None-clause-put
-returns-in-None-clause-put g c =
-    let old = state g.S.Store c.args.tx.now.conn.now in
-    let new = state g.S.Store c.put_record_of.new.tx.conn.now in
-    let row = c.args.row.now in
-    rw c.in-None.is (write_as old new (Ok c.in_ok-put_record_of.field-0) (OnMain (PutsNumberedRecord row)) (OnMainWhere HaveNextIn (PutsNumberedRecord row)) (main_where HaveNextIn (PutsNumberedRecord row)) c.in_ok-put_record_of.ensures.put)
+returns-in-None-clause-put g c = rw c.in-None.is c.in_ok-put_record_of.ensures.put
 
 pub returns-in-Some-clause-figures : goal.returns-in-Some-clause-figures
 returns-in-Some-clause-figures g c =

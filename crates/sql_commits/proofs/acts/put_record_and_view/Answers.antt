@@ -1,10 +1,8 @@
 use Rattle.sqlite.specs.Held.{state}
-use Rattle.sql_schema.specs.Layouts.{rows_named, SparesOthers}
-use Rattle.sql_meaning.specs.Meaning.{main_rows}
+use Rattle.sql_schema.specs.Layouts.{SparesOthers}
 use Rattle.sql_changes.specs.Commits.{PutsNumberedRecord, WritesRecordAndUnit, MakesIn}
-use Rattle.sql_changes.specs.OnMain.{OnMain}
+use Rattle.sql_changes.specs.OnDomains.{OnEach}
 use Rattle.sql_changes.specs.UnitWrites.{WritesNumberedUnit}
-use Rattle.sql_changes.proofs.MainSteps.{on_main_then}
 use Rattle.sql_commits.specs.Changes.{WritesIn}
 use Rattle.sql_commits.proofs.ActsWritten.{writes_unit}
 use Rattle.sql_commits.proofs.WritesInTurn.{write_then, write_as}
@@ -27,9 +25,8 @@ returns-in-Some-clause-put g c =
     let unit = c.in-Some.view.unit in
     let Unit = WritesIn domain (WritesNumberedUnit lang unit) in
     let Whole = MakesIn domain row (WritesRecordAndUnit row lang unit) in
-    rw c.in-Some.is (write_then old mid new c.in_ok-put_record_of.field-0 c.write_view_in.result (OnMain (PutsNumberedRecord row)) (OnMain Unit) (OnMain Whole)
-    (on_main_then (PutsNumberedRecord row) Unit Whole
-    (λ recorded. writes_unit row (main_rows (rows_named old.now)) (main_rows (rows_named mid.now)) (main_rows (rows_named new.now)) recorded domain lang unit))
+    rw c.in-Some.is (write_then old mid new c.in_ok-put_record_of.field-0 c.write_view_in.result (OnEach (PutsNumberedRecord row)) Unit Whole
+    (λ recorded. writes_unit row old.now mid.now new.now recorded domain lang unit)
     c.in_ok-put_record_of.ensures.put c.write_view_in.ensures.put)
 
 pub returns-in-None-clause-put : goal.returns-in-None-clause-put
@@ -43,7 +40,7 @@ returns-in-Some-clause-figures g c =
     let domain = c.args.domain.now in
     let lang = c.args.lang.now in
     let view = c.in-Some.view in
-    let View = FollowsIn domain (FollowsView lang view) in
+    let View = FollowsIn domain (FollowsView domain lang view) in
     rw c.in-Some.is (write_then old mid new c.in_ok-put_record_of.field-0 c.write_view_in.result (OnRows (SparesOthers (codes "record"))) View View
     (λ others. view_behind old.now mid.now new.now others domain lang view) c.in_ok-put_record_of.ensures.others c.write_view_in.ensures.figures)
 

@@ -2,14 +2,14 @@ use Rattle.std.proofs.Common.{subst}
 use Rattle.sqlite.specs.Held.{state}
 use Rattle.po_text.specs.Texts.{Text}
 use Rattle.sql_columns.specs.Numbers.{role_number}
+use Rattle.sql_meaning.specs.Beginnings.{PutsDomain}
 use Rattle.sql_meaning.specs.RowChanges.{HaveNextIn}
 use Rattle.sql_changes.specs.Commits.{WritesRole, WritesPolicy}
-use Rattle.sql_changes.specs.OnMain.{OnMainWhere, OnMain}
-use Rattle.sql_changes.proofs.MainSteps.{main_where}
-use Rattle.sql_commits.specs.Changes.{WritesDomainChange, WritesIn}
-use Rattle.sql_commits.proofs.WritesInTurn.{write_as, write_mapped}
+use Rattle.sql_changes.specs.OnDomains.{OnDomainsWhere, OnEach}
+use Rattle.sql_commits.proofs.WritesInTurn.{write_mapped}
 use Rattle.sql_commits.specs.Figures.{FollowsPolicy}
 use Rattle.sql_figures.specs.Figures.{FiguresStay}
+use Rattle.sql_figures.proofs.FigureSteps.{put_beside, domain_beside}
 use Rattle.sql_commits.proofs.acts.write_change.Goals as goal
 
 pub returns-in-OneRole-clause-put : goal.returns-in-OneRole-clause-put
@@ -17,23 +17,26 @@ returns-in-OneRole-clause-put g c =
     let old = state g.S.Store c.args.tx.now.conn.now in
     let new = state g.S.Store c.write_role.new.tx.conn.now in
     let role = c.in-OneRole.role in
-    let Writes = λ (name : Text). WritesRole name (role_number role) in
-    rw c.in-OneRole.is (write_mapped old new c.write_role.result c.map_err.result _ (OnMain (Writes c.as_str.result.now)) (OnMainWhere HaveNextIn (Writes c.in-OneRole.name)) c.map_err.ensures.cases
-    (λ made. main_where HaveNextIn (Writes c.in-OneRole.name) (subst (λ name. OnMain (Writes name) old.now new.now) c.as_str.ensures.value made)) c.write_role.ensures.put)
+    let Writes = λ (name : Text). OnEach (WritesRole name (role_number role)) in
+    rw c.in-OneRole.is (write_mapped old new c.write_role.result c.map_err.result _ (Writes c.as_str.result.now) (Writes c.in-OneRole.name) c.map_err.ensures.cases
+    (subst (λ name. Writes name old.now new.now) c.as_str.ensures.value) c.write_role.ensures.put)
 
 pub returns-in-NewPolicy-clause-put : goal.returns-in-NewPolicy-clause-put
 returns-in-NewPolicy-clause-put g c =
     let old = state g.S.Store c.args.tx.now.conn.now in
     let new = state g.S.Store c.write_policy.new.tx.conn.now in
-    let Writes = OnMainWhere HaveNextIn (WritesPolicy c.in-NewPolicy.policy) in
+    let Writes = OnDomainsWhere HaveNextIn (λ d. WritesPolicy c.in-NewPolicy.policy) in
     rw c.in-NewPolicy.is (write_mapped old new c.write_policy.result c.map_err-in-NewPolicy.result _ Writes Writes c.map_err-in-NewPolicy.ensures.cases (λ made. made) c.write_policy.ensures.put)
 
-pub returns-in-InDomain-clause-put : goal.returns-in-InDomain-clause-put
-returns-in-InDomain-clause-put g c =
+pub returns-in-NewDomain-clause-put : goal.returns-in-NewDomain-clause-put
+returns-in-NewDomain-clause-put g c =
     let old = state g.S.Store c.args.tx.now.conn.now in
-    let new = state g.S.Store c.write_change_in.new.tx.conn.now in
-    let Writes = WritesIn c.in-InDomain.domain (WritesDomainChange c.in-InDomain.change) in
-    rw c.in-InDomain.is (write_as old new c.write_change_in.result (OnMain Writes) (OnMainWhere HaveNextIn Writes) (main_where HaveNextIn Writes) c.write_change_in.ensures.put)
+    let new = state g.S.Store c.put_domain.new.tx.conn.now in
+    rw c.in-NewDomain.is (write_mapped old new c.put_domain.result c.map_err-in-NewDomain.result _ (PutsDomain c.as_str-in-NewDomain.result.now) (PutsDomain c.in-NewDomain.domain) c.map_err-in-NewDomain.ensures.cases
+    (subst (λ name. PutsDomain name old.now new.now) c.as_str-in-NewDomain.ensures.value) c.put_domain.ensures.put)
+
+pub returns-in-InDomain-clause-put : goal.returns-in-InDomain-clause-put
+returns-in-InDomain-clause-put g c = rw c.in-InDomain.is c.write_change_in.ensures.put
 
 pub returns-in-OneRole-clause-figures : goal.returns-in-OneRole-clause-figures
 returns-in-OneRole-clause-figures g c =
@@ -44,6 +47,12 @@ returns-in-NewPolicy-clause-figures g c =
     let Policy = FollowsPolicy c.in-NewPolicy.policy in
     rw c.in-NewPolicy.is (write_mapped (state g.S.Store c.args.tx.now.conn.now) (state g.S.Store c.write_policy.new.tx.conn.now) c.write_policy.result c.map_err-in-NewPolicy.result _ Policy Policy c.map_err-in-NewPolicy.ensures.cases (λ follows. follows)
     c.write_policy.ensures.figures)
+
+-- the names of domains are beside the figures
+pub returns-in-NewDomain-clause-figures : goal.returns-in-NewDomain-clause-figures
+returns-in-NewDomain-clause-figures g c =
+    rw c.in-NewDomain.is (write_mapped (state g.S.Store c.args.tx.now.conn.now) (state g.S.Store c.put_domain.new.tx.conn.now) c.put_domain.result c.map_err-in-NewDomain.result _ _ FiguresStay c.map_err-in-NewDomain.ensures.cases (put_beside domain_beside)
+    c.put_domain.ensures.put)
 
 pub returns-in-InDomain-clause-figures : goal.returns-in-InDomain-clause-figures
 returns-in-InDomain-clause-figures g c = rw c.in-InDomain.is c.write_change_in.ensures.figures

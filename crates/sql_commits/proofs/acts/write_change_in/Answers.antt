@@ -1,36 +1,68 @@
-use Rattle.std.proofs.Common.{◌∙◌, sym, subst}
+use Rattle.std.proofs.Common.{◌≡◌, rules}
 use Rattle.sqlite.specs.Held.{state}
-use Rattle.sql_changes.specs.OnMain.{OnMain}
-use Rattle.sql_changes.proofs.MainSteps.{nothing_made}
-use Rattle.sql_commits.specs.Changes.{WritesIf, WritesDomainChange}
-use Rattle.sql_commits.proofs.WritesInTurn.{nothing_put, write_as}
-use Rattle.sql_commits.specs.Figures.{FollowsIf, FollowsDomainChange}
-use Rattle.sql_figures.proofs.FigureSteps.{nothing_follows}
+use Rattle.sql_changes.specs.OnDomains.{OnDomain}
+use Rattle.sql_commits.specs.Changes.{WritesDomainChange, WritesIn}
+use Rattle.sql_commits.proofs.WritesInTurn.{write_then, write_told}
+use Rattle.sql_commits.specs.Figures.{FollowsDomainChange, FollowsIn}
+use Rattle.sqlite.specs.Effect.{Database}
+use Rattle.sql_decoding.specs.declared.faults.Failure.{Failure}
+use Rattle.sql_statements.specs.DomainAnswers.{ShowsDomain}
+use Rattle.sql_commits.proofs.FiguresInTurn.{write_answered}
+use Rattle.sql_commits.proofs.DomainFound.{writes_there, writes_nowhere, follows_there, follows_nowhere}
 use Rattle.sql_commits.proofs.acts.write_change_in.Goals as goal
 
-pub returns-then-is_main-clause-put : goal.returns-then-is_main-clause-put
-returns-then-is_main-clause-put g c =
+-- where the domain is there
+pub returns-in-Some-clause-put : goal.returns-in-Some-clause-put
+returns-in-Some-clause-put g c =
     let old = state g.S.Store c.args.tx.now.conn.now in
+    let mid = state g.S.Store c.find_domain.new.tx.conn.now in
     let new = state g.S.Store c.write_domain_change.new.tx.conn.now in
+    let domain = c.args.domain.now in
+    let given = c.as_str.result.now in
+    let found = c.in_ok-found.found in
     let Change = WritesDomainChange c.args.change.now in
-    write_as old new c.write_domain_change.result (OnMain Change) _ (subst (λ b. OnMain (WritesIf b Change) old.now new.now) (sym c.if-is_main.true ∙ c.is_main.ensures)) c.write_domain_change.ensures.put
+    let Seen = λ (before after : Database). (after ≡ before) × ShowsDomain given before found in
+    write_then old mid new found c.write_domain_change.result Seen (OnDomain domain Change) (WritesIn domain Change)
+    (λ seen made. writes_there given domain (search rules) found old.now mid.now seen Change c.in-Some.row new.now (search rules) made)
+    (write_answered old mid {F = Failure} found found (ShowsDomain given) c.in_ok-found.ensures.found) c.write_domain_change.ensures.put
 
 -- elsewhere nothing is written
-pub returns-else-is_main-clause-put : goal.returns-else-is_main-clause-put
-returns-else-is_main-clause-put g c =
+pub returns-in-None-clause-put : goal.returns-in-None-clause-put
+returns-in-None-clause-put g c =
     let old = state g.S.Store c.args.tx.now.conn.now in
+    let mid = state g.S.Store c.find_domain.new.tx.conn.now in
+    let domain = c.args.domain.now in
+    let given = c.as_str.result.now in
+    let found = c.in_ok-found.found in
     let Change = WritesDomainChange c.args.change.now in
-    nothing_put old _ _ c.requires.steady c.requires.open (subst (λ b. OnMain (WritesIf b Change) old.now old.now) (sym c.if-is_main.false ∙ c.is_main.ensures) (nothing_made old.now))
+    let Seen = λ (before after : Database). (after ≡ before) × ShowsDomain given before found in
+    write_told old mid found _ Seen (WritesIn domain Change) (λ seen. writes_nowhere given domain (search rules) found old.now mid.now seen Change (search rules))
+    (write_answered old mid {F = Failure} found found (ShowsDomain given) c.in_ok-found.ensures.found)
 
-pub returns-then-is_main-clause-figures : goal.returns-then-is_main-clause-figures
-returns-then-is_main-clause-figures g c =
+-- where the domain is there
+pub returns-in-Some-clause-figures : goal.returns-in-Some-clause-figures
+returns-in-Some-clause-figures g c =
     let old = state g.S.Store c.args.tx.now.conn.now in
+    let mid = state g.S.Store c.find_domain.new.tx.conn.now in
     let new = state g.S.Store c.write_domain_change.new.tx.conn.now in
-    let Change = FollowsDomainChange c.args.change.now in
-    write_as old new c.write_domain_change.result Change _ (subst (λ b. FollowsIf b Change old.now new.now) (sym c.if-is_main.true ∙ c.is_main.ensures)) c.write_domain_change.ensures.figures
+    let domain = c.args.domain.now in
+    let given = c.as_str.result.now in
+    let found = c.in_ok-found.found in
+    let Change = FollowsDomainChange domain c.args.change.now in
+    let Seen = λ (before after : Database). (after ≡ before) × ShowsDomain given before found in
+    write_then old mid new found c.write_domain_change.result Seen Change (FollowsIn domain Change)
+    (λ seen follows. follows_there given domain (search rules) found old.now mid.now seen Change c.in-Some.row new.now (search rules) follows)
+    (write_answered old mid {F = Failure} found found (ShowsDomain given) c.in_ok-found.ensures.found) c.write_domain_change.ensures.figures
 
-pub returns-else-is_main-clause-figures : goal.returns-else-is_main-clause-figures
-returns-else-is_main-clause-figures g c =
+-- elsewhere nothing is written
+pub returns-in-None-clause-figures : goal.returns-in-None-clause-figures
+returns-in-None-clause-figures g c =
     let old = state g.S.Store c.args.tx.now.conn.now in
-    let Change = FollowsDomainChange c.args.change.now in
-    nothing_put old _ _ c.requires.steady c.requires.open (subst (λ b. FollowsIf b Change old.now old.now) (sym c.if-is_main.false ∙ c.is_main.ensures) (nothing_follows old.now))
+    let mid = state g.S.Store c.find_domain.new.tx.conn.now in
+    let domain = c.args.domain.now in
+    let given = c.as_str.result.now in
+    let found = c.in_ok-found.found in
+    let Change = FollowsDomainChange domain c.args.change.now in
+    let Seen = λ (before after : Database). (after ≡ before) × ShowsDomain given before found in
+    write_told old mid found _ Seen (FollowsIn domain Change) (λ seen. follows_nowhere given domain (search rules) found old.now mid.now seen Change (search rules))
+    (write_answered old mid {F = Failure} found found (ShowsDomain given) c.in_ok-found.ensures.found)

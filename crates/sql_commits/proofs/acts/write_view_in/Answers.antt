@@ -1,37 +1,69 @@
-use Rattle.std.proofs.Common.{◌∙◌, sym, subst}
+use Rattle.std.proofs.Common.{◌≡◌, rules}
 use Rattle.sqlite.specs.Held.{state}
-use Rattle.sql_changes.specs.OnMain.{OnMain}
+use Rattle.sql_changes.specs.OnDomains.{OnDomain}
 use Rattle.sql_changes.specs.UnitWrites.{WritesNumberedUnit}
-use Rattle.sql_changes.proofs.MainSteps.{nothing_made}
-use Rattle.sql_commits.specs.Changes.{WritesIf}
-use Rattle.sql_commits.proofs.WritesInTurn.{nothing_put, write_as}
-use Rattle.sql_commits.specs.Figures.{FollowsView, FollowsIf}
-use Rattle.sql_figures.proofs.FigureSteps.{nothing_follows}
+use Rattle.sql_commits.specs.Changes.{WritesIn}
+use Rattle.sql_commits.proofs.WritesInTurn.{write_then, write_told}
+use Rattle.sql_commits.specs.Figures.{FollowsView, FollowsIn}
+use Rattle.sqlite.specs.Effect.{Database}
+use Rattle.sql_decoding.specs.declared.faults.Failure.{Failure}
+use Rattle.sql_statements.specs.DomainAnswers.{ShowsDomain}
+use Rattle.sql_commits.proofs.FiguresInTurn.{write_answered}
+use Rattle.sql_commits.proofs.DomainFound.{writes_there, writes_nowhere, follows_there, follows_nowhere}
 use Rattle.sql_commits.proofs.acts.write_view_in.Goals as goal
 
-pub returns-then-is_main-clause-put : goal.returns-then-is_main-clause-put
-returns-then-is_main-clause-put g c =
+-- where the domain is there
+pub returns-in-Some-clause-put : goal.returns-in-Some-clause-put
+returns-in-Some-clause-put g c =
     let old = state g.S.Store c.args.tx.now.conn.now in
+    let mid = state g.S.Store c.find_domain.new.tx.conn.now in
     let new = state g.S.Store c.write_view.new.tx.conn.now in
+    let domain = c.args.domain.now in
+    let given = c.as_str.result.now in
+    let found = c.in_ok-found.found in
     let Unit = WritesNumberedUnit c.args.lang.now c.args.view.now.unit in
-    write_as old new c.write_view.result (OnMain Unit) _ (subst (λ b. OnMain (WritesIf b Unit) old.now new.now) (sym c.if-is_main.true ∙ c.is_main.ensures)) c.write_view.ensures.put
+    let Seen = λ (before after : Database). (after ≡ before) × ShowsDomain given before found in
+    write_then old mid new found c.write_view.result Seen (OnDomain domain Unit) (WritesIn domain Unit)
+    (λ seen made. writes_there given domain (search rules) found old.now mid.now seen Unit c.in-Some.row new.now (search rules) made)
+    (write_answered old mid {F = Failure} found found (ShowsDomain given) c.in_ok-found.ensures.found) c.write_view.ensures.put
 
 -- elsewhere nothing is written
-pub returns-else-is_main-clause-put : goal.returns-else-is_main-clause-put
-returns-else-is_main-clause-put g c =
+pub returns-in-None-clause-put : goal.returns-in-None-clause-put
+returns-in-None-clause-put g c =
     let old = state g.S.Store c.args.tx.now.conn.now in
+    let mid = state g.S.Store c.find_domain.new.tx.conn.now in
+    let domain = c.args.domain.now in
+    let given = c.as_str.result.now in
+    let found = c.in_ok-found.found in
     let Unit = WritesNumberedUnit c.args.lang.now c.args.view.now.unit in
-    nothing_put old _ _ c.requires.steady c.requires.open (subst (λ b. OnMain (WritesIf b Unit) old.now old.now) (sym c.if-is_main.false ∙ c.is_main.ensures) (nothing_made old.now))
+    let Seen = λ (before after : Database). (after ≡ before) × ShowsDomain given before found in
+    write_told old mid found _ Seen (WritesIn domain Unit) (λ seen. writes_nowhere given domain (search rules) found old.now mid.now seen Unit (search rules))
+    (write_answered old mid {F = Failure} found found (ShowsDomain given) c.in_ok-found.ensures.found)
 
-pub returns-then-is_main-clause-figures : goal.returns-then-is_main-clause-figures
-returns-then-is_main-clause-figures g c =
+-- where the domain is there
+pub returns-in-Some-clause-figures : goal.returns-in-Some-clause-figures
+returns-in-Some-clause-figures g c =
     let old = state g.S.Store c.args.tx.now.conn.now in
+    let mid = state g.S.Store c.find_domain.new.tx.conn.now in
     let new = state g.S.Store c.write_view.new.tx.conn.now in
-    let View = FollowsView c.args.lang.now c.args.view.now in
-    write_as old new c.write_view.result View _ (subst (λ b. FollowsIf b View old.now new.now) (sym c.if-is_main.true ∙ c.is_main.ensures)) c.write_view.ensures.figures
+    let domain = c.args.domain.now in
+    let given = c.as_str.result.now in
+    let found = c.in_ok-found.found in
+    let View = FollowsView domain c.args.lang.now c.args.view.now in
+    let Seen = λ (before after : Database). (after ≡ before) × ShowsDomain given before found in
+    write_then old mid new found c.write_view.result Seen View (FollowsIn domain View)
+    (λ seen follows. follows_there given domain (search rules) found old.now mid.now seen View c.in-Some.row new.now (search rules) follows)
+    (write_answered old mid {F = Failure} found found (ShowsDomain given) c.in_ok-found.ensures.found) c.write_view.ensures.figures
 
-pub returns-else-is_main-clause-figures : goal.returns-else-is_main-clause-figures
-returns-else-is_main-clause-figures g c =
+-- elsewhere nothing is written
+pub returns-in-None-clause-figures : goal.returns-in-None-clause-figures
+returns-in-None-clause-figures g c =
     let old = state g.S.Store c.args.tx.now.conn.now in
-    let View = FollowsView c.args.lang.now c.args.view.now in
-    nothing_put old _ _ c.requires.steady c.requires.open (subst (λ b. FollowsIf b View old.now old.now) (sym c.if-is_main.false ∙ c.is_main.ensures) (nothing_follows old.now))
+    let mid = state g.S.Store c.find_domain.new.tx.conn.now in
+    let domain = c.args.domain.now in
+    let given = c.as_str.result.now in
+    let found = c.in_ok-found.found in
+    let View = FollowsView domain c.args.lang.now c.args.view.now in
+    let Seen = λ (before after : Database). (after ≡ before) × ShowsDomain given before found in
+    write_told old mid found _ Seen (FollowsIn domain View) (λ seen. follows_nowhere given domain (search rules) found old.now mid.now seen View (search rules))
+    (write_answered old mid {F = Failure} found found (ShowsDomain given) c.in_ok-found.ensures.found)

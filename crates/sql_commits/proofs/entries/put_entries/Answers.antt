@@ -3,29 +3,28 @@ use Rattle.sqlite.specs.Held.{state}
 use Rattle.sqlite.specs.declared.error.Error.{Error}
 use Rattle.sql_decoding.specs.declared.faults.Failure.{Failure}
 use Rattle.sql_changes.specs.Commits.{PutsEntry, PutsEntries}
-use Rattle.sql_changes.proofs.MainSteps.{on_main_then, nothing_on_main}
+use Rattle.sql_changes.proofs.DomainWrites.{seen, on_domain_then, nothing_on_domain}
 use Rattle.sql_commits.proofs.PlannedWrites.{entries_next}
 use Rattle.sql_commits.proofs.WritesInTurn.{nothing_put, write_then, write_told}
 use Rattle.sql_commits.proofs.entries.put_entries.Goals as goal
-use Rattle.sql_schema.specs.Layouts.{rows_named}
-use Rattle.sql_changes.specs.OnMain.{OnMain}
+use Rattle.sql_changes.specs.OnDomains.{OnDomain}
 use Rattle.sql_figures.specs.Figures.{FiguresStay}
 use Rattle.sql_figures.proofs.FigureSteps.{stay_both, nothing_follows}
-use Rattle.sql_meaning.specs.Meaning.{main_rows}
 
 pub loop-place-preserved : goal.loop-place-preserved
 loop-place-preserved g c =
     let old = state g.S.Store c.args.tx.now.conn.now in
     let mid = state g.S.Store c.loop-place.tx.conn.now in
     let new = state g.S.Store c.put_entry.new.tx.conn.now in
+    let domain = c.args.domain.now in
     let entries = c.args.entries.now in
     let place = c.loop-place.place in
-    let One = OnMain (PutsEntry place c.index-entries-place.result) in (
+    let One = OnDomain domain (PutsEntry place c.index-entries-place.result) in (
       refl,
       c.in_ok-put_entry.ensures.same_reference ∙ c.loop-place.invariant.1,
-      write_then old mid new {A = ℕ} {B = ℕ} {E = Error} {F = Error} 0 (Ok 0) (OnMain (PutsEntries 0 (take place entries))) One (OnMain (PutsEntries 0 (take (place + 1) entries)))
-          (on_main_then (PutsEntries 0 (take place entries)) (PutsEntry place c.index-entries-place.result) (PutsEntries 0 (take (place + 1) entries))
-          (entries_next entries place c.index-entries-place.result (main_rows (rows_named old.now)) (main_rows (rows_named mid.now)) (main_rows (rows_named new.now)) c.loop-place-test.true c.index-entries-place.is))
+      write_then old mid new {A = ℕ} {B = ℕ} {E = Error} {F = Error} 0 (Ok 0) (OnDomain domain (PutsEntries 0 (take place entries))) One (OnDomain domain (PutsEntries 0 (take (place + 1) entries)))
+          (on_domain_then domain (PutsEntries 0 (take place entries)) (PutsEntry place c.index-entries-place.result) (PutsEntries 0 (take (place + 1) entries))
+          (entries_next entries place c.index-entries-place.result (seen domain old.now) (seen domain mid.now) (seen domain new.now) c.loop-place-test.true c.index-entries-place.is))
           c.loop-place.invariant.2 (write_told mid new {E = Failure} c.in_ok-put_entry.field-0 0 One One (λ made. made) c.in_ok-put_entry.ensures.put),
       write_then old mid new {A = ℕ} {B = ℕ} {E = Error} {F = Error} 0 (Ok 0) FiguresStay FiguresStay FiguresStay stay_both c.loop-place.invariant.3
           (write_told mid new {E = Failure} c.in_ok-put_entry.field-0 0 FiguresStay FiguresStay (λ stays. stays) c.in_ok-put_entry.ensures.figures),
@@ -34,5 +33,6 @@ loop-place-preserved g c =
 pub loop-place-init : goal.loop-place-init
 loop-place-init g c =
     let old = state g.S.Store c.args.tx.now.conn.now in
+    let domain = c.args.domain.now in
     let None = PutsEntries 0 [] in
-    (refl, refl, nothing_put old {E = Error} 0 (OnMain None) c.requires.steady c.requires.open (nothing_on_main None old.now refl), nothing_put old {E = Error} 0 FiguresStay c.requires.steady c.requires.open (nothing_follows old.now))
+    (refl, refl, nothing_put old {E = Error} 0 (OnDomain domain None) c.requires.steady c.requires.open (nothing_on_domain domain None old.now refl), nothing_put old {E = Error} 0 FiguresStay c.requires.steady c.requires.open (nothing_follows old.now))

@@ -6,9 +6,9 @@ use Rattle.units.specs.Units.{key_of}
 use Rattle.sql_schema.specs.Inside.{PutsIn}
 use Rattle.sql_schema.specs.Keys.{row_number}
 use Rattle.sql_changes.specs.Commits.{entry_row}
-use Rattle.sql_changes.specs.OnMain.{OnMain}
+use Rattle.sql_changes.specs.OnDomains.{OnDomain}
 use Rattle.sql_commits.proofs.PlannedWrites.{leaves_with, entry_told}
-use Rattle.sql_commits.proofs.WritesInTurn.{write_mapped}
+use Rattle.sql_commits.proofs.WritesInTurn.{write_mapped, write_ready}
 use Rattle.sql_figures.specs.Figures.{FiguresStay}
 use Rattle.sql_figures.proofs.FigureSteps.{put_beside, entry_beside}
 use Rattle.sql_commits.proofs.entries.put_entry.Goals as goal
@@ -20,10 +20,11 @@ returns-clause-put g c =
     let entry = c.args.entry.now in
     let place = c.args.place in
     let Puts = PutsIn (codes "template") row_number (λ row. row ≡ entry_row place entry) in
-    let told = entry_told c.as_str.result.now place _ c.as_str-2.result.now c.as_str-3.result.now c.as_str-4.result.now c.as_str-5.result.now _ entry old.now new.now (search rules)
+    let domain = c.args.domain.now in
+    let told = entry_told domain c.as_str.result.now place _ c.as_str-2.result.now c.as_str-3.result.now c.as_str-4.result.now c.as_str-5.result.now _ entry old.now new.now (search rules)
     (to_z_pos w64 place (omega (arith, c.requires.fits))) (search rules) (search rules) (search rules) (search rules) (search rules) in
-    leaves_with old new c.map_err.result Puts (HasStrings (key_of entry)) c.entry_key_fits.ensures.strings
-    (write_mapped old new c.put_domain_entry.result c.map_err.result _ _ (OnMain Puts) c.map_err.ensures.cases told c.put_domain_entry.ensures.put)
+    leaves_with old new c.map_err.result domain Puts (HasStrings (key_of entry)) c.entry_key_fits.ensures.strings
+    (write_mapped old new c.put_domain_entry.result c.map_err.result _ _ (OnDomain domain Puts) c.map_err.ensures.cases (λ it. told it.0 it.1) (write_ready old new c.put_domain_entry.result _ c.requires.steady c.put_domain_entry.ensures.put))
 
 -- the template is beside the figures
 pub returns-clause-figures : goal.returns-clause-figures

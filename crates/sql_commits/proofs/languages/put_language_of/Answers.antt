@@ -5,9 +5,9 @@ use Rattle.sql_columns.specs.Written.{ArePrevious}
 use Rattle.sql_schema.specs.Inside.{HoldsValues, PutsIn}
 use Rattle.sql_schema.specs.Keys.{first_text}
 use Rattle.sql_changes.specs.Commits.{language_cells}
-use Rattle.sql_changes.specs.OnMain.{OnMain}
+use Rattle.sql_changes.specs.OnDomains.{OnDomain}
 use Rattle.sql_commits.proofs.PlannedWrites.{leaves_with_both, language_told}
-use Rattle.sql_commits.proofs.WritesInTurn.{write_mapped}
+use Rattle.sql_commits.proofs.WritesInTurn.{write_mapped, write_ready}
 use Rattle.sql_figures.specs.Figures.{FiguresStay}
 use Rattle.sql_figures.proofs.FigureSteps.{put_beside, language_beside}
 use Rattle.sql_commits.proofs.languages.put_language_of.Goals as goal
@@ -19,9 +19,10 @@ returns-clause-put g c =
     let lang = c.args.lang.now in
     let header = c.args.header.now in
     let Puts = PutsIn (codes "language") first_text (HoldsValues (language_cells lang header)) in
-    let told = language_told c.as_str.result.now lang c.as_str-2.result.now c.as_str-3.result.now c.rule_text.result.now header old.now new.now (search rules) (search rules) (search rules) (search rules) in
-    leaves_with_both old new c.map_err.result Puts (is_forms header.forms ≡ true) (ArePrevious header.previous) c.language_fits.ensures.forms c.language_fits.ensures.previous
-    (write_mapped old new c.put_domain_language.result c.map_err.result _ _ (OnMain Puts) c.map_err.ensures.cases told c.put_domain_language.ensures.put)
+    let domain = c.args.domain.now in
+    let told = language_told domain c.as_str.result.now lang c.as_str-2.result.now c.as_str-3.result.now c.rule_text.result.now header old.now new.now (search rules) (search rules) (search rules) (search rules) in
+    leaves_with_both old new c.map_err.result domain Puts (is_forms header.forms ≡ true) (ArePrevious header.previous) c.language_fits.ensures.forms c.language_fits.ensures.previous
+    (write_mapped old new c.put_domain_language.result c.map_err.result _ _ (OnDomain domain Puts) c.map_err.ensures.cases (λ it. told it.0 it.1) (write_ready old new c.put_domain_language.result _ c.requires.steady c.put_domain_language.ensures.put))
 
 -- languages are beside the figures
 pub returns-clause-figures : goal.returns-clause-figures

@@ -2,7 +2,7 @@ use Rattle.std.proofs.Common.{rules, codes}
 use Rattle.sqlite.specs.Held.{state}
 use Rattle.sql_schema.specs.Layouts.{by_domain, SparesOthers}
 use Rattle.sql_changes.specs.Commits.{PutsPolicy}
-use Rattle.sql_changes.specs.OnMain.{OnMain}
+use Rattle.sql_changes.specs.OnDomains.{OnEach}
 use Rattle.sql_commits.proofs.PlannedWrites.{policy_told}
 use Rattle.sql_commits.proofs.WritesInTurn.{write_as}
 use Rattle.sql_schema.specs.Inside.{OnRows}
@@ -14,7 +14,7 @@ returns-clause-put g c =
     let old = state g.S.Store c.args.tx.now.conn.now in
     let new = state g.S.Store c.set_policy.new.tx.conn.now in
     let policy = c.args.policy.now in
-    write_as old new c.set_policy.result _ (OnMain (PutsPolicy policy)) (policy_told policy _ old.now new.now (search rules)) (c.set_policy.ensures.put by_domain c.requires.steady)
+    write_as old new c.set_policy.result _ (OnEach (PutsPolicy policy)) (policy_told policy _ old.now new.now (search rules)) (c.set_policy.ensures.put by_domain c.requires.steady)
 
 -- no other table changes
 pub returns-clause-others : goal.returns-clause-others

@@ -1,16 +1,16 @@
 use Rattle.std.proofs.Common.{Ok, sym, subst, codes}
 use Rattle.sqlite.specs.Held.{state}
 use Rattle.sqlite.specs.declared.error.Error.{Error}
-use Rattle.sql_schema.specs.Layouts.{rows_named, SparesOthers}
+use Rattle.sql_schema.specs.Layouts.{SparesOthers}
 use Rattle.sql_statements.specs.DomainRenewed.{UnapprovesDomainUnits, UnapprovesTallies}
-use Rattle.sql_meaning.specs.Meaning.{main_rows}
 use Rattle.sql_meaning.specs.RowChanges.{HaveNextIn, UnapprovesIn}
 use Rattle.sql_changes.specs.Commits.{PutsPolicy, UnapprovesUnless, WritesPolicy}
-use Rattle.sql_changes.specs.OnMain.{OnMainWhere, OnMain}
-use Rattle.sql_changes.proofs.MainSteps.{main_then, main_where, spares_last, units_on_main, tallies_on_main}
+use Rattle.sql_changes.specs.OnDomains.{OnDomainsWhere, OnEach}
+use Rattle.sql_changes.proofs.DomainWrites.{seen, domains_then, domains_where, spares_last, units_on_domains, tallies_on_domains}
 use Rattle.sql_commits.proofs.WritesInTurn.{write_told, write_then}
 use Rattle.sql_commits.proofs.PolicyTurns.{next_behind_policy, stays_reviewed}
 use Rattle.sqlite.specs.Effect.{Database}
+use Rattle.po_text.specs.Texts.{Text}
 use Rattle.sql_schema.specs.Inside.{OnRows}
 use Rattle.sql_commits.proofs.FiguresInTurn.{policy_stays, policy_turns}
 use Rattle.sql_commits.specs.Figures.{FollowsPolicy}
@@ -21,7 +21,7 @@ returns-then-policy-clause-put g c =
     let old = state g.S.Store c.args.tx.now.conn.now in
     let mid = state g.S.Store c.put_policy_of.new.tx.conn.now in
     let policy = c.args.policy.now in
-    write_told old mid c.in_ok-put_policy_of.field-0 _ (OnMain (PutsPolicy policy)) (OnMainWhere HaveNextIn (WritesPolicy policy)) (stays_reviewed policy old.now mid.now c.if-policy.true) c.in_ok-put_policy_of.ensures.put
+    write_told old mid c.in_ok-put_policy_of.field-0 _ (OnEach (PutsPolicy policy)) (OnDomainsWhere HaveNextIn (λ d. WritesPolicy policy)) (stays_reviewed policy old.now mid.now c.if-policy.true) c.in_ok-put_policy_of.ensures.put
 
 pub returns-in_ok-unapprove_domain_units-clause-put : goal.returns-in_ok-unapprove_domain_units-clause-put
 returns-in_ok-unapprove_domain_units-clause-put g c =
@@ -30,14 +30,15 @@ returns-in_ok-unapprove_domain_units-clause-put g c =
     let next = state g.S.Store c.unapprove_domain_units.new.tx.conn.now in
     let new = state g.S.Store c.unapprove_tallies.new.tx.conn.now in
     let policy = c.args.policy.now in
-    let Whole = WritesPolicy policy in
-    let units = write_then old mid next {F = Error} c.in_ok-put_policy_of.field-0 (Ok c.in_ok-unapprove_domain_units.field-0) (OnMain (PutsPolicy policy)) UnapprovesDomainUnits (OnMainWhere HaveNextIn Whole)
-    (λ put made. main_then HaveNextIn (PutsPolicy policy) UnapprovesIn Whole
-    (λ put made. (main_rows (rows_named mid.now), put, subst (λ reviews. UnapprovesUnless reviews (main_rows (rows_named mid.now)) (main_rows (rows_named next.now))) (sym c.if-policy.false) made))
-    (next_behind_policy policy (main_rows (rows_named old.now)) (main_rows (rows_named mid.now))) (main_where HaveNextIn (PutsPolicy policy) put) (units_on_main made))
+    let Puts = λ (d : Text). PutsPolicy policy in
+    let Whole = λ (d : Text). WritesPolicy policy in
+    let units = write_then old mid next {F = Error} c.in_ok-put_policy_of.field-0 (Ok c.in_ok-unapprove_domain_units.field-0) (OnEach (PutsPolicy policy)) UnapprovesDomainUnits (OnDomainsWhere HaveNextIn Whole)
+    (λ put made. domains_then HaveNextIn Puts (λ d. UnapprovesIn) Whole
+    (λ d put made. (seen d mid.now, put, subst (λ reviews. UnapprovesUnless reviews (seen d mid.now) (seen d next.now)) (sym c.if-policy.false) made))
+    (λ d. next_behind_policy policy (seen d old.now) (seen d mid.now)) (domains_where HaveNextIn Puts put) (units_on_domains made))
     c.in_ok-put_policy_of.ensures.put c.in_ok-unapprove_domain_units.ensures.unapproved in
-    write_then old next new c.in_ok-unapprove_domain_units.field-0 c.unapprove_tallies.result (OnMainWhere HaveNextIn Whole) UnapprovesTallies (OnMainWhere HaveNextIn Whole)
-    (λ whole tallied. spares_last HaveNextIn Whole whole (tallies_on_main tallied)) units c.unapprove_tallies.ensures.unapproved
+    write_then old next new c.in_ok-unapprove_domain_units.field-0 c.unapprove_tallies.result (OnDomainsWhere HaveNextIn Whole) UnapprovesTallies (OnDomainsWhere HaveNextIn Whole)
+    (λ whole tallied. spares_last HaveNextIn Whole whole (tallies_on_domains tallied)) units c.unapprove_tallies.ensures.unapproved
 
 pub returns-then-policy-clause-figures : goal.returns-then-policy-clause-figures
 returns-then-policy-clause-figures g c =

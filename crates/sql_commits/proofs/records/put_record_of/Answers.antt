@@ -2,7 +2,7 @@ use Rattle.std.proofs.Common.{rules, codes}
 use Rattle.sqlite.specs.Held.{state}
 use Rattle.sql_schema.specs.Layouts.{by_domain, SparesOthers}
 use Rattle.sql_changes.specs.Commits.{PutsNumberedRecord}
-use Rattle.sql_changes.specs.OnMain.{OnMain}
+use Rattle.sql_changes.specs.OnDomains.{OnEach}
 use Rattle.sql_commits.proofs.PlannedWrites.{record_told}
 use Rattle.sql_commits.proofs.WritesInTurn.{write_mapped}
 use Rattle.sql_commits.proofs.FiguresInTurn.{put_others}
@@ -14,7 +14,7 @@ returns-clause-put g c =
     let old = state g.S.Store c.args.tx.now.conn.now in
     let new = state g.S.Store c.put_record.new.tx.conn.now in
     let row = c.args.row.now in
-    write_mapped old new c.put_record.result c.map_err.result _ _ (OnMain (PutsNumberedRecord row)) c.map_err.ensures.cases
+    write_mapped old new c.put_record.result c.map_err.result _ _ (OnEach (PutsNumberedRecord row)) c.map_err.ensures.cases
     (record_told row c.as_str.result.now c.as_str-2.result.now c.body.result.now _ old.now new.now (search rules) (search rules) (search rules) (search rules) c.in_ok-number.ensures.fits)
     (c.put_record.ensures.put by_domain c.requires.steady)
 

@@ -5,8 +5,8 @@ use Rattle.sql_schema.specs.Inside.{PutsRow, PutsIn, HoldsValues}
 use Rattle.sql_schema.specs.Keys.{first_text, has_text}
 use Rattle.sql_schema.specs.Layouts.{by_domain}
 use Rattle.sql_meaning.specs.RowChanges.{TakesIn}
-use Rattle.sql_changes.specs.OnMain.{OnMain}
-use Rattle.sql_changes.proofs.MainSteps.{member_on_main, members_taken_on_main}
+use Rattle.sql_changes.specs.OnDomains.{OnEach}
+use Rattle.sql_changes.proofs.DomainWrites.{member_on_each, members_taken_on_each}
 use Rattle.sql_commits.proofs.WritesInTurn.{write_as, role_through}
 use Rattle.sql_figures.specs.Figures.{FiguresStay}
 use Rattle.sql_figures.proofs.FigureSteps.{put_beside, taken_beside, team_beside}
@@ -19,15 +19,15 @@ returns-in-Some-clause-put g c =
     let name = c.args.name.now in
     let column = c.in-Some.column in
     let Member = λ (z : ℤ). HoldsValues (Words name ∷ Int z ∷ []) in
-    rw (← c.in-Some.ensures) (write_as old new c.set_member.result _ (OnMain (PutsIn (codes "team") first_text (Member column)))
-    (λ put. member_on_main (subst (λ z. PutsRow (codes "team") first_text (Member z) old.now new.now) (role_through c.args.role column c.in-Some.ensures) put))
+    rw (← c.in-Some.ensures) (write_as old new c.set_member.result _ (OnEach (PutsIn (codes "team") first_text (Member column)))
+    (λ put. member_on_each (subst (λ z. PutsRow (codes "team") first_text (Member z) old.now new.now) (role_through c.args.role column c.in-Some.ensures) put))
     (c.set_member.ensures.put by_domain c.requires.steady))
 
 pub returns-in-None-clause-put : goal.returns-in-None-clause-put
 returns-in-None-clause-put g c =
     let old = state g.S.Store c.args.tx.now.conn.now in
     let new = state g.S.Store c.remove_member.new.tx.conn.now in
-    rw (← c.in-None.ensures) (write_as old new c.remove_member.result _ (OnMain (TakesIn (codes "team") (has_text 1 c.args.name.now))) members_taken_on_main (c.remove_member.ensures.taken by_domain c.requires.steady))
+    rw (← c.in-None.ensures) (write_as old new c.remove_member.result _ (OnEach (TakesIn (codes "team") (has_text 1 c.args.name.now))) members_taken_on_each (c.remove_member.ensures.taken by_domain c.requires.steady))
 
 -- the team is beside the figures
 pub returns-in-Some-clause-figures : goal.returns-in-Some-clause-figures

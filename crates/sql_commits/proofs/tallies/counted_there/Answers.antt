@@ -6,7 +6,7 @@ use Rattle.sql_commits.proofs.WritesInTurn.{write_read, write_then}
 use Rattle.sql_schema.proofs.Sequences.{reads_both}
 use Rattle.sql_statements.specs.DomainAnswers.{ShowsDomainUnit, ShowsDomainSuggestions}
 use Rattle.sql_meaning.specs.Shown.{shown_unit}
-use Rattle.sql_commits.specs.Figures.{main_project}
+use Rattle.sql_commits.specs.Figures.{project_at}
 use Rattle.sql_commits.proofs.FiguresInTurn.{read_over}
 use Rattle.sql_commits.proofs.TalliesMoved.{place_counted, none_at_place}
 use Rattle.sql_decoding.specs.declared.units_read.UnitNumbers.{UnitNumbers}
@@ -43,9 +43,9 @@ returns-in-Some-clause-counted g c clean =
     c.in_ok-found.ensures.found c.in_ok-suggestions.ensures.found in
     let seen = read_over old new rows (λ (db : Database) shown. ShowsDomainUnit c.as_str.result.now c.as_str-2.result.now c.as_str-3.result.now db found × ShowsDomainSuggestions c.as_str-4.result.now c.as_str-5.result.now c.as_str-6.result.now db shown.items)
     c.requires.steady both clean in
-    place_counted old.now seen.0 c.args.lang.now c.args.view.now c.key_fits.ensures.strings c.as_str.result.now c.as_str-2.result.now c.as_str-3.result.now c.as_str-4.result.now c.as_str-5.result.now c.as_str-6.result.now
+    place_counted old.now seen.0 c.args.domain.now c.args.lang.now c.args.view.now c.key_fits.ensures.strings c.as_str.result.now c.as_str-2.result.now c.as_str-3.result.now c.as_str-4.result.now c.as_str-5.result.now c.as_str-6.result.now
     (search rules) (search rules) (search rules) (search rules) (search rules) (search rules) found rows.items seen.1 c.in-Some.row c.counted_so.result (search rules)
-    (λ source ss many. c.counted_so.ensures (main_project old.now).template (shown_unit c.args.view.now.unit.key ss c.in-Some.row) source (sym (ap (λ (n : UnitNumbers). n.state) c.in_ok-numbers-in-Some.ensures.shown)) (sym (ap (λ (n : UnitNumbers). n.obsolete) c.in_ok-numbers-in-Some.ensures.shown))
+    (λ source ss many. c.counted_so.ensures (project_at c.args.domain.now old.now).template (shown_unit c.args.view.now.unit.key ss c.in-Some.row) source (sym (ap (λ (n : UnitNumbers). n.state) c.in_ok-numbers-in-Some.ensures.shown)) (sym (ap (λ (n : UnitNumbers). n.obsolete) c.in_ok-numbers-in-Some.ensures.shown))
     (many ∙ sym (c.len.ensures ∙ rows.ok.0)))
 
 pub returns-clause-counted : goal.returns-clause-counted
@@ -59,5 +59,5 @@ returns-clause-counted g c clean =
     c.in_ok-found.ensures.found c.in_ok-suggestions.ensures.found in
     let seen = read_over old new rows (λ (db : Database) shown. ShowsDomainUnit c.as_str.result.now c.as_str-2.result.now c.as_str-3.result.now db found × ShowsDomainSuggestions c.as_str-4.result.now c.as_str-5.result.now c.as_str-6.result.now db shown.items)
     c.requires.steady both clean in
-    none_at_place old.now seen.0 c.args.lang.now c.args.view.now c.key_fits.ensures.strings c.as_str.result.now c.as_str-2.result.now c.as_str-3.result.now c.as_str-4.result.now c.as_str-5.result.now c.as_str-6.result.now
+    none_at_place old.now seen.0 c.args.domain.now c.args.lang.now c.args.view.now c.key_fits.ensures.strings c.as_str.result.now c.as_str-2.result.now c.as_str-3.result.now c.as_str-4.result.now c.as_str-5.result.now c.as_str-6.result.now
     (search rules) (search rules) (search rules) (search rules) (search rules) (search rules) found rows.items seen.1 c.none.result (search rules) c.none.ensures

@@ -1,12 +1,11 @@
 use Rattle.std.proofs.Common.{◌≡◌, subst, rules}
 use Rattle.sqlite.specs.Held.{state}
 use Rattle.sql_decoding.specs.declared.faults.Failure.{Failure}
-use Rattle.sql_changes.specs.OnMain.{SparesMain}
-use Rattle.sql_changes.proofs.MainSteps.{tally_on_main}
+use Rattle.sql_changes.specs.OnDomains.{SparesDomains}
+use Rattle.sql_changes.proofs.DomainWrites.{tally_on_domains}
 use Rattle.sql_commits.specs.Figures.{PutsTally}
 use Rattle.sql_commits.proofs.WritesInTurn.{write_read, write_then}
 use Rattle.sqlite.specs.Effect.{Database}
-use Rattle.units.specs.Office.{main}
 use Rattle.sql_statements.specs.DomainAnswers.{ShowsTally}
 use Rattle.sql_figures.specs.Figures.{moved_at, FiguresFollow}
 use Rattle.sql_commits.proofs.FiguresInTurn.{write_answered, moves_row}
@@ -19,8 +18,8 @@ returns-in_ok-after-in-Some-clause-spares g c =
     let mid = state g.S.Store c.find_tally.new.tx.conn.now in
     let new = state g.S.Store c.put_tally_of.new.tx.conn.now in
     let looked = write_read old mid {F = Failure} c.in_ok-found.found c.in_ok-found.found _ c.in_ok-found.ensures.found in
-    write_then old mid new c.in_ok-found.found c.put_tally_of.result (λ before after. after ≡ before) (PutsTally c.args.lang.now c.in_ok-after-in-Some.after) SparesMain
-    (λ same put. subst (λ db. SparesMain db new.now) same (tally_on_main put)) looked c.put_tally_of.ensures.put
+    write_then old mid new c.in_ok-found.found c.put_tally_of.result (λ before after. after ≡ before) (PutsTally c.args.domain.now c.args.lang.now c.in_ok-after-in-Some.after) SparesDomains
+    (λ same put. subst (λ db. SparesDomains db new.now) same (tally_on_domains put)) looked c.put_tally_of.ensures.put
 
 -- it is the one that was there, moved
 pub returns-in_ok-after-in-Some-clause-figures : goal.returns-in_ok-after-in-Some-clause-figures
@@ -29,11 +28,12 @@ returns-in_ok-after-in-Some-clause-figures g c =
     let mid = state g.S.Store c.find_tally.new.tx.conn.now in
     let new = state g.S.Store c.put_tally_of.new.tx.conn.now in
     let lang = c.args.lang.now in
-    let domain = c.as_str.result.now in
+    let domain = c.args.domain.now in
+    let given = c.as_str.result.now in
     let code = c.as_str-2.result.now in
     let found = c.in_ok-found.found in
     let after = c.in_ok-after-in-Some.after in
-    let Seen = λ (before now : Database). (now ≡ before) × ShowsTally domain code before found in
-    let looked = write_answered old mid {F = Failure} found found (ShowsTally domain code) c.in_ok-found.ensures.found in
-    write_then old mid new found c.put_tally_of.result Seen (PutsTally lang after) (FiguresFollow (moved_at main lang c.args.was c.args.is))
-    (moves_row domain code lang found c.in-Some.row c.in_ok-tally-in-Some.tally after c.args.was c.args.is old.now mid.now new.now (search rules) (search rules) (search rules) (search rules) (search rules)) looked c.put_tally_of.ensures.put
+    let Seen = λ (before now : Database). (now ≡ before) × ShowsTally given code before found in
+    let looked = write_answered old mid {F = Failure} found found (ShowsTally given code) c.in_ok-found.ensures.found in
+    write_then old mid new found c.put_tally_of.result Seen (PutsTally domain lang after) (FiguresFollow (moved_at domain lang c.args.was c.args.is))
+    (moves_row given code domain lang found c.in-Some.row c.in_ok-tally-in-Some.tally after c.args.was c.args.is old.now mid.now new.now (search rules) (search rules) (search rules) (search rules) (search rules)) looked c.put_tally_of.ensures.put

@@ -4,7 +4,7 @@ use Rattle.sqlite.specs.declared.error.Error.{Error}
 use Rattle.sql_schema.specs.Inside.{IsInsideOf}
 use Rattle.sql_changes.specs.UnitWrites.{AddsNumberedSuggestions}
 use Rattle.sql_commits.proofs.unit_writes.add_suggestions.Given as goal
-use Rattle.sql_changes.specs.OnMain.{OnMain}
+use Rattle.sql_changes.specs.OnDomains.{OnDomain}
 use Rattle.sql_figures.specs.Figures.{FiguresStay}
 use Rattle.sql_schema.specs.Layouts.{by_domain}
 
@@ -13,5 +13,5 @@ abbrev pub invariant-loop-place : goal.invariant-loop-place
 invariant-loop-place g l =
     (l.place-end ≡ length l.suggestions)
     × (l.tx.conn.ghost_name ≡ l.fn.tx.conn.ghost_name)
-    × IsInsideOf {A = ℕ} {E = Error} by_domain (state g.S.Store l.fn.tx.conn.now) (state g.S.Store l.tx.conn.now) (Ok 0) (OnMain (AddsNumberedSuggestions l.lang l.key (take l.place l.suggestions)))
+    × IsInsideOf {A = ℕ} {E = Error} by_domain (state g.S.Store l.fn.tx.conn.now) (state g.S.Store l.tx.conn.now) (Ok 0) (OnDomain l.domain (AddsNumberedSuggestions l.lang l.key (take l.place l.suggestions)))
     × IsInsideOf {A = ℕ} {E = Error} by_domain (state g.S.Store l.fn.tx.conn.now) (state g.S.Store l.tx.conn.now) (Ok 0) FiguresStay

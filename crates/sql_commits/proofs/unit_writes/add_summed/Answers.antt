@@ -13,6 +13,7 @@ returns-clause-added g c =
     let old = state g.S.Store c.args.tx.now.conn.now in
     let mid = state g.S.Store c.add_domain_suggestion.new.tx.conn.now in
     let new = state g.S.Store c.put_sum.new.tx.conn.now in
+    let domain = c.args.domain.now in
     let number = c.args.number.now in
     let lang = c.args.lang.now in
     let key = c.args.key.now in
@@ -20,8 +21,8 @@ returns-clause-added g c =
     let suggester = c.args.suggestion.now.suggester in
     let forms = c.args.forms.now in
     let added = write_ready old mid (Ok c.in_ok-add_domain_suggestion.field-0) _ c.requires.steady c.in_ok-add_domain_suggestion.ensures.added in
-    write_then old mid new c.in_ok-add_domain_suggestion.field-0 c.put_sum.result _ _ (AddsSummed number lang key place suggester forms)
-    (λ one summed. adds_summed number c.as_str.result.now lang key _ _ place suggester c.as_str-2.result.now forms old.now mid.now new.now (search rules) (to_z_pos w64 place (omega (arith, c.requires.fits))) (search rules) one.0 one.1 summed)
+    write_then old mid new c.in_ok-add_domain_suggestion.field-0 c.put_sum.result _ _ (AddsSummed domain number lang key place suggester forms)
+    (λ one summed. adds_summed number domain lang key _ _ place suggester c.as_str.result.now forms old.now mid.now new.now (to_z_pos w64 place (omega (arith, c.requires.fits))) (search rules) one.0 one.1 summed)
     added c.put_sum.ensures.put
 
 pub returns-clause-summed : goal.returns-clause-summed

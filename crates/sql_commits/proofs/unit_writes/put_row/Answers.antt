@@ -1,7 +1,6 @@
-use Rattle.std.proofs.Common.{◌∙◌, ◌∷◌, rules, codes}
+use Rattle.std.proofs.Common.{◌∷◌, rules, codes}
 use Rattle.sqlite.specs.Held.{state}
 use Rattle.sqlite.specs.declared.types.Value.TheVariants.{Text as Words}
-use Rattle.units.specs.Office.{main}
 use Rattle.sql_schema.specs.Inside.{PutsRow, HoldsValues}
 use Rattle.sql_schema.specs.Keys.{first_three}
 use Rattle.sql_meaning.specs.Cells.{unit_cells}
@@ -15,10 +14,11 @@ pub returns-clause-put : goal.returns-clause-put
 returns-clause-put g c =
     let old = state g.S.Store c.args.tx.now.conn.now in
     let new = state g.S.Store c.put_domain_unit.new.tx.conn.now in
+    let domain = c.args.domain.now in
     let lang = c.args.lang.now in
     let unit = c.args.unit.now in
-    write_mapped old new c.put_domain_unit.result c.map_err.result _ _ (PutsRow (codes "d_unit") first_three (HoldsValues (Words main ∷ unit_cells lang unit))) c.map_err.ensures.cases
-    (unit_told c.as_str.result.now lang c.as_str-2.result.now _ c.as_str-3.result.now _ _ _ c.as_str-4.result.now c.as_str-5.result.now unit old.now new.now (c.as_str.ensures.value ∙ c.main_domain-domain.ensures)
+    write_mapped old new c.put_domain_unit.result c.map_err.result _ _ (PutsRow (codes "d_unit") first_three (HoldsValues (Words domain ∷ unit_cells lang unit))) c.map_err.ensures.cases
+    (unit_told domain lang c.as_str.result.now _ c.as_str-2.result.now _ _ _ c.as_str-3.result.now c.as_str-4.result.now unit old.now new.now
     (search rules) (search rules) (search rules) (search rules) (search rules) (search rules) (search rules) (search rules))
     c.put_domain_unit.ensures.put
 

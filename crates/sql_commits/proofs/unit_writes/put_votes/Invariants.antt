@@ -13,5 +13,5 @@ use Rattle.sql_commits.proofs.unit_writes.put_votes.Given as goal
 abbrev pub invariant-loop-vote : goal.invariant-loop-vote
 invariant-loop-vote g l =
     (l.tx.conn.ghost_name ≡ l.fn.tx.conn.ghost_name)
-    × IsInsideOf {A = ℕ} {E = Error} by_domain (state g.S.Store l.fn.tx.conn.now) (state g.S.Store l.tx.conn.now) (Ok 0) (PutsVotesOn l.number (take l.vote-index l.vote-items))
+    × IsInsideOf {A = ℕ} {E = Error} by_domain (state g.S.Store l.fn.tx.conn.now) (state g.S.Store l.tx.conn.now) (Ok 0) (PutsVotesOn l.domain l.number (take l.vote-index l.vote-items))
     × IsInsideOf {A = ℕ} {E = Error} by_domain (state g.S.Store l.fn.tx.conn.now) (state g.S.Store l.tx.conn.now) (Ok 0) (OnRows (PutsRows (codes "d_vote") first_texts (map (vote_cells l.number) (take l.vote-index l.vote-items))))

@@ -1,12 +1,12 @@
 use Rattle.std.specs.List.{list_all}
 use Rattle.std.proofs.Common.{sym, ap, ◌∙◌}
 use Rattle.units.specs.Project.{Project, with_unit}
-use Rattle.deliveries.specs.MainAlone.{main_alone}
 use Rattle.sql_meaning.specs.OfficeShown.{place_shown}
 use Rattle.sql_decoding.specs.TablesRead.{with_suggestions}
 use Rattle.sql_decoding.proofs.RowsSoFar.{one_more}
 use Rattle.sql_decoding.specs.RowTests.{is_unit_row}
 use Rattle.sql_decoding.proofs.RowsTold.{handed_on, more_stand, all_stand, one_fails}
+use Rattle.sql_loading.specs.DomainChanged.{lending}
 use Rattle.sql_loading.proofs.office_read.put_each_unit.Goals as goal
 
 pub loop-row-preserved : goal.loop-row-preserved
@@ -14,9 +14,9 @@ loop-row-preserved c = record {
   shown =
       let row = c.row-item.result in
       let all = c.args.suggestions.now in
-      λ project is.
-      c.in_ok-put_unit.ensures.shown _ (c.loop-row.invariant.shown project is)
-      ∙ ap main_alone (sym (one_more c.args.rows.now c.loop-row.row-index row c.loop-row-test.true c.row-item.is (λ (p : Project) r. with_unit p (place_shown r) (with_suggestions all r)) project));
+      λ office project is.
+      c.in_ok-put_unit.ensures.shown office _ (c.loop-row.invariant.shown office project is)
+      ∙ ap (lending office c.args.domain.now) (sym (one_more c.args.rows.now c.loop-row.row-index row c.loop-row-test.true c.row-item.is (λ (p : Project) r. with_unit p (place_shown r) (with_suggestions all r)) project));
   stand = more_stand is_unit_row c.args.rows.now c.loop-row.row-index c.row-item.result c.loop-row-test.true c.row-item.is c.loop-row.invariant.stand c.in_ok-put_unit.ensures.stands;
 }
 

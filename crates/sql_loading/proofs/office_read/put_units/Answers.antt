@@ -5,25 +5,22 @@ use Rattle.std.specs.FinMap as maps
 use Rattle.sqlite.specs.Order.{Row}
 use Rattle.units.specs.Project.{place_cmp}
 use Rattle.units.specs.declared.unit.Unit.{Unit}
-use Rattle.deliveries.specs.MainAlone.{main_alone}
 use Rattle.sql_schema.specs.Keys.{text_at}
 use Rattle.sql_meaning.specs.Meaning.{key_at}
 use Rattle.sql_meaning.specs.Shown.{shown_unit}
 use Rattle.sql_meaning.specs.OfficeShown.{place_shown}
 use Rattle.sql_decoding.specs.TablesRead.{with_suggestions}
+use Rattle.sql_loading.specs.DomainChanged.{lending}
 use Rattle.sql_loading.proofs.OfficePut.{units_put}
 use Rattle.sql_decoding.specs.RowTests.{is_vote_row, is_suggestion_row, is_unit_row, are_unit_tables}
 use Rattle.sql_decoding.proofs.RowsTold.{first_fails, second_fails, handed_on}
 use Rattle.sql_loading.proofs.office_read.put_units.Goals as goal
 
-pub put_each_unit-requires : goal.put_each_unit-requires
-put_each_unit-requires c = c.main_domain-domain.ensures
-
 pub returns-clause-shown : goal.returns-clause-shown
-returns-clause-shown c = λ project is.
+returns-clause-shown c = λ office project is.
     let rows = c.as_slice.result.now in
-    c.in_ok-put_each_unit.ensures.shown project is
-    ∙ ap main_alone (units_put place_shown (with_suggestions c.in_ok-suggestions.suggestions) project rows
+    c.in_ok-put_each_unit.ensures.shown office project is
+    ∙ ap (lending office c.args.domain.now) (units_put place_shown (with_suggestions c.in_ok-suggestions.suggestions) project rows
     ∙ (λ i. record project {
       units = fold (λ (m : maps.FinMap place_cmp Unit) (row : Row). maps.insert m (place_shown row) (shown_unit (key_at 8 row) (c.in_ok-suggestions.ensures.shown (text_at 7 row) (text_at 8 row) i) row)) project.units (c.as_slice.ensures.value i);
     }))

@@ -4,9 +4,9 @@ use Rattle.po_text.specs.declared.entry.Entry.{Entry}
 use Rattle.po_text.specs.Texts.{Text}
 use Rattle.units.specs.Project.{Project, Place, place_cmp}
 use Rattle.units.specs.declared.unit.Unit.{Unit}
-use Rattle.deliveries.specs.MainAlone.{main_alone}
-use Rattle.office_rules.proofs.MainAlone.{made_in_main}
 use Rattle.office_maps.specs.OfficeIn.{office_in}
+use Rattle.sql_loading.specs.DomainChanged.{lending}
+use Rattle.sql_loading.proofs.Lending.{made_in}
 use Rattle.sql_loading.proofs.office_tables.put_language.Goals as goal
 
 -- a project with a language and its units
@@ -17,7 +17,7 @@ with_units lang header units project = record project {
 }
 
 pub returns-clause-shown : goal.returns-clause-shown
-returns-clause-shown c = λ project is.
+returns-clause-shown c = λ office project is.
     c.in_ok-change.ensures.ok
-    ∙ (made_in_main (office_in c.args.maps.now) project c.main_domain.result (with_units c.in_ok-lang.lang c.in_ok-language.language.header c.new.result) is c.main_domain.ensures refl refl
-    ∙ (λ i. main_alone (with_units (c.in_ok-lang.ensures.shown i) (c.in_ok-language.ensures.shown i) (c.new.ensures i) project)))
+    ∙ (made_in office c.args.domain.now project (office_in c.args.maps.now) c.in_ok-own.own (with_units c.in_ok-lang.lang c.in_ok-language.language.header c.new.result) is c.in_ok-own.ensures refl refl
+    ∙ (λ i. lending office c.args.domain.now (with_units (c.in_ok-lang.ensures.shown i) (c.in_ok-language.ensures.shown i) (c.new.ensures i) project)))

@@ -3,23 +3,23 @@ use Rattle.std.proofs.Common.{refl, sym, ◌∙◌}
 use Rattle.std.specs.FinMap as maps
 use Rattle.po_text.specs.Texts.{text_cmp}
 use Rattle.po_text.specs.declared.entry.Entry.{Entry}
-use Rattle.deliveries.specs.MainAlone.{main_alone}
 use Rattle.sql_schema.specs.Keys.{text_at}
 use Rattle.sql_meaning.specs.Shown.{shown_header}
 use Rattle.sql_decoding.proofs.RowsSoFar.{one_more}
 use Rattle.sql_decoding.specs.RowTests.{is_language_row}
 use Rattle.sql_decoding.proofs.RowsTold.{handed_on, more_stand, all_stand, one_fails}
+use Rattle.sql_loading.specs.DomainChanged.{lending}
 use Rattle.sql_loading.proofs.office_tables.put_languages.Goals as goal
 
 pub loop-row-init : goal.loop-row-init
-loop-row-init c = record { shown = λ project is. is; stand = refl }
+loop-row-init c = record { shown = λ office project is. is; stand = refl }
 
 pub loop-row-preserved : goal.loop-row-preserved
 loop-row-preserved c = record {
-  shown = λ project is.
+  shown = λ office project is.
       let row = c.row-item.result in
-      c.in_ok-put_language.ensures.shown _ (c.loop-row.invariant.shown project is)
-      ∙ (λ i. main_alone (record project {
+      c.in_ok-put_language.ensures.shown office _ (c.loop-row.invariant.shown office project is)
+      ∙ (λ i. lending office c.args.domain.now (record project {
         headers = sym (one_more c.args.rows.now c.loop-row.row-index row c.loop-row-test.true c.row-item.is
             (λ (headers : maps.FinMap text_cmp Entry) r. maps.insert headers (text_at 2 r) (shown_header r)) project.headers) i;
       }));

@@ -1,4 +1,4 @@
 use Rattle.sql_loading.proofs.office_tables.put_team.Goals as goal
 
 pub returns-clause-shown : goal.returns-clause-shown
-returns-clause-shown c = λ project is i. record (is i) { team = c.in_ok-maps.ensures.shown i }
+returns-clause-shown c = λ domain office project is i. record (is i) { team = c.in_ok-maps.ensures.shown i }

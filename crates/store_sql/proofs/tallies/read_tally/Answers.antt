@@ -2,11 +2,10 @@ use Rattle.std.proofs.Common.{rules, ◌≡◌, Some, None, sym, ap, ◌∙◌}
 use Rattle.sqlite.specs.Held.{state}
 use Rattle.sqlite.specs.declared.error.Error.{Error}
 use Rattle.units.specs.Office.{project_in}
-use Rattle.deliveries.specs.MainAlone.{main_alone}
 use Rattle.deliveries.specs.Tally.{counts_of}
 use Rattle.sql_statements.specs.DomainAnswers.{ShowsTally}
 use Rattle.sql_schema.specs.Layouts.{rows_named}
-use Rattle.sql_meaning.specs.Meaning.{main_rows, project_of_rows}
+use Rattle.sql_meaning.specs.Domains.{office_of_rows}
 use Rattle.sql_exports.proofs.Results.{look_up_mapped}
 use Rattle.store_sql.proofs.TalliesRead.{reads_tally}
 use Rattle.store_sql.proofs.tallies.read_tally.Goals as goal
@@ -17,7 +16,7 @@ returns-in_ok-tally-in-Some g c =
     record {
       found = look_up_mapped old (state g.S.Store c.look_up_tally.new.connection) {E = Error} (Some c.in-Some.row) (Some c.in_ok-tally-in-Some.field-0)
           (ShowsTally c.as_str.result.now c.as_str-2.result.now)
-          (λ db counts. counts ≡ counts_of (project_in (main_alone (project_of_rows (main_rows (rows_named db)))) c.args.domain.now) c.args.lang.now) (search rules)
+          (λ db counts. counts ≡ counts_of (project_in (office_of_rows (rows_named db)) c.args.domain.now) c.args.lang.now) (search rules)
           (λ clean is_open shows. ap Some c.in_ok-tally-in-Some.ensures.shown
           ∙ sym (reads_tally old c.args.domain.now c.args.lang.now c.as_str.result.now c.as_str-2.result.now (Some c.in-Some.row) c.requires.keeps c.as_str.ensures.value c.as_str-2.ensures.value clean is_open shows));
     }
@@ -28,7 +27,7 @@ returns-in-None g c =
     record {
       found = look_up_mapped old (state g.S.Store c.look_up_tally.new.connection) {E = Error} None None
           (ShowsTally c.as_str.result.now c.as_str-2.result.now)
-          (λ db counts. counts ≡ counts_of (project_in (main_alone (project_of_rows (main_rows (rows_named db)))) c.args.domain.now) c.args.lang.now) (search rules)
+          (λ db counts. counts ≡ counts_of (project_in (office_of_rows (rows_named db)) c.args.domain.now) c.args.lang.now) (search rules)
           (λ clean is_open shows.
           sym (reads_tally old c.args.domain.now c.args.lang.now c.as_str.result.now c.as_str-2.result.now None c.requires.keeps c.as_str.ensures.value c.as_str-2.ensures.value clean is_open shows));
     }

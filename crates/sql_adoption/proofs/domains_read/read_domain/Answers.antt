@@ -1,0 +1,32 @@
+use Rattle.std.proofs.Common.{Ok, subst}
+use Rattle.sqlite.specs.Held.{state}
+use Rattle.sqlite.specs.declared.error.Error.{Error}
+use Rattle.sql_schema.specs.Layouts.{by_domain, rows_named}
+use Rattle.sql_schema.specs.Views.{seen_in}
+use Rattle.sql_schema.specs.Whole.{IsLookUp}
+use Rattle.sql_statements.specs.WholeOffice.{ShowsWholeOfficeIn}
+use Rattle.sql_adoption.specs.Reading.{AddsDomain}
+use Rattle.sql_adoption.proofs.Looked.{looked_on, looked_ready}
+use Rattle.sql_adoption.proofs.Read.{domains_put, domain_refused, all_refused}
+use Rattle.sql_adoption.proofs.domains_read.read_domain.Goals as goal
+
+pub returns-clause-found : goal.returns-clause-found
+returns-clause-found g c =
+    let old = state g.S.Store c.args.connection.now in
+    let new = state g.S.Store c.look_up_domain.new.connection in
+    let domain = c.args.domain.now in
+    looked_on old new {E = Error} c.in_ok-rows.rows c.put_told-put.result (λ db rows. ShowsWholeOfficeIn (seen_in domain (rows_named db)) rows)
+    (λ db _. AddsDomain domain (rows_named db) c.args.maps.now c.put_told-put.new.maps)
+    (subst (λ name. IsLookUp {E = Error} old new (Ok c.in_ok-rows.rows) (λ db rows. ShowsWholeOfficeIn (seen_in name (rows_named db)) rows)) c.as_str.ensures.value c.in_ok-rows.ensures.found)
+    (λ early is_open shows. domains_put old.now (c.requires.idle.ready early is_open) domain c.in_ok-rows.rows shows c.put_told-put.result c.args.maps.now c.put_told-put.new.maps
+    c.put_told-put.ensures.put c.put_told-put.ensures.told)
+
+pub returns-clause-refused : goal.returns-clause-refused
+returns-clause-refused g c =
+    let old = state g.S.Store c.args.connection.now in
+    let new = state g.S.Store c.look_up_domain.new.connection in
+    let domain = c.args.domain.now in
+    all_refused by_domain c.in_ok-rows.rows old.now c.put_told-put.result
+    (λ clean. domain_refused old.now (looked_ready old new {E = Error} c.in_ok-rows.rows _ c.requires.idle c.in_ok-rows.ensures.found clean) domain c.in_ok-rows.rows
+    (subst (λ name. ShowsWholeOfficeIn (seen_in name (rows_named old.now)) c.in_ok-rows.rows) c.as_str.ensures.value (c.in_ok-rows.ensures.found.answer clean)))
+    c.put_told-put.ensures.refused

@@ -1,0 +1,27 @@
+use Rattle.std.proofs.Common.{rules, ◌≡◌, true, Ok, map, sym, ap, subst, ◌∙◌}
+use Rattle.std.specs.List.{list_all}
+use Rattle.sqlite.specs.Held.{state}
+use Rattle.sqlite.specs.declared.error.Error.{Error}
+use Rattle.sql_decoding.specs.RowTests.{is_domain_row}
+use Rattle.sql_schema.specs.Keys.{text_at}
+use Rattle.sql_schema.specs.Layouts.{rows_named}
+use Rattle.sql_statements.specs.DomainAnswers.{ShowsDomains}
+use Rattle.sql_adoption.specs.Reading.{AreNames}
+use Rattle.sql_adoption.proofs.Looked.{looked_on}
+use Rattle.sql_adoption.proofs.DomainsRead.{names_are_read, names_unread}
+use Rattle.sql_adoption.proofs.domains_read.read_names.Goals as goal
+
+pub returns-in-Ok-clause-found : goal.returns-in-Ok-clause-found
+returns-in-Ok-clause-found g c =
+    let rows = c.in_ok-rows.rows.items in
+    let same : c.as_slice.result.now ≡ rows = search rules in
+    looked_on (state g.S.Store c.args.connection.now) (state g.S.Store c.look_up_domains.new.connection) {E = Error} c.in_ok-rows.rows (Ok c.in-Ok.names) (λ db rows. ShowsDomains db rows.items)
+    (λ db names. AreNames (rows_named db) names.items) c.in_ok-rows.ensures.found
+    (λ early is_open shows. names_are_read _ rows shows c.in-Ok.names.items (c.in-Ok.ensures.shown ∙ ap (map (text_at 0)) same) (ap (list_all is_domain_row) (sym same) ∙ c.in-Ok.ensures.stand))
+
+pub returns-clause-refused : goal.returns-clause-refused
+returns-clause-refused g c =
+    let rows = c.in_ok-rows.rows.items in
+    let same : c.as_slice.result.now ≡ rows = search rules in
+    names_unread (state g.S.Store c.args.connection.now).now rows c.in-Err.failure c.unread.result (λ clean. c.in_ok-rows.ensures.found.answer clean) c.unread.ensures
+    (λ disk. ap (list_all is_domain_row) (sym same) ∙ c.in-Err.ensures.unread disk)

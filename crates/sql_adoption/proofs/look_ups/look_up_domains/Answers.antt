@@ -1,0 +1,23 @@
+use Rattle.std.proofs.Common.{◌≡◌, Ok, subst, rules, Vec, Global}
+use Rattle.sqlite.specs.Order.{Row}
+use Rattle.sqlite.specs.Effect.{Database}
+use Rattle.sqlite.specs.Held.{state}
+use Rattle.sqlite.specs.declared.error.Error.{Error}
+use Rattle.sql_schema.specs.Whole.{IsLookUp}
+use Rattle.sql_statements.specs.DomainAnswers.{ShowsDomains}
+use Rattle.sql_statements.proofs.LookedUp.{answers}
+use Rattle.sql_adoption.proofs.look_ups.look_up_domains.Goals as goal
+
+-- what is looked for
+abbrev Shows : Database → Vec Row Global → Type 0
+Shows db rows = ShowsDomains db rows.items
+
+pub returns : goal.returns
+returns g c =
+    let old = c.args.connection.now in
+    let same : c.commit.new.self.0 ≡ c.connection-2-1.given.0 = search rules in
+    record {
+      found = subst (λ h. IsLookUp {E = Error} (state g.S.Store old) (state g.S.Store h) (Ok c.in_ok-rows.rows) Shows) same
+          (answers g.S.Store old c.transaction-tx.result.conn.now c.all_domains.new.tx.conn.now c.commit.new.self.0 c.transaction-tx.ensures.begun c.requires.idle c.in_ok-commit.ensures.ended c.in_ok-rows.rows
+          Shows c.in_ok-rows.ensures.found c.in_ok-commit.ensures.survives (λ clean. (c.in_ok-commit.ensures.ok clean).1));
+    }
