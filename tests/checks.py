@@ -72,6 +72,8 @@ MESSAGES = [
     (None, "fine", None, "", ["gut"], set()),
     (None, "nothing yet", None, "", [""], set()),
 ]
+# So many of them are in the domain manual too.
+OF_MANUAL = 10
 FORGED = "# (pofilter) printf: forged\n# (pofilter) xmltags: forged"
 
 
@@ -89,7 +91,7 @@ def po_of(context, msgid, plural, flag, forms, comment=""):
 
 
 def checked_office(folder):
-    """An office whose German has a fault in each message, a comment that looks like a finding, and an obsolete message with a fault."""
+    """An office whose German has a fault in each message, a comment that looks like a finding, and an obsolete message with a fault; and a further domain."""
     empty = [(context, msgid, plural, flag, [""] * len(forms)) for context, msgid, plural, flag, forms, _ in MESSAGES]
     old = po_of(None, "old %d", None, "c-format", ["alt"])
     texts = [po_of(*it[:5], FORGED if it[:2] == (None, "a") else "") for it in MESSAGES]
@@ -97,6 +99,9 @@ def checked_office(folder):
     acts = [{"act": "template", "po": template + "\n" + po_of(None, "old %d", None, "c-format", [""])}]
     acts += [{"act": "language", "lang": "de", "po": "\n".join([WHOLE_HEADER, *texts, old])}, {"act": "template", "po": template}]
     acts += [{"act": "language", "lang": "fr", "po": HEADER % ("UTF-8", RULE)}]
+    own = {"domain": "manual"}
+    acts += [{"act": "domain", "name": "manual"}, {"act": "template", "po": "\n".join(po_of(*it) for it in empty[:OF_MANUAL]), **own}]
+    acts += [{"act": "language", "lang": "de", "po": "\n".join([WHOLE_HEADER, *texts[:OF_MANUAL]]), **own}]
     return new_office(folder, acts)
 
 
@@ -200,12 +205,16 @@ def served_alike(path, out):
 
 def of_a_domain(path, page, findings):
     """What is found in a further domain stands in a folder of its own beside the page, and has links to the messages of that domain."""
-    with served(path) as office, between(office) as port:
+    keys = {it[:2] for it in MESSAGES[:OF_MANUAL]}
+    wanted = [it for it in findings if key_of(it) in {*keys, (None, "")}]
+    with served(path) as port:
         words = [*at(port), "--domain", "manual", "--json", "--beside", page, "--page", "https://l10n.test/hello/", "de"]
         told = json.loads(checked(*words)[1])
-        same("check: a domain's links", [it["link"] for it in told["findings"]], [it["link"].replace("#/de", "#/domains/manual/de") for it in findings])
+        links = [it["link"].replace("#/de", "#/domains/manual/de") for it in wanted]
+        same("check: a domain's links", [it["link"] for it in told["findings"]], links)
         made = json.loads((page / "checks" / "manual" / "de.json").read_text())
-        same("check: a domain's file", (made["domain"], len(made["findings"])), ("manual", len(findings)))
+        same("check: a domain's file", (made["domain"], len(made["findings"])), ("manual", len(links)))
+        same("check: fewer than those of main", 0 < len(links) < len(findings), True)
 
 
 def lists_and_tools(folder):

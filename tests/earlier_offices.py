@@ -13,7 +13,6 @@ random moments while it opens copies: each is as it was then, or converted, and 
 knows the eight tables alone: it refuses a converted file and leaves it alone. Prints what is otherwise, and last
 `N looks, M wrong`.
 """
-import http.client
 import json
 import pathlib
 import random
@@ -25,12 +24,14 @@ import tempfile
 import time
 
 import looks
-from looks import free_port, number, same
+from figures import kept_and_counted
+from looks import asked, free_port, number, same
+from patience import seconds
 
 TOP = pathlib.Path(__file__).resolve().parent.parent
 PROGRAM = pathlib.Path(sys.argv[1] if len(sys.argv) > 1 else TOP / "crates" / "cli" / "out" / "cli").resolve()
 EARLIER = pathlib.Path(sys.argv[2]).resolve() if len(sys.argv) > 2 else None
-SECONDS = 20
+SECONDS = seconds(20)
 FIRST = [
     "CREATE TABLE record (number TEXT NOT NULL PRIMARY KEY, content TEXT NOT NULL, status INTEGER NOT NULL, body TEXT NOT NULL) STRICT",
     "CREATE TABLE team (name TEXT NOT NULL PRIMARY KEY, role INTEGER NOT NULL CHECK (role BETWEEN 1 AND 3)) STRICT",
@@ -53,12 +54,6 @@ MOVED = {
     "suggestion": "number, lang, key, place, suggester, forms",
     "vote": "number, voter, value",
 }
-SUMS = "SELECT s.number, 1 + coalesce((SELECT sum(value) FROM d_vote v WHERE v.number = s.number), 0) FROM d_suggestion s ORDER BY 1"
-COUNTS = """SELECT u.domain, u.lang, sum(obsolete = 0 AND flags NOT LIKE '%"read-only"%' AND state = 0), sum(obsolete = 0 AND flags NOT LIKE '%"read-only"%' AND state = 1),
-    sum(obsolete = 0 AND flags NOT LIKE '%"read-only"%' AND state = 2), sum(obsolete = 0 AND flags NOT LIKE '%"read-only"%' AND state = 3),
-    sum(obsolete = 0 AND flags LIKE '%"read-only"%'),
-    sum((SELECT count(*) FROM d_suggestion s WHERE u.obsolete = 0 AND s.domain = u.domain AND s.lang = u.lang AND s.key = u.key)), sum(obsolete)
-    FROM d_unit u LEFT JOIN d_template t ON t.domain = u.domain AND t.key = u.key GROUP BY u.domain, u.lang ORDER BY 1, 2"""
 # What is done to a copy of the file, as SQL, before it is converted: it is no office's then. And after: the first two are refused, and the last
 # isn't, since nobody reads the rows of the old tables.
 SPOILT = {
@@ -175,23 +170,6 @@ def deliver(path, *requests):
     return [(int(status), json.loads(body)) for status, body in replies]
 
 
-def asked(port, target):
-    """What a served office answers."""
-    until = time.monotonic() + SECONDS
-    while True:
-        it = http.client.HTTPConnection("127.0.0.1", port, timeout=SECONDS)
-        try:
-            it.request("GET", target)
-            answer = it.getresponse()
-            return answer.status, json.loads(answer.read())
-        except ConnectionRefusedError:
-            if time.monotonic() > until:
-                raise
-            time.sleep(0.05)
-        finally:
-            it.close()
-
-
 def view(path):
     """The translated message as callers see it."""
     port = free_port()
@@ -259,8 +237,7 @@ def spoilt(path, what, text, status, fault):
 
 def figures(path):
     """What is kept of sums and counts is what is counted."""
-    kept = rows_of(path, "SELECT number, sum FROM d_vote_sum ORDER BY 1", "SELECT * FROM d_tally ORDER BY 1, 2")
-    same("sums and counts", kept, rows_of(path, SUMS, COUNTS))
+    same("sums and counts", *kept_and_counted(path))
 
 
 def stopped(path):
@@ -271,13 +248,13 @@ def stopped(path):
     shutil.copyfile(path, copy)
     begun = time.monotonic()
     opened(copy)
-    seconds, wanted = time.monotonic() - begun, dump(copy)
+    taken, wanted = time.monotonic() - begun, dump(copy)
     for kill in range(KILLS):
         for it in (copy, copy + "-wal", copy + "-shm"):
             pathlib.Path(it).unlink(missing_ok=True)
         shutil.copyfile(path, copy)
         with subprocess.Popen([PROGRAM, "deliver", "--store", copy], stdin=subprocess.DEVNULL, stdout=subprocess.DEVNULL, stderr=subprocess.DEVNULL) as process:
-            time.sleep(draws.uniform(0, seconds))
+            time.sleep(draws.uniform(0, taken))
             process.kill()
         if kill % 2:
             left = dump(copy)

@@ -20,7 +20,7 @@ import sys
 import tempfile
 
 import looks
-from earlier_offices import COUNTS, SUMS
+from figures import kept_and_counted
 from looks import number, same
 
 TOP = pathlib.Path(__file__).resolve().parent.parent
@@ -40,16 +40,19 @@ REQUESTS = [
     {"act": "vote", "caller": "bea", "id": "Hello", "lang": "de", "seen": 1, "suggestion": number(7), "value": 1},
 ]
 
+DOCS = "INSERT INTO domain VALUES ('docs')"
+
 # What is done to a copy, as SQL, and the fault that it has to give.
 SPOILT = [
     ("another schema number", "UPDATE policy SET schema = 2", 3),
     ("the first schema number", "UPDATE policy SET schema = 1", 3),
-    ("another domain", "INSERT INTO domain VALUES ('docs')", 3),
+    ("a domain that has no name", "INSERT INTO domain VALUES ('Docs')", 3),
+    ("nine domains", "INSERT INTO domain VALUES ('d1'), ('d2'), ('d3'), ('d4'), ('d5'), ('d6'), ('d7'), ('d8')", 3),
     ("no domain", "DELETE FROM domain", 3),
     ("another domain in the place of main", "UPDATE domain SET name = 'docs'", 3),
-    ("an entry of another domain", "INSERT INTO d_template VALUES ('docs', 0, 'Hello', NULL, '[]', '[]', '[]')", 3),
-    ("a language of another domain", "INSERT INTO d_language SELECT 'docs', lang, header, plural FROM d_language", 3),
-    ("a unit of another domain", "INSERT INTO d_unit SELECT 'docs', lang, key, plural, forms, state, obsolete, revision, comment, previous FROM d_unit", 3),
+    ("an entry of no domain", "INSERT INTO d_template VALUES ('docs', 0, 'Hello', NULL, '[]', '[]', '[]')", 3),
+    ("a language of no domain", "INSERT INTO d_language SELECT 'docs', lang, header, plural FROM d_language", 3),
+    ("a unit of no domain", "INSERT INTO d_unit SELECT 'docs', lang, key, plural, forms, state, obsolete, revision, comment, previous FROM d_unit", 3),
     ("a table by domains missing", "DROP TABLE d_tally", 3),
     ("a table of the first form beside", "CREATE TABLE language (lang TEXT NOT NULL PRIMARY KEY, header TEXT NOT NULL, plural TEXT NOT NULL) STRICT", 3),
     ("no policy", "DELETE FROM policy", 3),
@@ -93,6 +96,8 @@ MISCOUNTED = [
     ("a tally missing", "DELETE FROM d_tally"),
     ("a tally of a language that isn't there", "INSERT INTO d_tally VALUES ('main', 'fr', 0, 0, 0, 0, 0, 0, 0)"),
     ("a tally of a domain that isn't there", "INSERT INTO d_tally SELECT 'docs', lang, untranslated, 0, translated, 0, 0, suggestions, 0 FROM d_tally"),
+    ("a language of another domain without a tally", f"{DOCS}; INSERT INTO d_language SELECT 'docs', lang, header, plural FROM d_language"),
+    ("a tally of a domain without a language", f"{DOCS}; INSERT INTO d_tally VALUES ('docs', 'de', 0, 0, 0, 0, 0, 0, 0)"),
     ("a tally of another language", "UPDATE d_tally SET lang = 'fr'"),
     ("a unit of another state", "UPDATE d_unit SET state = 1 WHERE key = 'Bye'"),
     ("a read-only message", "UPDATE d_template SET flags = '[\"read-only\"]' WHERE key = 'Bye'"),
@@ -105,8 +110,14 @@ MISCOUNTED = [
     ("a vote against", "UPDATE d_vote SET value = -1"),
 ]
 
-# What is kept is changed with what it is of: it is what a query counts, and the file is an office's.
+# What is kept is changed with what it is of: it is what a query counts, and the file is an office's. So is one with further domains.
 RECOUNTED = [
+    ("another domain", DOCS),
+    ("eight domains", "INSERT INTO domain VALUES ('d1'), ('d2'), ('d3'), ('d4'), ('d5'), ('d6'), ('d7')"),
+    (
+        "a language of another domain, counted so",
+        f"{DOCS}; INSERT INTO d_language SELECT 'docs', lang, header, plural FROM d_language; INSERT INTO d_tally VALUES ('docs', 'de', 0, 0, 0, 0, 0, 0, 0)",
+    ),
     ("a unit of another state, counted so", "UPDATE d_unit SET state = 1 WHERE key = 'Bye'; UPDATE d_tally SET translated = 0, needs_editing = 1"),
     ("a read-only message, counted so", "UPDATE d_template SET flags = '[\"read-only\"]' WHERE key = 'Bye'; UPDATE d_tally SET translated = 0, read_only = 1"),
     ("no suggestion, counted so", "DELETE FROM d_vote; DELETE FROM d_vote_sum; DELETE FROM d_suggestion; UPDATE d_tally SET suggestions = 0"),
@@ -124,15 +135,6 @@ def rows(path):
     found = list(db.iterdump())
     db.close()
     return found
-
-
-def figures(path):
-    """The sums and the counts that are kept, and those that queries count."""
-    db = sqlite3.connect(path)
-    kept = [db.execute(it).fetchall() for it in ("SELECT number, sum FROM d_vote_sum ORDER BY 1", "SELECT * FROM d_tally ORDER BY 1, 2")]
-    counted = [db.execute(it).fetchall() for it in (SUMS, COUNTS)]
-    db.close()
-    return kept, counted
 
 
 def spoil(path, text):
@@ -160,17 +162,17 @@ def refused(path, what, fault):
 
 def counted(folder, office, lines, first):
     """Files whose kept sums and counts aren't those of their rows, and files whose rows and figures were changed alike."""
-    kept, found = figures(office)
+    kept, found = kept_and_counted(office)
     same("the office's sums and counts", kept, found)
     same("that it has both", [len(it) for it in kept], [1, 1])
     for at, (what, text) in enumerate(MISCOUNTED):
         path = spoilt(office, folder / f"miscounted-{at}.db", text)
-        kept, found = figures(path)
+        kept, found = kept_and_counted(path)
         same(f"{what}: counted otherwise", kept != found, True)
         refused(path, what, 3)
     for at, (what, text) in enumerate(RECOUNTED):
         path = spoilt(office, folder / f"recounted-{at}.db", text)
-        kept, found = figures(path)
+        kept, found = kept_and_counted(path)
         same(f"{what}: sums and counts", kept, found)
         same(what, run(["deliver", "--store", path], lines), first)
     return len(MISCOUNTED) + len(RECOUNTED)

@@ -523,6 +523,7 @@ ODD_ROWS = {
     "of an act that is none": row(1, {**TEAM, "act": ["team"]}),
     "of an act of a number": row(1, {**TEAM, "act": 1}),
     "of a caller that is none": row(1, {**TEAM, "caller": None}),
+    "of a domain that is a list": row(1, {"act": "language", "caller": "root", "lang": "de", "domain": []}),
     "of a role that is none": row(1, {**TEAM, "role": {}}),
     "of a text that is none": row(1, {"act": "template", "caller": "root", "po": 1}),
     "of half a pair": row(1, '{"act":"template","caller":"root","po":"\\ud800"}'),
@@ -586,7 +587,7 @@ def repeated(place):
 def fields_of(text):
     """Acts with this text in each field that is printed, and the replies to them."""
     unit = {"caller": "ann", "lang": "de", "id": "Hello", "seen": 1}
-    whole = {"act": f"a{text}", "caller": f"b{text}", "lang": f"c{text}", "id": f"d{text}", "ctx": f"e{text}"}
+    whole = {"act": f"a{text}", "caller": f"b{text}", "domain": f"p{text}", "lang": f"c{text}", "id": f"d{text}", "ctx": f"e{text}"}
     return [
         ({**whole, "forms": [f"f{text}"], "lines": [f"g{text}"], "value": f"h{text}", "role": f"i{text}", "suggestion": f"j{text}"}, {"refusal": f"k{text}"}),
         ({**unit, "act": "team", "name": f"l{text}"}, {"error": f"m{text}"}),
@@ -605,8 +606,8 @@ def controls_recorded(place):
     for it, line in zip(ESCAPED, lines[::4]):
         escape = f"\\u{it:04x}"
         short = {8: "\\b", 9: "\\t", 10: "\\n", 12: "\\f", 13: "\\r"}.get(it, escape)
-        shown = {one for one in "abcijk" if f"{one}{escape}" in line} | {one for one in "defgh" if f"{one}{short}" in line}
-        same(f"log of U+{it:04X}: shown", shown, set("abcdefghijk"))
+        shown = {one for one in "abcijkp" if f"{one}{escape}" in line} | {one for one in "defgh" if f"{one}{short}" in line}
+        same(f"log of U+{it:04X}: shown", shown, set("abcdefghijkp"))
     status, out, faults, _ = run("office-log", "--json", path)
     found = [json.loads(line) for line in out.decode().split("\n")[:-1]]
     same("log --json of controls", (status, is_clean(out), [(one["content"], one["body"]) for one in found]), (0, True, acts))

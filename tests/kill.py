@@ -34,6 +34,7 @@ AGAIN = 10
 # How many requests are sent ahead of their answers.
 AHEAD = 4
 MESSAGES = 20
+DOMAINS = ["main", "docs", "web"]
 # How many bytes of the log a spoilt kill loses.
 SPOILT = 4096
 SECONDS = 300
@@ -45,18 +46,21 @@ def template(extra):
 
 
 def requests(count):
-    """A list of requests: translations in turn, and now and then one of the office's acts."""
-    seen = {}
-    made = [{"act": "template", "po": template(0)}, {"act": "language", "lang": "de", "po": HEADER}]
+    """A list of requests: translations in each domain in turn, and now and then one of the office's acts."""
+    seen, made = {}, []
+    for domain in DOMAINS:
+        made += [{"act": "domain", "name": domain}] if domain != "main" else []
+        made += [{"act": "template", "domain": domain, "po": template(0)}, {"act": "language", "domain": domain, "lang": "de", "po": HEADER}]
     for n in range(count):
+        domain = DOMAINS[n % len(DOMAINS)]
         if n % 37 == 36:
-            made.append({"act": "template", "po": template(n % 5)})
+            made.append({"act": "template", "domain": domain, "po": template(n % 5)})
         elif n % 23 == 22:
             made.append({"act": "team", "name": f"t{n}", "role": "translator"})
         else:
-            at = n % MESSAGES
+            at = domain, n % MESSAGES
             seen[at] = seen.get(at, 0) + 1
-            made.append({"act": "translate", "forms": [f"Meldung {n}"], "id": f"message {at}", "lang": "de", "seen": seen[at]})
+            made.append({"act": "translate", "domain": domain, "forms": [f"Meldung {n}"], "id": f"message {at[1]}", "lang": "de", "seen": seen[at]})
     return [json.dumps({**it, "caller": "root", "number": f"00000000-0000-4000-8000-{n:012}"}) for n, it in enumerate(made)]
 
 
@@ -199,9 +203,10 @@ class Kills:
             self.kill(disturbed, lines[place : place + PIECE], answers, place)
         if self.run("deliver", "--store", disturbed, given=whole)[1].split("\n")[:-1] != answers:
             self.say(f"behind kill {self.kills}: other answers")
-        texts = [self.run("export", "--store", it, "--lang", "de") for it in (disturbed, quiet)]
-        if texts[0] != texts[1] or texts[0][0]:
-            self.say(f"behind kill {self.kills}: other exports")
+        for domain in DOMAINS:
+            texts = [self.run("export", "--store", it, "--lang", "de", "--domain", domain) for it in (disturbed, quiet)]
+            if texts[0] != texts[1] or texts[0][0]:
+                self.say(f"behind kill {self.kills}: other exports of {domain}")
 
 
 def main():

@@ -1,8 +1,11 @@
-"""What the scripts of this folder share: looks, which are counted, numbers of requests, runs of a program, free ports."""
+"""What the scripts of this folder share: looks, which are counted, numbers of requests, runs of a program, questions to one that serves, free ports."""
 import contextlib
+import http.client
+import json
 import random
 import socket
 import subprocess
+import time
 
 HOST = "127.0.0.1"
 
@@ -50,6 +53,23 @@ def run(program, *words, given="", seconds=300):
     except subprocess.TimeoutExpired:
         return None, "", f"it didn't end within {seconds} seconds"
     return done.returncode, done.stdout.decode(errors="replace"), done.stderr.decode(errors="replace")
+
+
+def asked(port, target, seconds=60):
+    """The status and the body in JSON that a served office answers, once it takes connections."""
+    until = time.monotonic() + seconds
+    while True:
+        it = http.client.HTTPConnection(HOST, port, timeout=seconds)
+        try:
+            it.request("GET", target)
+            answer = it.getresponse()
+            return answer.status, json.loads(answer.read())
+        except ConnectionRefusedError:
+            if time.monotonic() > until:
+                raise
+            time.sleep(0.05)
+        finally:
+            it.close()
 
 
 def free_port():

@@ -1234,12 +1234,10 @@ def case_sign_out(world):
 
 
 def case_domains(world):
-    """A further domain has languages of its own. What the program doesn't have yet a second office stands for."""
-    po = 'msgid "Hello"\nmsgstr ""\n\nmsgid "the manual"\nmsgstr ""\n'
-    beginning = [{"act": "template", "po": po}, {"act": "language", "lang": "de", "po": header(LANGUAGES["de"])}, *(it for it in BEGINNING if it["act"] in ("team", "policy"))]
-    manual = page_office.Office(world.office.program, world.folder / "manual.db", beginning)
-    manual.start()
-    world.relay.domains = {"manual": manual}
+    """A further domain of the office has languages of its own."""
+    own, po = {"domain": "manual"}, 'msgid "Hello"\nmsgstr ""\n\nmsgid "the manual"\nmsgstr ""\n'
+    acts = [{"act": "domain", "name": "manual"}, {"act": "template", "po": po, **own}, {"act": "language", "lang": "de", "po": header(LANGUAGES["de"]), **own}]
+    same("the domain", [world.office.act("root", **it)[0] for it in acts], [200, 200, 200])
     tab = PageTab(world, "ann")
     tab.eval("location.hash = '#/'")
     tab.wait_text("#languages", "manual")
@@ -1254,7 +1252,7 @@ def case_domains(world):
     tab.fill("#form-0", "Hallo im Handbuch")
     tab.click("#translate")
     tab.wait_text("#status", "Translated. The message is now: translated.")
-    same("in its domain alone", (manual.unit("Hello")["forms"], world.office.unit("Hello")["forms"]), (["Hallo im Handbuch"], [""]))
+    same("in its domain alone", (world.office.unit("Hello", **own)["forms"], world.office.unit("Hello")["forms"]), (["Hallo im Handbuch"], [""]))
     has("in the replies", tab.text("#replies"), "Hello (de · manual)")
     tab.fill("#form-0", "nur getippt")
     tab.open("Hello")
@@ -1263,8 +1261,21 @@ def case_domains(world):
     tab.eval("location.hash = '#/domains/manual/de/unit?id=Hello'")
     tab.wait_for("#office-text")
     same("and is there", tab.value("#form-0"), "nur getippt")
-    world.relay.domains = {}
-    manual.kill()
+    tab.close()
+    manages_domain(world)
+
+
+def manages_domain(world):
+    """A manager adds a language to the domain that is chosen."""
+    tab = PageTab(world, "root", asks=False)
+    tab.eval("location.hash = '#/~manage'")
+    tab.wait_for("#language-domain")
+    tab.choose("language-domain", "manual")
+    tab.fill("#language-code", "fi")
+    tab.fill("#language-rule", "nplurals=2; plural=n != 1;")
+    tab.click("#language-send")
+    tab.wait_text("#status", "The language fi is there: translations taken over: 0")
+    same("a language of its domain alone", [world.office.ask("GET", f"/v1/{it}stats/fi")[0] for it in ("domains/manual/", "")], [200, 404])
     tab.close()
 
 

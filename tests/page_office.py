@@ -69,8 +69,8 @@ class Office:
         use = use or number(10_000 + self.made)
         return self.ask("POST", f"/v1/requests/{use}", json.dumps(fields), caller)
 
-    def unit(self, msgid, lang="de"):
-        return self.ask("GET", "/v1/unit?" + urllib.parse.urlencode({"lang": lang, "id": msgid}))[1]
+    def unit(self, msgid, lang="de", **more):
+        return self.ask("GET", "/v1/unit?" + urllib.parse.urlencode({"lang": lang, "id": msgid, **more}))[1]
 
 
 def wait_until(what, condition):
@@ -84,14 +84,13 @@ def wait_until(what, condition):
 
 class Relay(socketserver.ThreadingUnixStreamServer):
     """Hands each message on to the office, and its answer back. `mode` says what becomes of the next ones instead; `posts` has the requests, each
-    with its number, its body and its time. `domains` has further offices: what names a domain of theirs goes to one of them, without its name.
-    That stands for an office of several domains, as the program's has but one."""
+    with its number, its body and its time."""
 
     daemon_threads = True
     request_queue_size = 128
 
     def __init__(self, path, office):
-        self.office, self.mode, self.posts, self.domains = office, "pass", [], {}
+        self.office, self.mode, self.posts = office, "pass", []
         super().__init__(str(path), RelayedMessage)
         os.chmod(path, 0o666)
         threading.Thread(target=self.serve_forever, daemon=True).start()
@@ -143,24 +142,12 @@ class RelayedMessage(socketserver.StreamRequestHandler):
                 self.wfile.write(told.encode())
 
     def of_office(self, head, body):
-        office, head, body = of_domain(self.server, head, body)
         try:
-            with socket.create_connection((HOST, office.port), SECONDS) as link:
+            with socket.create_connection((HOST, self.server.office.port), SECONDS) as link:
                 link.sendall(head + body)
                 return b"".join(iter(lambda: link.recv(65536), b""))
         except OSError:
             return b""
-
-
-def of_domain(relay, head, body):
-    """The office that has the domain of a message, and the message without that domain."""
-    for name, office in relay.domains.items():
-        path, query, field = (f"/v1/domains/{name}/".encode(), f"domain={name}".encode(), f'"domain":"{name}",'.encode())
-        if path in head or query in head or field in body:
-            length = f"Content-Length: {len(body) - len(field)}".encode()
-            head = head.replace(path, b"/v1/").replace(b"&" + query, b"")
-            return office, re.sub(rb"(?i)content-length: *\d+", length, head) if field in body else head, body.replace(field, b"")
-    return relay.office, head, body
 
 
 @contextlib.contextmanager

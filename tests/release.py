@@ -757,6 +757,30 @@ def new_languages(folder):
         same("another domain", (status, "no-domain: the office hasn't this domain" in out + faults), (1, True))
 
 
+def domains(folder):
+    """A program and its manual in one repository and one office: each domain has a folder, and what is done in one is nothing to the other."""
+    texts = {"popt.pot": (EXAMPLE / "popt.pot").read_text(), "de.po": (EXAMPLE / "de.po").read_text()}
+    project, path = Project(folder, {f"{place}/{name}": text for place in ("po", "doc") for name, text in texts.items()}), git_office(folder)
+    own = ["--domain", "manual", "--folder", "doc"]
+    taken, nothing = (0, "taken: the template\ntaken: de\n2 taken\n", ""), (0, "nothing has changed\n", "")
+    with served(path) as port:
+        act(port, 1, "git", act="domain", name="manual")
+        same("domains: the manual's pull", sync(project, port, *own, words="pull"), taken)
+        same("domains: main has nothing", ask(port, "GET", "/v1/export/de")[0], 404)
+        same("domains: main's pull", sync(project, port, words="pull"), taken)
+        act(port, 2, "ann", act="translate", domain="manual", lang="de", id=UNKNOWN, forms=["unbekannt, im Handbuch"], seen=1)
+        same("domains: main's sync", sync(project, port), nothing)
+        done = sync(project, port, *own)
+        same("domains: the manual's sync", (done[0], done[1].split()[:2], done[2]), (0, ["pushed:", "de"], ""))
+        text = f'"{UNKNOWN}"\nmsgstr "unbekannt, im Handbuch"'
+        same("domains: in its folder alone", [text in project.file(f"{it}/de.po") for it in ("doc", "po")], [True, False])
+        same("domains: nothing comes back", (sync(project, port, *own), sync(project, port)), (nothing, nothing))
+        project.upstream({"po/de.po": translated(project.file("po/de.po"), NUMERIC, "Zahl ist falsch")}, "German")
+        same("domains: upstream's change of the program", (sync(project, port, *own, words="pull"), sync(project, port, words="pull")[0]), (nothing, 0))
+        seen = [view(port, NUMERIC, **it)["forms"] == ["Zahl ist falsch"] for it in ({}, {"domain": "manual"})]
+        same("domains: is the program's alone", seen, [True, False])
+
+
 # ---- office-import, office-upload
 
 
@@ -919,7 +943,7 @@ def hooks(folder):
         same(f"hook: {what}", (status, tools.files_in(marks), done.returncode), (wanted, {"popt"} if wanted == 200 else set(), 0 if wanted == 200 else 1))
 
 
-PARTS = {it.__name__: it for it in (exports, imports, uploads, hooks, pulls_and_pushes, made, given_up, new_languages, histories, stopped)}
+PARTS = {it.__name__: it for it in (exports, imports, uploads, hooks, pulls_and_pushes, made, given_up, new_languages, domains, histories, stopped)}
 
 
 def main():

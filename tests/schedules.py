@@ -6,10 +6,11 @@
 A case is a list of deliveries of few requests on few messages: with requests that come again, later or out of their order, with another content or
 another caller under their number, lines that are none, and stops behind which the file is opened anew: ends of the program, and kills of it
 between two requests and in the midst of some, whose requests come again in their order. Each reply is compared with that of the second
-office, and each export byte by byte. With `--memory` the offices stand in memory, and there are no stops: that is for many cases in a short time.
-`--length N` draws N acts more for each. A case that differs is made smaller as long as it differs, and the smallest is printed. The last line is
-`N cases, M deliveries, K kills, W wrong`; the status is 1 if anything was wrong. With `--spoil N` the second office has the N-th of its planted
-mistakes, and the run has to find a case. Files are made under TMPDIR: on a disk in memory it goes ten times as fast.
+office, each export byte by byte, and at the end the sums and the counts that the file keeps with those that queries count. With `--memory` the
+offices stand in memory, and there are no stops: that is for many cases in a short time. `--length N` draws N acts more for each. A case that differs
+is made smaller as long as it differs, and the smallest is printed. The last line is `N cases, M deliveries, K kills, W wrong`; the status is 1 if
+anything was wrong. With `--spoil N` the second office has the N-th of its planted mistakes, and the run has to find a case. Files are made under
+TMPDIR: on a disk in memory it goes ten times as fast.
 """
 import argparse
 import json
@@ -22,6 +23,7 @@ import sys
 import tempfile
 import time
 
+from figures import kept_and_counted
 from looks import number
 
 TOP = pathlib.Path(__file__).resolve().parent.parent
@@ -42,7 +44,7 @@ RULES = {
     **{"no-language": (1, 404), "no-unit": (2, 404), "role": (3, 403), "read-only": (4, 409), "stale": (5, 409), "approved": (6, 409)},
     **{"plural-count": (7, 422), "no-suggestion": (8, 404), "voting-off": (9, 409), "reviews-off": (10, 409), "full": (11, 409), "same": (12, 409)},
     **{"unfit": (13, 422), "language-exists": (14, 409), "po": (15, 422), "plural-forms": (16, 422), "limit": (17, 422), "last-manager": (18, 409)},
-    "no-domain": (20, 404),
+    **{"domain-exists": (19, 409), "no-domain": (20, 404)},
 }
 # The rules of the languages that are drawn, each with what it gives at a number.
 PLURALS = {
@@ -105,11 +107,18 @@ def ends_otherwise(entry, form):
     return (form[:1] == "\n") != (msgid[:1] == "\n") or (form[-1:] == "\n") != (msgid[-1:] == "\n")
 
 
+class Domain:
+    """What a domain has of its own."""
+
+    def __init__(self):
+        self.template, self.languages = [], {}
+
+
 class Office:
     def __init__(self):
         self.team = {"root": "manager"}
         self.policy = {"reviews": False, "guests_suggest": False, "voting": False, "accept_at": 0, "placeholders": False, "line_ends": False}
-        self.template, self.languages, self.book = [], {}, {}
+        self.domains, self.book = {"main": Domain()}, {}
 
     def deliver(self, number, content):
         """The reply to a request; one that was there before gets its first."""
@@ -139,6 +148,10 @@ class Office:
     def role(self, content):
         return ROLES.index(self.team.get(content["caller"], "guest"))
 
+    def domain(self, content):
+        """The domain that a request names, if it is there."""
+        return self.domains.get(content.get("domain", "main"))
+
     # acts on the office
 
     def take_team(self, content):
@@ -151,24 +164,33 @@ class Office:
     def take_policy(self, content):
         ends = self.policy["reviews"] and not content["reviews"]
         self.policy = {name: content[name] for name in self.policy}
-        ended = [it for lang in self.languages.values() for it in lang["units"].values() if ends and it["state"] == APPROVED]
+        ruled = [self.domains["main"]] if spoiled("a policy spares other domains") else self.domains.values()
+        languages = [lang for domain in ruled for lang in domain.languages.values()]
+        ended = [it for lang in languages for it in lang["units"].values() if ends and it["state"] == APPROVED]
         for it in ended:
             it["state"] = TRANSLATED
             it["revision"] += 1
         return {"units": len(ended)}
 
+    def take_domain(self, content):
+        refuse(content["name"] in self.domains and not spoiled("a domain is made anew"), "domain-exists")
+        refuse(len(self.domains) == 8, "limit")
+        self.domains[content["name"]] = Domain()
+        return {"name": content["name"]}
+
     def take_template(self, content):
-        refuse("domain" in content, "no-domain")
+        domain = self.domain(content)
+        refuse(domain is None, "no-domain")
         text = TEXTS[content["po"]]
         refuse("fault" in text, "po", **text.get("fault", {}))
         entries = [{**it, "flags": [flag for flag in it["flags"] if flag != "fuzzy"]} for it in text["entries"] if not it["obsolete"]]
-        old, self.template = {it["key"]: it for it in self.template}, entries
-        return {"languages": {name: self.retake(lang, old) for name, lang in self.languages.items()}}
+        old, domain.template = {it["key"]: it for it in domain.template}, entries
+        return {"languages": {name: self.retake(domain, lang, old) for name, lang in domain.languages.items()}}
 
-    def retake(self, lang, old):
+    def retake(self, domain, lang, old):
         """What a new template does to a language's units."""
         counts = dict.fromkeys(("added", "changed", "kept", "obsolete", "revived"), 0)
-        for entry in self.template:
+        for entry in domain.template:
             unit = lang["units"].get(entry["key"])
             if unit is None:
                 what, lang["units"][entry["key"]] = "added", fresh(lang, entry)
@@ -185,7 +207,7 @@ class Office:
             else:
                 what = "kept"
             counts[what] += 1
-        keys = {it["key"] for it in self.template}
+        keys = {it["key"] for it in domain.template}
         for key, unit in lang["units"].items():
             if key not in keys and not unit["obsolete"]:
                 unit.update(obsolete=True, suggestions=unit["suggestions"] if spoiled("suggestions outlive their message") else [], revision=unit["revision"] + 1)
@@ -193,8 +215,9 @@ class Office:
         return counts
 
     def take_language(self, content):
-        refuse("domain" in content, "no-domain")
-        refuse(content["lang"] in self.languages, "language-exists")
+        domain = self.domain(content)
+        refuse(domain is None, "no-domain")
+        refuse(content["lang"] in domain.languages, "language-exists")
         text = TEXTS[content["po"]]
         refuse("fault" in text, "po", **text.get("fault", {}))
         refuse(text["header"] is None, "plural-forms", fault=0)
@@ -202,16 +225,16 @@ class Office:
         served = [sum(rule(n) == form for n in range(1000)) for form in range(count)]
         lang = {"header": text["header"], "count": count, "one": [it == 1 for it in served], "units": {}}
         found = {it["key"]: it for it in text["entries"]}
-        for entry in self.template:
+        for entry in domain.template:
             lang["units"][entry["key"]] = self.loaded(lang, entry, found.get(entry["key"]))
-        keys = {it["key"] for it in self.template}
+        keys = {it["key"] for it in domain.template}
         for key, it in found.items():
             if key not in keys and any(it["forms"]):
                 state = EDITING if "fuzzy" in it["flags"] or not all(it["forms"]) else TRANSLATED
                 lang["units"][key] = {**unit_from(it), "obsolete": True, "state": state, "previous": it["previous"] if state == EDITING else None}
-        self.languages[content["lang"]] = lang
-        loaded = sum(it["key"] in found for it in self.template)
-        return {"loaded": loaded, "missing": len(self.template) - loaded, "obsolete": sum(it["obsolete"] for it in lang["units"].values())}
+        domain.languages[content["lang"]] = lang
+        loaded = sum(it["key"] in found for it in domain.template)
+        return {"loaded": loaded, "missing": len(domain.template) - loaded, "obsolete": sum(it["obsolete"] for it in lang["units"].values())}
 
     def loaded(self, lang, entry, it):
         if it is None:
@@ -225,12 +248,13 @@ class Office:
     # acts on a unit
 
     def unit_act(self, number, content):
-        lang = self.languages.get(content["lang"]) if "domain" not in content else None
+        domain = self.domains["main"] if spoiled("each unit is in main") else self.domain(content)
+        lang = None if domain is None else domain.languages.get(content["lang"])
         refuse(lang is None, "no-language")
         key = (content.get("ctx"), content["id"])
         unit = lang["units"].get(key)
         refuse(unit is None or unit["obsolete"], "no-unit")
-        entry = next(it for it in self.template if it["key"] == key)
+        entry = next(it for it in domain.template if it["key"] == key)
         act, role = content["act"], self.role(content)
         least = {"suggest": 0 if self.policy["guests_suggest"] else 1, "approve": 2, "send-back": 2}.get(act, 1)
         refuse(role < least, "role")
@@ -305,13 +329,18 @@ class Office:
                 return EDITING
         return TRANSLATED
 
-    def export(self, name):
-        """The language's text; None where it isn't there."""
-        lang = self.languages.get(name)
+    def places(self):
+        """The domain and the name of each language."""
+        return [(name, lang) for name, domain in self.domains.items() for lang in domain.languages]
+
+    def export(self, name, lang):
+        """The text of a domain's language; None where it isn't there."""
+        domain = self.domains.get(name)
+        lang = None if domain is None else domain.languages.get(lang)
         if lang is None:
             return None
         entries = [lang["header"]]
-        for it in self.template:
+        for it in domain.template:
             unit = lang["units"][it["key"]]
             entries.append({**it, **shown(unit), "flags": ["fuzzy"] * (unit["state"] == EDITING) + it["flags"]})
         kept = [(key, unit) for key, unit in lang["units"].items() if unit["obsolete"] and any(unit["forms"])]
@@ -401,6 +430,7 @@ FORMS = ["", "Hallo", "Servus", "%d Datei", "%d Dateien", "%2$d von %1$s", "Zeil
 COMMENTS = [[], ["eins"], ["", "zwei\tx"]]
 CALLERS = ["root", "ann", "bea", "cay", "zed"]
 LANGS = ["de", "ru"]
+DOMAINS = ["docs", "web", "main"]
 # What each PO text that is drawn stands for.
 TEXTS = {}
 # Texts with faults, as the page of formats has them: a digit out of turn, an unknown escape, a text that is cut, a message without its form.
@@ -448,9 +478,18 @@ def text_drawn(draw, template):
     return text
 
 
-def office_act(draw):
+def domain_drawn(draw, guide):
+    """A field that names a domain, most often one that is there, or none."""
+    if draw.random() < (0.5 if len(guide.domains) > 1 else 0.95):
+        return {}
+    return {"domain": draw.choice(list(guide.domains) if draw.random() < 0.9 else DOMAINS)}
+
+
+def office_act(draw, guide):
     kind = draw.random()
-    more = {"domain": draw.choice(["main", "docs"])} if draw.random() < 0.04 else {}
+    more = domain_drawn(draw, guide)
+    if kind < 0.04:
+        return {"act": "domain", "name": draw.choice(DOMAINS)}
     if kind < 0.35:
         return {"act": "template", "po": text_drawn(draw, True), **more}
     if kind < 0.6:
@@ -463,16 +502,19 @@ def office_act(draw):
 
 def unit_act(draw, numbers, guide):
     """An act on a unit, which most often fits what a list has brought about so far."""
-    langs = list(guide.languages) if draw.random() < 0.95 and guide.languages else LANGS
+    more = domain_drawn(draw, guide)
+    domain = guide.domain(more)
+    languages = domain.languages if domain else {}
+    langs = list(languages) if draw.random() < 0.95 and languages else LANGS
     lang, act = draw.choice(langs), draw.choice(ACTS)
-    units = guide.languages[lang]["units"] if lang in guide.languages else {}
+    units = languages[lang]["units"] if lang in languages else {}
     named = [key for key, it in units.items() if it["suggestions"]] if act in OF_SUGGESTIONS and draw.random() < 0.8 else []
     named = named or [key for key, it in units.items() if not it["obsolete"]] if draw.random() < 0.9 else []
     key = draw.choice(named or [it[0] for it in KEYS])
     unit = units.get(key)
     seen = unit["revision"] if unit and draw.random() < 0.85 else draw.choice([1, 1, 2, 3])
     fields = {"lang": lang, "id": key[1], "seen": seen, **({} if key[0] is None else {"ctx": key[0]})}
-    fields.update({"domain": draw.choice(["main", "docs"])} if draw.random() < 0.03 else {})
+    fields.update(more)
     if act in ("suggest", "translate"):
         count = len(unit["forms"]) if unit and draw.random() < 0.9 else draw.choice([1, 2, 3])
         fields["forms"] = [draw.choice(FORMS) for _ in range(count)]
@@ -502,6 +544,10 @@ def useful(draw, numbers):
     text = template_of(KEYS)
     flags = {name: draw.random() < 0.8 for name in ("reviews", "guests_suggest", "voting", "placeholders", "line_ends")}
     acts = [{"act": "template", "po": text}, {"act": "language", "lang": "de", "po": text_drawn(draw, False)}]
+    if draw.random() < 0.4:
+        more = {"domain": "docs"}
+        acts += [{"act": "domain", "name": "docs"}, {"act": "template", "po": template_of(draw.sample(KEYS, 4)), **more}]
+        acts += [{"act": "language", "lang": draw.choice(LANGS), "po": text_drawn(draw, False), **more}]
     acts += [{"act": "team", "name": name, "role": draw.choice(["translator", "reviewer"])} for name in ("ann", "bea")]
     return [{**it, "caller": "root"} for it in [*acts, {"act": "policy", **flags, "accept_at": draw.choice([0, 2, 2])}]]
 
@@ -515,6 +561,17 @@ def goes_and_comes(draw, numbers):
     acts = [{"act": "suggest", "forms": forms, "seen": 1, **unit}, {"act": "template", "po": less}, {"act": "template", "po": template_of(KEYS)}]
     then = draw.choice([{"act": "accept", "suggestion": numbers[0]}, {"act": "dismiss", "suggestion": numbers[0]}, {"act": "suggest", "forms": forms}])
     return [{**it, "caller": "root"} for it in [*acts, {**then, "seen": 3, **unit}]]
+
+
+def ends_reviews(draw):
+    """A message of a domain that is translated and approved, and then a policy without reviews."""
+    key, plural, _ = draw.choice(KEYS)
+    unit = {"lang": "de", "id": key[1], **({} if key[0] is None else {"ctx": key[0]}), **draw.choice([{}, {"domain": "docs"}])}
+    flags = dict.fromkeys(("guests_suggest", "voting", "placeholders", "line_ends"), False)
+    acts = [{"act": "policy", "reviews": True, "accept_at": 0, **flags}]
+    acts.append({"act": "translate", "forms": ["Moin"] * (1 if plural is None else 2), "seen": 1, **unit})
+    acts += [{"act": "approve", "seen": 2, **unit}, {"act": "policy", "reviews": False, "accept_at": 0, **flags}]
+    return [{**it, "caller": "root"} for it in acts]
 
 
 def votes(draw, numbers):
@@ -537,10 +594,12 @@ def case_drawn(seed, n, length):
         acts += votes(draw, numbers[count:])
     if draw.random() < 0.2:
         acts += goes_and_comes(draw, numbers[len(acts) :])
+    if draw.random() < 0.2:
+        acts += ends_reviews(draw)
     for it in zip(numbers, acts):
         guide.deliver(*it)
     for _ in range(length + draw.randint(2, 10)):
-        act = office_act(draw) if draw.random() < 0.2 else unit_act(draw, numbers, guide)
+        act = office_act(draw, guide) if draw.random() < 0.2 else unit_act(draw, numbers, guide)
         acts.append({"caller": draw.choice(CALLERS if draw.random() < 0.5 else ["root"]), **act})
         guide.deliver(numbers[len(acts) - 1], content_of(acts[-1]))
     fresh_ones = list(zip(numbers, acts))
@@ -599,9 +658,10 @@ class Runs:
             it.unlink()
         shutil.copyfile(self.empty, self.store)
 
-    def whole(self, lines, lang):
-        """The replies to these lines, and the export behind them; None where there is none."""
-        words = [self.program, "deliver", *self.where, "--export", lang]
+    def whole(self, lines, place):
+        """The replies to these lines, and the export of a domain's language behind them; None where there is none."""
+        domain, lang = place
+        words = [self.program, "deliver", *self.where, "--export", lang, *(["--domain", domain] if domain != "main" else [])]
         done = subprocess.run(words, input="".join(it + "\n" for it in lines).encode(), capture_output=True, check=False, timeout=SECONDS)
         out, faults = done.stdout.decode(), done.stderr.decode()
         parts = out.split("\n", len(lines))
@@ -647,25 +707,30 @@ class Runs:
                 # What had no reply comes again with what follows, in its order.
                 at += len(found)
             else:
-                lang = draw.choice(LANGS)
+                lang = draw.choice(["main", "main", "docs"]), draw.choice(LANGS)
                 found, text = self.whole(lines, lang)
                 wanted = [answer(office, it) for it in deliveries[at:place]]
                 at = place
-                if found == wanted and text != office.export(lang):
-                    return f"behind {place} deliveries: export of {lang}: {text!r}, not {office.export(lang)!r}"
+                if found == wanted and text != office.export(*lang):
+                    return f"behind {place} deliveries: export of {lang}: {text!r}, not {office.export(*lang)!r}"
             for n, (one, other) in enumerate(zip(found, wanted)):
                 if one != other:
                     return f"{one}, not {other}"
             if len(found) != len(wanted):
                 return f"{len(found)} replies to {len(wanted)} lines"
-        return None if self.in_memory else self.exports(office, [it for it in office.languages if it != lang and draw.random() < 0.25])
+        return None if self.in_memory else self.exports(office, [it for it in office.places() if it != lang and draw.random() < 0.25]) or self.figures()
+
+    def figures(self):
+        """Where the sums and the counts that the file keeps aren't those that queries count."""
+        kept, counted = kept_and_counted(self.store)
+        return None if kept == counted else f"kept: {kept}, counted: {counted}"
 
     def exports(self, office, languages):
         """Where the exports of these languages differ, of the file as it lies."""
         for lang in languages:
             text = self.whole([], lang)[1]
-            if text != office.export(lang):
-                return f"the export of {lang}: {text!r}, not {office.export(lang)!r}"
+            if text != office.export(*lang):
+                return f"the export of {lang}: {text!r}, not {office.export(*lang)!r}"
         return None
 
 
@@ -691,6 +756,7 @@ def shrunk(runs, seed, case, why):
 
 MISTAKES = [
     *("a repeat is decided anew", "a refusal is not recorded", "nothing is stale", "a vote too many is wanted", "suggestions outlive their message"),
+    *("a domain is made anew", "a policy spares other domains", "each unit is in main"),
 ]
 
 

@@ -98,12 +98,6 @@ def is_valid(validates, text):
     return value is not None and validates.is_valid(value)
 
 
-def is_new_domain(text):
-    """Whether a text asks for a new domain, which the programs don't take."""
-    value = parsed(text)
-    return isinstance(value, dict) and value.get("act") == "domain"
-
-
 def judge(what, validates, text, is_read):
     """A text has to be valid exactly where it is read; or it is malformed for a reason that a schema can't say."""
     valid = is_valid(validates, text)
@@ -199,7 +193,7 @@ def reply(where, told):
 def desk_rows():
     """What the rows of deliveries send and are answered."""
     named = {}
-    for where, line in part(OFFICE_ROWS, "desks") + part(OFFICE_ROWS, "maps"):
+    for where, line in part(OFFICE_ROWS, "desks"):
         name = re.match(r"([a-z0-9-]+) is (.*)", line)
         if name:
             named[name[1]] = name[2]
@@ -223,7 +217,7 @@ def program_rows():
     replies = [it for it in (CLI / "stdout").read_text().split("\n") if re.match("[0-9]{3} ", it)]
     look("cli: not a reply for each request", len(requests) == len(replies))
     for number, (text, told) in enumerate(zip(requests, replies), 1):
-        judge(f"cli {number}", REQUEST, text, is_new_domain(text) or told != '400 {"error":"malformed"}')
+        judge(f"cli {number}", REQUEST, text, told != '400 {"error":"malformed"}')
         reply(f"cli {number}", told)
 
 
@@ -294,7 +288,7 @@ def is_asked_well(route, method, parameters, headers, body):
     try:
         callers = [value.decode() for name, value in headers if name == b"x-office-caller"]
         text = body.decode()
-        return len(callers) == 1 and NAME.is_valid(callers[0]) and is_valid(BODY, text) and not is_new_domain(text)
+        return len(callers) == 1 and NAME.is_valid(callers[0]) and is_valid(BODY, text)
     except UnicodeDecodeError:
         return False
 

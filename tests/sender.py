@@ -76,6 +76,15 @@ SENT = lines_of(
         on("bea", "vote", "Yes", seen=1, suggestion=number(7), value=1),
         on("ann", "translate", "Bye", forms=["Tschau"], seen=3),
         on("ann", "translate", "Hello", forms=["Moin"], seen=3),
+        act("root", "domain", name="docs"),
+        act("root", "template", domain="docs", po=TEMPLATE),
+        act("root", "language", domain="docs", lang="de", po=HEADER),
+        on("ann", "translate", "Hello", domain="docs", forms=["Guten Tag"], seen=1),
+        act("root", "domain", name="web"),
+        act("root", "language", domain="web", lang="de", po=HEADER),
+        act("root", "template", domain="web", po=TEMPLATE),
+        act("root", "domain", name="docs"),
+        on("bea", "translate", "Bye", domain="web", forms=["Ade"], seen=1),
     ],
     1,
 )
@@ -85,7 +94,7 @@ run = functools.partial(looks.run, PROGRAM, seconds=SECONDS)
 
 
 def exported(path):
-    return run("export", "--store", path, "--lang", "de")[:2]
+    return [run("export", "--store", path, "--lang", "de", "--domain", it)[:2] for it in ("main", "docs", "web")]
 
 
 def office_at(path, turn):
@@ -216,7 +225,7 @@ def main():
             sys.exit("the office can't be made")
         shutil.copyfile(made, once)
         wanted = run("deliver", "--store", once, given=SENT), exported(once)
-        if wanted[0][1].count("\n") != SENT.count("\n") or wanted[1][0] != 0:
+        if wanted[0][1].count("\n") != SENT.count("\n") or any(it[0] for it in wanted[1]):
             sys.exit(f"the list can't be delivered: {wanted}")
         with ThreadPoolExecutor(AT_A_TIME) as pool:
             for turn, (found, network) in enumerate(pool.map(lambda turn: schedule(rooms, made, listed, turn), range(COUNT))):

@@ -92,6 +92,7 @@ CHANGES = (
     Change("line ends of other systems", "po.js", '.replaceAll("\\r\\n", "\\n")', "", "manage"),
     Change("no way out", "main.js", "out.hidden = this.signOut === null", "out.hidden = true", "sign_out"),
     Change("one draft for all domains", "drafts.js", '${unit.domain === MAIN ? "" : `${unit.domain}/`}', "", "domains"),
+    Change("a manager's texts are main's", "manage.js", "(select.value === MAIN ? {} : { domain: select.value })", "({})", "domains"),
     Change("acts are main's", "drafts.js", "return { ...(domain === MAIN ? {} : { domain }), lang", "return { lang", "domains"),
     Change("one form for all numbers", "i18n.js", "index?.(n) ?? 0", "0", "own_words"),
     Change("a code is told twice", "locales.js", "...(name === code ? [] : [code])", "code", "own_words"),

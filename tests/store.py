@@ -21,6 +21,7 @@ import sys
 import tempfile
 import time
 
+from figures import COUNTED, KEPT, answers
 from looks import number
 from looks import run as run_in_time
 
@@ -218,31 +219,11 @@ def look_whole(looks, name, db):
     looks.same("held references", f"{name}: references", rows(db, "PRAGMA foreign_key_check"), [])
 
 
-# What the votes on each suggestion come to, and what each language counts: an obsolete unit as obsolete alone, another as read-only where its
-# entry has that flag and else by its state, and the suggestions on units that aren't obsolete.
-SUMS = """
-SELECT number, 1 + (SELECT coalesce(sum(value), 0) FROM d_vote WHERE d_vote.number = d_suggestion.number) FROM d_suggestion ORDER BY 1
-"""
-TALLIES = """
-WITH seen AS (
-  SELECT domain, lang, key, obsolete, CASE WHEN obsolete THEN 5 WHEN EXISTS (
-    SELECT 1 FROM d_template, json_each(d_template.flags) AS flag
-    WHERE d_template.domain = d_unit.domain AND d_template.key = d_unit.key AND flag.value = 'read-only') THEN 4 ELSE state END AS shown
-  FROM d_unit)
-SELECT domain, lang, %s,
-  (SELECT count(*) FROM d_suggestion JOIN seen USING (domain, lang, key) WHERE d_suggestion.domain = d_language.domain
-    AND d_suggestion.lang = d_language.lang AND NOT seen.obsolete),
-  (SELECT count(*) FROM seen WHERE seen.domain = d_language.domain AND seen.lang = d_language.lang AND seen.obsolete)
-FROM d_language ORDER BY 1, 2
-""" % ", ".join(
-    f"(SELECT count(*) FROM seen WHERE seen.domain = d_language.domain AND seen.lang = d_language.lang AND shown = {state})" for state in range(5)
-)
-
-
 def look_at_figures(looks, name, db):
     """The sums and tallies that are kept are what counting gives; nothing of the program counts here."""
-    looks.same("kept sums", f"{name}: sums", rows(db, "SELECT number, sum FROM d_vote_sum ORDER BY 1"), rows(db, SUMS))
-    looks.same("kept tallies", f"{name}: tallies", rows(db, "SELECT * FROM d_tally ORDER BY 1, 2"), rows(db, TALLIES))
+    (sums, tallies), (votes, units) = answers(db, KEPT), answers(db, COUNTED)
+    looks.same("kept sums", f"{name}: sums", sums, votes)
+    looks.same("kept tallies", f"{name}: tallies", tallies, units)
 
 
 def counts(db):

@@ -6,7 +6,7 @@
 office-import gets the 30 catalogues of Debian's parted, fetched as tests/real_projects.py does, and files that can't be loaded; what it loads has to come out
 of an office as GNU gettext merges it. office-upload gets the German of popt (docs/example), edited as an editor does, twice, and through a
 server between that loses answers or lets others act first. office-memory gets a template whose messages changed. office-log prints lists that were
-sent. All of them are installed by make, taken out again, and run from a package. Prints what is otherwise than it should be, and last
+sent. Each acts in a further domain, where it is told to. All of them are installed by make, taken out again, and run from a package. Prints what is otherwise than it should be, and last
 `N looks, M wrong`; the status is 1 if anything was.
 """
 import contextlib
@@ -144,8 +144,8 @@ def act(port, n, caller, **fields):
     same(f"an act of {caller}'s", (status, text[:1]), (200, "{"))
 
 
-def view(port, msgid):
-    return json.loads(ask(port, "GET", "/v1/unit?" + urllib.parse.urlencode({"lang": "de", "id": msgid}))[1])
+def view(port, msgid, **more):
+    return json.loads(ask(port, "GET", "/v1/unit?" + urllib.parse.urlencode({"lang": "de", "id": msgid, **more}))[1])
 
 
 # ---- words
@@ -451,8 +451,8 @@ def quoted(text):
     return json.dumps(text, ensure_ascii=False)
 
 
-def exported(port, path):
-    status, text = ask(port, "GET", "/v1/export/de")
+def exported(port, path, place=""):
+    status, text = ask(port, "GET", f"/v1{place}/export/de")
     same("the export", status, 200)
     path.write_text(text)
     return path
@@ -579,9 +579,7 @@ class Between(http.server.BaseHTTPRequestHandler):
             self.server.before(self)
         client = http.client.HTTPConnection(HOST, self.server.office, timeout=SECONDS)
         headers = {name: value for name, value in self.headers.items() if name in ("X-Office-Caller", "Content-Type")}
-        # (a further domain, which the program hasn't yet, is main here)
-        path = self.path.removeprefix("/project").replace("/v1/domains/manual/", "/v1/")
-        client.request(self.command, path, body or None, {**headers, **self.server.more(self), "Connection": "close"})
+        client.request(self.command, self.path.removeprefix("/project"), body or None, {**headers, **self.server.more(self), "Connection": "close"})
         reply = client.getresponse()
         text = reply.read()
         client.close()
@@ -914,6 +912,95 @@ def faulty_logs(folder, path, wanted):
         same(f"log: {it.name}", (status, out, faults.startswith(f"office-log: {it}: ")), (1, "", True))
 
 
+# ---- a further domain
+
+
+MANUAL = {"domain": "manual"}
+OF_MANUAL = ["--domain", "manual"]
+# What the manual says: two messages that the program says too, which are translated otherwise there, and one of its own.
+MANUAL_PO = (HEADER % ("UTF-8", RULE)) + f'\nmsgid "{UNKNOWN}"\nmsgstr ""\n\nmsgid "{NUMERIC}"\nmsgstr ""\n\nmsgid "{FAREWELL}"\nmsgstr "Lebewohl"\n'
+
+
+def domains(folder):
+    """Each tool acts in the domain that it is told, and leaves the other as it was."""
+    path, place = popt_office(folder), room(folder)
+    imports_manual(path, place)
+    with served(path) as port:
+        before = ask(port, "GET", "/v1/export/de")[1]
+        uploads_manual(port, place)
+        suggests_manual(port, place)
+        shown = json.loads(ask(port, "GET", "/v1/stats/de")[1])
+        same("domains: main has no suggestion", (shown["suggestions"], shown["obsolete"]), (0, 0))
+        same("domains: main's text", ask(port, "GET", "/v1/export/de")[1], before)
+        snapshots_manual(port, place)
+    logs_manual(path)
+
+
+def imports_manual(path, place):
+    """A folder's texts come into a domain that its first request makes; a second run adds nothing."""
+    po, requests = place / "po", place / "requests"
+    po.mkdir()
+    (po / "manual.pot").write_text(MANUAL_PO.replace("Lebewohl", ""))
+    (po / "de.po").write_text(MANUAL_PO)
+    same("domains: import", imported(*OF_MANUAL, po, requests)[::2], (0, "office-import: the template and 1 of 1 languages, 3 new requests\n"))
+    lines = lines_of(requests)
+    same("domains: the requests", [(it["act"], it.get("domain"), it.get("name")) for it in lines], [("domain", None, "manual"), ("template", "manual", None), ("language", "manual", None)])
+    same("domains: import, again", (last_of(imported(*OF_MANUAL, po, requests)[2]), lines_of(requests)), ("1 of 1 languages, 0 new requests", lines))
+    same("domains: an office takes all", replies(path, lines), ['200 {"name":"manual"}', '200 {"languages":{}}', '200 {"loaded":3,"missing":0,"obsolete":0}'])
+    same("domains: and what was there keeps the rest", [it[:3] for it in replies(path, [{**lines[0], "number": number(1)}, *lines[1:]])], ["409", "200", "200"])
+    status, out, faults = imported("--domain", "d", po)
+    same("domains: to the output", (status, [json.loads(it)["act"] for it in out.split("\n")[:-1]]), (0, ["domain", "template", "language"]))
+
+
+def uploads_manual(port, place):
+    """An edited file changes the domain's message, and not main's; what office-export writes is the domain's text."""
+    edited(exported(port, place / "export.po", "/domains/manual"), place / "de.po", {UNKNOWN: "unbekannt, im Handbuch"})
+    main = view(port, UNKNOWN)
+    same("domains: upload", upload(port, place, *OF_MANUAL)[:2], (0, f"done: {quoted(UNKNOWN)}\n1 done\n"))
+    same("domains: the unit", (view(port, UNKNOWN, **MANUAL)["forms"], view(port, UNKNOWN)), (["unbekannt, im Handbuch"], main))
+    status, _, faults = tool("office-export", *at(port), *OF_MANUAL, "--layout", "{name}-{lang}.po", "--lang", "de", "--template", place / "po" / "manual.pot", place)
+    text = (place / "manual-de.po").read_text()
+    same("domains: office-export", (status, faults, 'msgstr "unbekannt, im Handbuch"' in text, text.count("\nmsgid ")), (0, "", True, 3))
+
+
+def suggests_manual(port, place):
+    """A translator and a memory suggest to messages of the domain."""
+    status, out, faults = tool("office-suggest", *at(port), *OF_MANUAL, "--caller", "zoe", "--tries", 2, "--command", "tr a-z A-Z", "de")
+    same("domains: office-suggest", (status, told(out)[1], faults), (0, "1 suggested", ""))
+    found = view(port, NUMERIC, **MANUAL)
+    same("domains: the suggestion", [it["forms"] for it in found["suggestions"]], [[NUMERIC.upper()]])
+    more = MANUAL_PO.replace("Lebewohl", "") + f'\nmsgid "{NEW_UNKNOWN}"\nmsgstr ""\n'
+    act(port, 11, "root", act="template", po=more, **MANUAL)
+    compendium = place / "other.po"
+    compendium.write_text(HEADER % ("UTF-8", RULE) + f'\nmsgid "{NEW_UNKNOWN}"\nmsgstr "aus dem Speicher"\n')
+    status, out, faults = tool("office-memory", *at(port), *OF_MANUAL, "--caller", "zoe", "--tries", 2, "--compendium", compendium, "de")
+    same("domains: office-memory", (status, f'suggested: {quoted(NEW_UNKNOWN)}: ["aus dem Speicher"]' in out.split("\n"), faults), (0, True, ""))
+    same("domains: its suggestion", [it["forms"] for it in view(port, NEW_UNKNOWN, **MANUAL)["suggestions"]], [["aus dem Speicher"]])
+    none = ["--domain", "web"]
+    said = "no-language: the office hasn't this language\n"
+    same("domains: none of that name", tool("office-suggest", *at(port), *none, "--caller", "zoe", "--command", "cat", "de")[::2], (1, f"office-suggest: de: {said}"))
+
+
+def snapshots_manual(port, place):
+    """The page's file names the domain's languages; each has a snapshot of its own."""
+    office = place / "office.json"
+    office.write_text('{"project": "popt", "languages": ["de"], "domains": {"manual": ["de"]}}')
+    same("domains: office-snapshot", tool("office-snapshot", *at(port), "--to", place, "--project", office, "--once"), (0, "", ""))
+    for file, name, count in (("de.json", "main", 0), ("manual/de.json", "manual", 2)):
+        found = json.loads((place / "snapshot" / file).read_text())
+        same(f"domains: snapshot/{file}", (found["domain"], len([it for it in found["units"] if it["suggestions"]])), (name, count))
+
+
+def logs_manual(path):
+    """The log names the domain, and tells one domain's acts where that is asked."""
+    lines = [it.split("\t") for it in tool("office-log", path)[1].split("\n")[:-1]]
+    same("domains: the log", sorted({it[3] for it in lines}), ["-", "de", "manual/-", "manual/de"])
+    same("domains: the act", [it[4] for it in lines if it[2] == "domain"], ["manual", "manual"])
+    own, main = ([it.split("\t") for it in tool("office-log", "--domain", name, path)[1].split("\n")[:-1]] for name in ("manual", "main"))
+    same("domains: its log", own, [it for it in lines if it[3].startswith("manual/")])
+    same("domains: main's log", [(it[2], it[3]) for it in main], [("template", "-"), ("language", "de")])
+
+
 # ---- installed
 
 
@@ -994,7 +1081,7 @@ def described(package, root, version):
 def main():
     with tempfile.TemporaryDirectory(prefix="office-tools-") as name:
         folder = pathlib.Path(name)
-        for it in (words, imports, odd_files, limits, uploads, left_out, conflicts, checked, lost, raced, signs_in, suggests, contexts, noted, remembers, snapshots, logs, installed):
+        for it in (words, imports, odd_files, limits, uploads, left_out, conflicts, checked, lost, raced, signs_in, suggests, contexts, noted, remembers, snapshots, logs, domains, installed):
             it(folder)
     return looks.told()
 

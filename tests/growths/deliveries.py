@@ -4,12 +4,12 @@
     tests/growths/deliveries.py [PROGRAM] [--first N] [--every K] [--minutes M] [--only WORD] [--delivery WORDS] [--spoil N]
     (crates/cli/out/cli, each growth, no end; wants cc)
 
-The first translation; the third of three votes, which accepts a suggestion; a template that brings a message back; a new language; and what an
-office with the one domain `main` takes for no request. `office deliver` gets the requests that lead there, each read by itself, and then the line,
-whose growths alone are counted: the first is refused, the second and so on, till none is met. The line gets its reply, or `503 {"error":"memory"}`.
-Then the tables are as before: each row of the file, or the export of an office in maps; and the same line gets its reply, with which rows and
-export are those of ample memory. With `--every K` each K-th growth is refused, from the N-th on with `--first N`. With `--spoil N` the N-th mistake
-of a program is planted, and has to be found: one that answers want of memory where there was none, one that answers it where it has recorded. The
+The first translation; the third of three votes, which accepts a suggestion; a template that brings a message back; a new language; and a new domain.
+`office deliver` gets the requests that lead there, each read by itself, and then the line, whose growths alone are counted: the first is refused,
+the second and so on, till none is met. The line gets its reply, or `503 {"error":"memory"}`. Then the tables are as before: each row of the file, or
+the export of an office in maps; and the same line gets its reply, with which rows and export are those of ample memory. With `--every K` each K-th
+growth is refused, from the N-th on with `--first N`. With `--spoil N` the N-th mistake of a program is planted, and has to be found: one that answers
+want of memory where there was none, one that answers it where it has recorded. The
 last line is `N growths, L lost, W wrong`; the status is 1 if anything was wrong.
 """
 import argparse
@@ -90,7 +90,7 @@ DELIVERIES = {
     "third vote": (TO_THE_THIRD_VOTE, vote(32, "dan"), f'200 {voted("true", 2, "translated", 4)}\n', "de"),
     "an entry comes back": (TO_THE_RETURN, line(55, "root", "template", po=files("%d pieces")), f"200 {languages(revived=1)}\n", "de"),
     "a language": ([], line(6, "root", "language", lang="fr", po=FRENCH), '200 {"loaded":1,"missing":0,"obsolete":1}\n', "fr"),
-    "a domain": ([], line(7, "root", "domain", name="docs"), '400 {"error":"malformed"}\n', "de"),
+    "a domain": ([], line(7, "root", "domain", name="docs"), '200 {"name":"docs"}\n', "de"),
 }
 FIRST_EXPORT = HEADER + '\nmsgid "Hello"\nmsgstr "Hallo"\n'
 
