@@ -1,4 +1,4 @@
--- What an export says of tables that are as they were.
+-- What an export says of the text that was written.
 use Rattle.std.proofs.Common.{◌≡◌, ℕ, List, [], append-nil, Option, sym, subst, ◌∙◌}
 use Rattle.std.specs.Prelude.{IsSomeAnd}
 use Rattle.po_text.specs.Texts.{Text}
@@ -6,21 +6,12 @@ use Rattle.units.specs.Office.{Office, project_in}
 use Rattle.byte_streams.specs.Streams.{Took, TookBeginning, RoseOrStands}
 use Rattle.byte_streams.proofs.Taking.{append_known-nil, took_then_beginning}
 use Rattle.po_write.specs.Sending.{TookAll, TookPart}
-use Rattle.request_book.specs.Book.{OfficeWithBook}
 use Rattle.deliveries.specs.ExportText.{export_text}
 use Rattle.office.specs.declared.export.ExportReceipt.{ExportReceipt}
 use Rattle.office.specs.declared.faults.ExportFault.TheVariants.{Device, Disk}
 use Rattle.office.specs.Exports.{WasExported, WasCut, Failed}
 use Rattle.office.specs.Writers.{Writer}
 use Rattle.commands.specs.ExportLines.{Printed, printed, untold, ended, IsToldBehind, whole, broken, held}
-
--- behind a receipt the tables are whole, so their office is the one that was exported
-pub still_exported : (Honest Whole : Type 0) (before after : OfficeWithBook) (domain lang : Text) (t0 t1 : Option (List ℕ)) (receipt : ExportReceipt) →
-    (Honest → Whole) → (Honest → Whole → after ≡ before) → (Honest → WasExported (export_text (project_in before.office domain) lang) t0 t1 receipt) →
-    Honest → WasExported (export_text (project_in after.office domain) lang) t0 t1 receipt
-still_exported Honest Whole before after domain lang t0 t1 receipt open_still same exported h =
-    let P : OfficeWithBook → Type 0 = λ m. WasExported (export_text (project_in m.office domain) lang) t0 t1 receipt in
-    subst P (sym (same h (open_still h))) (exported h)
 
 pub text_taken : (text : Option (List ℕ)) (t0 t1 : Option (List ℕ)) (receipt : ExportReceipt) → WasExported text t0 t1 receipt → IsSomeAnd text (Took t0 t1)
 text_taken text t0 t1 receipt exported =

@@ -44,7 +44,7 @@ pub data Stopped (text : List ℕ) (reads_failed_old reads_failed_new : ℕ) (ol
 
 -- ---- the text of a language
 
--- What came of an export, on the two outputs and in the exit status:
+-- What came of an export of an office, on the two outputs and in the exit status:
 pub data Exported (Honest Whole Gone : Type 0) (office : Office) (domain : Text) (lang : Option Text) (out_old out_new faults_old faults_new : Writer) (status : ℕ) : Type 0 where
   -- no language is named;
   unnamed : lang ≡ None → TakesAll out_old out_new [] → TakesAll faults_old faults_new [] → status ≡ 0
@@ -53,11 +53,15 @@ pub data Exported (Honest Whole Gone : Type 0) (office : Office) (domain : Text)
   written : (named : Text) → lang ≡ Some named → (Honest → Whole) → (Honest → IsSomeAnd (export_text (project_in office domain) named) (Took out_old.taken out_new.taken))
       → TakesAll faults_old faults_new [] → status ≡ 0
       → Exported Honest Whole Gone office domain lang out_old out_new faults_old faults_new status
-  -- or there is a fault. Where it shut the store, it isn't said which office was exported; that the language isn't there is told by tables
-  -- that aren't shut.
-  faulted : (named : Text) → lang ≡ Some named → (meant : Office) → (Honest → Whole → meant ≡ office)
-      → (ended : EndedWithFault Honest Gone meant domain named out_old out_new faults_old faults_new) → (Honest → ended.fault ≡ NoLanguage → Whole) → status ≡ 1
+  -- or there is a fault. That the language isn't there is told by tables that aren't shut.
+  faulted : (named : Text) → lang ≡ Some named
+      → (ended : EndedWithFault Honest Gone office domain named out_old out_new faults_old faults_new) → (Honest → ended.fault ≡ NoLanguage → Whole) → status ≡ 1
       → Exported Honest Whole Gone office domain lang out_old out_new faults_old faults_new status
+
+-- An export leaves what the tables mean, unless it shuts them.
+pub record LeavesMeaning (Honest WholeBefore Whole : Type 0) (before after : OfficeWithBook) : Type 0 where
+  pub whole : Honest → Whole → WholeBefore
+  pub same : Honest → Whole → after ≡ before
 
 -- ---- the whole
 
@@ -79,23 +83,24 @@ HoldsBack old new = TakesPart old new []
 abbrev pub HandsOnOrFails : Type 0 → Writer → Writer → List ℕ → Type 0
 HandsOnOrFails HandedOn old new answers = (TakesAll old new answers × HandedOn) ⊎ TakesPart old new answers
 
--- What came of a text, at the desk, on the outputs and in the exit status:
-pub data Delivered (at : AtLost) (HandedOn Honest Whole Gone : Type 0) (before after : OfficeWithBook) (domain : Text) (lang : Option Text) (text : List ℕ)
+-- What came of a text, at the desk, on the outputs and in the exit status. The lines lead from the office before to that between them and the export, and the
+-- export is of the latter.
+pub data Delivered (at : AtLost) (HandedOn Honest WholeBetween Whole Gone : Type 0) (before between after : OfficeWithBook) (domain : Text) (lang : Option Text) (text : List ℕ)
     (reads_failed_old reads_failed_new : ℕ) (replies_old replies_new faults_old faults_new : Writer) (status : ℕ) : Type 0 where
-  -- each line was answered, and the language exported behind the answers;
-  done : AllAnswered (GoingOn at (HasDelivered Honest Whole Gone before after))
-      (TookBehind (λ old new. Exported Honest Whole Gone after.office domain lang old new faults_old faults_new status) HandsOn replies_old replies_new) text
-      → Delivered at HandedOn Honest Whole Gone before after domain lang text reads_failed_old reads_failed_new replies_old replies_new faults_old faults_new status
+  -- Each line was answered, and the language exported behind the answers;
+  done : AllAnswered (GoingOn at (HasDelivered Honest WholeBetween Gone before between))
+      (TookBehind (λ old new. Exported Honest Whole Gone between.office domain lang old new faults_old faults_new status) HandsOn replies_old replies_new) text
+      → Delivered at HandedOn Honest WholeBetween Whole Gone before between after domain lang text reads_failed_old reads_failed_new replies_old replies_new faults_old faults_new status
   -- or the writer held back some of that;
-  held : (exit : ℕ) → AllAnswered (GoingOn at (HasDelivered Honest Whole Gone before after))
-      (TookBehind (λ old new. Exported Honest Whole Gone after.office domain lang old new faults_old faults_new exit) HoldsBack replies_old replies_new) text
+  held : (exit : ℕ) → AllAnswered (GoingOn at (HasDelivered Honest WholeBetween Gone before between))
+      (TookBehind (λ old new. Exported Honest Whole Gone between.office domain lang old new faults_old faults_new exit) HoldsBack replies_old replies_new) text
       → status ≡ 1
-      → Delivered at HandedOn Honest Whole Gone before after domain lang text reads_failed_old reads_failed_new replies_old replies_new faults_old faults_new status
+      → Delivered at HandedOn Honest WholeBetween Whole Gone before between after domain lang text reads_failed_old reads_failed_new replies_old replies_new faults_old faults_new status
   -- or a stream failed behind the first lines;
   stopped : SomeAnswered (BrokenOff at (HasDelivered Honest Whole Gone before after)) (Stopped text reads_failed_old reads_failed_new replies_old replies_new) text
       → TakesAll faults_old faults_new [] → status ≡ 1
-      → Delivered at HandedOn Honest Whole Gone before after domain lang text reads_failed_old reads_failed_new replies_old replies_new faults_old faults_new status
+      → Delivered at HandedOn Honest WholeBetween Whole Gone before between after domain lang text reads_failed_old reads_failed_new replies_old replies_new faults_old faults_new status
   -- or the list was to end at a lost line, and did: nothing behind it was delivered.
   lost : at ≡ End → SomeAnswered (EndedAt (HasDelivered Honest Whole Gone before after)) (HandsOnOrFails HandedOn replies_old replies_new) text
       → TakesAll faults_old faults_new [] → status ≡ 1
-      → Delivered at HandedOn Honest Whole Gone before after domain lang text reads_failed_old reads_failed_new replies_old replies_new faults_old faults_new status
+      → Delivered at HandedOn Honest WholeBetween Whole Gone before between after domain lang text reads_failed_old reads_failed_new replies_old replies_new faults_old faults_new status

@@ -55,7 +55,7 @@ pub(crate) fn export_named<T: Tables, W: ByteSink, E: ByteSink>(
     domain: &Name,
     lang: Option<&Lang>,
 ) -> u8
-    ensures exported { Exported (T.is_honest desk.new) (T.is_whole desk.new) (T.is_stopped desk.new ≡ true) (T.means desk.new).office domain.now (option_map (λ named. named.now) lang.entry)
+    ensures exported { Exported (T.is_honest desk.new) (T.is_whole desk.new) (T.is_stopped desk.new ≡ true) (T.means desk.old).office domain.now (option_map (λ named. named.now) lang.entry)
         (writer_at W.taken W.failed w.old) (writer_at W.taken W.failed w.new) (writer_at E.taken E.failed e.old) (writer_at E.taken E.failed e.new) result }
     ensures honest { T.is_honest desk.new → T.is_honest desk.old }
     ensures whole { T.is_honest desk.new → T.is_whole desk.new → T.is_whole desk.old }

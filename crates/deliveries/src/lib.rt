@@ -27,8 +27,8 @@ mod tally;
 mod values;
 
 pub use laws::{
-    alike_by_swaps, domain_act_leaves_other_domains, either_order, equal_exports, run_goes_on,
-    unit_act_leaves_the_rest,
+    alike_by_swaps, domain_act_leaves_other_domains, domain_request_leaves_domains, either_order,
+    equal_exports, run_goes_on, unit_act_leaves_the_rest,
 };
 pub use tally::Tally;
 pub use values::{ActContext, Change, DomainChange, Language, Outcome};

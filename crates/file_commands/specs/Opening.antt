@@ -24,8 +24,8 @@ pub record Holds (s : State) (meaning : OfficeWithBook) : Type 0 where
   pub means : HasCleanDisk s → running_meaning s ≡ meaning
   pub stops : HasCleanDisk s → (db : Trees) → s.may_leave db → TreesMean db meaning
 
--- The rows were an office's with its book, in the form that the tables had, which is opened: tables of the first form are converted, and mean what
--- they meant.
+-- The rows were an office's with its book, in the form that the tables had, which is opened: tables without a column for a domain are converted, and
+-- mean what they meant.
 pub record IsOpened {S : Type 0} (g : store.Ghosts S) (old opened : Held S) : Type 0 where
   pub rows : HasCleanDisk (state g opened) → IsAdopted (state g old).now
   pub means : HasCleanDisk (state g opened) → DatabaseMeans (state g old).now (running_meaning (state g opened))

@@ -27,8 +27,8 @@ pub struct Unopened<S: Alter> {
     pub connection: Connection<S>,
 }
 
-/// The desk of the office in a database, as its rows stand. Tables of the first form are converted: those by domains are made beside them,
-/// with the same office, in one transaction.
+/// The desk of the office in a database, as its rows stand. Tables without a column for a domain are converted: those by domains are made
+/// beside them, with the same office, in one transaction.
 ///
 /// On a fault the connection is handed back with its rows as before: `Foreign` where they are no office's with its book, in a form
 /// that is known, and why; `Memory` where a growth was refused, `Disk` where the disk failed.

@@ -1,10 +1,10 @@
 //! `office deliver --store` and `office export --store`: work on the office in a database.
 ghost use Rattle.std.specs.Prelude.{◌≡◌, ◌≤◌, false, true, List, ℕ, IsTrue, IfSome, option_map};
-ghost use Rattle.sqlite.specs.Held.{state};
+ghost use Rattle.sqlite.specs.Held.{Held, state};
 ghost use Rattle.sqlite.specs.State.{HasCleanDisk};
 ghost use Rattle.file_commands.specs.Opening.{running_meaning};
 ghost use Rattle.office.specs.Writers.{writer_at};
-ghost use Rattle.commands.specs.DeliverLines.{Delivered};
+ghost use Rattle.commands.specs.DeliverLines.{LeavesMeaning, Delivered};
 ghost use Rattle.commands.specs.ExportLines.{Printed};
 ghost use Rattle.commands.specs.Gathering.{Finished};
 ghost use Rattle.file_commands.specs.Runs.{Ran};
@@ -35,12 +35,14 @@ pub fn deliver_store<S: Alter + Drop, R: SourceBehind<W>, W: ByteSink, E: ByteSi
     at_lost: AtLost,
 ) -> Closed<S>
     requires autocommit { connection.in_transaction ≡ false }
-    // What the connection's rows mean afterwards is what the lines left, behind the office that was opened. A line is told that the disk
-    // failed where the tables were stopped.
+    // What the connection's rows meant behind the lines is what these left, behind the office that was opened, and the export is of that. A line is
+    // told that the disk failed where the tables were stopped.
     ensures delivered { Ran S.Store
         (λ opened. (text : List ℕ) × IfSome (R.left source.old) (λ all. text ≡ all)
-        × Delivered at_lost (W.holds_back replies.new ≡ false) (HasCleanDisk (state S.Store result.connection)) (IsTrue (state S.Store result.connection).is_open) (result.stopped ≡ true)
-        (running_meaning (state S.Store opened)) (running_meaning (state S.Store result.connection)) domain.now
+        × (between : Held S) × LeavesMeaning (HasCleanDisk (state S.Store result.connection)) (IsTrue (state S.Store between).is_open) (IsTrue (state S.Store result.connection).is_open)
+        (running_meaning (state S.Store between)) (running_meaning (state S.Store result.connection))
+        × Delivered at_lost (W.holds_back replies.new ≡ false) (HasCleanDisk (state S.Store result.connection)) (IsTrue (state S.Store between).is_open) (IsTrue (state S.Store result.connection).is_open)
+        (result.stopped ≡ true) (running_meaning (state S.Store opened)) (running_meaning (state S.Store between)) (running_meaning (state S.Store result.connection)) domain.now
         (option_map (λ named. named.now) lang.entry) text (R.failed source.old) (R.failed source.new)
         (writer_at W.taken W.failed replies.old) (writer_at W.taken W.failed replies.new)
         (writer_at E.taken E.failed faults.old) (writer_at E.taken E.failed faults.new) result.status)

@@ -210,7 +210,12 @@ impl DomainMaps {
         ensures ok { OnOk result ((office : Office) → domain_in self.new ≡ domain_of (with_language (as_project office (domain_in self.old)) lang.now language.header plan)) }
         ensures err { OnErr result (domain_in self.new ≡ domain_in self.old) }
     {
-        let Plan { units, counts: _ } = plan;
+        let Plan {
+            units,
+            stays,
+            counts: _,
+        } = plan;
+        drop(stays);
         Ok(put_language(
             alloc,
             &mut self.languages,

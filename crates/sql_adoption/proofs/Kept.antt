@@ -1,5 +1,5 @@
 -- An office that was read keeps the rules with the book of the rows, or doesn't.
-use Rattle.std.proofs.Common.{◌≡◌, Result, Ok, Err, IfOk, IfErr, OnOk, MatchResult, codes, refl, sym, ap, subst, ◌∙◌, arith}
+use Rattle.std.proofs.Common.{◌≡◌, Result, Ok, Err, IfOk, IfErr, OnOk, MatchResult, true, false, codes, refl, sym, ap, subst, ◌∙◌, arith}
 use Rattle.sqlite.specs.Effect.{Database}
 use Rattle.sqlite.specs.State.{State, HasCleanDisk}
 use Rattle.request_book.specs.Book.{OfficeWithBook}
@@ -7,6 +7,7 @@ use Rattle.deliveries.specs.OfficeRules.{KeepsRules}
 use Rattle.office_maps.specs.OfficeIn.{office_in}
 use Rattle.units.specs.Office.{Office}
 use Rattle.units.specs.Offices.{IsOffice}
+use Rattle.sql_figures.specs.Figures.{HoldFigures, figures_of_main}
 use Rattle.sql_figures.specs.KeptTallies.{office_counts, AreTalliesOf}
 use Rattle.sql_schema.specs.Whole.{IsIdleOver, IsLookUp}
 use Rattle.sql_meaning.specs.Meaning.{book_in, AreNumbered}
@@ -20,7 +21,7 @@ use Rattle.sql_adoption.proofs.LaidOut.{one_form}
 use Rattle.sql_adoption.specs.Tables.{form_told}
 use Rattle.sql_adoption.specs.declared.office_tables.Form as told
 use Rattle.sql_adoption.specs.declared.tested.Adopted.{Adopted}
-use Rattle.sql_adoption.specs.Reading.{HoldsAll, IsReadOf, KeepsBook, KeepsRows, FiguresOf, HoldFigures, RefusesWith, RefusesOf, RefusesBook, RefusesKept, RefusesFigures, RefusesKeptRows}
+use Rattle.sql_adoption.specs.Reading.{HoldsAll, IsReadOf, KeepsBook, KeepsRows, FiguresOf, RefusesWith, RefusesOf, RefusesBook, RefusesKept, RefusesFigures, RefusesKeptRows}
 use Rattle.sql_adoption.proofs.Looked.{idle_still, if_ok, looked_on, looked_in_vain, both_looked, looked_same}
 use Rattle.sql_schema.specs.Layouts.{Form, for_main, by_domain, HasLayoutOf, NamedRows, rows_named}
 
@@ -66,41 +67,43 @@ kept_refused form office db Disk h = tt
 
 -- those of the office that the rows mean
 pub figures_kept : (form : Form) (office : Office) (db : Database) → office ≡ (meaning_for form (rows_named db)).office → FiguresOf form office db → KeepsFigures form (rows_named db)
-figures_kept for_main office db is figures = tt
+figures_kept (for_main false) office db is figures = tt
+figures_kept (for_main true) office db is figures = subst (λ (o : Office). HoldFigures o (figures_of_main (rows_named db))) is figures
 figures_kept by_domain office db is figures = record {
   tallies = subst (λ (o : Office). AreTalliesOf (office_counts o) (rows_named db (codes "d_tally"))) is figures.tallies;
   sums = figures.sums;
 }
 
 pub figures_of : (form : Form) (office : Office) (db : Database) → office ≡ (meaning_for form (rows_named db)).office → KeepsFigures form (rows_named db) → FiguresOf form office db
-figures_of for_main office db is figures = tt
+figures_of (for_main false) office db is figures = tt
+figures_of (for_main true) office db is figures = subst (λ (o : Office). HoldFigures o (figures_of_main (rows_named db))) (sym is) figures
 figures_of by_domain office db is figures = record {
   tallies = subst (λ (o : Office). AreTalliesOf (office_counts o) (rows_named db (codes "d_tally"))) (sym is) figures.tallies;
   sums = figures.sums;
 }
 
 -- why an office whose book is kept isn't kept with its figures
-figures_refused : (office : Office) (db : Database) → KeepsBook office db → (fault : OpenFault) → RefusesFigures office db fault → RefusesKeptRows by_domain office db fault
-figures_refused office db kept (Foreign UnreadRow) h = λ stand. h stand.0
-figures_refused office db kept (Foreign OtherFigures) h = h kept.rules.office
-figures_refused office db kept (Foreign BrokenRules) h = absurd h
-figures_refused office db kept (Foreign OtherForm) h = absurd h
-figures_refused office db kept (Foreign OtherTables) h = absurd h
-figures_refused office db kept Exists h = absurd h
-figures_refused office db kept Memory h = tt
-figures_refused office db kept Disk h = tt
+figures_refused : (form : Form) (office : Office) (db : Database) → KeepsBook office db → (fault : OpenFault) → RefusesFigures form office db fault → RefusesKeptRows form office db fault
+figures_refused form office db kept (Foreign UnreadRow) h = λ stand. h stand.0
+figures_refused form office db kept (Foreign OtherFigures) h = h kept.rules.office
+figures_refused form office db kept (Foreign BrokenRules) h = absurd h
+figures_refused form office db kept (Foreign OtherForm) h = absurd h
+figures_refused form office db kept (Foreign OtherTables) h = absurd h
+figures_refused form office db kept Exists h = absurd h
+figures_refused form office db kept Memory h = tt
+figures_refused form office db kept Disk h = tt
 
--- tables without a column for a domain have none
+-- where none are kept
 pub book_alone_kept : {U V : Type 0} (u : U) (v : V) (office : Office) (old new : State) → IsLookUp {E = OpenFault} old new (Ok u) (λ db _. KeepsBook office db)
-    → IsLookUp {E = OpenFault} old new (Ok v) (λ db _. KeepsRows for_main office db)
+    → IsLookUp {E = OpenFault} old new (Ok v) (λ db _. KeepsRows (for_main false) office db)
 book_alone_kept u v office old new it =
-    looked_on old new {E = OpenFault} u (Ok v) (λ db _. KeepsBook office db) (λ db _. KeepsRows for_main office db) it (λ early is_open book. record { book = book; figures = tt })
+    looked_on old new {E = OpenFault} u (Ok v) (λ db _. KeepsBook office db) (λ db _. KeepsRows (for_main false) office db) it (λ early is_open book. record { book = book; figures = tt })
 
-module _ {U V : Type 0} (u : U) (office : Office) (old mid new : State) (r : Result V OpenFault) (one : IsLookUp {E = OpenFault} old mid (Ok u) (λ db _. KeepsBook office db))
-    (two : IsLookUp mid new r (λ db _. IsOffice office → HoldFigures office (rows_named db))) where
-  pub rows_are_kept : IsLookUp old new r (λ db _. KeepsRows by_domain office db)
+module _ {U V : Type 0} (form : Form) (u : U) (office : Office) (old mid new : State) (r : Result V OpenFault) (one : IsLookUp {E = OpenFault} old mid (Ok u) (λ db _. KeepsBook office db))
+    (two : IsLookUp mid new r (λ db _. IsOffice office → FiguresOf form office db)) where
+  pub rows_are_kept : IsLookUp old new r (λ db _. KeepsRows form office db)
   rows_are_kept =
-      let both = both_looked old mid new u r (λ db _. KeepsBook office db) (λ db _. IsOffice office → HoldFigures office (rows_named db)) one two in
+      let both = both_looked old mid new u r (λ db _. KeepsBook office db) (λ db _. IsOffice office → FiguresOf form office db) one two in
       record {
         answer = λ clean. if_ok r (λ v it. record { book = it.0; figures = it.1 it.0.rules.office }) (both.answer clean);
         same = both.same;
@@ -109,16 +112,16 @@ module _ {U V : Type 0} (u : U) (office : Office) (old mid new : State) (r : Res
         survives = both.survives;
       }
 
-  pub rows_refused : IfErr r (λ fault. HasCleanDisk new → RefusesFigures office mid.now fault) → IfErr r (λ fault. HasCleanDisk new → RefusesKeptRows by_domain office old.now fault)
+  pub rows_refused : IfErr r (λ fault. HasCleanDisk new → RefusesFigures form office mid.now fault) → IfErr r (λ fault. HasCleanDisk new → RefusesKeptRows form office old.now fault)
   rows_refused h = by r two h
     where
-      by : (s : Result V OpenFault) → IsLookUp mid new s (λ db _. IsOffice office → HoldFigures office (rows_named db)) → IfErr s (λ fault. HasCleanDisk new → RefusesFigures office mid.now fault)
-          → IfErr s (λ fault. HasCleanDisk new → RefusesKeptRows by_domain office old.now fault)
+      by : (s : Result V OpenFault) → IsLookUp mid new s (λ db _. IsOffice office → FiguresOf form office db) → IfErr s (λ fault. HasCleanDisk new → RefusesFigures form office mid.now fault)
+          → IfErr s (λ fault. HasCleanDisk new → RefusesKeptRows form office old.now fault)
       by (Ok v) looked k = tt
       by (Err fault) looked k = λ clean.
           let before : HasCleanDisk mid = omega (arith, clean, looked.survives.clean) in
-          let same = looked_same old mid new u (Err fault) (λ db _. KeepsBook office db) (λ db _. IsOffice office → HoldFigures office (rows_named db)) one looked clean in
-          figures_refused office old.now (one.answer before) fault (subst (λ db. RefusesFigures office db fault) same (k clean))
+          let same = looked_same old mid new u (Err fault) (λ db _. KeepsBook office db) (λ db _. IsOffice office → FiguresOf form office db) one looked clean in
+          figures_refused form office old.now (one.answer before) fault (subst (λ db. RefusesFigures form office db fault) same (k clean))
 
 -- the rows stay those of a form's tables
 pub read_idle : (form : told.Form) (old mid : State) (read : ReadOffice) → IsIdleOver (form_told form) old → IsLookUp {E = OpenFault} old mid (Ok read) (IsReadOf (form_told form))
@@ -130,7 +133,7 @@ abbrev with_book : Office → NamedRows → OfficeWithBook
 with_book office rows = record { office = office; book = book_in rows }
 
 in_both : (form : Form) (rows : NamedRows) → with_book (meaning_for form rows).office rows ≡ meaning_for form rows
-in_both for_main rows = refl
+in_both (for_main figures) rows = refl
 in_both by_domain rows = refl
 
 -- the office with its languages

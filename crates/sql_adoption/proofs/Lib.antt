@@ -20,6 +20,7 @@ pub mod ReadInTurn
 pub mod Unseen
 pub mod ReadByDomain
 pub mod FigureReads
+pub mod MainFigureReads
 pub mod FigureTests
 pub mod TalliesTold
 pub mod SumsTold

@@ -1,5 +1,6 @@
 -- What stands behind look-ups: an answer read off another, and one look-up after the other.
 use Rattle.std.proofs.Common.{◌≡◌, true, Result, Ok, Err, IfOk, IfErr, OnOk, IsTrue, refl, sym, subst, ◌∙◌, arith}
+use Rattle.std.specs.Result.{IsErr}
 use Rattle.sqlite.specs.Effect.{Database}
 use Rattle.sqlite.specs.State.{State, HasCleanDisk}
 use Rattle.sqlite.proofs.StateLemmas.{survives_then}
@@ -40,6 +41,11 @@ module _ (old new : State) {A B E F : Type 0} where
   pub looked_in_vain : (r : Result A E) (f : F) (P : Database → A → Type 0) (Q : Database → B → Type 0) → IsLookUp old new r P → IsLookUp old new (Err f) Q
   looked_in_vain r f P Q it = record { answer = λ clean. tt; same = it.same; is_open = λ clean. tt; ended = it.ended; survives = it.survives }
 
+  -- whichever error it is
+  pub looked_failed : (r : Result A E) (given : Result B F) (P : Database → A → Type 0) (Q : Database → B → Type 0) → IsErr given → IsLookUp old new r P → IsLookUp old new given Q
+  looked_failed r (Ok y) P Q is it = absurd (let none = is in cc)
+  looked_failed r (Err f) P Q is it = looked_in_vain r f P Q it
+
 -- the rows stay those of an office's tables
 pub idle_still : {form : Form} (old new : State) {A E : Type 0} (r : Result A E) (P : Database → A → Type 0) → IsIdleOver form old → IsLookUp old new r P → IsIdleOver form new
 idle_still {form} old new r P idle it = record {
@@ -77,7 +83,3 @@ module _ (a b c : State) {A B E F : Type 0} (x : A) (r : Result B F) (P : Databa
         let first = one.same (before clean) left.0 in
         (first.was_open, subst (λ (d : Database). db ≡ d.trees) first.now left.1)) one.survives two.survives;
   }
-
--- a transaction that has begun over an office's tables
-pub steady_begun : {S : Type 0} (g : store.Ghosts S) {form : Form} (old begun : Held S) → begun ≡ record old { in_transaction = true } → IsIdleOver form (state g old) → IsSteadyOver form (state g begun)
-steady_begun g {form} old begun begins idle = subst (λ h. IsSteadyOver form (state g h)) (sym begins) (record { inside = λ clean. refl; ready = idle.ready })

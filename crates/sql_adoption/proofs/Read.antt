@@ -1,5 +1,5 @@
 -- The office and the statuses that all rows of the tables show are those that the rows mean.
-use Rattle.std.proofs.Common.{◌≡◌, ℕ, List, Option, Some, None, Result, Ok, Err, IfOk, IfErr, OnOk, refl, sym, ap, subst, ◌∙◌, codes}
+use Rattle.std.proofs.Common.{◌≡◌, ℕ, Bool, List, Option, Some, None, Result, Ok, Err, IfOk, IfErr, OnOk, refl, sym, ap, subst, ◌∙◌, codes}
 use Rattle.std.specs.Prelude.{All, pos, true}
 use Rattle.std.specs.BTreeMap.{BTreeMap}
 use Rattle.std.specs.FinMap as maps
@@ -42,7 +42,7 @@ use Rattle.sql_schema.specs.Layouts.{Form, for_main, by_domain, is_own_table, Na
 -- ---- the form
 
 policy_own : (form : Form) → is_own_table form (codes "policy") ≡ true
-policy_own for_main = refl
+policy_own (for_main figures) = refl
 policy_own by_domain = refl
 
 module _ (form : Form) (db : Database) (found : Option Row) (shows : ShowsPolicy db found) where
@@ -66,21 +66,21 @@ module _ (form : Form) (db : Database) (found : Option Row) (shows : ShowsPolicy
 
 -- ---- the office of tables without a column for a domain
 
-module _ (db : Database) (office : AreOfficeTablesOf for_main db) (rows : WholeOffice) (shows : ShowsWholeOffice db rows) where
-  main_is_read : (read : ReadOffice) → IsOfRows rows read → ShowsForm for_main rows.office.policy → IsReadOf for_main db read
+module _ (figures : Bool) (db : Database) (office : AreOfficeTablesOf (for_main figures) db) (rows : WholeOffice) (shows : ShowsWholeOffice db rows) where
+  main_is_read : (read : ReadOffice) → IsOfRows rows read → ShowsForm (for_main figures) rows.office.policy → IsReadOf (for_main figures) db read
   main_is_read read it told = record {
-    told = form_told_so for_main db rows.office.policy shows.office.policy told;
+    told = form_told_so (for_main figures) db rows.office.policy shows.office.policy told;
     stand = office_stands (rows_named db) (office_rows db office) rows shows it.stand;
     office = it.office ∙ ap main_alone (whole_rows (rows_named db) (office_rows db office) rows shows);
   }
 
-  pub main_read : (r : Result ReadOffice OpenFault) → IfOk r (IsOfRows rows) → OnOk r (ShowsForm for_main rows.office.policy) → IfOk r (IsReadOf for_main db)
+  pub main_read : (r : Result ReadOffice OpenFault) → IfOk r (IsOfRows rows) → OnOk r (ShowsForm (for_main figures) rows.office.policy) → IfOk r (IsReadOf (for_main figures) db)
   main_read (Ok read) it told = main_is_read read it told
   main_read (Err fault) it told = tt
 
-  pub main_refused : (fault : OpenFault) → RefusesRows for_main rows fault → RefusesOf for_main db fault
+  pub main_refused : (fault : OpenFault) → RefusesRows (for_main figures) rows fault → RefusesOf (for_main figures) db fault
   main_refused (Foreign UnreadRow) h = λ stand. h (rows_stand (rows_named db) (office_rows db office) rows shows stand.0)
-  main_refused (Foreign OtherForm) h = λ told. h (form_shown for_main db rows.office.policy shows.office.policy office told)
+  main_refused (Foreign OtherForm) h = λ told. h (form_shown (for_main figures) db rows.office.policy shows.office.policy office told)
   main_refused (Foreign OtherFigures) h = absurd h
   main_refused (Foreign BrokenRules) h = absurd h
   main_refused (Foreign OtherTables) h = absurd h
@@ -139,7 +139,7 @@ all_refused form rows db (Err fault) refused h = λ clean. refused clean fault h
 
 -- whichever tables they stand in
 book_is : (form : Form) (db : Database) (rows : List Row) → ShowsRecords db rows → All IsRecordRow rows → AreOfficeTablesOf form db → book_in (rows_named db) ≡ book_shown rows
-book_is for_main db rows shows stand office = whole_book (rows_named db) rows shows stand (office_rows db office)
+book_is (for_main figures) db rows shows stand office = whole_book (rows_named db) rows shows stand (office_rows db office)
 book_is by_domain db rows shows stand office = whole_book (seen_in main (rows_named db)) rows (record { all = shows.all; in_order = shows.in_order }) stand (domain_rows db office main)
 
 module _ (form : Form) (db : Database) (rows : List Row) (shows : ShowsRecords db rows) (stand : All IsRecordRow rows) where

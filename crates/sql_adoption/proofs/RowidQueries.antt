@@ -35,9 +35,9 @@ use Rattle.sql_adoption.specs.RisingRows.{ShowsRowids, are_rising}
 use Rattle.sql_adoption.specs.RowidQueries.{IsRowidQuery, AskAll}
 use Rattle.sql_adoption.proofs.Looks.{looks_inside, look_mapped, over_next}
 use Rattle.sql_adoption.proofs.RowidTests.{rowids_told}
-use Rattle.sql_schema.specs.Layouts.{Form, for_main, by_domain, made_new, made_last, from_first, from_second, own_tables, is_named, schema_of, placed, NamedRows, rows_named}
-use Rattle.sql_schema.proofs.Layouts.{record_placed, team_placed, policy_placed, template_placed, language_placed, unit_placed, suggestion_placed, vote_placed, domain_placed, d_template_placed, d_language_placed, d_unit_placed, d_suggestion_placed, d_vote_placed, d_vote_sum_placed, d_tally_placed}
-use Rattle.sql_schema.specs.Schema.{record_table, team_table, policy_table, template_table, language_table, unit_table, suggestion_table, vote_table, domain_table, d_template_table, d_language_table, d_unit_table, d_suggestion_table, d_vote_table, d_vote_sum_table, d_tally_table}
+use Rattle.sql_schema.specs.Layouts.{Form, for_main, by_domain, made_new, made_second, made_last, from_first, from_second, own_tables, is_named, schema_of, placed, NamedRows, rows_named}
+use Rattle.sql_schema.proofs.Layouts.{record_placed, team_placed, policy_placed, template_placed, language_placed, unit_placed, suggestion_placed, vote_placed, vote_sum_placed, tally_placed, domain_placed, d_template_placed, d_language_placed, d_unit_placed, d_suggestion_placed, d_vote_placed, d_vote_sum_placed, d_tally_placed}
+use Rattle.sql_schema.specs.Schema.{record_table, team_table, policy_table, template_table, language_table, unit_table, suggestion_table, vote_table, vote_sum_table, tally_table, domain_table, d_template_table, d_language_table, d_unit_table, d_suggestion_table, d_vote_table, d_vote_sum_table, d_tally_table}
 
 all_pass : (rows : List Row) → filter (passes [] []) rows ≡ rows
 all_pass [] = refl
@@ -70,6 +70,7 @@ apart_told {form} text table query old new rows apart over shown survives is =
 pub record_is : {form : Form} → IsRowidQuery form (codes "SELECT rowid FROM record ORDER BY rowid") record_table
 unfolding understood everything
 record_is made_new = record { names = _; is_placed = record_placed made_new; asks = refl; own_tables = refl; plain = (refl, refl) }
+record_is made_second = record { names = _; is_placed = record_placed made_second; asks = refl; own_tables = refl; plain = (refl, refl) }
 record_is made_last = record { names = _; is_placed = record_placed made_last; asks = refl; own_tables = refl; plain = (refl, refl) }
 record_is from_first = record { names = _; is_placed = record_placed from_first; asks = refl; own_tables = refl; plain = (refl, refl) }
 record_is from_second = record { names = _; is_placed = record_placed from_second; asks = refl; own_tables = refl; plain = (refl, refl) }
@@ -77,6 +78,7 @@ record_is from_second = record { names = _; is_placed = record_placed from_secon
 pub team_is : {form : Form} → IsRowidQuery form (codes "SELECT rowid FROM team ORDER BY rowid") team_table
 unfolding understood everything
 team_is made_new = record { names = _; is_placed = team_placed made_new; asks = refl; own_tables = refl; plain = (refl, refl) }
+team_is made_second = record { names = _; is_placed = team_placed made_second; asks = refl; own_tables = refl; plain = (refl, refl) }
 team_is made_last = record { names = _; is_placed = team_placed made_last; asks = refl; own_tables = refl; plain = (refl, refl) }
 team_is from_first = record { names = _; is_placed = team_placed from_first; asks = refl; own_tables = refl; plain = (refl, refl) }
 team_is from_second = record { names = _; is_placed = team_placed from_second; asks = refl; own_tables = refl; plain = (refl, refl) }
@@ -84,29 +86,43 @@ team_is from_second = record { names = _; is_placed = team_placed from_second; a
 pub policy_is : {form : Form} → IsRowidQuery form (codes "SELECT rowid FROM policy ORDER BY rowid") policy_table
 unfolding understood everything
 policy_is made_new = record { names = _; is_placed = policy_placed made_new; asks = refl; own_tables = refl; plain = (refl, refl) }
+policy_is made_second = record { names = _; is_placed = policy_placed made_second; asks = refl; own_tables = refl; plain = (refl, refl) }
 policy_is made_last = record { names = _; is_placed = policy_placed made_last; asks = refl; own_tables = refl; plain = (refl, refl) }
 policy_is from_first = record { names = _; is_placed = policy_placed from_first; asks = refl; own_tables = refl; plain = (refl, refl) }
 policy_is from_second = record { names = _; is_placed = policy_placed from_second; asks = refl; own_tables = refl; plain = (refl, refl) }
 
-pub template_is : IsRowidQuery for_main (codes "SELECT rowid FROM template ORDER BY rowid") template_table
+pub template_is : {figures : Bool} → IsRowidQuery (for_main figures) (codes "SELECT rowid FROM template ORDER BY rowid") template_table
 unfolding understood everything
 template_is made_new = record { names = _; is_placed = template_placed made_new; asks = refl; own_tables = refl; plain = (refl, refl) }
+template_is made_second = record { names = _; is_placed = template_placed made_second; asks = refl; own_tables = refl; plain = (refl, refl) }
 
-pub language_is : IsRowidQuery for_main (codes "SELECT rowid FROM language ORDER BY rowid") language_table
+pub language_is : {figures : Bool} → IsRowidQuery (for_main figures) (codes "SELECT rowid FROM language ORDER BY rowid") language_table
 unfolding understood everything
 language_is made_new = record { names = _; is_placed = language_placed made_new; asks = refl; own_tables = refl; plain = (refl, refl) }
+language_is made_second = record { names = _; is_placed = language_placed made_second; asks = refl; own_tables = refl; plain = (refl, refl) }
 
-pub unit_is : IsRowidQuery for_main (codes "SELECT rowid FROM unit ORDER BY rowid") unit_table
+pub unit_is : {figures : Bool} → IsRowidQuery (for_main figures) (codes "SELECT rowid FROM unit ORDER BY rowid") unit_table
 unfolding understood everything
 unit_is made_new = record { names = _; is_placed = unit_placed made_new; asks = refl; own_tables = refl; plain = (refl, refl) }
+unit_is made_second = record { names = _; is_placed = unit_placed made_second; asks = refl; own_tables = refl; plain = (refl, refl) }
 
-pub suggestion_is : IsRowidQuery for_main (codes "SELECT rowid FROM suggestion ORDER BY rowid") suggestion_table
+pub suggestion_is : {figures : Bool} → IsRowidQuery (for_main figures) (codes "SELECT rowid FROM suggestion ORDER BY rowid") suggestion_table
 unfolding understood everything
 suggestion_is made_new = record { names = _; is_placed = suggestion_placed made_new; asks = refl; own_tables = refl; plain = (refl, refl) }
+suggestion_is made_second = record { names = _; is_placed = suggestion_placed made_second; asks = refl; own_tables = refl; plain = (refl, refl) }
 
-pub vote_is : IsRowidQuery for_main (codes "SELECT rowid FROM vote ORDER BY rowid") vote_table
+pub vote_is : {figures : Bool} → IsRowidQuery (for_main figures) (codes "SELECT rowid FROM vote ORDER BY rowid") vote_table
 unfolding understood everything
 vote_is made_new = record { names = _; is_placed = vote_placed made_new; asks = refl; own_tables = refl; plain = (refl, refl) }
+vote_is made_second = record { names = _; is_placed = vote_placed made_second; asks = refl; own_tables = refl; plain = (refl, refl) }
+
+pub vote_sum_is : IsRowidQuery (for_main true) (codes "SELECT rowid FROM vote_sum ORDER BY rowid") vote_sum_table
+unfolding understood everything
+vote_sum_is made_second = record { names = _; is_placed = vote_sum_placed made_second; asks = refl; own_tables = refl; plain = (refl, refl) }
+
+pub tally_is : IsRowidQuery (for_main true) (codes "SELECT rowid FROM tally ORDER BY rowid") tally_table
+unfolding understood everything
+tally_is made_second = record { names = _; is_placed = tally_placed made_second; asks = refl; own_tables = refl; plain = (refl, refl) }
 
 pub domain_is : IsRowidQuery by_domain (codes "SELECT rowid FROM domain ORDER BY rowid") domain_table
 unfolding understood everything

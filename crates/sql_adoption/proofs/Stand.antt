@@ -24,31 +24,43 @@ use Rattle.units.specs.Project.{Project}
 use Rattle.sql_statements.specs.RecordTable.{ShowsRecordsIn}
 use Rattle.sql_decoding.specs.RowTests.{AreOfficeRows as ReadRows, is_policy_row}
 use Rattle.sql_adoption.specs.BookShown.{IsRecordRow}
+use Rattle.sql_adoption.specs.FigureRows.{ListsTable}
 use Rattle.sql_adoption.specs.Adoption.{Each, AreContents, StandForOffice, StandForBook}
 use Rattle.sql_schema.specs.Layouts.{NamedRows}
 
 -- ---- a table
 
-module _ (tables : NamedRows) (name : List ℕ) (places order : List ℕ) (rows : List Row) (shows : ShowsTableIn name places order tables rows) where
+module _ (tables : NamedRows) (name : List ℕ) (places : List ℕ) (rows : List Row) (lists : ListsTable name places tables rows) where
   abbrev shown : List Row
   shown = map (columns places) (tables name)
 
   -- a row of the table is shown
-  pub is_shown : (row : Row) → Has (tables name) row → Has rows (columns places row)
-  is_shown row there = has_permuted rows shown (columns places row) (IsPermutation-sym shown rows shows.all) (to_mapped (columns places) (tables name) row there)
+  pub is_listed : (row : Row) → Has (tables name) row → Has rows (columns places row)
+  is_listed row there = has_permuted rows shown (columns places row) (IsPermutation-sym shown rows lists) (to_mapped (columns places) (tables name) row there)
 
   -- what is shown is a row of the table
+  pub was_listed : (row : Row) → Has rows row → (r : Row) × Has (tables name) r × (row ≡ columns places r)
+  was_listed row here = from_mapped (columns places) (tables name) row (has_permuted shown rows row lists here)
+
+  pub all_listed : (test : Row → Bool) → Each name places test tables → list_all test rows ≡ true
+  all_listed test each = test_from test rows (λ row here.
+      let was = was_listed row here in
+      ap test was.2 ∙ each was.0 was.1)
+
+-- the same in an order
+module _ (tables : NamedRows) (name : List ℕ) (places order : List ℕ) (rows : List Row) (shows : ShowsTableIn name places order tables rows) where
+  pub is_shown : (row : Row) → Has (tables name) row → Has rows (columns places row)
+  is_shown = is_listed tables name places rows shows.all
+
   pub was_there : (row : Row) → Has rows row → (r : Row) × Has (tables name) r × (row ≡ columns places r)
-  was_there row here = from_mapped (columns places) (tables name) row (has_permuted shown rows row shows.all here)
+  was_there = was_listed tables name places rows shows.all
 
   module _ (test : Row → Bool) where
     pub each_stands : list_all test rows ≡ true → Each name places test tables
     each_stands stand row there = test_has test rows (columns places row) stand (is_shown row there)
 
     pub all_stand : Each name places test tables → list_all test rows ≡ true
-    all_stand each = test_from test rows (λ row here.
-        let was = was_there row here in
-        ap test was.2 ∙ each was.0 was.1)
+    all_stand = all_listed tables name places rows shows.all test
 
 -- ---- the policy
 

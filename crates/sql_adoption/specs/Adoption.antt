@@ -1,5 +1,5 @@
 -- What is asked of rows that are adopted as an office's with its book, and why they are refused. This project's own rule.
-use Rattle.std.specs.Prelude.{◌≡◌, ◌⊎◌, ⊤, ℕ, ℤ, Bool, List, [], ◌∷◌, false, pos, IsTrue, codes}
+use Rattle.std.specs.Prelude.{◌≡◌, ◌⊎◌, ⊤, ℕ, ℤ, Bool, List, [], ◌∷◌, true, false, pos, IsTrue, codes}
 use Rattle.sqlite.specs.declared.types.Value.TheVariants.{Int}
 use Rattle.sqlite.specs.Order.{Row, column}
 use Rattle.sqlite.specs.Effect.{Database}
@@ -17,7 +17,7 @@ use Rattle.sql_adoption.specs.Tables.{form_told}
 use Rattle.sql_adoption.specs.declared.tested.Adopted.{Adopted}
 use Rattle.po_text.specs.Texts.{Text}
 use Rattle.sql_schema.specs.Views.{seen_in}
-use Rattle.sql_meaning.specs.Meaning.{template_in, AreNumbered}
+use Rattle.sql_meaning.specs.Meaning.{template_in, meaning_in, AreNumbered}
 use Rattle.sql_meaning.specs.Domains.{meaning_for, HoldsOwnDomains}
 use Rattle.sql_decoding.specs.RowTests.{is_domain_row, is_member_row, is_policy_row, is_entry_row, is_language_row, is_unit_row, is_suggestion_row, is_vote_row, is_record_row}
 use Rattle.request_book.specs.Contents.{IsContent}
@@ -25,20 +25,22 @@ use Rattle.sql_adoption.specs.declared.faults.OpenFault.{OpenFault}
 use Rattle.sql_adoption.specs.declared.faults.OpenFault.TheVariants.{Foreign, Exists}
 use Rattle.sql_adoption.specs.declared.faults.Mismatch.TheVariants.{OtherTables, OtherForm, UnreadRow, OtherFigures, BrokenRules}
 use Rattle.sql_schema.specs.Layouts.{Form, for_main, by_domain, HasLayoutOf, NamedRows, rows_named}
-use Rattle.sql_figures.specs.Figures.{HasFigures}
+use Rattle.sql_figures.specs.Figures.{HasFigures, HoldFigures, figures_of_main}
 
 -- the number of the schema, which tells the form of the tables
 abbrev pub schema_number : Form → ℤ
-schema_number for_main = pos 1
+schema_number (for_main false) = pos 1
+schema_number (for_main true) = pos 2
 schema_number by_domain = pos 3
 
 -- the policy's row says which form the tables have
 abbrev pub TellsForm : Form → NamedRows → Type 0
 TellsForm form tables = (row : Row) × Has (tables (codes "policy")) row × (row_number row ≡ Int (pos 1)) × (column row 2 ≡ Int (schema_number form))
 
--- the sums and tallies that tables by domains keep are what counting their rows gives
+-- the sums and tallies that tables keep are what counting their rows gives
 abbrev pub KeepsFigures : Form → NamedRows → Type 0
-KeepsFigures for_main tables = ⊤
+KeepsFigures (for_main false) tables = ⊤
+KeepsFigures (for_main true) tables = HoldFigures (meaning_in tables).office (figures_of_main tables)
 KeepsFigures by_domain tables = HasFigures tables
 
 -- each record's content is that of some request
@@ -76,7 +78,7 @@ pub record StandInDomains (tables : NamedRows) : Type 0 where
   pub each : (domain : Text) → StandForOffice (seen_in domain tables)
 
 abbrev pub StandForOfficeOf : Form → NamedRows → Type 0
-StandForOfficeOf for_main tables = StandForOffice tables
+StandForOfficeOf (for_main figures) tables = StandForOffice tables
 StandForOfficeOf by_domain tables = StandInDomains tables
 
 -- The rows of records stand for values, and their contents are requests'.

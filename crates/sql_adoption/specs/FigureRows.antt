@@ -1,24 +1,26 @@
 -- What reads of kept figures show, and the tests of what they show. This project's own words.
-use Rattle.std.specs.Prelude.{◌≡◌, ◌&&◌, ◌++◌, pos, ℤ, List, [], ◌∷◌, map, flat_map, filter, fold, Bool, true, false, Option, Some, None, IsSome, unwrap_or, String, codes}
+use Rattle.std.specs.Prelude.{◌≡◌, ◌&&◌, ◌++◌, pos, ℕ, ℤ, List, [], ◌∷◌, map, flat_map, filter, fold, Bool, true, false, Option, Some, None, IsSome, unwrap_or, String, codes}
 use Rattle.std.specs.Borrow.{Bor}
 use Rattle.std.specs.BTreeMap.{BTreeMap, get_by}
 use Rattle.std.specs.List.{list_all, list_any}
+use Rattle.std.specs.List.Sorted.{IsPermutation}
 use Rattle.std.specs.Ordering.{int_eq}
 use Rattle.sqlite.specs.declared.types.Value.{Value}
 use Rattle.sqlite.specs.declared.types.Value.TheVariants.{Null, Int, Real, Text as Words, Blob}
-use Rattle.sqlite.specs.Order.{Row, column}
 use Rattle.sqlite.specs.Effect.{Database}
+use Rattle.sqlite.specs.Order.{Row, column}
 use Rattle.sqlite_rules.specs.Lists.{Has}
 use Rattle.po_text.specs.Texts.{Text, text_eq, text_cmp}
 use Rattle.units.specs.Units.{vote_sum}
 use Rattle.deliveries.specs.declared.tally.Tally.{Tally}
 use Rattle.sql_schema.specs.Keys.{text_at, has_text, columns}
-use Rattle.sql_statements.specs.DomainAnswers.{ShowsSums}
 use Rattle.sql_statements.specs.Tables.{ShowsTable}
+use Rattle.sql_schema.specs.Layouts.{NamedRows, rows_named}
 use Rattle.sql_meaning.specs.Cells.{tally_cells}
 use Rattle.sql_meaning.specs.OfficeShown.{votes_shown}
 use Rattle.sql_decoding.specs.RowTests.{holds_text, is_number, is_vote_row}
 use Rattle.sql_decoding.specs.TablesRead.{Votes, votes_of}
+use Rattle.sql_figures.specs.Figures.{figures_of_main}
 use Rattle.sql_figures.specs.KeptTallies.{Counts, tally_columns}
 use Rattle.sql_adoption.specs.RisingRows.{integer_in}
 use Rattle.sql_adoption.specs.declared.figure_rows.FigureRows.{FigureRows}
@@ -38,12 +40,40 @@ ShowsNumbers = ShowsTable (codes "d_suggestion") (1 ∷ []) (0 ∷ [])
 abbrev pub ShowsAllVotes : Database → List Row → Type 0
 ShowsAllVotes = ShowsTable (codes "d_vote") (2 ∷ 3 ∷ 1 ∷ []) (2 ∷ 0 ∷ [])
 
--- the figures, and what their sums are of
-pub record ShowsFigures (db : Database) (rows : FigureRows) : Type 0 where
-  pub tallies : ShowsAllTallies db rows.tallies.items
-  pub suggestions : ShowsNumbers db rows.suggestions.items
-  pub votes : ShowsAllVotes db rows.votes.items
-  pub sums : ShowsSums db rows.sums.items
+-- All rows of the table of this name, each once, by these columns.
+abbrev pub ListsTable : List ℕ → List ℕ → NamedRows → List Row → Type 0
+ListsTable name places tables rows = IsPermutation (map (columns places) (tables name)) rows
+
+-- the figures, and what their sums are of, in any order
+pub record ShowsFigures (tables : NamedRows) (rows : FigureRows) : Type 0 where
+  pub tallies : ListsTable (codes "d_tally") tally_columns tables rows.tallies.items
+  pub suggestions : ListsTable (codes "d_suggestion") (1 ∷ []) tables rows.suggestions.items
+  pub votes : ListsTable (codes "d_vote") (2 ∷ 3 ∷ 1 ∷ []) tables rows.votes.items
+  pub sums : ListsTable (codes "d_vote_sum") (1 ∷ 2 ∷ []) tables rows.sums.items
+
+-- those of tables by domains
+abbrev pub ShowsFiguresOf : Database → FigureRows → Type 0
+ShowsFiguresOf db rows = ShowsFigures (rows_named db) rows
+
+-- those of tables without a column for a domain
+abbrev pub ShowsMainFigures : Database → FigureRows → Type 0
+ShowsMainFigures db rows = ShowsFigures (figures_of_main (rows_named db)) rows
+
+-- `main`, lang, untranslated, needs_editing, translated, approved, read_only, suggestions, obsolete
+abbrev pub ShowsMainTallies : Database → List Row → Type 0
+ShowsMainTallies db rows = ListsTable (codes "d_tally") tally_columns (figures_of_main (rows_named db)) rows
+
+-- number
+abbrev pub ShowsMainNumbers : Database → List Row → Type 0
+ShowsMainNumbers = ShowsTable (codes "suggestion") (1 ∷ []) (0 ∷ [])
+
+-- voter, value, number
+abbrev pub ShowsMainVotes : Database → List Row → Type 0
+ShowsMainVotes = ShowsTable (codes "vote") (2 ∷ 3 ∷ 1 ∷ []) (2 ∷ 0 ∷ [])
+
+-- number, sum
+abbrev pub ShowsMainSums : Database → List Row → Type 0
+ShowsMainSums = ShowsTable (codes "vote_sum") (1 ∷ 2 ∷ []) (0 ∷ [])
 
 -- ---- tests of columns
 

@@ -37,9 +37,9 @@ use Rattle.sql_adoption.specs.declared.office_put.ReadOffice.{ReadOffice}
 use Rattle.sql_adoption.specs.Adoption.{schema_number, TellsForm, KeepsFigures, AreContents, Each, StandForOffice, StandForOfficeOf, StandForBook}
 use Rattle.sql_schema.specs.Layouts.{Form, for_main, by_domain, NamedRows, rows_named}
 use Rattle.units.specs.Offices.{IsOffice}
-use Rattle.sql_figures.specs.KeptSums.{HaveSums}
-use Rattle.sql_figures.specs.KeptTallies.{office_counts, AreTalliesOf}
-use Rattle.sql_adoption.specs.FigureRows.{votes_stand}
+use Rattle.sql_figures.specs.Figures.{HoldFigures, figures_of_main}
+use Rattle.sql_figures.specs.KeptTallies.{office_counts}
+use Rattle.sql_adoption.specs.FigureRows.{ShowFigures, votes_stand}
 use Rattle.sql_adoption.specs.declared.figure_rows.FigureRows.{FigureRows}
 
 -- ---- faults
@@ -144,7 +144,7 @@ pub record AreDomainsRead (db : Database) (read : ReadOffice) : Type 0 where
   pub each : (domain : Text) → IsTrue (is_domain (rows_named db) domain) → StandForOffice (seen_in domain (rows_named db))
   pub office : office_in read.maps ≡ office_of_rows (rows_named db)
 
--- ---- either form
+-- ---- each form
 
 -- the office of tables whose policy tells their form
 pub record IsReadOf (form : Form) (db : Database) (read : ReadOffice) : Type 0 where
@@ -205,11 +205,6 @@ RefusesKept office db fault = RefusesWith (record { office = office; book = book
 
 -- ---- the figures
 
--- the sums and tallies of tables by domains are what counting gives, where this is their office
-pub record HoldFigures (office : Office) (rows : NamedRows) : Type 0 where
-  pub tallies : AreTalliesOf (office_counts office) (rows (codes "d_tally"))
-  pub sums : HaveSums rows
-
 -- what is true of rows of figures that are refused so
 abbrev pub RefusesFigureRows : FigureRows → OpenFault → Type 0
 RefusesFigureRows rows (Foreign UnreadRow) = votes_stand rows ≡ false
@@ -220,22 +215,28 @@ RefusesFigureRows rows (Foreign OtherTables) = ⊥
 RefusesFigureRows rows Exists = ⊥
 RefusesFigureRows rows _ = ⊤
 
--- what is true of an office and of tables by domains whose figures are refused so
-abbrev pub RefusesFigures : Office → Database → OpenFault → Type 0
-RefusesFigures office db (Foreign UnreadRow) = ¬ StandForOfficeOf by_domain (rows_named db)
-RefusesFigures office db (Foreign OtherFigures) = IsOffice office → ¬ HoldFigures office (rows_named db)
-RefusesFigures office db (Foreign BrokenRules) = ⊥
-RefusesFigures office db (Foreign OtherForm) = ⊥
-RefusesFigures office db (Foreign OtherTables) = ⊥
-RefusesFigures office db Exists = ⊥
-RefusesFigures office db _ = ⊤
+-- what is true of an office and of rows of figures that are refused so together
+abbrev pub RefusesShown : Office → FigureRows → OpenFault → Type 0
+RefusesShown office rows (Foreign OtherFigures) = IsOffice office → ¬ ShowFigures (office_counts office) rows
+RefusesShown office rows fault = RefusesFigureRows rows fault
+
+-- the figures that tables keep are what counting gives, where this is their office
+abbrev pub FiguresOf : Form → Office → Database → Type 0
+FiguresOf (for_main false) office db = ⊤
+FiguresOf (for_main true) office db = HoldFigures office (figures_of_main (rows_named db))
+FiguresOf by_domain office db = HoldFigures office (rows_named db)
+
+-- what is true of an office and of tables of a form whose figures are refused so
+abbrev pub RefusesFigures : Form → Office → Database → OpenFault → Type 0
+RefusesFigures form office db (Foreign UnreadRow) = ¬ StandForOfficeOf form (rows_named db)
+RefusesFigures form office db (Foreign OtherFigures) = IsOffice office → ¬ FiguresOf form office db
+RefusesFigures form office db (Foreign BrokenRules) = ⊥
+RefusesFigures form office db (Foreign OtherForm) = ⊥
+RefusesFigures form office db (Foreign OtherTables) = ⊥
+RefusesFigures form office db Exists = ⊥
+RefusesFigures form office db _ = ⊤
 
 -- ---- the book and the figures
-
--- tables that have no column for a domain keep no figures
-abbrev pub FiguresOf : Form → Office → Database → Type 0
-FiguresOf for_main office db = ⊤
-FiguresOf by_domain office db = HoldFigures office (rows_named db)
 
 -- an office keeps the rules with the book of the rows, and the figures are its
 pub record KeepsRows (form : Form) (office : Office) (db : Database) : Type 0 where

@@ -9,7 +9,7 @@ use Rattle.sql_schema.specs.Layouts as layouts
 use Rattle.sql_adoption.specs.Shapes.{column_of, reference_of}
 use Rattle.sql_adoption.specs.Checks.{check_of}
 use Rattle.sql_adoption.specs.declared.office_tables.Form.{Form}
-use Rattle.sql_adoption.specs.declared.office_tables.Form.TheVariants.{ForMain, ByDomain}
+use Rattle.sql_adoption.specs.declared.office_tables.Form.TheVariants.{ForMain, WithFigures, ByDomain}
 use Rattle.sql_adoption.specs.declared.office_tables.IndexAt.{IndexAt}
 use Rattle.sql_adoption.specs.declared.office_tables.TableAt.{TableAt}
 use Rattle.sql_adoption.specs.declared.office_tables.TableShape.{TableShape}
@@ -66,5 +66,6 @@ schema_told tables indexes = record { tables = map table_of tables; indexes = ma
 
 -- the form of the tables that a test of a schema tells
 abbrev pub form_told : Form → layouts.Form
-form_told ForMain = layouts.for_main
+form_told ForMain = layouts.for_main false
+form_told WithFigures = layouts.for_main true
 form_told ByDomain = layouts.by_domain

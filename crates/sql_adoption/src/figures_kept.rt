@@ -1,17 +1,17 @@
-//! Whether the figures that tables by domains keep are what counting their rows gives.
-ghost use Rattle.std.specs.Prelude.{◌≡◌, ◌↔◌, true, false, IfOk, IfErr};
+//! Whether the figures that tables keep are what counting their rows gives.
+ghost use Rattle.std.specs.Prelude.{◌≡◌, ◌↔◌, true, false, IfOk, IfErr, OnOk};
 ghost use Rattle.sqlite.specs.Held.{state};
 ghost use Rattle.sqlite.specs.State.{HasCleanDisk};
 ghost use Rattle.units.specs.Offices.{IsOffice};
 ghost use Rattle.office_maps.specs.OfficeIn.{office_in};
 ghost use Rattle.sql_figures.specs.KeptTallies.{office_counts};
-ghost use Rattle.sql_schema.specs.Layouts.{by_domain, rows_named};
+ghost use Rattle.sql_schema.specs.Layouts.{for_main, by_domain};
 ghost use Rattle.sql_schema.specs.Whole.{IsIdleOver, IsLookUp};
 ghost use Rattle.sql_adoption.specs.FigureRows.{ShowFigures};
-ghost use Rattle.sql_adoption.specs.Reading.{HoldsAll, HoldFigures, RefusesFigureRows, RefusesFigures};
+ghost use Rattle.sql_adoption.specs.Reading.{HoldsAll, FiguresOf, RefusesFigureRows, RefusesShown, RefusesFigures};
 
 use crate::faults::{Mismatch, OpenFault};
-use crate::figure_rows::{FigureRows, look_up_figures};
+use crate::figure_rows::{FigureRows, look_up_figures, look_up_main_figures};
 use crate::language_tallies::are_tallies;
 use crate::office_put::ReadOffice;
 use crate::suggestion_sums::are_sums;
@@ -31,7 +31,22 @@ fn are_figures(alloc: Global, read: &ReadOffice, rows: &FigureRows) -> Result<bo
     }
 }
 
-/// Tests the figures that are kept of an office that was read.
+/// Tests rows that show the figures that are kept of an office that was read.
+fn test_figures(alloc: Global, read: &ReadOffice, rows: FigureRows) -> Result<(), OpenFault>
+    requires holds { HoldsAll read.now }
+    ensures shown { IsOffice (office_in read.now.maps) → OnOk result (ShowFigures (office_counts (office_in read.now.maps)) rows) }
+    ensures refused { IfErr result (RefusesShown (office_in read.now.maps) rows) }
+{
+    let are = are_figures(alloc, read, &rows)?;
+    drop(rows);
+    if are {
+        Ok(())
+    } else {
+        Err(OpenFault::Foreign(Mismatch::OtherFigures))
+    }
+}
+
+/// Tests the figures that tables by domains keep of an office that was read.
 pub(crate) fn keep_figures<S: Alter>(
     connection: &mut Connection<S>,
     alloc: Global,
@@ -41,15 +56,26 @@ pub(crate) fn keep_figures<S: Alter>(
     requires idle { IsIdleOver by_domain (state S.Store connection.old) }
     requires holds { HoldsAll read.now }
     ensures found { IsLookUp (state S.Store connection.old) (state S.Store connection.new) result
-        (λ db _. IsOffice (office_in read.now.maps) → HoldFigures (office_in read.now.maps) (rows_named db)) }
-    ensures refused { IfErr result (λ fault. HasCleanDisk (state S.Store connection.new) → RefusesFigures (office_in read.now.maps) (state S.Store connection.old).now fault) }
+        (λ db _. IsOffice (office_in read.now.maps) → FiguresOf by_domain (office_in read.now.maps) db) }
+    ensures refused { IfErr result (λ fault. HasCleanDisk (state S.Store connection.new) → RefusesFigures by_domain (office_in read.now.maps) (state S.Store connection.old).now fault) }
 {
     let rows = look_up_figures(connection)?;
-    let are = are_figures(alloc, read, &rows)?;
-    drop(rows);
-    if are {
-        Ok(())
-    } else {
-        Err(OpenFault::Foreign(Mismatch::OtherFigures))
-    }
+    test_figures(alloc, read, rows)
+}
+
+/// Tests the figures that tables without a column for a domain keep of an office that was read.
+pub(crate) fn keep_main_figures<S: Alter>(
+    connection: &mut Connection<S>,
+    alloc: Global,
+    read: &ReadOffice,
+) -> Result<(), OpenFault>
+    requires autocommit { connection.old.in_transaction ≡ false }
+    requires idle { IsIdleOver (for_main true) (state S.Store connection.old) }
+    requires holds { HoldsAll read.now }
+    ensures found { IsLookUp (state S.Store connection.old) (state S.Store connection.new) result
+        (λ db _. IsOffice (office_in read.now.maps) → FiguresOf (for_main true) (office_in read.now.maps) db) }
+    ensures refused { IfErr result (λ fault. HasCleanDisk (state S.Store connection.new) → RefusesFigures (for_main true) (office_in read.now.maps) (state S.Store connection.old).now fault) }
+{
+    let rows = look_up_main_figures(connection)?;
+    test_figures(alloc, read, rows)
 }

@@ -13,7 +13,7 @@
 //!
 //! - `look_ups`: what is read of them, each in a transaction; `own_domains`: whether each is of a domain that there is
 //! - `langs_read`, `office_put`: a domain that is put into an office with all that it sees; `domains_read`: all domains, one after the other
-//! - `office_read`: the office of either form, with no more asked of tables that this program wrote (`load_office`)
+//! - `office_read`: the office of each form, with no more asked of tables that this program wrote (`load_office`)
 //! - `statuses`, `book_read`: the statuses of all records, and whether the rules hold with the book
 //! - `figure_rows`: the figures that are kept, and the rows that they are of; `language_tallies`, `suggestion_sums`,
 //!   `figures_kept`: whether they are what counting gives

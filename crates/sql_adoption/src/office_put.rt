@@ -38,6 +38,7 @@ fn schema_number(form: Form) -> i64
 {
     match form {
         Form::ForMain => 1,
+        Form::WithFigures => 2,
         Form::ByDomain => 3,
     }
 }

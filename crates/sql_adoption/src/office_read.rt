@@ -1,9 +1,9 @@
-//! The office that the rows of tables of either form stand for.
+//! The office that the rows of tables of each form stand for.
 ghost use Rattle.std.specs.Prelude.{◌≡◌, ◌∷◌, [], false, IfOk, IfErr, OnOk};
 ghost use Rattle.sqlite.specs.Held.{state};
 ghost use Rattle.sqlite.specs.State.{HasCleanDisk};
-ghost use Rattle.sql_schema.specs.Layouts.{for_main, by_domain, rows_named};
-ghost use Rattle.sql_schema.specs.Whole.{IsIdle, IsIdleOver, IsLookUp};
+ghost use Rattle.sql_schema.specs.Layouts.{IsForMain, by_domain, rows_named};
+ghost use Rattle.sql_schema.specs.Whole.{IsIdleOver, IsLookUp};
 ghost use Rattle.units.specs.Office.{main};
 ghost use Rattle.office_maps.specs.OfficeIn.{office_in};
 ghost use Rattle.sql_meaning.specs.Domains.{office_of_rows};
@@ -31,17 +31,17 @@ fn main_alone(alloc: Global) -> Result<Vec<Name>, AllocError>
     Ok(domains)
 }
 
-/// The office whose one domain is `main` and which all rows show, where the policy's row says that the tables have no column for a domain.
-fn office_of_main(alloc: Global, rows: &WholeOffice) -> Result<ReadOffice, OpenFault>
+/// The office whose one domain is `main` and which all rows show, where the policy's row says that the tables have this form.
+fn office_of_main(alloc: Global, form: Form, rows: &WholeOffice) -> Result<ReadOffice, OpenFault>
     ensures read { IfOk result (IsOfRows rows.now) }
-    ensures told { OnOk result (ShowsForm for_main rows.now.office.policy) }
-    ensures refused { IfErr result (RefusesRows for_main rows.now) }
+    ensures told { OnOk result (ShowsForm (form_told form) rows.now.office.policy) }
+    ensures refused { IfErr result (RefusesRows (form_told form) rows.now) }
 {
     let domains = main_alone(alloc)?;
     let mut maps = bare_office(alloc)?;
     let mut langs = Vec::new(alloc);
     let main = Name::main_domain();
-    put_told(alloc, Form::ForMain, &main, rows, &mut maps, &mut langs)?;
+    put_told(alloc, form, &main, rows, &mut maps, &mut langs)?;
     Ok(ReadOffice {
         maps,
         domains,
@@ -53,15 +53,17 @@ fn office_of_main(alloc: Global, rows: &WholeOffice) -> Result<ReadOffice, OpenF
 fn read_main<S: Alter>(
     connection: &mut Connection<S>,
     alloc: Global,
+    form: Form,
 ) -> Result<ReadOffice, OpenFault>
     requires autocommit { connection.old.in_transaction ≡ false }
-    requires idle { IsIdle (state S.Store connection.old) }
-    ensures found { IsLookUp (state S.Store connection.old) (state S.Store connection.new) result (IsReadOf for_main) }
+    requires main { IsForMain (form_told form) }
+    requires idle { IsIdleOver (form_told form) (state S.Store connection.old) }
+    ensures found { IsLookUp (state S.Store connection.old) (state S.Store connection.new) result (IsReadOf (form_told form)) }
     ensures holds { IfOk result HoldsAll }
-    ensures refused { IfErr result (λ fault. HasCleanDisk (state S.Store connection.new) → RefusesOf for_main (state S.Store connection.old).now fault) }
+    ensures refused { IfErr result (λ fault. HasCleanDisk (state S.Store connection.new) → RefusesOf (form_told form) (state S.Store connection.old).now fault) }
 {
     let rows = look_up_office(connection)?;
-    let read = office_of_main(alloc, &rows);
+    let read = office_of_main(alloc, form, &rows);
     drop(rows);
     read
 }
@@ -96,7 +98,7 @@ pub fn read_office<S: Alter>(
     ensures refused { IfErr result (λ fault. HasCleanDisk (state S.Store connection.new) → RefusesOf (form_told form) (state S.Store connection.old).now fault) }
 {
     match form {
-        Form::ForMain => read_main(connection, alloc),
+        Form::ForMain | Form::WithFigures => read_main(connection, alloc, form),
         Form::ByDomain => read_by_domain(connection, alloc),
     }
 }

@@ -27,6 +27,20 @@ const ROWIDS: [&str; 8] = [
     "SELECT rowid FROM vote ORDER BY rowid",
 ];
 
+/// The rowids of each of these and of the tables of kept figures, upwards.
+const ROWIDS_WITH_FIGURES: [&str; 10] = [
+    "SELECT rowid FROM record ORDER BY rowid",
+    "SELECT rowid FROM team ORDER BY rowid",
+    "SELECT rowid FROM policy ORDER BY rowid",
+    "SELECT rowid FROM template ORDER BY rowid",
+    "SELECT rowid FROM language ORDER BY rowid",
+    "SELECT rowid FROM unit ORDER BY rowid",
+    "SELECT rowid FROM suggestion ORDER BY rowid",
+    "SELECT rowid FROM vote ORDER BY rowid",
+    "SELECT rowid FROM vote_sum ORDER BY rowid",
+    "SELECT rowid FROM tally ORDER BY rowid",
+];
+
 /// The rowids of each table of an office by domains, upwards.
 const ROWIDS_BY_DOMAIN: [&str; 11] = [
     "SELECT rowid FROM record ORDER BY rowid",
@@ -123,6 +137,7 @@ pub(crate) fn are_tables_apart<S: Alter>(
 {
     match form {
         Form::ForMain => are_apart(tx, &ROWIDS),
+        Form::WithFigures => are_apart(tx, &ROWIDS_WITH_FIGURES),
         Form::ByDomain => are_apart(tx, &ROWIDS_BY_DOMAIN),
     }
 }

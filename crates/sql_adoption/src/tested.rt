@@ -10,7 +10,7 @@ ghost use Rattle.sql_adoption.specs.Tables.{form_told};
 
 use crate::book_read::keep_book;
 use crate::faults::{Mismatch, OpenFault};
-use crate::figures_kept::keep_figures;
+use crate::figures_kept::{keep_figures, keep_main_figures};
 use crate::office_put::ReadOffice;
 use crate::office_read::read_office;
 use crate::office_tables::Form;
@@ -68,6 +68,7 @@ fn keep_rows<S: Alter>(
     keep_book(connection, alloc, read)?;
     match form {
         Form::ForMain => Ok(()),
+        Form::WithFigures => keep_main_figures(connection, alloc, read),
         Form::ByDomain => keep_figures(connection, alloc, read),
     }
 }
@@ -90,7 +91,7 @@ fn tested_tables<S: Alter>(
 
 /// The office of a connection's tables, with all its domains, if they are an office's in some form that the policy's row tells: each row stands
 /// for a value and is of a domain that there is, each template for a valid catalogue, each record's content is a request's, the rules of an
-/// office with its book hold, and the sums of votes and the tallies that tables by domains keep are what counting their rows gives. Nothing is
+/// office with its book hold, and the sums of votes and the tallies that tables keep are what counting their rows gives. Nothing is
 /// changed: tables without a column for a domain are told, and stay.
 ///
 /// `Foreign` tells why not: `OtherTables` only where the tables aren't an office's, `OtherForm` only where the policy's row doesn't tell their

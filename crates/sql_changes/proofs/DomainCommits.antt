@@ -9,7 +9,7 @@ use Rattle.sql_laws.specs.RowMaps.{IsPut}
 use Rattle.po_text.specs.Texts.{Text}
 use Rattle.units.specs.Changes.{set_role, office_under, with_domain, with_policy, with_team}
 use Rattle.units.specs.KeyTexts.{HasStrings}
-use Rattle.units.specs.Project.{Place, Project}
+use Rattle.units.specs.Project.{Project}
 use Rattle.units.specs.Projects.{IsProject}
 use Rattle.units.specs.Office.{Office, main, has_domain, project_in, domain_of, with_project}
 use Rattle.units.specs.declared.unit.Key.{Key}
@@ -19,7 +19,7 @@ use Rattle.units.specs.declared.unit.UnitView.{UnitView}
 use Rattle.request_book.specs.Book.{with_record}
 use Rattle.request_book.specs.declared.book.Record.{Record}
 use Rattle.deliveries.specs.MainAlone.{main_alone}
-use Rattle.deliveries.specs.OfficeChanges.{IsPossibleIn, is_planned, changed_project, changed}
+use Rattle.deliveries.specs.OfficeChanges.{IsPossibleIn, changed_project, changed}
 use Rattle.deliveries.specs.OfficeRules.{KeepsRules}
 use Rattle.deliveries.specs.UnitAccess.{with_view, with_view_in}
 use Rattle.deliveries.specs.declared.values.Change.TheVariants.{InDomain}
@@ -47,6 +47,7 @@ use Rattle.sql_changes.specs.OnDomains.{OnDomainsWhere, OnEach, OnDomainElse}
 use Rattle.sql_changes.proofs.DomainWrites.{domain_elsewhere, its_made, others_made}
 use Rattle.sql_changes.proofs.LanguageCommits.{commits_language}
 use Rattle.sql_changes.proofs.PolicyCommits.{commits_policy}
+use Rattle.sql_changes.proofs.StayingUnits.{PlansFollow}
 use Rattle.sql_changes.proofs.RoleCommits.{commits_role}
 use Rattle.sql_changes.proofs.TemplateCommits.{commits_template}
 use Rattle.sql_changes.proofs.UnitCommits.{commits_view}
@@ -71,15 +72,15 @@ module _ (db : Database) (ready : AreOfficeTablesOf by_domain db) (kept : KeepsR
       by true there = λ r in_rows approved. has_next (seen_in domain (rows_named db)) (domain_rows db ready domain) (rules_seen domain there) r in_rows
       by false missing = λ r in_rows approved. absurd (no_unit_seen (rows_named db) held domain missing r in_rows)
 
--- a template's plans name each unit that is there
-abbrev pub NoneGoes : Project → DomainChange → Type 0
-NoneGoes project (NewLanguage lang language plan tally) = ⊤
-NoneGoes project (NewTemplate template plans tallies) = (place : Place) → maps.contains_key project.units place ≡ true → is_planned plans.items place ≡ true
+-- a template's plans follow the units that are there
+abbrev pub Follows : Project → DomainChange → Type 0
+Follows project (NewLanguage lang language plan tally) = ⊤
+Follows project (NewTemplate template plans tallies) = PlansFollow project.units plans.items
 
 -- as those do of a change that is possible in a domain that keeps its rules
-pub none_goes : (project : Project) (change : DomainChange) → IsProject project → IsPossibleIn project change → NoneGoes project change
-none_goes project (NewLanguage lang language plan tally) keeps possible = tt
-none_goes project (NewTemplate template plans tallies) keeps possible = possible.none_goes keeps
+pub follows : (project : Project) (change : DomainChange) → IsProject project → IsPossibleIn project change → Follows project change
+follows project (NewLanguage lang language plan tally) keeps possible = tt
+follows project (NewTemplate template plans tallies) keeps possible = record { named = possible.none_goes keeps; apart = possible.apart keeps; still = possible.still keeps }
 
 -- ---- what is left
 
@@ -206,15 +207,15 @@ module _ (old : Database) (row : Record) (ready : AreOfficeTablesOf by_domain ol
           by false missing made rules =
               subst Leaves (sym (nothing_put office domain (with_view (project_in office domain) lang key (Some view)) (sym (has_domain_of_rows before domain) ∙ missing))) (record_leaves made)
 
-      -- a domain's change, where no unit goes
-      pub domain_change_leaves : KeepsRules (meaning_by_domain before) → (domain : Text) (change : DomainChange) → IsTrue (has_domain office domain) → NoneGoes (project_in office domain) change
+      -- a domain's change, where its plans follow the units that are there
+      pub domain_change_leaves : KeepsRules (meaning_by_domain before) → (domain : Text) (change : DomainChange) → IsTrue (has_domain office domain) → Follows (project_in office domain) change
           → MakesIn domain row (MakesDomainChange row change) old after → AllowsOffice old row (changed office (InDomain domain change)) → Leaves (changed office (InDomain domain change))
-      domain_change_leaves kept domain change has stay made rules = by change (subst (λ (p : Project). NoneGoes p change) (project_there old ready kept domain there) stay) (subst (λ b. MakesThere b domain row (MakesDomainChange row change) old after) there made) rules
+      domain_change_leaves kept domain change has stay made rules = by change (subst (λ (p : Project). Follows p change) (project_there old ready kept domain there) stay) (subst (λ b. MakesThere b domain row (MakesDomainChange row change) old after) there made) rules
         where
           there : is_domain before domain ≡ true
           there = has_domain_of_rows before domain ∙ has
 
-          by : (change : DomainChange) → NoneGoes (project_seen domain before) change → OnDomainElse domain (MakesDomainChange row change) (PutsRecordAlone row) old after
+          by : (change : DomainChange) → Follows (project_seen domain before) change → OnDomainElse domain (MakesDomainChange row change) (PutsRecordAlone row) old after
               → AllowsOffice old row (changed office (InDomain domain change)) → Leaves (changed office (InDomain domain change))
           by (NewLanguage lang language plan tally) stay made rules =
               there_leaves domain (MakesDomainChange row (NewLanguage lang language plan tally)) there made kept (λ p. changed_project p (NewLanguage lang language plan tally)) refl refl

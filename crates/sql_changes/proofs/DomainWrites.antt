@@ -26,13 +26,14 @@ use Rattle.sql_schema.proofs.Views.{to_view}
 use Rattle.sql_statements.specs.Added.{AddsRow}
 use Rattle.sql_statements.specs.DomainCleared.{ClearsDomainUnit}
 use Rattle.sql_statements.specs.DomainRenewed.{HaveNextRevisionsInDomains, UnapprovesDomainUnits, UnapprovesTallies}
+use Rattle.sql_statements.specs.DomainEntries.{is_entry_of}
 use Rattle.sql_statements.specs.Taken.{TakesRows}
-use Rattle.sql_statements.proofs.SeenChanges.{same_rows, templates_stay_seen, languages_stay_seen, votes_stay_seen, templates_left_seen}
+use Rattle.sql_statements.proofs.SeenChanges.{same_rows, templates_stay_seen, languages_stay_seen, votes_stay_seen, templates_left_seen, entries_left_seen}
 use Rattle.sql_meaning.specs.RowChanges.{AddsIn, TakesIn, ClearsIn, HaveNextIn, UnapprovesIn}
 use Rattle.sql_meaning.proofs.DomainAdds.{suggestion_unseen}
 use Rattle.sql_meaning.proofs.DomainClears.{others_stay_seen}
 use Rattle.sql_meaning.proofs.DomainOfficeRows.{on_suggestion}
-use Rattle.sql_meaning.proofs.DomainSteps.{all_unseen, record_seen, member_seen, members_taken_seen, policy_seen, language_seen_put, entry_seen_put, template_emptied_seen, unit_seen_put, unit_cleared_seen, suggestion_added_seen, vote_seen_put, units_renewed_seen}
+use Rattle.sql_meaning.proofs.DomainSteps.{all_unseen, record_seen, member_seen, members_taken_seen, policy_seen, language_seen_put, entry_seen_put, template_emptied_seen, one_entry_taken_seen, unit_seen_put, unit_cleared_seen, suggestion_added_seen, vote_seen_put, units_renewed_seen}
 use Rattle.sql_meaning.proofs.RowsByName.{puts_in}
 use Rattle.sql_changes.specs.Commits.{PutsNumberedRecord, PutsRecordAlone}
 use Rattle.sql_changes.specs.OnDomains.{OnDomainsWhere, OnEach, MakesIf, OnDomainElse, OnDomain, SparesDomains, SparesElsewhere, IsElsewhere}
@@ -244,6 +245,11 @@ module _ {old new : Database} where
     pub template_emptied_on_domain : TakesRows (codes "d_template") (has_text 1 domain) old new → OnDomain domain (TakesIn (codes "template") (λ row. true)) old new
     template_emptied_on_domain it =
         on_one_domain domain (TakesIn (codes "template") (λ row. true)) (template_emptied_seen domain it) (templates_left_seen domain (rows_named old) (rows_named new) it.rows it.others) (λ name apart. it.others name apart.template)
+
+    pub entry_taken_on_domain : {key : Text} → TakesRows (codes "d_template") (is_entry_of domain key) old new → OnDomain domain (TakesIn (codes "template") (has_text 2 key)) old new
+    entry_taken_on_domain {key} it =
+        on_one_domain domain (TakesIn (codes "template") (has_text 2 key)) (one_entry_taken_seen domain it) (entries_left_seen domain key (rows_named old) (rows_named new) it.rows it.others)
+        (λ name apart. it.others name apart.template)
 
     -- ---- a unit, its suggestions, and the votes on them
 

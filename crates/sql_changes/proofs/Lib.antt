@@ -9,8 +9,10 @@ pub mod AddedSuggestions
 pub mod UnitCommits
 pub mod PlannedUnits
 pub mod PlansCover
+pub mod StayingUnits
 pub mod LanguageCommits
 pub mod Template
+pub mod EntriesWritten
 pub mod TemplateCommits
 pub mod DomainCommits
 pub mod DomainWrites

@@ -5,7 +5,8 @@ use Rattle.std.specs.FinMap as maps
 use Rattle.po_text.specs.Texts.{Text}
 use Rattle.units.specs.Project.{Place, place_cmp}
 use Rattle.units.specs.declared.unit.Unit.{Unit}
-use Rattle.deliveries.specs.ProjectActs.{LanguagePlan, placed}
+use Rattle.template_update.specs.Marks.{unmarked}
+use Rattle.deliveries.specs.ProjectActs.{LanguagePlan}
 use Rattle.sql_meaning.specs.Meaning.{units_in}
 use Rattle.sql_meaning.proofs.UnitsWritten.{KeepsOthers, writes_unit}
 use Rattle.sql_changes.specs.UnitWrites.{WritesPlanned, WritesUnits, WritesUnitsBack, WritesPlansBack}
@@ -100,10 +101,14 @@ units_from_last lang (unit ∷ more) old new ready (mid, rest, one) =
     let last = one_written lang unit mid new first.ready one in
     subst (λ m. HasUnits (maps.insert m (lang, unit.key) unit) old new) first.units_are (has_both _ _ old mid new first last)
 
-pub plans_from_last : (plans : List LanguagePlan) (old new : NamedRows) → AreOfficeRows old → WritesPlansBack plans old new → HasUnits (from_last (units_in old) (flat_map placed plans)) old new
+-- the units that a plan doesn't tell to stay as they were, at their places
+abbrev pub changing : LanguagePlan → Entries
+changing p = rows p.0 (unmarked p.1.units p.1.stays)
+
+pub plans_from_last : (plans : List LanguagePlan) (old new : NamedRows) → AreOfficeRows old → WritesPlansBack plans old new → HasUnits (from_last (units_in old) (flat_map changing plans)) old new
 plans_from_last [] old new ready is = none_written old new ready is
 plans_from_last (p ∷ more) old new ready (mid, rest, own) =
     let first = plans_from_last more old mid ready rest in
-    let last = units_from_last p.0 p.1.units mid new first.ready own in
-    let all : from_last (from_last (units_in old) (flat_map placed more)) (placed p) ≡ from_last (units_in old) (placed p ++ flat_map placed more) = sym (from_last_append (units_in old) (placed p) (flat_map placed more)) in
-    subst (λ m. HasUnits m old new) (ap (λ m. from_last m (placed p)) first.units_are ∙ all) (has_both _ _ old mid new first last)
+    let last = units_from_last p.0 (unmarked p.1.units p.1.stays) mid new first.ready own in
+    let all : from_last (from_last (units_in old) (flat_map changing more)) (changing p) ≡ from_last (units_in old) (changing p ++ flat_map changing more) = sym (from_last_append (units_in old) (changing p) (flat_map changing more)) in
+    subst (λ m. HasUnits m old new) (ap (λ m. from_last m (changing p)) first.units_are ∙ all) (has_both _ _ old mid new first last)

@@ -10,7 +10,8 @@ use Rattle.units.specs.declared.unit.Unit.{Unit}
 use Rattle.sql_meaning.proofs.WrittenAnew.{or_else}
 use Rattle.sql_changes.proofs.PlannedUnits.{Units, Entries, from_last}
 
-get-from_last : (m : Units) (es : Entries) (q : Place) → maps.get (from_last m es) q ≡ or_else (maps.find place_cmp q es) (maps.get m q)
+-- the unit of a place is the first there, or else the one that was
+pub get-from_last : (m : Units) (es : Entries) (q : Place) → maps.get (from_last m es) q ≡ or_else (maps.find place_cmp q es) (maps.get m q)
 get-from_last m [] q = refl
 get-from_last m (e ∷ es) q =
     maps.get-insert place_total (from_last m es) e.0 e.1 q ∙ ap (cond (eq_by_cmp place_cmp q e.0) (Some e.1)) (get-from_last m es q) ∙ chosen (eq_by_cmp place_cmp q e.0)

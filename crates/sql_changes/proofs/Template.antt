@@ -83,13 +83,13 @@ by_rowid = record {
   back = λ r s reads_r reads_s e. number_is (row_number r) reads_r ∙ ap Int e ∙ sym (number_is (row_number s) reads_s);
 }
 
-abbrev ByPlace : Type 0
+abbrev pub ByPlace : Type 0
 ByPlace = maps.FinMap int_cmp Entry
 
-abbrev by_place : List Row → ByPlace
+abbrev pub by_place : List Row → ByPlace
 by_place rows = map_of int_cmp (integer_at 0) entry_of_row rows
 
-abbrev numbered : ℕ → List Entry → List (ℤ × Entry)
+abbrev pub numbered : ℕ → List Entry → List (ℤ × Entry)
 numbered place [] = []
 numbered place (e ∷ more) = (pos place, e) ∷ numbered (place + 1) more
 
@@ -114,7 +114,7 @@ below_next place entry es below e there = elim (has_either es ((pos place, entry
   | inr last ↦ elim last [ inl is ↦ (place, ap (λ (f : ℤ × Entry). f.0) is, omega arith) | inr none ↦ absurd none ]
 ]
 
-numbered_values : (place : ℕ) (es : List Entry) → map (λ (e : ℤ × Entry). e.1) (numbered place es) ≡ es
+pub numbered_values : (place : ℕ) (es : List Entry) → map (λ (e : ℤ × Entry). e.1) (numbered place es) ≡ es
 numbered_values place [] = refl
 numbered_values place (e ∷ more) = ap (λ rest. e ∷ rest) (numbered_values (place + 1) more)
 

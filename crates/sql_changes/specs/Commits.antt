@@ -25,6 +25,8 @@ use Rattle.sql_schema.specs.Inside.{PutsIn, HoldsValues, Then}
 use Rattle.sql_schema.specs.Keys.{first_text, row_number, has_text}
 use Rattle.sql_schema.specs.Rows.{text_or_null}
 use Rattle.sql_meaning.specs.Cells.{record_cells}
+pub use Rattle.sql_changes.specs.EntryWrites.{entry_row, PutsEntry, PutsEntries}
+use Rattle.sql_changes.specs.EntryWrites.{HoldsEntries}
 use Rattle.sql_changes.specs.UnitWrites.{LeavesRows, WritesNumberedUnit, WritesUnits, WritesPlansBack}
 use Rattle.sqlite.specs.Effect.{Database}
 use Rattle.sql_schema.specs.Layouts.{NamedRows, rows_named}
@@ -93,23 +95,9 @@ MakesLanguage row lang language plan = Then (PutsNumberedRecord row) (WritesLang
 
 -- ---- a template
 
--- as its domain sees it: its rowid is the entry's place, and the column of that name is null
-abbrev pub entry_row : ℕ → Entry → Row
-entry_row place entry =
-    Int (pos place) ∷ Null ∷ Words (key_text (key_of entry)) ∷ text_or_null entry.plural ∷ Words (texts_text entry.extracted) ∷ Words (texts_text entry.references) ∷ Words (texts_text entry.flags) ∷ []
-
--- and the key's strings are those of a catalogue
-abbrev pub PutsEntry : ℕ → Entry → NamedRows → NamedRows → Type 0
-PutsEntry place entry old new = LeavesRows (PutsIn (codes "template") row_number (λ row. row ≡ entry_row place entry)) old new × HasStrings (key_of entry)
-
--- from this place on
-abbrev pub PutsEntries : ℕ → List Entry → NamedRows → NamedRows → Type 0
-PutsEntries place [] old new = new ≡ old
-PutsEntries place (entry ∷ more) old new = Then (PutsEntry place entry) (PutsEntries (place + 1) more) old new
-
--- in the place of the one that is there
+-- its entries at their places, however many of them were there, and no other
 abbrev pub PutsTemplate : List Entry → NamedRows → NamedRows → Type 0
-PutsTemplate entries = Then (LeavesRows (TakesIn (codes "template") (λ row. true))) (PutsEntries 0 entries)
+PutsTemplate entries = LeavesRows (HoldsEntries entries)
 
 -- and the units of plans over those that are there
 abbrev pub WritesTemplate : List Entry → List LanguagePlan → NamedRows → NamedRows → Type 0

@@ -1,3 +1,4 @@
 pub mod OnDomains
 pub mod UnitWrites
+pub mod EntryWrites
 pub mod Commits

@@ -10,6 +10,7 @@ use Rattle.units.specs.declared.unit.Suggestion.{Suggestion}
 use Rattle.units.specs.declared.unit.Unit.{Unit}
 use Rattle.request_book.specs.Acts.{IsNumber}
 use Rattle.request_book.specs.Words.{number_text}
+use Rattle.template_update.specs.Marks.{unmarked}
 use Rattle.deliveries.specs.ProjectActs.{LanguagePlan}
 use Rattle.sql_columns.specs.Written.{ArePrevious}
 use Rattle.sql_schema.specs.Inside.{PutsIn, HoldsValues, Then}
@@ -70,7 +71,7 @@ abbrev pub WritesUnitsBack : Text → List Unit → NamedRows → NamedRows → 
 WritesUnitsBack lang [] old new = new ≡ old
 WritesUnitsBack lang (unit ∷ more) old new = Then (WritesUnitsBack lang more) (WritesPlanned lang unit) old new
 
--- the units of each language's plan, the last first
+-- of each language's plan the units that it doesn't tell to stay as they were, the last first; the others aren't written
 abbrev pub WritesPlansBack : List LanguagePlan → NamedRows → NamedRows → Type 0
 WritesPlansBack [] old new = new ≡ old
-WritesPlansBack (p ∷ more) old new = Then (WritesPlansBack more) (WritesUnitsBack p.0 p.1.units) old new
+WritesPlansBack (p ∷ more) old new = Then (WritesPlansBack more) (WritesUnitsBack p.0 (unmarked p.1.units p.1.stays)) old new

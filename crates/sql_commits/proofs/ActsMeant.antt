@@ -18,7 +18,7 @@ use Rattle.sql_schema.specs.Inside.{AreOfficeTablesOf}
 use Rattle.sql_schema.specs.Layouts.{by_domain, rows_named}
 use Rattle.sql_meaning.specs.Domains.{HoldsOwnDomains, office_of_rows, meaning_by_domain}
 use Rattle.sql_meaning.specs.Meaning.{AreNumbered}
-use Rattle.sql_changes.proofs.DomainCommits.{LeavesOffice, AllowsOffice, none_goes, record_leaves, role_leaves, policy_leaves, view_leaves, domain_change_leaves, new_domain_leaves}
+use Rattle.sql_changes.proofs.DomainCommits.{LeavesOffice, AllowsOffice, follows, record_leaves, role_leaves, policy_leaves, view_leaves, domain_change_leaves, new_domain_leaves}
 use Rattle.sql_commits.specs.Acts.{MakesAct, MakesChange}
 
 module _ (old after : Database) (row : Record) (ready : AreOfficeTablesOf by_domain old) (tables : AreOfficeTablesOf by_domain after) (held : HoldsOwnDomains (rows_named old))
@@ -41,4 +41,4 @@ module _ (old after : Database) (row : Record) (ready : AreOfficeTablesOf by_dom
   change_means (Some (NewDomain domain)) possible rules made = new_domain_leaves old row ready numbered after domain held possible made
   change_means (Some (InDomain domain change)) possible rules made =
       domain_change_leaves old row ready numbered after tables kept domain change possible.0
-      (none_goes (project_in office domain) change (kept.office.projects domain possible.0) possible.1) made rules
+      (follows (project_in office domain) change (kept.office.projects domain possible.0) possible.1) made rules

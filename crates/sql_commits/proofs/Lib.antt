@@ -9,3 +9,4 @@ pub mod ActsWritten
 pub mod ActsMeant
 pub mod TalliesMoved
 pub mod DomainFound
+mod EntriesShown

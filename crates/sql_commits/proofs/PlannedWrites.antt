@@ -1,6 +1,6 @@
 -- Writes that leave rows as a schema asks, and units and entries that are written one after the other.
-use Rattle.std.proofs.Common.{◌≡◌, ℕ, ◌+◌, ◌<◌, ℤ, pos, List, [], ◌∷◌, ◌++◌, length, take, get_or, Option, Some, Result, unwrap_or, refl, sym, ap, subst, ◌∙◌, arith, codes}
-use Rattle.std.proofs.lemmas.List.{take_more, length-take, append_assoc}
+use Rattle.std.proofs.Common.{◌≡◌, ℕ, ◌+◌, ◌<◌, ℤ, pos, List, [], ◌∷◌, ◌++◌, length, take, drop, get_or, zero, suc, Bool, true, false, cond, Option, Some, Result, unwrap_or, refl, sym, ap, subst, ◌∙◌, arith, codes}
+use Rattle.std.proofs.lemmas.List.{take_more, length-take, length-append, append_assoc}
 use Rattle.sqlite.specs.declared.types.Value.TheVariants.{Int, Text as Words}
 use Rattle.sqlite.specs.State.{State}
 use Rattle.po_text.specs.declared.entry.Entry.{Entry}
@@ -8,6 +8,7 @@ use Rattle.po_text.specs.Texts.{Text}
 use Rattle.units.specs.Rules.{plural_field}
 use Rattle.units.specs.Units.{key_of, key_text}
 use Rattle.units.specs.declared.unit.Unit.{Unit}
+use Rattle.template_update.specs.Marks.{unmarked}
 use Rattle.deliveries.specs.ProjectActs.{LanguagePlan}
 use Rattle.sql_columns.specs.Numbers.{state_number, flag_number}
 use Rattle.sql_columns.specs.Written.{texts_text, previous_text, header_text}
@@ -18,6 +19,7 @@ use Rattle.sql_schema.specs.Keys.{key_texts, first_text, first_three, row_number
 use Rattle.sql_schema.specs.Rows.{text_or_null, d_unit_row}
 use Rattle.sql_changes.specs.Commits.{PutsNumberedRecord, PutsPolicy, policy_row, language_cells, entry_row, PutsEntry, PutsEntries}
 use Rattle.sql_changes.specs.UnitWrites.{LeavesRows, WritesPlanned, WritesUnits, WritesUnitsBack, WritesPlansBack}
+use Rattle.sql_commits.specs.Changes.{WritesUnlessStays}
 use Rattle.sql_commits.proofs.WritesInTurn.{write_left}
 use Rattle.sqlite.specs.Order.{Row}
 use Rattle.units.specs.declared.unit.Policy.{Policy}
@@ -78,29 +80,51 @@ IsRest all left done = all ≡ left ++ done
 pub rest_more : {X : Type 0} (all left others done : List X) (last : X) → IsRest all left done → left ≡ others ++ last ∷ [] → IsRest all others (last ∷ done)
 rest_more all left others done last is ends = is ∙ ap (λ l. l ++ done) ends ∙ append_assoc others (last ∷ []) done
 
--- what is written of units so far
-abbrev pub UnitsBehind : Text → List Unit → List Unit → NamedRows → NamedRows → Type 0
-UnitsBehind lang all left old new = (done : List Unit) × IsRest all left done × WritesUnitsBack lang done old new
+-- all of a list without marks
+none_marked : {X : Type 0} (xs : List X) → unmarked xs [] ≡ xs
+none_marked [] = refl
+none_marked (x ∷ xs) = refl
 
-pub units_behind : (lang : Text) (all left others : List Unit) (last : Unit) (old mid new : NamedRows) → left ≡ others ++ last ∷ [] → UnitsBehind lang all left old mid → WritesPlanned lang last mid new
-    → UnitsBehind lang all others old new
-units_behind lang all left others last old mid new ends (done, is, written) one = (last ∷ done, rest_more all left others done last is ends, (mid, written, one))
+-- one more in front, by the mark at its place
+unmarked_next : {X : Type 0} (x : X) (xs : List X) (marks : List Bool) (n : ℕ)
+    → unmarked (x ∷ xs) (drop n marks) ≡ cond (get_or marks n false) (unmarked xs (drop (suc n) marks)) (x ∷ unmarked xs (drop (suc n) marks))
+unmarked_next x xs [] zero = ap (λ ys. x ∷ ys) (sym (none_marked xs))
+unmarked_next x xs [] (suc n) = ap (λ ys. x ∷ ys) (sym (none_marked xs))
+unmarked_next x xs (true ∷ marks) zero = refl
+unmarked_next x xs (false ∷ marks) zero = refl
+unmarked_next x xs (mark ∷ marks) (suc n) = unmarked_next x xs marks n
+
+-- what is written of units so far: those behind that don't stay
+abbrev pub UnitsBehind : Text → List Bool → List Unit → List Unit → NamedRows → NamedRows → Type 0
+UnitsBehind lang stays all left old new = (done : List Unit) × IsRest all left done × WritesUnitsBack lang (unmarked done (drop (length left) stays)) old new
+
+pub units_behind : (lang : Text) (stays : List Bool) (all left others : List Unit) (last : Unit) (is_still : Bool) (old mid new : NamedRows) → left ≡ others ++ last ∷ []
+    → is_still ≡ get_or stays (length others) false → UnitsBehind lang stays all left old mid → WritesUnlessStays is_still lang last mid new → UnitsBehind lang stays all others old new
+units_behind lang stays all left others last is_still old mid new ends marked (done, is, written) one =
+    let size : length left ≡ suc (length others) = omega (arith, ap length ends, length-append others (last ∷ [])) in
+    let behind = unmarked done (drop (suc (length others)) stays) in
+    let before : WritesUnitsBack lang behind old mid = subst (λ n. WritesUnitsBack lang (unmarked done (drop n stays)) old mid) size written in
+    (last ∷ done, rest_more all left others done last is ends, subst (λ us. WritesUnitsBack lang us old new) (sym (unmarked_next last done stays (length others))) (by behind before (get_or stays (length others) false) (subst (λ b. WritesUnlessStays b lang last mid new) marked one)))
+  where
+    by : (behind : List Unit) → WritesUnitsBack lang behind old mid → (b : Bool) → WritesUnlessStays b lang last mid new → WritesUnitsBack lang (cond b behind (last ∷ behind)) old new
+    by behind before true same = subst (λ d. WritesUnitsBack lang behind old d) (sym same) before
+    by behind before false own = (mid, before, own)
 
 none_left : {X : Type 0} (all left done : List X) → IsRest all left done → length left ≡ 0 → done ≡ all
 none_left all [] done is e = sym is
 none_left all (x ∷ left) done is e = absurd (omega arith)
 
-pub units_all : (lang : Text) (all left : List Unit) (old new : NamedRows) → length left ≡ 0 → UnitsBehind lang all left old new → WritesUnitsBack lang all old new
-units_all lang all left old new none (done, is, written) = subst (λ us. WritesUnitsBack lang us old new) (none_left all left done is none) written
+pub units_all : (lang : Text) (stays : List Bool) (all left : List Unit) (old new : NamedRows) → length left ≡ 0 → UnitsBehind lang stays all left old new → WritesUnitsBack lang (unmarked all stays) old new
+units_all lang stays all left old new none (done, is, written) = subst (λ us. WritesUnitsBack lang us old new) (λ i. unmarked (none_left all left done is none i) (drop (none i) stays)) written
 
 -- and of plans
 abbrev pub PlansBehind : List LanguagePlan → List LanguagePlan → NamedRows → NamedRows → Type 0
 PlansBehind all left old new = (done : List LanguagePlan) × IsRest all left done × WritesPlansBack done old new
 
-pub plans_behind : (all left others : List LanguagePlan) (last : LanguagePlan) (units : List Unit) (old mid new : NamedRows) → left ≡ others ++ last ∷ [] → units ≡ last.1.units
-    → PlansBehind all left old mid → WritesUnitsBack last.0 units mid new → PlansBehind all others old new
-plans_behind all left others last units old mid new ends are (done, is, written) own =
-    (last ∷ done, rest_more all left others done last is ends, (mid, written, subst (λ us. WritesUnitsBack last.0 us mid new) are own))
+pub plans_behind : (all left others : List LanguagePlan) (last : LanguagePlan) (units : List Unit) (stays : List Bool) (old mid new : NamedRows) → left ≡ others ++ last ∷ [] → units ≡ last.1.units
+    → stays ≡ last.1.stays → PlansBehind all left old mid → WritesUnitsBack last.0 (unmarked units stays) mid new → PlansBehind all others old new
+plans_behind all left others last units stays old mid new ends are stay (done, is, written) own =
+    (last ∷ done, rest_more all left others done last is ends, (mid, written, subst (λ us. WritesUnitsBack last.0 us mid new) (λ i. unmarked (are i) (stay i)) own))
 
 pub plans_all : (all left : List LanguagePlan) (old new : NamedRows) → length left ≡ 0 → PlansBehind all left old new → WritesPlansBack all old new
 plans_all all left old new none (done, is, written) = subst (λ ps. WritesPlansBack ps old new) (none_left all left done is none) written

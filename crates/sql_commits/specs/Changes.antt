@@ -1,7 +1,8 @@
 -- What is written for an act beside its record. Only private clauses and proofs cite this file.
-use Rattle.std.specs.Prelude.{Bool, true, false}
+use Rattle.std.specs.Prelude.{◌≡◌, Bool, true, false}
 use Rattle.sqlite.specs.Effect.{Database}
 use Rattle.po_text.specs.Texts.{Text}
+use Rattle.units.specs.declared.unit.Unit.{Unit}
 use Rattle.deliveries.specs.declared.values.Change.{Change}
 use Rattle.deliveries.specs.declared.values.Change.TheVariants.{OneRole, NewPolicy, NewDomain, InDomain}
 use Rattle.deliveries.specs.declared.values.DomainChange.{DomainChange}
@@ -12,7 +13,13 @@ use Rattle.sql_meaning.specs.Domains.{is_domain}
 use Rattle.sql_meaning.specs.RowChanges.{HaveNextIn}
 use Rattle.sql_changes.specs.Commits.{WritesRole, WritesPolicy, WritesLanguage, WritesTemplate}
 use Rattle.sql_changes.specs.OnDomains.{OnDomainsWhere, OnEach, OnDomain, SparesDomains}
+use Rattle.sql_changes.specs.UnitWrites.{WritesPlanned}
 use Rattle.sql_schema.specs.Layouts.{NamedRows, rows_named}
+
+-- a unit of a plan, unless it stays as it was
+abbrev pub WritesUnlessStays : Bool → Text → Unit → NamedRows → NamedRows → Type 0
+WritesUnlessStays true lang unit old new = new ≡ old
+WritesUnlessStays false lang unit old new = WritesPlanned lang unit old new
 
 abbrev pub WritesDomainChange : DomainChange → NamedRows → NamedRows → Type 0
 WritesDomainChange (NewLanguage lang language plan tally) = WritesLanguage lang language.header plan.units

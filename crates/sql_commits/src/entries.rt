@@ -40,14 +40,14 @@ pub fn put_entries<S: Alter>(
 
 /// The columns of an entry that take memory.
 #[derive(Drop)]
-struct EntryColumns {
-    key: Text,
-    extracted: Text,
-    references: Text,
-    flags: Text,
+pub(crate) struct EntryColumns {
+    pub(crate) key: Text,
+    pub(crate) extracted: Text,
+    pub(crate) references: Text,
+    pub(crate) flags: Text,
 }
 
-fn columns_of(alloc: Global, entry: &Entry) -> Result<EntryColumns, AllocError>
+pub(crate) fn columns_of(alloc: Global, entry: &Entry) -> Result<EntryColumns, AllocError>
     ensures { IfOk result (λ columns. columns ≡ columns_of_entry entry.now) }
 {
     Ok(EntryColumns {
@@ -72,7 +72,7 @@ fn key_column(alloc: Global, entry: &Entry) -> Result<Text, AllocError>
 }
 
 /// Writes an entry of a domain's template at its place, where none stands.
-fn put_entry<S: Alter>(
+pub(crate) fn put_entry<S: Alter>(
     tx: &mut Transaction<'_, S>,
     alloc: Global,
     domain: &Name,

@@ -3,18 +3,19 @@
 //! act in a domain that isn't there the record is written.
 //!
 //! - `acts`: the transactions: for acts on a unit (`commit_act`), and for acts on the office (`commit_change`)
-//! - `records`, `roles`, `policies`, `languages`, `templates`, `entries`, `unit_writes`, `planned_units`: what is
-//!   written
+//! - `records`, `roles`, `policies`, `languages`, `templates`, `entries`, `changed_entries`, `unit_writes`,
+//!   `planned_units`: what is written
 //! - `tallies`: how many units of each language are in each state
 //! - `transactions`: how a transaction ends
 //!
 //! A conversion of tables of an earlier form writes by the same functions.
 //!
 //! The spec `Acts` says what a commit makes of the tables; `Changes`, `Columns`, `Votes`,
-//! `Figures` and `Ends` are for inner functions.
+//! `Figures`, `Entries` and `Ends` are for inner functions.
 #![tactic(auto)]
 
 mod acts;
+mod changed_entries;
 mod entries;
 mod languages;
 mod planned_units;

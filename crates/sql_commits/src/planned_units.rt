@@ -1,11 +1,13 @@
 //! Units of plans inside a transaction, one after the other.
-ghost use Rattle.std.specs.Prelude.{◌≡◌, IsTrue};
+ghost use Rattle.std.specs.Prelude.{◌≡◌, false, get_or, IsTrue};
 ghost use Rattle.sqlite.specs.Held.{state};
 ghost use Rattle.sqlite.specs.State.{HasCleanDisk};
 ghost use Rattle.sql_schema.specs.Layouts.{by_domain};
 ghost use Rattle.sql_schema.specs.Inside.{IsSteadyOver, IsInsideOf};
 ghost use Rattle.sql_changes.specs.OnDomains.{OnDomain};
 ghost use Rattle.sql_changes.specs.UnitWrites.{WritesPlanned, WritesUnits, WritesUnitsBack, WritesPlansBack};
+ghost use Rattle.template_update.specs.Marks.{unmarked};
+ghost use Rattle.sql_commits.specs.Changes.{WritesUnlessStays};
 ghost use Rattle.sql_figures.specs.Figures.{FiguresStay};
 
 use crate::unit_writes::write_unit;
@@ -54,29 +56,64 @@ pub fn write_units<S: Alter>(
     Ok(())
 }
 
-/// Writes units from the last on: of two of one key the first stays.
+/// Whether the unit at a place of a plan stays as it was.
+pub(crate) fn stays_at(stays: &[bool], place: usize) -> bool
+    ensures { result ≡ get_or stays.now place false }
+{
+    match stays.get(place) {
+        Some(stays) => *stays,
+        None => false,
+    }
+}
+
+/// Writes a unit of a plan in a domain, unless it stays as it was.
+fn write_changed<S: Alter>(
+    tx: &mut Transaction<'_, S>,
+    alloc: Global,
+    domain: &Name,
+    lang: &Lang,
+    unit: &Unit,
+    stays: bool,
+) -> Result<(), Failure>
+    requires steady { IsSteadyOver by_domain (state S.Store tx.old.conn.now) }
+    requires open { HasCleanDisk (state S.Store tx.old.conn.now) → IsTrue (state S.Store tx.old.conn.now).is_open }
+    ensures same_reference { tx.new.conn.ghost_name ≡ tx.old.conn.ghost_name }
+    ensures put { IsInsideOf by_domain (state S.Store tx.old.conn.now) (state S.Store tx.new.conn.now) result (OnDomain domain.now (WritesUnlessStays stays lang.now unit.now)) }
+    ensures figures { IsInsideOf by_domain (state S.Store tx.old.conn.now) (state S.Store tx.new.conn.now) result FiguresStay }
+{
+    if stays {
+        Ok(())
+    } else {
+        write_planned(tx, alloc, domain, lang, unit)
+    }
+}
+
+/// Writes those units of a plan that don't stay as they were, from the last on: of two of one key the first stays. Of the others
+/// nothing is written.
 fn write_units_back<S: Alter>(
     tx: &mut Transaction<'_, S>,
     alloc: Global,
     domain: &Name,
     lang: &Lang,
     units: &[Unit],
+    stays: &[bool],
 ) -> Result<(), Failure>
     requires steady { IsSteadyOver by_domain (state S.Store tx.old.conn.now) }
     requires open { HasCleanDisk (state S.Store tx.old.conn.now) → IsTrue (state S.Store tx.old.conn.now).is_open }
     ensures same_reference { tx.new.conn.ghost_name ≡ tx.old.conn.ghost_name }
-    ensures put { IsInsideOf by_domain (state S.Store tx.old.conn.now) (state S.Store tx.new.conn.now) result (OnDomain domain.now (WritesUnitsBack lang.now units.now)) }
+    ensures put { IsInsideOf by_domain (state S.Store tx.old.conn.now) (state S.Store tx.new.conn.now) result (OnDomain domain.now (WritesUnitsBack lang.now (unmarked units.now stays.now))) }
     ensures figures { IsInsideOf by_domain (state S.Store tx.old.conn.now) (state S.Store tx.new.conn.now) result FiguresStay }
 {
     let mut left = units;
     while let Some((last, others)) = left.split_last() {
-        write_planned(tx, alloc, domain, lang, last)?;
+        let is_still = stays_at(stays, others.len());
+        write_changed(tx, alloc, domain, lang, last, is_still)?;
         left = others;
     }
     Ok(())
 }
 
-/// Writes the units of each language's plan, from the last on.
+/// Writes the units of each language's plan that don't stay as they were, from the last on.
 pub fn write_plans_back<S: Alter>(
     tx: &mut Transaction<'_, S>,
     alloc: Global,
@@ -92,7 +129,14 @@ pub fn write_plans_back<S: Alter>(
     let mut left = plans;
     while let Some((last, others)) = left.split_last() {
         let (lang, plan) = last;
-        write_units_back(tx, alloc, domain, lang, plan.units.as_slice())?;
+        write_units_back(
+            tx,
+            alloc,
+            domain,
+            lang,
+            plan.units.as_slice(),
+            plan.stays.as_slice(),
+        )?;
         left = others;
     }
     Ok(())

@@ -7,20 +7,19 @@ ghost use Rattle.sql_changes.specs.OnDomains.{OnDomain};
 ghost use Rattle.sql_changes.specs.Commits.{WritesTemplate};
 ghost use Rattle.sql_figures.specs.Figures.{with_tallies, FiguresFollow};
 
-use crate::entries::put_entries;
+use crate::changed_entries::change_entries;
 use crate::planned_units::write_plans_back;
 use crate::tallies::put_tallies;
 use deliveries::Tally;
 use po_text::Entry;
 use sql_decoding::Failure;
-use sql_statements::domain_template::empty_domain_template;
 use sqlite::{Alter, Transaction};
 use std::alloc::Global;
 use template_update::Plan;
 use units::{Lang, Name};
 
-/// Writes a domain's template, and in each language the units of its plan and their tally. All entries of the domain are taken out and
-/// written anew, also those that stay as they are; units are written over those that are there.
+/// Writes what changes of a domain's template, and in each language the units of its plan that don't stay as they were, and the language's
+/// tally. Of entries and units that stay nothing is written.
 pub fn write_template<S: Alter>(
     tx: &mut Transaction<'_, S>,
     alloc: Global,
@@ -34,8 +33,7 @@ pub fn write_template<S: Alter>(
     ensures put { IsInsideOf by_domain (state S.Store tx.old.conn.now) (state S.Store tx.new.conn.now) result (OnDomain domain.now (WritesTemplate entries.now plans.now)) }
     ensures figures { IsInsideOf by_domain (state S.Store tx.old.conn.now) (state S.Store tx.new.conn.now) result (FiguresFollow (with_tallies domain.now tallies.now)) }
 {
-    empty_domain_template(tx, domain.as_str())?;
-    put_entries(tx, alloc, domain, entries)?;
+    change_entries(tx, alloc, domain, entries)?;
     write_plans_back(tx, alloc, domain, plans)?;
     put_tallies(tx, domain, tallies)
 }

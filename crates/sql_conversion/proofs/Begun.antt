@@ -1,5 +1,5 @@
--- What each domain sees once the tables by domains are made beside the eight, with the one domain and the policy: records, members and the policy, and nothing else yet.
-use Rattle.std.proofs.Common.{◌≡◌, ◌≢◌, inl, ℕ, List, [], ◌∷◌, true, refl, sym, ap, subst, ◌∙◌, codes}
+-- What each domain sees once the tables by domains are made beside the old ones, with the one domain and the policy: records, members and the policy, and nothing else yet.
+use Rattle.std.proofs.Common.{◌≡◌, ◌≢◌, inl, ℕ, Bool, List, [], ◌∷◌, true, refl, sym, ap, subst, ◌∙◌, codes}
 use Rattle.sqlite.specs.Effect.{Database}
 use Rattle.sqlite.specs.Order.{Row, column}
 use Rattle.sqlite.specs.Tree.{Trees}
@@ -10,9 +10,9 @@ use Rattle.po_text.specs.Valid.{IsValid}
 use Rattle.units.specs.Limits.{is_accept_at}
 use Rattle.units.specs.Office.{main}
 use Rattle.sql_schema.specs.Creation.{KeepsNamedRows}
-use Rattle.sql_schema.specs.Inside.{AreOfficeTables}
+use Rattle.sql_schema.specs.Inside.{AreOfficeTablesOf}
 use Rattle.sql_schema.specs.Keys.{first_text, has_text, row_number, columns}
-use Rattle.sql_schema.specs.Layouts.{for_main, Layout, made_new, HasLayout, schema_of, NamedRows, rows_in, rows_named}
+use Rattle.sql_schema.specs.Layouts.{for_main, Layout, made_new, made_second, HasLayoutOf, schema_of, NamedRows, rows_in, rows_named}
 use Rattle.sqlite.specs.Schema.{Schema}
 use Rattle.sql_schema.specs.Views.{viewed, entry_seen, language_seen, unit_seen, suggestion_seen, is_vote_in, vote_seen, seen_in}
 use Rattle.sql_schema.proofs.Layouts.{names_differ}
@@ -38,7 +38,7 @@ use Rattle.sql_files.proofs.PolicyKept.{PolicyStands, policy_stands}
 use Rattle.sql_files.proofs.Puts.{no_row, all_put}
 use Rattle.sql_conversion.specs.Conversion.{TellsPolicy}
 
--- ---- the eight tables have no row by domains
+-- ---- the old tables have no row by domains
 
 pub record HasNone (rows : NamedRows) : Type 0 where
   pub domains : rows (codes "domain") ≡ []
@@ -49,15 +49,16 @@ pub record HasNone (rows : NamedRows) : Type 0 where
   pub votes : rows (codes "d_vote") ≡ []
   pub tallies : rows (codes "d_tally") ≡ []
 
-none_in : (layout : Layout for_main) (trees : Trees) → HasNone (rows_in (schema_of layout) trees)
+none_in : {figures : Bool} (layout : Layout (for_main figures)) (trees : Trees) → HasNone (rows_in (schema_of layout) trees)
 none_in made_new trees = record { domains = refl; template = refl; languages = refl; units = refl; suggestions = refl; votes = refl; tallies = refl }
+none_in made_second trees = record { domains = refl; template = refl; languages = refl; units = refl; suggestions = refl; votes = refl; tallies = refl }
 
-pub none_named : (db : Database) → HasLayout db → HasNone (rows_named db)
+pub none_named : {figures : Bool} (db : Database) → HasLayoutOf (for_main figures) db → HasNone (rows_named db)
 none_named db (layout, is) = subst (λ (s : Schema). HasNone (rows_in s db.trees)) (sym is) (none_in layout db.trees)
 
 -- ---- what there is before the domain is written
 
--- What the eight tables hold of the whole office is there, and nothing of any domain.
+-- What the old tables hold of the whole office is there, and nothing of any domain.
 pub record HasBegun (old told : Database) : Type 0 where
   pub alone : IsMainAlone (rows_named told)
   pub ready : AreOfficeRows (seen_in main (rows_named told))
@@ -71,7 +72,7 @@ pub record HasBegun (old told : Database) : Type 0 where
   pub nothing : (domain : Text) → SeesNothing (seen_in domain (rows_named told))
   pub others : (name : Text) → IsElsewhere name → name ≢ codes "domain" → rows_named told name ≡ rows_named old name
 
-module _ (old made named told : Database) (ready : AreOfficeTables old) (keeps : KeepsNamedRows old made) (puts : PutsMain made named) (tells : TellsPolicy (policy_in (rows_named old)) named told) where
+module _ {figures : Bool} (old made named told : Database) (ready : AreOfficeTablesOf (for_main figures) old) (keeps : KeepsNamedRows old made) (puts : PutsMain made named) (tells : TellsPolicy (policy_in (rows_named old)) named told) where
   none : HasNone (rows_named old)
   none = none_named old ready.schema
 

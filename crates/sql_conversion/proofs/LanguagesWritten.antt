@@ -76,7 +76,7 @@ is_none_of (Some t) e = absurd cc
 module _ (project : Project) (is : IsProject project) where
   -- what is written of a language; how it was counted is no part of it
   abbrev pub plan_at : Text → Plan
-  plan_at lang = record { units = units_of project lang; counts = Loaded 0 0 0 }
+  plan_at lang = record { units = units_of project lang; stays = []; counts = Loaded 0 0 0 }
 
   -- those of the codes that are there, with their headers
   abbrev pub headed : Option Entry → Text → List (Text × Entry) → List (Text × Entry)

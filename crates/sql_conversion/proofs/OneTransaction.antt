@@ -1,4 +1,4 @@
--- A transaction that makes tables by domains beside the eight: it commits, or its commit fails, or a step fails and is undone.
+-- A transaction that makes tables by domains beside the old ones: it commits, or its commit fails, or a step fails and is undone.
 use Rattle.std.proofs.Common.{◌≡◌, inl, inr, false, true, Result, Ok, Err, OnOk, IsTrue, refl, sym, subst, ◌∙◌, arith}
 use Rattle.sqlite.specs.Effect.{Database}
 use Rattle.sqlite.specs.Held.{Held, state}
@@ -11,11 +11,11 @@ use Rattle.sqlite.proofs.StateLemmas.{survives_weaker}
 use Rattle.sqlite_trees.specs.declared.store.Store as store
 use Rattle.sql_laws.proofs.Transactions.{survives_both, survives_commit}
 use Rattle.sql_schema.specs.Inside.{AreOfficeTablesOf, IsInsideOf}
-use Rattle.sql_schema.specs.Layouts.{by_domain}
-use Rattle.sql_schema.specs.Whole.{IsIdle, StaysIdle, IsCommitOf}
+use Rattle.sql_schema.specs.Layouts.{Form, by_domain}
+use Rattle.sql_schema.specs.Whole.{IsIdleOver, StaysIdle, IsCommitOf}
 use Rattle.sql_commits.specs.Ends.{Finishes}
 
-module _ {S : Type 0} (g : store.Ghosts S) (old mid last : Held S) (Makes : Database → Database → Type 0) (idle : IsIdle (state g old)) (ended : (state g last).in_transaction ≡ false) where
+module _ {form : Form} {S : Type 0} (g : store.Ghosts S) (old mid last : Held S) (Makes : Database → Database → Type 0) (idle : IsIdleOver form (state g old)) (ended : (state g last).in_transaction ≡ false) where
   abbrev begun : State
   begun = state g (record old { in_transaction = true })
 
@@ -81,7 +81,7 @@ module _ {S : Type 0} (g : store.Ghosts S) (old mid last : Held S) (Makes : Data
       (survives_weaker begun (state g last) (λ _. ⊥) Left (λ _ db none. absurd none) (survives_both g (record old { in_transaction = true }) mid last it.survives end.undone.1)))
 
 -- from what its beginning makes of the connection
-pub finishes : {S : Type 0} (g : store.Ghosts S) (old begin last : Held S) → begin ≡ record old { in_transaction = true } → IsIdle (state g old) → (state g last).in_transaction ≡ false
+pub finishes : {form : Form} {S : Type 0} (g : store.Ghosts S) (old begin last : Held S) → begin ≡ record old { in_transaction = true } → IsIdleOver form (state g old) → (state g last).in_transaction ≡ false
     → (Makes : Database → Database → Type 0) → {mid : Held S} {A B E F : Type 0} {written : Result A E} {result : Result B F}
     → Finishes g mid last written result → IsInsideOf by_domain (state g begin) (state g mid) written Makes → IsCommitOf by_domain (state g old) (state g last) result Makes
 finishes g old begin last begins idle ended Makes {mid} {written} {result} end inside =

@@ -6,18 +6,19 @@ use Rattle.sqlite.specs.State.{State, HasCleanDisk}
 use Rattle.sqlite.specs.Tree.{Trees}
 use Rattle.request_book.specs.Book.{OfficeWithBook}
 use Rattle.sql_schema.specs.Inside.{AreOfficeTablesOf}
-use Rattle.sql_schema.specs.Layouts.{for_main, by_domain, rows_named}
+use Rattle.sql_schema.specs.Layouts.{Form, IsForMain, by_domain, NamedRows, rows_named}
 use Rattle.sql_schema.specs.Whole.{IsIdleOver, IsCommitOf}
 use Rattle.sql_meaning.specs.Meaning.{meaning_in}
-use Rattle.sql_meaning.specs.Domains.{meaning_by_domain, DatabaseMeans, TreesMean}
+use Rattle.sql_meaning.specs.Domains.{meaning_by_domain, meaning_for, DatabaseMeans, TreesMean}
 use Rattle.sql_adoption.specs.Adoption.{IsAdopted, IsAdoptedOf, IsAdoptedIn, StaysAsItWas, Refuses}
 use Rattle.sql_adoption.specs.Tables.{form_told}
 use Rattle.sql_adoption.specs.declared.faults.OpenFault.{OpenFault}
-use Rattle.sql_adoption.specs.declared.office_tables.Form.TheVariants.{ForMain, ByDomain}
+use Rattle.sql_adoption.specs.declared.office_tables.Form.TheVariants.{ByDomain}
 use Rattle.sql_adoption.specs.declared.tested.Adopted.{Adopted}
+use Rattle.sql_schema.proofs.Layouts.{of_main}
 use Rattle.sql_files.specs.Files.{IsOfficeFile}
 use Rattle.sql_files.proofs.Listed.{database_means, file_left}
-use Rattle.sql_conversion.specs.Conversion.{Converts, IsLeftOf, IsTakenOver, IsGivenBack}
+use Rattle.sql_conversion.specs.Conversion.{KeepsOldRows, Converts, IsLeftOf, IsTakenOver, IsGivenBack}
 
 -- what was told in other words
 module _ {A E F : Type 0} (Tells : E → F → Type 0) (X : Type 0) where
@@ -34,20 +35,21 @@ module _ {A E F : Type 0} (Tells : E → F → Type 0) (X : Type 0) where
   told_err (Err e) (Ok x) is h = absurd is
   told_err (Err e) (Err f) is h = h
 
--- ---- the eight tables
+-- ---- tables without a column for a domain
 
-module _ (old new : State) (adopted : Adopted) (it : IsAdoptedIn old adopted) (form : adopted.form ≡ ForMain) where
-  pub idle : IsIdleOver for_main old
-  idle = subst (λ f. IsIdleOver (form_told f) old) form it.idle
+-- they mean what they always meant
+meant_so : (form : Form) → IsForMain form → (rows : NamedRows) → meaning_for form rows ≡ meaning_in rows
+meant_so form is_main rows = of_main (λ f. meaning_for f rows ≡ meaning_in rows) form is_main (λ figures. refl)
 
-  ready : HasCleanDisk old → AreOfficeTablesOf for_main old.now
-  ready clean = idle.ready clean (it.is_open clean)
+module _ (old new : State) (adopted : Adopted) (it : IsAdoptedIn old adopted) (is_main : IsForMain (form_told adopted.form)) where
+  ready : HasCleanDisk old → AreOfficeTablesOf (form_told adopted.form) old.now
+  ready clean = it.idle.ready clean (it.is_open clean)
 
   rows : HasCleanDisk old → IsAdopted old.now
-  rows clean = (for_main, record { schema = (ready clean).schema; tables = (ready clean).tables }, subst (λ f. IsAdoptedOf (form_told f) old.now) form (it.adopted clean).rows)
+  rows clean = (form_told adopted.form, record { schema = (ready clean).schema; tables = (ready clean).tables }, (it.adopted clean).rows)
 
   means : HasCleanDisk old → DatabaseMeans old.now (meaning_in (rows_named old.now))
-  means clean = (for_main, (ready clean).schema, refl)
+  means clean = (form_told adopted.form, (ready clean).schema, sym (meant_so (form_told adopted.form) is_main (rows_named old.now)))
 
   abbrev LeavesMade : Trees → OfficeWithBook → Type 0
   LeavesMade db m = TreesMean db m × IsOfficeFile db
@@ -75,6 +77,7 @@ module _ (old new : State) (adopted : Adopted) (it : IsAdoptedIn old adopted) (f
       rows = λ clean. rows (early (Ok x) commits clean);
       means = λ clean. subst (DatabaseMeans old.now) (sym (commits.made clean).0.meaning) (means (early (Ok x) commits clean));
       file = λ clean. (commits.made clean).0.file;
+      kept = λ clean. (commits.made clean).0.kept;
       committed = λ clean. (commits.made clean).2;
       ended = commits.ended;
       stops = left (Ok x) commits;
@@ -90,7 +93,7 @@ module _ (old new : State) (adopted : Adopted) (it : IsAdoptedIn old adopted) (f
       now = λ clean is_open. (commits.same clean is_open).now;
       committed = λ clean is_open.
           let same = commits.same clean is_open in
-          same.committed ∙ idle.settled (early (Err e) commits clean) same.was_open;
+          same.committed ∙ it.idle.settled (early (Err e) commits clean) same.was_open;
       ended = commits.ended;
       stops = left (Err e) commits;
       limit = commits.survives.limit;
@@ -113,6 +116,7 @@ as_they_stand s adopted it form ended =
       file = λ clean.
           let own = rows clean in
           record { ready = ready clean; rows = record { form_told = own.told; office = own.office; book = own.book; figures = own.figures; rules = own.rules } };
+      kept = λ clean name own apart. refl;
       committed = λ clean. idle.settled clean (it.is_open clean);
       ended = ended;
       stops = λ clean db leaves. inl leaves;
@@ -152,6 +156,7 @@ module _ (old mid new : State) (first : StaysAsItWas old mid) where
       rows = λ clean. subst IsAdopted (same_now (second.honest clean)) (second.rows clean);
       means = λ clean. subst (λ d. DatabaseMeans d (meaning_by_domain (rows_named new.now))) (same_now (second.honest clean)) (second.means clean);
       file = second.file;
+      kept = λ clean. subst (λ d. KeepsOldRows d new.now) (same_now (second.honest clean)) (second.kept clean);
       committed = second.committed;
       ended = second.ended;
       stops = λ clean db leaves. left_before db (second.honest clean) (second.stops clean db leaves);

@@ -19,11 +19,11 @@ use Rattle.units.specs.Office.{Office, main, same_domain, project_in}
 use Rattle.units.specs.Project.{Project}
 use Rattle.units.specs.Projects.{IsProject, IsTemplateEntry}
 use Rattle.request_book.specs.Book.{OfficeWithBook}
-use Rattle.sql_schema.specs.Inside.{AreOfficeTables, AreOfficeTablesOf}
-use Rattle.sql_schema.specs.Layouts.{for_main, by_domain, NamedRows, rows_named}
+use Rattle.sql_schema.specs.Inside.{AreOfficeTablesOf}
+use Rattle.sql_schema.specs.Layouts.{Form, for_main, by_domain, IsForMain, NamedRows, rows_named}
 use Rattle.sql_schema.specs.Views.{seen_in, AreSameByName}
 use Rattle.sql_schema.proofs.DomainRows.{domain_names}
-use Rattle.sql_schema.proofs.Layouts.{names_differ}
+use Rattle.sql_schema.proofs.Layouts.{of_main, names_differ}
 use Rattle.sql_meaning.specs.Domains.{meaning_by_domain, meaning_for, is_domain, IsMainAlone}
 use Rattle.sql_meaning.specs.Meaning.{meaning_in, book_in, project_of_rows, template_in, headers_in, units_in, team_in, policy_in}
 use Rattle.sql_meaning.specs.RowKeys.{AreOfficeRows}
@@ -40,7 +40,6 @@ use Rattle.sql_decoding.proofs.ColumnsTested.{text_stands}
 use Rattle.sql_changes.proofs.Template.{template_put, entries_spare, entries_ready}
 use Rattle.sql_adoption.specs.Adoption.{Each, IsAdoptedOf, IsAdoptedAs, StandInDomains}
 use Rattle.sql_adoption.specs.Tables.{form_told}
-use Rattle.sql_adoption.specs.declared.office_tables.Form.TheVariants.{ForMain}
 use Rattle.sql_adoption.specs.declared.tested.Adopted.{Adopted}
 use Rattle.office_maps.specs.OfficeIn.{office_in}
 use Rattle.sql_files.specs.Files.{StandForAll}
@@ -61,7 +60,7 @@ each_plain (x ∷ es) all e (inr later) = each_plain es (λ k d less. all (suc k
 
 -- ---- the project, entry by entry and language by language
 
-module _ (old told : Database) (langs : List Text) (adopted : IsAdoptedOf for_main old) (begun : HasBegun old told) (all : AreAll (headers_in (rows_named old)) langs) where
+module _ {figures : Bool} (old told : Database) (langs : List Text) (adopted : IsAdoptedOf (for_main figures) old) (begun : HasBegun old told) (all : AreAll (headers_in (rows_named old)) langs) where
   abbrev was : Project
   was = project_of_rows (rows_named old)
 
@@ -128,7 +127,7 @@ main_named db ready alone row there =
     ap (text_passes is_name) (domain_names.0 db ready.schema ready.sound row there ∙ ap Words (alone.only row there))
     ∙ text_stands 0 (Words main ∷ []) main refl is_name (plain main refl) refl
 
-module _ (old new : Database) (langs : List Text) (adopted : IsAdoptedOf for_main old) (all : AreAll (headers_in (rows_named old)) langs) (was_ready : AreOfficeTables old)
+module _ {figures : Bool} (old new : Database) (langs : List Text) (adopted : IsAdoptedOf (for_main figures) old) (all : AreAll (headers_in (rows_named old)) langs) (was_ready : AreOfficeTablesOf (for_main figures) old)
     (ready : AreOfficeTablesOf by_domain new) where
   abbrev before : Project
   before = project_of_rows (rows_named old)
@@ -198,13 +197,17 @@ module _ (old new : Database) (langs : List Text) (adopted : IsAdoptedOf for_mai
   converts office is written =
       converts_alone (subst (λ (o : Office). WritesAnew o langs old new) is written.0) (subst (λ (o : Office). FollowsLanguages o langs old new) is written.1)
 
--- what was adopted in the eight tables
-pub converts_adopted : (old new : Database) (adopted : Adopted) → adopted.form ≡ ForMain → IsAdoptedAs old adopted → AreOfficeTables old → AreOfficeTablesOf by_domain new
-    → WritesAnew (office_in adopted.maps) adopted.langs.items old new × FollowsLanguages (office_in adopted.maps) adopted.langs.items old new → Converts old new
-converts_adopted old new adopted form is was_ready ready written =
-    let told : form_told adopted.form ≡ for_main = ap form_told form in
-    let before = project_of_rows (rows_named old) in
-    let office : office_in adopted.maps ≡ main_alone before = is.office ∙ ap (λ f. (meaning_for f (rows_named old)).office) told in
-    let project : project_in (office_in adopted.maps) main ≡ before = ap (λ (o : Office). project_in o main) office ∙ in-main before in
-    converts old new adopted.langs.items (subst (λ f. IsAdoptedOf f old) told is.rows) (subst (λ (p : Project). AreAll p.headers adopted.langs.items) project (is.langs main)) was_ready ready
-    (office_in adopted.maps) office written
+-- what was adopted in tables without a column for a domain
+module _ (old new : Database) (adopted : Adopted) (is : IsAdoptedAs old adopted) (ready : AreOfficeTablesOf by_domain new)
+    (written : WritesAnew (office_in adopted.maps) adopted.langs.items old new × FollowsLanguages (office_in adopted.maps) adopted.langs.items old new) where
+  converts_from : (figures : Bool) → form_told adopted.form ≡ for_main figures → AreOfficeTablesOf (for_main figures) old → Converts old new
+  converts_from figures told was_ready =
+      let before = project_of_rows (rows_named old) in
+      let office : office_in adopted.maps ≡ main_alone before = is.office ∙ ap (λ f. (meaning_for f (rows_named old)).office) told in
+      let project : project_in (office_in adopted.maps) main ≡ before = ap (λ (o : Office). project_in o main) office ∙ in-main before in
+      converts old new adopted.langs.items (subst (λ f. IsAdoptedOf f old) told is.rows) (subst (λ (p : Project). AreAll p.headers adopted.langs.items) project (is.langs main)) was_ready ready
+      (office_in adopted.maps) office written
+
+  pub converts_adopted : IsForMain (form_told adopted.form) → AreOfficeTablesOf (form_told adopted.form) old → Converts old new
+  converts_adopted is_main was_ready =
+      of_main (λ f. form_told adopted.form ≡ f → AreOfficeTablesOf f old → Converts old new) (form_told adopted.form) is_main converts_from refl was_ready

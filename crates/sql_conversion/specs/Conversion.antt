@@ -16,7 +16,7 @@ use Rattle.deliveries.specs.Tally.{counts_of}
 use Rattle.request_book.specs.Book.{OfficeWithBook}
 use Rattle.sql_schema.specs.Creation.{KeepsNamedRows}
 use Rattle.sql_schema.specs.Inside.{Then, AreOfficeTablesOf}
-use Rattle.sql_schema.specs.Layouts.{by_domain, is_office_table, NamedRows, rows_named}
+use Rattle.sql_schema.specs.Layouts.{for_main, by_domain, is_own_table, NamedRows, rows_named}
 use Rattle.sql_schema.specs.Whole.{IsIdleOver}
 use Rattle.sql_meaning.specs.Beginnings.{PutsMain}
 use Rattle.sql_meaning.specs.Meaning.{meaning_in}
@@ -89,12 +89,16 @@ FollowsLanguages = FollowsLanguagesIn main
 
 -- ---- what it comes to
 
--- The rows of tables by domains mean what those of the eight tables meant, and are an office's, with the sums and tallies that counting them gives. The
--- eight tables keep their rows, but for the policy's, which tells the form.
+-- The tables of an office without a column for a domain, those of sums and tallies among them, keep their rows, but for the policy's, which tells the form.
+abbrev pub KeepsOldRows : Database → Database → Type 0
+KeepsOldRows old new = (name : List ℕ) → is_own_table (for_main true) name ≡ true → name ≢ codes "policy" → rows_named new name ≡ rows_named old name
+
+-- The rows of tables by domains mean what those of the old tables meant, and are an office's, with the sums and tallies that counting them gives. The
+-- old tables keep their rows.
 pub record Converts (old new : Database) : Type 0 where
   pub meaning : meaning_by_domain (rows_named new) ≡ meaning_in (rows_named old)
   pub file : IsOfficeDatabase by_domain new
-  pub kept : (name : List ℕ) → is_office_table name ≡ true → name ≢ codes "policy" → rows_named new name ≡ rows_named old name
+  pub kept : KeepsOldRows old new
 
 -- ---- the whole
 
@@ -102,7 +106,8 @@ pub record Converts (old new : Database) : Type 0 where
 abbrev pub IsLeftOf : State → Trees → Type 0
 IsLeftOf old db = old.may_leave db ⊎ (db ≡ old.now.trees) ⊎ ((m : OfficeWithBook) × DatabaseMeans old.now m × TreesMean db m × IsOfficeFile db)
 
--- An open connection between transactions over tables by domains, that mean what the tables meant which were adopted, and are an office's.
+-- An open connection between transactions over tables by domains, that mean what the tables meant which were adopted, and are an office's. Tables of an
+-- earlier form keep their rows.
 pub record IsTakenOver (old new : State) : Type 0 where
   pub honest : HasCleanDisk new → HasCleanDisk old
   pub was_open : HasCleanDisk new → IsTrue old.is_open
@@ -111,6 +116,7 @@ pub record IsTakenOver (old new : State) : Type 0 where
   pub rows : HasCleanDisk new → IsAdopted old.now
   pub means : HasCleanDisk new → DatabaseMeans old.now (meaning_by_domain (rows_named new.now))
   pub file : HasCleanDisk new → IsOfficeDatabase by_domain new.now
+  pub kept : HasCleanDisk new → KeepsOldRows old.now new.now
   pub committed : HasCleanDisk new → new.now ≡ new.committed
   pub ended : new.in_transaction ≡ false
   pub stops : HasCleanDisk new → (db : Trees) → new.may_leave db → IsLeftOf old db

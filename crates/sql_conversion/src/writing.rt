@@ -9,7 +9,7 @@ ghost use Rattle.deliveries.specs.Counting.{none_counted};
 ghost use Rattle.deliveries.specs.Tally.{counts_of};
 ghost use Rattle.office_maps.specs.OfficeIn.{lent_project, office_in};
 ghost use Rattle.sql_schema.specs.Layouts.{by_domain};
-ghost use Rattle.sql_schema.specs.Inside.{IsSteady, IsSteadyOver, IsInsideOf};
+ghost use Rattle.sql_schema.specs.Inside.{IsSteadyForMain, IsSteadyOver, IsInsideOf};
 ghost use Rattle.sql_changes.specs.OnDomains.{OnDomain};
 ghost use Rattle.sql_figures.specs.Figures.{FiguresStay};
 ghost use Rattle.sql_conversion.specs.Conversion.{WritesKept, WritesThere, WritesLanguages, WritesProject, WritesAnew, FollowsLanguages, FollowsLanguagesIn};
@@ -137,15 +137,15 @@ fn write_project<S: Alter>(
     write_languages(tx, alloc, maps, domain, project, langs)
 }
 
-/// Makes the tables by domains beside the eight, and writes the office of `main` into them, with the languages of these codes and their
-/// tallies. The policy's row tells the new form. The other rows of the eight tables stay.
+/// Makes the tables by domains beside those without a column for a domain, and writes the office of `main` into them, with the languages of
+/// these codes and their tallies. The policy's row tells the new form. The other rows of the old tables stay.
 pub(crate) fn write_anew<S: Alter>(
     tx: &mut Transaction<'_, S>,
     alloc: Global,
     maps: &OfficeMaps,
     langs: &[Lang],
 ) -> Result<(), Failure>
-    requires steady { IsSteady (state S.Store tx.old.conn.now) }
+    requires steady { IsSteadyForMain (state S.Store tx.old.conn.now) }
     ensures same_reference { tx.new.conn.ghost_name ≡ tx.old.conn.ghost_name }
     ensures put { IsInsideOf by_domain (state S.Store tx.old.conn.now) (state S.Store tx.new.conn.now) result
         (WritesAnew (office_in maps.now) langs.now) }

@@ -1,5 +1,6 @@
 //! Columns of rows that are shown, as they are read.
-ghost use Rattle.std.specs.Prelude.{◌≡◌, ◌<◌, ◌↔◌, ℕ, ℤ, List, Bool, true, IfOk, IfErr, OnOk, length, unwrap_or, string_bytes, option_map};
+ghost use Rattle.std.specs.Prelude.{◌≡◌, ◌<◌, ◌↔◌, ℕ, ℤ, pos, List, Bool, Some, true, IfOk, IfErr, OnOk, length, unwrap_or, string_bytes, option_map};
+ghost use Rattle.std.specs.Option.{option_copied};
 ghost use Rattle.sqlite.specs.Order.{column};
 ghost use Rattle.sqlite.specs.Values.{or_null};
 ghost use Rattle.sqlite.specs.declared.types.Value.TheVariants.{Int, Text as Words};
@@ -23,12 +24,39 @@ use std::alloc::Global;
 use units::{Key, Lang, Name, Role, no_previous};
 
 /// Whether a column is this text.
-pub(crate) fn is_text(row: &Row, at: usize, text: &str) -> bool
+pub fn is_text(row: &Row, at: usize, text: &str) -> bool
     ensures { (result ≡ true) ↔ (column row.now at ≡ Words text.now) }
 {
     match row.get_ref(at) {
         Ok(ValueRef::Text(bytes)) => bytes == text.as_bytes(),
         _ => false,
+    }
+}
+
+/// Whether a column is this text, or null where there is none.
+pub fn is_text_or_null<'a>(row: &Row, at: usize, text: Option<&'a str>) -> bool
+    ensures { result ≡ true → column row.now at ≡ or_null Words (option_copied text.entry) }
+{
+    match text {
+        Some(text) => is_text(row, at, text),
+        None => match row.get_ref(at) {
+            Ok(ValueRef::Null) => true,
+            _ => false,
+        },
+    }
+}
+
+/// The natural number in a column, if it holds one.
+pub fn natural_in(row: &Row, at: usize) -> Option<usize>
+    ensures { (number : ℕ) → (result ≡ Some number) ↔ (column row.now at ≡ Int (pos number)) }
+{
+    match row.get_ref(at) {
+        Ok(ValueRef::Int(number)) => if number >= 0 {
+            Some(number as usize)
+        } else {
+            None
+        },
+        _ => None,
     }
 }
 

@@ -27,7 +27,10 @@ mod texts;
 mod units_read;
 mod views;
 
-pub use columns::{domain_at, key_at, lang_at, name_text_at, role_at, text_in};
+pub use columns::{
+    domain_at, is_text, is_text_or_null, key_at, lang_at, name_text_at, natural_in, role_at,
+    text_in,
+};
 pub use entries_read::{message_in, obsolete_in};
 pub use faults::Failure;
 pub use kept_rule::KeptRule;

@@ -1,11 +1,16 @@
--- The figures that tables by domains keep beside an office's rows, sums of votes and tallies, and how they follow what is written. This project's own
+-- The figures that tables keep beside an office's rows, sums of votes and tallies, and how those by domains follow what is written. This project's own
 -- rule.
-use Rattle.std.specs.Prelude.{⊤, ◌≡◌, ◌&&◌, ◌+◌, ◌<◌, ◌^◌, List, [], ◌∷◌, Bool, cond, Option, Some, option_map, codes}
+use Rattle.std.specs.Prelude.{⊤, ◌≡◌, ◌&&◌, ◌+◌, ◌<◌, ◌^◌, List, [], ◌∷◌, Bool, cond, Option, Some, option_map, map, codes}
+use Rattle.std.specs.Ordering.{nat_cmp, is_eq}
+use Rattle.std.specs.Cmp.Lexicographic.{slice_cmp}
+use Rattle.sqlite.specs.declared.types.Value.TheVariants.{Text as Words}
 use Rattle.sqlite.specs.Effect.{Database}
+use Rattle.sqlite.specs.Order.{Row, column}
 use Rattle.po_text.specs.Texts.{Text, text_eq}
-use Rattle.units.specs.Office.{same_domain}
+use Rattle.units.specs.Office.{Office, main, same_domain}
 use Rattle.deliveries.specs.declared.tally.Tally.{Tally}
 use Rattle.tables.specs.Tallies.{moved, none_approved}
+use Rattle.sql_schema.specs.Keys.{columns}
 use Rattle.sql_schema.specs.Layouts.{NamedRows, rows_named}
 use Rattle.sql_meaning.specs.Domains.{office_of_rows}
 use Rattle.sql_figures.specs.KeptSums.{HaveSums}
@@ -17,6 +22,23 @@ use Rattle.sql_figures.specs.KeptTallies.{Counts, office_counts, AreTalliesOf}
 pub record HasFigures (rows : NamedRows) : Type 0 where
   pub tallies : AreTalliesOf (office_counts (office_of_rows rows)) (rows (codes "d_tally"))
   pub sums : HaveSums rows
+
+-- The same where this is the office of the rows.
+pub record HoldFigures (office : Office) (rows : NamedRows) : Type 0 where
+  pub tallies : AreTalliesOf (office_counts office) (rows (codes "d_tally"))
+  pub sums : HaveSums rows
+
+-- ---- those of tables without a column for a domain
+
+-- a language's tally, as tables by domains hold that of a language of `main`
+abbrev pub tally_of_main : Row → Row
+tally_of_main row = column row 0 ∷ Words main ∷ columns (1 ∷ 2 ∷ 3 ∷ 4 ∷ 5 ∷ 6 ∷ 7 ∷ 8 ∷ []) row
+
+-- the figures and what sums are of, under the names of tables by domains: a suggestion's number, a vote and a sum stand in the same columns of both
+abbrev pub figures_of_main : NamedRows → NamedRows
+figures_of_main rows name =
+    cond (is_eq (slice_cmp nat_cmp name (codes "d_tally"))) (map tally_of_main (rows (codes "tally"))) (cond (is_eq (slice_cmp nat_cmp name (codes "d_suggestion"))) (rows (codes "suggestion"))
+    (cond (is_eq (slice_cmp nat_cmp name (codes "d_vote"))) (rows (codes "vote")) (cond (is_eq (slice_cmp nat_cmp name (codes "d_vote_sum"))) (rows (codes "vote_sum")) [])))
 
 -- ---- how counts change
 

@@ -1,5 +1,5 @@
 -- The commit of a template keeps an office's file one: its entries, and the units that are fitted to it.
-use Rattle.std.proofs.Common.{◌≡◌, ◌≢◌, ℕ, ◌+◌, inl, inr, List, [], ◌∷◌, true, refl, sym, subst, ◌∙◌, codes}
+use Rattle.std.proofs.Common.{◌≡◌, ◌≢◌, ℕ, ◌+◌, inl, inr, List, [], ◌∷◌, true, refl, sym, subst, codes}
 use Rattle.std.specs.Prelude.{IsTrue}
 use Rattle.std.proofs.lemmas.Bool.{and_from}
 use Rattle.sqlite.specs.Order.{Row}
@@ -19,9 +19,9 @@ use Rattle.units.specs.Projects.{IsProject}
 use Rattle.sql_meaning.specs.Meaning.{template_in, project_of_rows}
 use Rattle.sql_meaning.specs.Domains.{meaning_by_domain}
 use Rattle.sql_changes.specs.Commits.{PutsNumberedRecord, entry_row, PutsEntries, WritesTemplate, MakesTemplate, MakesIn}
+use Rattle.sql_changes.specs.EntryWrites.{IsRowOf, HaveRows, HoldsEntries}
 use Rattle.sql_changes.specs.UnitWrites.{LeavesRows, WritesPlansBack}
 use Rattle.sql_changes.proofs.PlannedUnits.{plans_from_last}
-use Rattle.sql_changes.proofs.Template.{entries_spare, entries_ready}
 use Rattle.sql_decoding.specs.RowTests.{is_key, are_texts, is_entry_row}
 use Rattle.sql_decoding.proofs.ColumnsTested.{text_stands, key_stands, texts_stand}
 use Rattle.sql_keepable.specs.Keepable.{IsKeepableEntry, AreKeepableEntries, AreKeepablePlans}
@@ -32,7 +32,6 @@ use Rattle.sql_files.proofs.UnitKept.{plural_stands, plans_keep}
 use Rattle.sql_files.proofs.ActKept.{record_step, kept_in}
 use Rattle.sql_schema.specs.Layouts.{by_domain, NamedRows, rows_named}
 use Rattle.sql_schema.proofs.Layouts.{names_differ}
-use Rattle.sql_meaning.specs.RowChanges.{TakesIn}
 use Rattle.sqlite.specs.Effect.{Database}
 use Rattle.sql_schema.specs.Views.{seen_in}
 
@@ -59,6 +58,12 @@ entries_stand place (entry ∷ more) fits old new (mid, put, rest) each row ther
     (all_put row_number EntryStands (old (codes "template")) (mid (codes "template")) made.row made.put each
     (subst EntryStands (sym made.is_row) (entry_stands place entry put.1 (fits entry (inl refl))))) row there
 
+-- and so do the rows that are those of keepable entries
+rows_stand : (place : ℕ) (entries : List Entry) (rows : List Row) → AreKeepableEntries entries → HaveRows place entries rows → (row : Row) → IsRowOf place entries row → EntryStands row
+rows_stand place [] rows fits all row is = absurd is
+rows_stand place (entry ∷ more) rows fits all row (inl is) = subst EntryStands (sym is) (entry_stands place entry all.1 (fits entry (inl refl)))
+rows_stand place (entry ∷ more) rows fits all row (inr later) = rows_stand (place + 1) more rows (λ e there. fits e (inr there)) all.2 row later
+
 pub template_step : (old new : NamedRows) → ((t : List ℕ) → t ≢ codes "template" → new t ≡ old t) → IsValid (template_in new) → ((row : Row) → Has (new (codes "template")) row → EntryStands row)
     → StandForAll old → StandForAll new
 template_step old new apart valid entries it =
@@ -80,24 +85,21 @@ template_step old new apart valid entries it =
 
 -- ---- the commit
 
-module _ (mid gone next after : NamedRows) (entries : List Entry) (plans : List LanguagePlan) (taken : LeavesRows (TakesIn (codes "template") (λ row. true)) mid gone)
-    (put : PutsEntries 0 entries gone next) (written : WritesPlansBack plans next after) (project : IsProject (project_of_rows after)) where
+module _ (mid next after : NamedRows) (entries : List Entry) (plans : List LanguagePlan) (held : LeavesRows (HoldsEntries entries) mid next) (written : WritesPlansBack plans next after)
+    (project : IsProject (project_of_rows after)) where
   template_stays : after (codes "template") ≡ next (codes "template")
-  template_stays = (plans_from_last plans next after (entries_ready 0 entries gone next taken.1 put) written).others.template
-
-  others_spared : (t : List ℕ) → t ≢ codes "template" → next t ≡ mid t
-  others_spared t apart = entries_spare 0 entries gone next put t apart ∙ taken.0.others t apart
+  template_stays = (plans_from_last plans next after held.1 written).others.template
 
   changed_step : AreKeepableEntries entries → AreKeepablePlans plans → StandForAll mid → StandForAll after
   changed_step fits all it =
       plans_keep plans all next after written
-      (template_step mid next others_spared (template_same after next (sym template_stays) project.template_valid)
-      (entries_stand 0 entries fits gone next put (λ row there. absurd (let no = (taken.0.rows.only row there).1 in cc))) it)
+      (template_step mid next held.0.others (template_same after next (sym template_stays) project.template_valid)
+      (λ row there. rows_stand 0 entries (next (codes "template")) fits held.0.all row (held.0.only row there)) it)
 
 makes_template : (old new : NamedRows) (row : Record) (entries : List Entry) (plans : List LanguagePlan) → Then (PutsNumberedRecord row) (WritesTemplate entries plans) old new
     → IsKeepable row → AreKeepableEntries entries → AreKeepablePlans plans → IsProject (project_of_rows new) → StandForAll old → StandForAll new
-makes_template old new row entries plans (mid, recorded, (next, (gone, taken, put), written)) keepable fits all project it =
-    changed_step mid gone next new entries plans taken put written project fits all (record_step old mid row recorded keepable it)
+makes_template old new row entries plans (mid, recorded, (next, held, written)) keepable fits all project it =
+    changed_step mid next new entries plans held written project fits all (record_step old mid row recorded keepable it)
 
 stand_after_template : (old new : NamedRows) (row : Record) (entries : List Entry) (plans : List LanguagePlan) → MakesTemplate row entries plans old new
     → IsKeepable row → AreKeepableEntries entries → AreKeepablePlans plans → IsProject (project_of_rows new) → StandForAll old → StandForAll new

@@ -1,5 +1,5 @@
 -- A unit that is written, with its suggestions and the votes on them, leaves rows that stand for values; and so do the units of plans.
-use Rattle.std.proofs.Common.{◌≡◌, ◌≢◌, inl, inr, ℕ, ◌+◌, pos, List, [], ◌∷◌, map, true, Option, Some, None, arith, refl, sym, subst, codes}
+use Rattle.std.proofs.Common.{◌≡◌, ◌≢◌, inl, inr, ℕ, ◌+◌, pos, List, [], ◌∷◌, map, Bool, true, false, Option, Some, None, arith, refl, sym, subst, codes}
 use Rattle.std.specs.Prelude.{IsTrue, IfSome, IsUtf8}
 use Rattle.std.specs.FinMap as maps
 use Rattle.std.proofs.lemmas.Bool.{and_from}
@@ -26,6 +26,7 @@ use Rattle.sql_meaning.specs.Written.{PutsRows}
 use Rattle.sql_changes.specs.UnitWrites.{HaveNumbers, AddsSuggestions, WritesNumberedUnit, WritesUnits, WritesUnitsBack, WritesPlansBack}
 use Rattle.sql_decoding.specs.RowTests.{any_text, holds_text_or_null, is_number, is_key, are_texts, are_forms, are_previous, is_state, is_flag, is_vote, natural_passes, is_unit_row, is_suggestion_row, is_vote_row}
 use Rattle.sql_decoding.proofs.ColumnsTested.{text_stands, some_stands, null_stands, integer_is, number_stands, key_stands, texts_stand, forms_stand, previous_stand, state_stands, flag_stands, vote_stands, natural_stands}
+use Rattle.template_update.specs.Marks.{unmarked}
 use Rattle.sql_keepable.specs.Keepable.{IsKeepableUnit, IsKeepableSuggestion, AreKeepableUnits, AreKeepablePlans}
 use Rattle.sql_files.specs.Files.{StandForAll}
 use Rattle.sql_files.proofs.Puts.{all_put, template_same, form_same, book_same}
@@ -188,8 +189,15 @@ units_keep_back lang [] fits old new is it = subst StandForAll (sym is) it
 units_keep_back lang (unit ∷ more) fits old new (mid, rest, one) it =
     unit_keeps lang unit (fits unit (inl refl)) mid new one.0.0 (units_keep_back lang more (λ u there. fits u (inr there)) old mid rest it)
 
+has_unmarked : (units : List Unit) (stays : List Bool) (unit : Unit) → Has (unmarked units stays) unit → Has units unit
+has_unmarked [] stays unit there = there
+has_unmarked (u ∷ units) [] unit there = there
+has_unmarked (u ∷ units) (true ∷ stays) unit there = inr (has_unmarked units stays unit there)
+has_unmarked (u ∷ units) (false ∷ stays) unit (inl is) = inl is
+has_unmarked (u ∷ units) (false ∷ stays) unit (inr later) = inr (has_unmarked units stays unit later)
+
 pub plans_keep : (plans : List LanguagePlan) → AreKeepablePlans plans → (old new : NamedRows) → WritesPlansBack plans old new
     → StandForAll old → StandForAll new
 plans_keep [] fits old new is it = subst StandForAll (sym is) it
 plans_keep (p ∷ more) fits old new (mid, rest, own) it =
-    units_keep_back p.0 p.1.units (fits p (inl refl)) mid new own (plans_keep more (λ q there. fits q (inr there)) old mid rest it)
+    units_keep_back p.0 (unmarked p.1.units p.1.stays) (λ unit there. fits p (inl refl) unit (has_unmarked p.1.units p.1.stays unit there)) mid new own (plans_keep more (λ q there. fits q (inr there)) old mid rest it)

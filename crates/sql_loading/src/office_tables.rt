@@ -176,6 +176,7 @@ fn put_language(
     let language = language_in(alloc, row)?;
     let plan = Plan {
         units: Items::new(alloc),
+        stays: Items::new(alloc),
         counts: Counts::Loaded {
             loaded: 0,
             missing: 0,

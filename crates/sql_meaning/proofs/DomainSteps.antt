@@ -22,8 +22,9 @@ use Rattle.sql_statements.specs.Added.{AddsRow}
 use Rattle.sql_statements.specs.DomainCleared.{ClearsDomainUnit}
 use Rattle.sql_statements.specs.DomainRenewed.{HaveNextRevisionsInDomains, UnapprovesDomainUnits}
 use Rattle.sql_statements.specs.Renewed.{is_approved_row, unapproved_row}
+use Rattle.sql_statements.specs.DomainEntries.{is_entry_of}
 use Rattle.sql_statements.specs.Taken.{TakesRows}
-use Rattle.sql_statements.proofs.SeenChanges.{by_seen_name, other_than_templates, nothing_seen, language_put_seen, entry_put_seen, entries_taken_seen, vote_put_seen, units_unapproved_seen}
+use Rattle.sql_statements.proofs.SeenChanges.{by_seen_name, other_than_templates, nothing_seen, language_put_seen, entry_put_seen, entries_taken_seen, entry_taken_seen, vote_put_seen, units_unapproved_seen}
 use Rattle.sql_meaning.specs.RowChanges.{AddsIn, TakesIn, ClearsIn, RenewsIn}
 use Rattle.sql_meaning.proofs.DomainAdds.{suggestion_put_seen}
 use Rattle.sql_meaning.proofs.DomainClears.{cleared_seen}
@@ -121,6 +122,12 @@ module _ (domain : Text) {old new : Database} where
   pub template_emptied_seen : TakesRows (codes "d_template") (has_text 1 domain) old new → TakesIn (codes "template") (λ row. true) (sees domain old) (sees domain new)
   template_emptied_seen it = record {
     rows = entries_taken_seen domain (rows_named old) (rows_named new) it.rows it.others;
+    others = other_than_templates (rows_named old) (rows_named new) it.others domain;
+  }
+
+  pub one_entry_taken_seen : {key : Text} → TakesRows (codes "d_template") (is_entry_of domain key) old new → TakesIn (codes "template") (has_text 2 key) (sees domain old) (sees domain new)
+  one_entry_taken_seen {key} it = record {
+    rows = entry_taken_seen domain key (rows_named old) (rows_named new) it.rows it.others;
     others = other_than_templates (rows_named old) (rows_named new) it.others domain;
   }
 

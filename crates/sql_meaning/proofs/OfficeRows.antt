@@ -19,9 +19,9 @@ use Rattle.sqlite_rules.proofs.ListLemmas.{some_has}
 use Rattle.sql_laws.proofs.Comparisons.{texts_compared}
 use Rattle.sql_laws.proofs.RowMaps.{texts_are_one}
 use Rattle.po_text.specs.Texts.{Text}
-use Rattle.sql_schema.specs.Inside.{AreOfficeTables}
+use Rattle.sql_schema.specs.Inside.{AreOfficeTablesOf}
 use Rattle.sql_schema.specs.Keys.{text_at, row_number}
-use Rattle.sql_schema.specs.Layouts.{rows_named}
+use Rattle.sql_schema.specs.Layouts.{for_main, rows_named}
 use Rattle.sql_schema.specs.Schema.{is_between, unit_table}
 use Rattle.sql_schema.proofs.Layouts.{unit_placed}
 use Rattle.sql_schema.proofs.Parents.{suggestion_on_unit}
@@ -58,7 +58,7 @@ at_most : (row : Row) (n : ℤ) → column row 5 ≡ Int n → not (is_false (ev
 unfolding binary lib.Ieee.is_nan lib.Ieee.lt
 at_most row n is h = ap is_le (sym (value_cmp-Int n (pos 3))) ∙ second_holds (is_ge (value_cmp (Int n) (Int (pos 0)))) (is_le (value_cmp (Int n) (Int (pos 3)))) (rw is at h)
 
-module _ (db : Database) (ready : AreOfficeTables db) where
+module _ {figures : Bool} (db : Database) (ready : AreOfficeTablesOf (for_main figures) db) where
   has_unit : (s : Row) → Has (rows_named db (codes "suggestion")) s → (u : Row) × Has (rows_named db (codes "unit")) u × (text_at 1 u ≡ text_at 2 s) × (text_at 2 u ≡ text_at 3 s)
   has_unit s there =
       let lang = suggestion_langs db ready.schema ready.sound s there in

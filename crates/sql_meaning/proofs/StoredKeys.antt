@@ -1,5 +1,5 @@
 -- What the schema asks of suggestions and votes: suggestions of one unit at one place are one, and each vote is on a suggestion.
-use Rattle.std.proofs.Common.{◌≡◌, [], ◌∷◌, codes, sym, ap, ◌∙◌, refl}
+use Rattle.std.proofs.Common.{◌≡◌, Bool, [], ◌∷◌, codes, sym, ap, ◌∙◌, refl}
 use Rattle.std.proofs.lemmas.Bool.{and_parts}
 use Rattle.sqlite.specs.Order.{Row, column}
 use Rattle.sqlite.specs.Effect.{Database}
@@ -11,13 +11,13 @@ use Rattle.sqlite_rules.proofs.ListLemmas.{some_has}
 use Rattle.sql_laws.proofs.Comparisons.{agree-texts}
 use Rattle.sql_laws.proofs.RowMaps.{texts_are_one}
 use Rattle.sql_schema.specs.Keys.{text_at, first_text}
-use Rattle.sql_schema.specs.Inside.{AreOfficeTables}
+use Rattle.sql_schema.specs.Inside.{AreOfficeTablesOf}
 use Rattle.sql_schema.proofs.TableRows.{suggestion_numbers, vote_numbers, suggestion_places, one_place}
 use Rattle.sql_meaning.specs.Values.{integer_of, integer_at}
-use Rattle.sql_schema.specs.Layouts.{rows_named}
+use Rattle.sql_schema.specs.Layouts.{for_main, rows_named}
 use Rattle.sql_schema.proofs.Parents.{vote_on_suggestion}
 
-module _ (db : Database) (ready : AreOfficeTables db) where
+module _ {figures : Bool} (db : Database) (ready : AreOfficeTablesOf (for_main figures) db) where
   place_is : (row : Row) → Has (rows_named db (codes "suggestion")) row → id_in (column row 4) ≡ integer_at 4 row
   place_is row there = sym (ap integer_of (suggestion_places db ready.schema ready.sound row there))
 

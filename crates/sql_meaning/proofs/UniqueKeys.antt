@@ -1,5 +1,5 @@
 -- Suggestions on one unit with one place are one.
-use Rattle.std.proofs.Common.{◌≡◌, codes, filter, sym, ap, ◌∙◌}
+use Rattle.std.proofs.Common.{◌≡◌, Bool, codes, filter, sym, ap, ◌∙◌}
 use Rattle.std.proofs.lemmas.Bool.{and_parts}
 use Rattle.sqlite.specs.declared.types.Value.TheVariants.{Int}
 use Rattle.sqlite.specs.Effect.{Database, IsDatabase}
@@ -9,11 +9,11 @@ use Rattle.sql_laws.proofs.RowMaps.{texts_are_one}
 use Rattle.po_text.specs.Texts.{Text}
 use Rattle.sql_schema.specs.Keys.{text_at, is_on_unit}
 use Rattle.sql_meaning.specs.Values.{integer_of, integer_at}
-use Rattle.sql_schema.specs.Layouts.{HasLayout, rows_named, NamedRows}
+use Rattle.sql_schema.specs.Layouts.{for_main, HasLayoutOf, rows_named, NamedRows}
 use Rattle.sql_schema.proofs.TableRows.{suggestion_places}
 use Rattle.sql_meaning.specs.RowKeys.{HoldsIntegers, AreKeyed}
 
-module _ (db : Database) (has : HasLayout db) (sound : IsDatabase db) where
+module _ {figures : Bool} (db : Database) (has : HasLayoutOf (for_main figures) db) (sound : IsDatabase db) where
   -- each suggestion has its place
   pub has_places : HoldsIntegers 4 (rows_named db (codes "suggestion"))
   has_places row there =

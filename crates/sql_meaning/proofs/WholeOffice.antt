@@ -1,18 +1,12 @@
 -- All rows of the tables determine the project that they stand for.
-use Rattle.std.proofs.Common.{◌≡◌, Ok, arith, sym}
-use Rattle.sqlite.specs.Effect.{Database}
-use Rattle.sqlite.specs.State.{State, HasCleanDisk}
-use Rattle.sqlite.specs.declared.error.Error.{Error}
-use Rattle.sql_schema.specs.Inside.{AreOfficeTables}
-use Rattle.sql_schema.specs.Whole.{IsIdle, IsLookUp}
+use Rattle.std.proofs.Common.{◌≡◌, sym}
 use Rattle.sql_meaning.specs.Meaning.{project_of_rows}
 use Rattle.sql_statements.specs.declared.whole_office.WholeOffice.{WholeOffice}
-use Rattle.sql_statements.specs.WholeOffice.{ShowsWholeOffice, ShowsWholeOfficeIn}
-use Rattle.sql_meaning.proofs.OfficeRows.{office_rows}
+use Rattle.sql_statements.specs.WholeOffice.{ShowsWholeOfficeIn}
 use Rattle.sql_meaning.specs.OfficeShown.{project_shown}
 use Rattle.sql_meaning.proofs.OfficeTables.{whole_team, whole_policy, whole_headers, whole_template}
 use Rattle.sql_meaning.proofs.UnitTables.{whole_units}
-use Rattle.sql_schema.specs.Layouts.{rows_named, NamedRows}
+use Rattle.sql_schema.specs.Layouts.{NamedRows}
 use Rattle.sql_meaning.specs.RowKeys.{AreOfficeRows}
 
 -- by the names of the tables, wherever these are
@@ -25,15 +19,3 @@ whole_rows tables office rows shows =
     let policy = whole_policy tables office rows.office.policy shows.office.policy in
     let read : project_of_rows tables ≡ project_shown rows = λ i. record { template = template i; headers = headers i; units = units i; team = team i; policy = policy i } in
     sym read
-
--- those of a database
-pub whole_office : (db : Database) → AreOfficeTables db → (rows : WholeOffice) → ShowsWholeOffice db rows → project_shown rows ≡ project_of_rows (rows_named db)
-whole_office db office rows shows = whole_rows (rows_named db) (office_rows db office) rows shows
-
--- what the whole read answers is the project that was committed
-pub office_looked_up : (old new : State) (rows : WholeOffice) → IsIdle old → IsLookUp {E = Error} old new (Ok rows) ShowsWholeOffice → HasCleanDisk new
-    → project_shown rows ≡ project_of_rows (rows_named old.now)
-office_looked_up old new rows idle read clean =
-    let early : HasCleanDisk old = omega (arith, read.survives.clean) in
-    let was = read.same clean (read.is_open clean) in
-    whole_office old.now (idle.ready early was.was_open) rows (read.answer clean)

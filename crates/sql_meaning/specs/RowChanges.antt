@@ -21,13 +21,6 @@ pub record TakesIn (name : List ℕ) (test : Row → Bool) (old new : NamedRows)
   pub rows : IsRemoved test (old name) (new name)
   pub others : SparesOthers name old new
 
--- No unit is left, no suggestion and no vote, and the rows of other names are as they were.
-pub record EmptiesIn (old new : NamedRows) : Type 0 where
-  pub units : new (codes "unit") ≡ []
-  pub suggestions : new (codes "suggestion") ≡ []
-  pub votes : new (codes "vote") ≡ []
-  pub others : (other : List ℕ) → other ≢ codes "unit" → other ≢ codes "suggestion" → other ≢ codes "vote" → new other ≡ old other
-
 -- The unit has no suggestion more, and no suggestion that went has a vote; all else is as it was.
 pub record ClearsIn (lang key : List ℕ) (old new : NamedRows) : Type 0 where
   pub suggestions : IsRemoved (is_on_unit lang key) (old (codes "suggestion")) (new (codes "suggestion"))

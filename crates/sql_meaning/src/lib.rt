@@ -3,7 +3,7 @@
 //! function of all rows as reads of whole tables show them. It has no code.
 //!
 //! - Spec `Meaning`: the office of `main` alone, with its book; `Domains`: an office of all its domains, and the meaning of
-//!   either form; `Values`: the value of a column; `Cells`: the row that is written for a value
+//!   each form; `Values`: the value of a column; `Cells`: the row that is written for a value
 //! - Specs `RowKeys`, `RowChanges`: what a schema asks of rows by the names of their tables, wherever these are, and what
 //!   statements make of them
 //! - Specs `Shown`, `OfficeShown`: what the rows that queries and reads of whole tables show stand for

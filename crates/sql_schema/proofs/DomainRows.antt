@@ -12,8 +12,6 @@ use Rattle.sqlite_schema.specs.Rules.{agree}
 use Rattle.sqlite_rules.specs.Edit.{id_in}
 use Rattle.sqlite_rules.specs.Lists.{Has}
 use Rattle.sqlite.specs.Effect.{Database, IsDatabase}
-use Rattle.sql_laws.specs.RowMaps.{OneEach}
-use Rattle.sql_laws.specs.ApartRows.{AreApart}
 use Rattle.sql_laws.proofs.RowMaps.{text_ties_itself}
 use Rattle.sql_laws.proofs.Comparisons.{ints_compared, agree-texts}
 use Rattle.sql_schema.specs.Schema.{domain_table, d_template_table, d_language_table, d_unit_table, d_suggestion_table, d_vote_table, d_vote_sum_table, d_tally_table}

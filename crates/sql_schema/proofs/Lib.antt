@@ -1,5 +1,4 @@
 pub mod Layouts
-pub mod TablesMade
 pub mod Steps
 pub mod Sequences
 pub mod Insertions
@@ -13,7 +12,6 @@ pub mod RowNumbers
 pub mod Whole
 pub mod Creations
 pub mod TablesSoFar
-pub mod TablesInTurn
 pub mod Queries
 pub mod OrderedQueries
 pub mod TextQueries

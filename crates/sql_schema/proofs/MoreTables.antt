@@ -1,9 +1,9 @@
 -- Tables that are made beside those of an office: what each text makes, and what there is after each of them.
-use Rattle.std.proofs.Common.{◌≡◌, ◌⊎◌, inl, inr, ℕ, zero, suc, ◌+◌, ◌<◌, ◌≤◌, List, [], ◌∷◌, ◌++◌, take, map, length, get_or, find, Bool, true, false, cond, Bor, Option, Some, None, Result, Ok, Err, OnOk, IsTrue, refl, sym, ap, subst, ◌∙◌, codes, arith}
+use Rattle.std.proofs.Common.{◌≡◌, ◌⊎◌, inl, inr, ℕ, zero, suc, ◌+◌, ◌<◌, ◌≤◌, List, [], ◌∷◌, ◌++◌, take, get_or, find, Bool, true, false, cond, append_assoc, Option, Some, None, Result, Ok, Err, OnOk, IsTrue, refl, sym, ap, subst, ◌∙◌, codes, arith}
 use Rattle.std.specs.Result.{IsErr}
 use Rattle.std.specs.Option.{option_map_or}
 use Rattle.std.specs.List.{AllByRecursion}
-use Rattle.std.proofs.lemmas.List.{take_all, length-map, get_or-map}
+use Rattle.std.proofs.lemmas.List.{take_all}
 use Rattle.std.proofs.lemmas.List.Sums.{fold-append}
 use Rattle.sqlite.specs.Effect.{Database}
 use Rattle.sqlite.specs.declared.error.Error.{Error}
@@ -26,12 +26,13 @@ use Rattle.sql_laws.specs.ApartRows.{AreApart}
 use Rattle.sql_laws.proofs.Writes.{same_ok, went_on}
 use Rattle.sql_laws.proofs.KeptCommits.{execute_keeps_commit}
 use Rattle.sql_laws.proofs.RowMaps.{texts_are_one}
-use Rattle.sql_schema.specs.Schema.{schema_with, office_tables, domain_tables, domain_table, d_template_table, d_language_table, d_unit_table, d_suggestion_table, d_vote_table, d_vote_sum_table, d_tally_table}
+use Rattle.sql_schema.specs.Schema.{schema_with, domain_tables, domain_table, d_template_table, d_language_table, d_unit_table, d_suggestion_table, d_vote_table, d_vote_sum_table, d_tally_table}
 use Rattle.sql_schema.specs.declared.new_tables.TheConstants.{DOMAIN, D_TEMPLATE, D_LANGUAGE, D_UNIT, D_SUGGESTION, D_VOTE, D_VOTE_SUM, D_TALLY}
-use Rattle.sql_schema.specs.Layouts.{Form, for_main, by_domain, Layout, made_new, from_first, schema_of, is_named, own_tables, is_own_table, NamedRows, rows_in, rows_named}
+use Rattle.sql_schema.specs.Layouts.{Form, for_main, by_domain, Layout, made_new, made_second, from_first, from_second, tables_for_main, tables_of, schema_of, IsLaidOut, is_named, own_tables, is_own_table, NamedRows, rows_in, rows_named}
 use Rattle.sql_schema.specs.Inside.{AreTablesOf, AreOfficeTablesOf, IsSteadyOver, IsInsideOf, StaysInside}
 use Rattle.sql_schema.specs.Creation.{KeepsNamedRows, HasMoreTables, IsMaking}
 use Rattle.sql_schema.proofs.Creations.{IsCreation}
+use Rattle.sql_schema.proofs.Layouts.{record_placed, team_placed, policy_placed}
 use Rattle.sql_schema.proofs.TablesSoFar.{none_apart}
 
 -- ---- rows by names, where a table comes
@@ -99,59 +100,78 @@ module _ (before : Database) (tables : List Table) (table : Table) (text : List 
       at : HasCleanDisk new → OnOk r (HasMoreTables before (tables ++ table ∷ []) new) × OnOk r (StaysInside old new)
       at clean = went old new r (has (early clean)) (runs clean (inside (early clean)))
 
--- ---- what each text makes, behind an office's eight tables
+-- ---- what each text makes, behind an office's tables without a column for a domain
 
-makes_domain : IsCreation (office_tables ++ take 0 domain_tables) domain_table DOMAIN.now
+makes_domain : (figures : Bool) → IsCreation (tables_for_main figures ++ take 0 domain_tables) domain_table DOMAIN.now
 unfolding understood everything
-makes_domain = record { command = refl; statement = refl; plain = (refl, refl); defines = refl; uncounted = refl }
+makes_domain false = record { command = refl; statement = refl; plain = (refl, refl); defines = refl; uncounted = refl }
+makes_domain true = record { command = refl; statement = refl; plain = (refl, refl); defines = refl; uncounted = refl }
 
-makes_template : IsCreation (office_tables ++ take 1 domain_tables) d_template_table D_TEMPLATE.now
+makes_template : (figures : Bool) → IsCreation (tables_for_main figures ++ take 1 domain_tables) d_template_table D_TEMPLATE.now
 unfolding understood everything
-makes_template = record { command = refl; statement = refl; plain = (refl, refl); defines = refl; uncounted = refl }
+makes_template false = record { command = refl; statement = refl; plain = (refl, refl); defines = refl; uncounted = refl }
+makes_template true = record { command = refl; statement = refl; plain = (refl, refl); defines = refl; uncounted = refl }
 
-makes_language : IsCreation (office_tables ++ take 2 domain_tables) d_language_table D_LANGUAGE.now
+makes_language : (figures : Bool) → IsCreation (tables_for_main figures ++ take 2 domain_tables) d_language_table D_LANGUAGE.now
 unfolding understood everything
-makes_language = record { command = refl; statement = refl; plain = (refl, refl); defines = refl; uncounted = refl }
+makes_language false = record { command = refl; statement = refl; plain = (refl, refl); defines = refl; uncounted = refl }
+makes_language true = record { command = refl; statement = refl; plain = (refl, refl); defines = refl; uncounted = refl }
 
-makes_unit : IsCreation (office_tables ++ take 3 domain_tables) d_unit_table D_UNIT.now
+makes_unit : (figures : Bool) → IsCreation (tables_for_main figures ++ take 3 domain_tables) d_unit_table D_UNIT.now
 unfolding understood everything
-makes_unit = record { command = refl; statement = refl; plain = (refl, refl); defines = refl; uncounted = refl }
+makes_unit false = record { command = refl; statement = refl; plain = (refl, refl); defines = refl; uncounted = refl }
+makes_unit true = record { command = refl; statement = refl; plain = (refl, refl); defines = refl; uncounted = refl }
 
-makes_suggestion : IsCreation (office_tables ++ take 4 domain_tables) d_suggestion_table D_SUGGESTION.now
+makes_suggestion : (figures : Bool) → IsCreation (tables_for_main figures ++ take 4 domain_tables) d_suggestion_table D_SUGGESTION.now
 unfolding understood everything
-makes_suggestion = record { command = refl; statement = refl; plain = (refl, refl); defines = refl; uncounted = refl }
+makes_suggestion false = record { command = refl; statement = refl; plain = (refl, refl); defines = refl; uncounted = refl }
+makes_suggestion true = record { command = refl; statement = refl; plain = (refl, refl); defines = refl; uncounted = refl }
 
-makes_vote : IsCreation (office_tables ++ take 5 domain_tables) d_vote_table D_VOTE.now
+makes_vote : (figures : Bool) → IsCreation (tables_for_main figures ++ take 5 domain_tables) d_vote_table D_VOTE.now
 unfolding understood everything
-makes_vote = record { command = refl; statement = refl; plain = (refl, refl); defines = refl; uncounted = refl }
+makes_vote false = record { command = refl; statement = refl; plain = (refl, refl); defines = refl; uncounted = refl }
+makes_vote true = record { command = refl; statement = refl; plain = (refl, refl); defines = refl; uncounted = refl }
 
-makes_sum : IsCreation (office_tables ++ take 6 domain_tables) d_vote_sum_table D_VOTE_SUM.now
+makes_sum : (figures : Bool) → IsCreation (tables_for_main figures ++ take 6 domain_tables) d_vote_sum_table D_VOTE_SUM.now
 unfolding understood everything
-makes_sum = record { command = refl; statement = refl; plain = (refl, refl); defines = refl; uncounted = refl }
+makes_sum false = record { command = refl; statement = refl; plain = (refl, refl); defines = refl; uncounted = refl }
+makes_sum true = record { command = refl; statement = refl; plain = (refl, refl); defines = refl; uncounted = refl }
 
-makes_tally : IsCreation (office_tables ++ take 7 domain_tables) d_tally_table D_TALLY.now
+makes_tally : (figures : Bool) → IsCreation (tables_for_main figures ++ take 7 domain_tables) d_tally_table D_TALLY.now
 unfolding understood everything
-makes_tally = record { command = refl; statement = refl; plain = (refl, refl); defines = refl; uncounted = refl }
+makes_tally false = record { command = refl; statement = refl; plain = (refl, refl); defines = refl; uncounted = refl }
+makes_tally true = record { command = refl; statement = refl; plain = (refl, refl); defines = refl; uncounted = refl }
 
 abbrev pub domain_texts : List (List ℕ)
 domain_texts = DOMAIN.now ∷ D_TEMPLATE.now ∷ D_LANGUAGE.now ∷ D_UNIT.now ∷ D_SUGGESTION.now ∷ D_VOTE.now ∷ D_VOTE_SUM.now ∷ D_TALLY.now ∷ []
 
-text_makes : (k : ℕ) → k < 8
-    → (table : Table) × IsCreation (office_tables ++ take k domain_tables) table (get_or domain_texts k []) × ((office_tables ++ take k domain_tables) ++ table ∷ [] ≡ office_tables ++ take (k + 1) domain_tables)
-text_makes zero within = (domain_table, makes_domain, refl)
-text_makes (suc zero) within = (d_template_table, makes_template, refl)
-text_makes (suc (suc zero)) within = (d_language_table, makes_language, refl)
-text_makes (suc (suc (suc zero))) within = (d_unit_table, makes_unit, refl)
-text_makes (suc (suc (suc (suc zero)))) within = (d_suggestion_table, makes_suggestion, refl)
-text_makes (suc (suc (suc (suc (suc zero))))) within = (d_vote_table, makes_vote, refl)
-text_makes (suc (suc (suc (suc (suc (suc zero)))))) within = (d_vote_sum_table, makes_sum, refl)
-text_makes (suc (suc (suc (suc (suc (suc (suc zero))))))) within = (d_tally_table, makes_tally, refl)
-text_makes (suc (suc (suc (suc (suc (suc (suc (suc k)))))))) within = absurd (omega (arith, within))
+text_makes : (figures : Bool) (k : ℕ) → k < 8
+    → (table : Table) × IsCreation (tables_for_main figures ++ take k domain_tables) table (get_or domain_texts k [])
+    × ((tables_for_main figures ++ take k domain_tables) ++ table ∷ [] ≡ tables_for_main figures ++ take (k + 1) domain_tables)
+text_makes figures zero within = (domain_table, makes_domain figures, append_assoc (tables_for_main figures) (take 0 domain_tables) (domain_table ∷ []))
+text_makes figures (suc zero) within = (d_template_table, makes_template figures, append_assoc (tables_for_main figures) (take 1 domain_tables) (d_template_table ∷ []))
+text_makes figures (suc (suc zero)) within = (d_language_table, makes_language figures, append_assoc (tables_for_main figures) (take 2 domain_tables) (d_language_table ∷ []))
+text_makes figures (suc (suc (suc zero))) within = (d_unit_table, makes_unit figures, append_assoc (tables_for_main figures) (take 3 domain_tables) (d_unit_table ∷ []))
+text_makes figures (suc (suc (suc (suc zero)))) within = (d_suggestion_table, makes_suggestion figures, append_assoc (tables_for_main figures) (take 4 domain_tables) (d_suggestion_table ∷ []))
+text_makes figures (suc (suc (suc (suc (suc zero))))) within = (d_vote_table, makes_vote figures, append_assoc (tables_for_main figures) (take 5 domain_tables) (d_vote_table ∷ []))
+text_makes figures (suc (suc (suc (suc (suc (suc zero)))))) within = (d_vote_sum_table, makes_sum figures, append_assoc (tables_for_main figures) (take 6 domain_tables) (d_vote_sum_table ∷ []))
+text_makes figures (suc (suc (suc (suc (suc (suc (suc zero))))))) within = (d_tally_table, makes_tally figures, append_assoc (tables_for_main figures) (take 7 domain_tables) (d_tally_table ∷ []))
+text_makes figures (suc (suc (suc (suc (suc (suc (suc (suc k)))))))) within = absurd (omega (arith, within))
 
 -- ---- one text after the other
 
-abbrev pub HasSoFar : Database → ℕ → State → Type 0
-HasSoFar before k = HasMoreTables before (office_tables ++ take k domain_tables)
+-- before the first text
+first_tables : {figures : Bool} (layout : Layout (for_main figures)) → tables_of layout ≡ tables_for_main figures ++ take 0 domain_tables
+first_tables made_new = refl
+first_tables made_second = refl
+
+-- behind the last
+laid_out : (figures : Bool) (schema : Schema) → schema ≡ schema_with (tables_for_main figures ++ domain_tables) → IsLaidOut by_domain schema
+laid_out false schema is = (from_first, is)
+laid_out true schema is = (from_second, is)
+
+abbrev pub HasSoFar : Bool → Database → ℕ → State → Type 0
+HasSoFar figures before k = HasMoreTables before (tables_for_main figures ++ take k domain_tables)
 
 makes_both : (Had Has : State → Type 0) (a b c : State) (r : Result ℕ Error) → IsMaking {A = ℕ} {E = Error} Had a b (Ok 0) → IsMaking Has b c r → IsMaking Has a c r
 makes_both Had Has a b c r one two = record {
@@ -171,50 +191,50 @@ makes_both Had Has a b c r one two = record {
     stays (Ok n) first second = record { inside = second.inside; is_open = second.is_open; committed = second.committed ∙ first.committed }
     stays (Err e) first second = tt
 
-module _ {S : Type 0} (g : store.Ghosts S) (old mid : Held S) where
+module _ (figures : Bool) {S : Type 0} (g : store.Ghosts S) (old mid : Held S) where
   abbrev before : Database
   before = (state g old).now
 
   -- before the first text nothing was done
   abbrev pub MadeSoFar : ℕ → Type 0
-  MadeSoFar k = ((k ≡ 0) × (mid ≡ old)) ⊎ IsMaking {A = ℕ} {E = Error} (HasSoFar before k) (state g old) (state g mid) (Ok 0)
+  MadeSoFar k = ((k ≡ 0) × (mid ≡ old)) ⊎ IsMaking {A = ℕ} {E = Error} (HasSoFar figures before k) (state g old) (state g mid) (Ok 0)
 
-  at_first : IsSteadyOver for_main (state g old) → HasCleanDisk (state g old) → IsTrue (state g old).is_open → HasSoFar before 0 (state g old)
+  at_first : IsSteadyOver (for_main figures) (state g old) → HasCleanDisk (state g old) → IsTrue (state g old).is_open → HasSoFar figures before 0 (state g old)
   at_first steady clean is_open = by (steady.ready clean is_open)
     where
-      by : AreOfficeTablesOf for_main before → HasSoFar before 0 (state g old)
+      by : AreOfficeTablesOf (for_main figures) before → HasSoFar figures before 0 (state g old)
       by ready = record { schema = schema ready.schema.0 ready.schema.1; sound = ready.sound; rows = λ name. refl }
         where
-          schema : (layout : Layout for_main) → before.schema ≡ schema_of layout → before.schema ≡ schema_with (office_tables ++ take 0 domain_tables)
-          schema made_new is = is
+          schema : (layout : Layout (for_main figures)) → before.schema ≡ schema_of layout → before.schema ≡ schema_with (tables_for_main figures ++ take 0 domain_tables)
+          schema layout is = is ∙ ap schema_with (first_tables layout)
 
-  module _ (new : Held S) (steady : IsSteadyOver for_main (state g old)) (k : ℕ) (within : k < 8) where
+  module _ (new : Held S) (steady : IsSteadyOver (for_main figures) (state g old)) (k : ℕ) (within : k < 8) where
     -- the next text makes its table
     pub one_more : (text : List ℕ) (r : Result ℕ Error) → MadeSoFar k
         → (HasCleanDisk (state g new) → IsTrue (state g mid).in_transaction → ExecutesInside 0 text [] (state g mid) (state g new) r) → Survives (state g mid) (state g new) (λ _. ⊥)
-        → text ≡ get_or domain_texts k [] → IsMaking (HasSoFar before (k + 1)) (state g old) (state g new) r
+        → text ≡ get_or domain_texts k [] → IsMaking (HasSoFar figures before (k + 1)) (state g old) (state g new) r
     one_more text r so_far runs survives is =
-        let next = text_makes k within in
+        let next = text_makes figures k within in
         let ran = subst (λ (t : List ℕ). HasCleanDisk (state g new) → IsTrue (state g mid).in_transaction → ExecutesInside 0 t [] (state g mid) (state g new) r) is runs in
         by so_far (λ inside has. subst (λ tables. IsMaking (HasMoreTables before tables) (state g mid) (state g new) r) next.2
-        (creates_inside before (office_tables ++ take k domain_tables) next.0 _ next.1 (state g mid) (state g new) r inside has ran survives))
+        (creates_inside before (tables_for_main figures ++ take k domain_tables) next.0 _ next.1 (state g mid) (state g new) r inside has ran survives))
       where
         by : MadeSoFar k
-            → ((HasCleanDisk (state g mid) → IsTrue (state g mid).in_transaction) → (HasCleanDisk (state g mid) → IsTrue (state g mid).is_open → HasSoFar before k (state g mid))
-            → IsMaking (HasSoFar before (k + 1)) (state g mid) (state g new) r) → IsMaking (HasSoFar before (k + 1)) (state g old) (state g new) r
+            → ((HasCleanDisk (state g mid) → IsTrue (state g mid).in_transaction) → (HasCleanDisk (state g mid) → IsTrue (state g mid).is_open → HasSoFar figures before k (state g mid))
+            → IsMaking (HasSoFar figures before (k + 1)) (state g mid) (state g new) r) → IsMaking (HasSoFar figures before (k + 1)) (state g old) (state g new) r
         by (inl none) makes =
             let first = at_first steady in
-            subst (λ (h : Held S). IsMaking (HasSoFar before (k + 1)) (state g h) (state g new) r) none.1
+            subst (λ (h : Held S). IsMaking (HasSoFar figures before (k + 1)) (state g h) (state g new) r) none.1
             (makes (subst (λ (h : Held S). HasCleanDisk (state g h) → IsTrue (state g h).in_transaction) (sym none.1) steady.inside)
-            (subst (λ (h : Held S). HasCleanDisk (state g h) → IsTrue (state g h).is_open → HasSoFar before k (state g h)) (sym none.1)
-            (λ clean is_open. subst (λ n. HasSoFar before n (state g old)) (sym none.0) (first clean is_open))))
+            (subst (λ (h : Held S). HasCleanDisk (state g h) → IsTrue (state g h).is_open → HasSoFar figures before k (state g h)) (sym none.1)
+            (λ clean is_open. subst (λ n. HasSoFar figures before n (state g old)) (sym none.0) (first clean is_open))))
         by (inr made) makes =
-            makes_both (HasSoFar before k) (HasSoFar before (k + 1)) (state g old) (state g mid) (state g new) r made
+            makes_both (HasSoFar figures before k) (HasSoFar figures before (k + 1)) (state g old) (state g mid) (state g new) r made
             (makes (λ clean. (made.stays clean).inside) (λ clean is_open. made.made clean))
 
   -- ---- all of them
 
-  pub counted : (count k : ℕ) → IsMaking {A = ℕ} {E = Error} (HasSoFar before k) (state g old) (state g mid) (Ok count) → MadeSoFar k
+  pub counted : (count k : ℕ) → IsMaking {A = ℕ} {E = Error} (HasSoFar figures before k) (state g old) (state g mid) (Ok count) → MadeSoFar k
   counted count k it = inr (record { made = it.made; stays = it.stays; kept = it.kept; survives = it.survives })
 
 -- the rows of each of an office's tables are apart where those of the names of these are
@@ -223,28 +243,36 @@ all_tables_of form rows each name own =
     let it = some_has (is_named name) (own_tables form) own in
     subst (λ n. AreApart (rows n)) (texts_are_one it.0.name name it.2) (all_has (λ (t : Table). AreApart (rows t.name)) (own_tables form) it.0 each it.1)
 
+-- a name that no table of an earlier form has
+missing : {figures : Bool} (name : List ℕ) (db : Database) → find (is_named name) (schema_of made_new).tables ≡ None → find (is_named name) (schema_of made_second).tables ≡ None
+    → (layout : Layout (for_main figures)) → db.schema ≡ schema_of layout → rows_named db name ≡ []
+missing name db none_new none_second made_new is =
+    ap (λ (s : Schema). rows_in s db.trees name) is ∙ ap (λ (found : Option Table). option_map_or (λ (t : Table). db.trees t.tree) found []) none_new
+missing name db none_new none_second made_second is =
+    ap (λ (s : Schema). rows_in s db.trees name) is ∙ ap (λ (found : Option Table). option_map_or (λ (t : Table). db.trees t.tree) found []) none_second
+
 -- new tables have no rows, and the others theirs
-tables_now : (was : Database) → AreOfficeTablesOf for_main was → (rows : NamedRows) → ((name : List ℕ) → rows name ≡ rows_named was name) → AreTablesOf by_domain rows
-tables_now was ready rows same =
+tables_now : {figures : Bool} (was : Database) → AreOfficeTablesOf (for_main figures) was → (rows : NamedRows) → ((name : List ℕ) → rows name ≡ rows_named was name) → AreTablesOf by_domain rows
+tables_now {figures} was ready rows same =
     all_tables_of by_domain rows (
-      old_one (codes "record") refl,
+      old_one (codes "record") (record_placed ready.schema.0).own,
       (
-        old_one (codes "team") refl,
+        old_one (codes "team") (team_placed ready.schema.0).own,
         (
-          old_one (codes "policy") refl,
+          old_one (codes "policy") (policy_placed ready.schema.0).own,
           (
-            new_one (codes "domain") refl,
+            new_one (codes "domain") refl refl,
             (
-              new_one (codes "d_template") refl,
+              new_one (codes "d_template") refl refl,
               (
-                new_one (codes "d_language") refl,
+                new_one (codes "d_language") refl refl,
                 (
-                  new_one (codes "d_unit") refl,
+                  new_one (codes "d_unit") refl refl,
                   (
-                    new_one (codes "d_suggestion") refl,
+                    new_one (codes "d_suggestion") refl refl,
                     (
-                      new_one (codes "d_vote") refl,
-                      (new_one (codes "d_vote_sum") refl, (new_one (codes "d_tally") refl, tt)),
+                      new_one (codes "d_vote") refl refl,
+                      (new_one (codes "d_vote_sum") refl refl, (new_one (codes "d_tally") refl refl, tt)),
                     ),
                   ),
                 ),
@@ -255,27 +283,24 @@ tables_now was ready rows same =
       ),
     )
   where
-    old_one : (name : List ℕ) → is_own_table for_main name ≡ true → AreApart (rows name)
+    old_one : (name : List ℕ) → is_own_table (for_main figures) name ≡ true → AreApart (rows name)
     old_one name own = subst AreApart (sym (same name)) (ready.tables name own)
 
-    missing : (name : List ℕ) → find (is_named name) (schema_of made_new).tables ≡ None → (layout : Layout for_main) → was.schema ≡ schema_of layout → rows_named was name ≡ []
-    missing name none made_new is = ap (λ (s : Schema). rows_in s was.trees name) is ∙ ap (λ (found : Option Table). option_map_or (λ (t : Table). was.trees t.tree) found []) none
+    new_one : (name : List ℕ) → find (is_named name) (schema_of made_new).tables ≡ None → find (is_named name) (schema_of made_second).tables ≡ None → AreApart (rows name)
+    new_one name none_new none_second = subst AreApart (sym (same name ∙ missing name was none_new none_second ready.schema.0 ready.schema.1)) none_apart
 
-    new_one : (name : List ℕ) → find (is_named name) (schema_of made_new).tables ≡ None → AreApart (rows name)
-    new_one name none = subst AreApart (sym (same name ∙ missing name none ready.schema.0 ready.schema.1)) none_apart
-
-module _ {S : Type 0} (g : store.Ghosts S) (old new : Held S) (steady : IsSteadyOver for_main (state g old)) where
+module _ (figures : Bool) {S : Type 0} (g : store.Ghosts S) (old new : Held S) (steady : IsSteadyOver (for_main figures) (state g old)) where
   -- after the last there are all of them
-  pub all_made : {U : Type 0} (u : U) (k : ℕ) → 8 ≤ k → MadeSoFar g old new k → IsInsideOf {A = U} {E = Error} by_domain (state g old) (state g new) (Ok u) KeepsNamedRows
+  pub all_made : {U : Type 0} (u : U) (k : ℕ) → 8 ≤ k → MadeSoFar figures g old new k → IsInsideOf {A = U} {E = Error} by_domain (state g old) (state g new) (Ok u) KeepsNamedRows
   all_made u k past (inl none) = absurd (omega (arith, past, none.0))
   all_made u k past (inr made) =
-      let it = subst (λ tables. IsMaking {A = ℕ} {E = Error} (HasMoreTables (state g old).now (office_tables ++ tables)) (state g old) (state g new) (Ok 0)) (take_all k domain_tables past) made in
+      let it = subst (λ tables. IsMaking {A = ℕ} {E = Error} (HasMoreTables (state g old).now (tables_for_main figures ++ tables)) (state g old) (state g new) (Ok 0)) (take_all k domain_tables past) made in
       record {
         made = λ clean. (it.made clean).rows;
         ready = λ clean.
             let has = it.made clean in
             let was = steady.ready (omega (arith, it.survives.clean, clean)) ((it.kept clean).was_open (it.stays clean).is_open) in
-            record { schema = (from_first, has.schema); sound = has.sound; tables = tables_now (state g old).now was (rows_named (state g new).now) has.rows };
+            record { schema = laid_out figures (state g new).now.schema has.schema; sound = has.sound; tables = tables_now (state g old).now was (rows_named (state g new).now) has.rows };
         stays = it.stays;
         kept = it.kept;
         survives = it.survives;

@@ -1,5 +1,5 @@
 -- What each of the texts makes that make an office's tables by domains where there was none, after those before it.
-use Rattle.std.proofs.Common.{ℕ, zero, suc, List, [], ◌∷◌, refl, take, arith}
+use Rattle.std.proofs.Common.{ℕ, zero, suc, List, ◌∷◌, refl, take, arith}
 use Rattle.sqlite.specs.Listing.{understood}
 use Rattle.sqlite_tied.specs.Compute.{everything}
 use Rattle.sql_schema.specs.Schema.{record_table, team_table, policy_table, domain_table, d_template_table, d_language_table, d_unit_table, d_suggestion_table, d_vote_table, d_vote_sum_table, d_tally_table}
@@ -8,8 +8,19 @@ use Rattle.sql_schema.specs.declared.new_tables.TheConstants.{RECORD, TEAM, POLI
 use Rattle.sql_schema.specs.declared.new_tables.TheConstants.{DOMAIN, D_TEMPLATE, D_LANGUAGE, D_UNIT, D_SUGGESTION, D_VOTE, D_VOTE_SUM, D_TALLY}
 use Rattle.sql_schema.proofs.Creations.{IsCreation}
 use Rattle.sql_schema.proofs.TablesSoFar.{MakeInTurn}
-use Rattle.sql_schema.proofs.TablesInTurn.{makes_record, makes_team, makes_policy}
 use Rattle.sql_schema.proofs.MoreTables.{domain_texts}
+
+makes_record : IsCreation (take 0 (tables_of made_last)) record_table RECORD.now
+unfolding understood everything
+makes_record = record { command = refl; statement = refl; plain = (refl, refl); defines = refl; uncounted = refl }
+
+makes_team : IsCreation (take 1 (tables_of made_last)) team_table TEAM.now
+unfolding understood everything
+makes_team = record { command = refl; statement = refl; plain = (refl, refl); defines = refl; uncounted = refl }
+
+makes_policy : IsCreation (take 2 (tables_of made_last)) policy_table POLICY.now
+unfolding understood everything
+makes_policy = record { command = refl; statement = refl; plain = (refl, refl); defines = refl; uncounted = refl }
 
 makes_domain : IsCreation (take 3 (tables_of made_last)) domain_table DOMAIN.now
 unfolding understood everything

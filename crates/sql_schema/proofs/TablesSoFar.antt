@@ -9,7 +9,7 @@ use Rattle.sqlite.specs.Schema.{Schema}
 use Rattle.sqlite.specs.Table.{Table}
 use Rattle.sqlite_trees.specs.declared.store.Store as store
 use Rattle.sql_laws.specs.ApartRows.{AreApart}
-use Rattle.sql_schema.specs.Layouts.{Form, Layout, made_new, made_last, from_first, from_second, tables_of, rows_named}
+use Rattle.sql_schema.specs.Layouts.{Form, Layout, made_new, made_second, made_last, from_first, from_second, tables_of, rows_named}
 use Rattle.sql_schema.specs.Creation.{AreEmpty, HasTables, IsFresh, IsBegun, CreatesInside, HaveNoRows, MakesTables}
 use Rattle.sql_schema.specs.Inside.{IsInsideOf}
 use Rattle.sql_schema.proofs.Layouts.{of_names}
@@ -39,6 +39,7 @@ none_apart = record { ints = λ r there. absurd there; apart = λ r s there. abs
 
 some_tables : {form : Form} (layout : Layout form) → 0 < length (tables_of layout)
 some_tables made_new = omega arith
+some_tables made_second = omega arith
 some_tables made_last = omega arith
 some_tables from_first = omega arith
 some_tables from_second = omega arith

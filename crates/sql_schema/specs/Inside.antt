@@ -14,32 +14,24 @@ use Rattle.sql_schema.specs.Layouts.{Form, for_main, NamedRows, HasLayoutOf, row
 abbrev pub AreTablesOf : Form → NamedRows → Type 0
 AreTablesOf form rows = (name : List ℕ) → is_own_table form name ≡ true → AreApart (rows name)
 
-abbrev pub AreTables : NamedRows → Type 0
-AreTables = AreTablesOf for_main
-
 -- The tables of an office in some layout of a form, which obey their schema.
 pub record AreOfficeTablesOf (form : Form) (db : Database) : Type 0 where
   pub schema : HasLayoutOf form db
   pub sound : IsDatabase db
   pub tables : AreTablesOf form (rows_named db)
 
-abbrev pub AreOfficeTables : Database → Type 0
-AreOfficeTables = AreOfficeTablesOf for_main
-
 -- the connection shows them
 abbrev pub IsReadyFor : Form → State → Type 0
 IsReadyFor form s = AreOfficeTablesOf form s.now
-
-abbrev pub IsReady : State → Type 0
-IsReady = IsReadyFor for_main
 
 -- A transaction is open, over an office's tables unless the connection is shut.
 pub record IsSteadyOver (form : Form) (s : State) : Type 0 where
   pub inside : HasCleanDisk s → IsTrue s.in_transaction
   pub ready : HasCleanDisk s → IsTrue s.is_open → IsReadyFor form s
 
-abbrev pub IsSteady : State → Type 0
-IsSteady = IsSteadyOver for_main
+-- over tables without a column for a domain
+abbrev pub IsSteadyForMain : State → Type 0
+IsSteadyForMain s = (figures : Bool) × IsSteadyOver (for_main figures) s
 
 -- The transaction and the connection stay open.
 pub record StaysInside (old new : State) : Type 0 where
@@ -54,9 +46,6 @@ pub record IsInsideOf {A E : Type 0} (form : Form) (old new : State) (result : R
   pub stays : HasCleanDisk new → OnOk result (StaysInside old new)
   pub kept : HasCleanDisk new → KeepsCommit old new
   pub survives : Survives old new (λ _. ⊥)
-
-abbrev pub IsInside : {A E : Type 0} → State → State → Result A E → (Database → Database → Type 0) → Type 0
-IsInside = IsInsideOf for_main
 
 -- one after the other, of databases or of rows by the names of their tables
 abbrev pub Then : {S : Type 0} → (S → S → Type 0) → (S → S → Type 0) → S → S → Type 0
@@ -93,9 +82,6 @@ pub record IsReadOf {A E : Type 0} (form : Form) (old new : State) (result : Res
   pub stays : HasCleanDisk new → OnOk result (StaysInside old new)
   pub kept : HasCleanDisk new → KeepsCommit old new
   pub survives : Survives old new (λ _. ⊥)
-
-abbrev pub IsRead : {A E : Type 0} → State → State → Result A E → (Database → A → Type 0) → Type 0
-IsRead = IsReadOf for_main
 
 -- the row with a key as a query shows it, or none where no row of the table has the key
 abbrev pub ShowsKey : {K : Type 0} → List ℕ → (Row → K) → (Row → Row) → K → Database → Option Row → Type 0

@@ -1,8 +1,8 @@
-//! The tables of an office in SQL, those for `main` and those by domains: the text that makes each, what they are once
-//! made, and what a statement inside a transaction needs, does and keeps.
+//! The tables of an office in SQL, those by domains and those for `main` alone that earlier programs made: what they
+//! are, the text that makes each by domains, and what a statement inside a transaction needs, does and keeps.
 //!
-//! - `new_tables`: the text that makes each table, what makes the eight (`make_tables`), what makes those by domains
-//!   beside them (`make_domain_tables`), and what makes these where there was none (`make_tables_by_domain`)
+//! - `new_tables`: the texts, what makes the tables by domains beside those for `main` (`make_domain_tables`), and what
+//!   makes them where there was none (`make_tables_by_domain`)
 //!
 //! Specs: `Schema` (the tables), `Layouts` (their forms, and in which trees their rows may be), `Keys`, `Rows` (rows as
 //! they are written), `Views` (what a domain sees), `Creation`, `Inside` (what a statement inside a transaction does,
@@ -13,4 +13,4 @@
 
 mod new_tables;
 
-pub use new_tables::{make_domain_tables, make_tables, make_tables_by_domain};
+pub use new_tables::{make_domain_tables, make_tables_by_domain};

@@ -32,7 +32,6 @@ use Rattle.sql_schema.proofs.Queries.{Asks, rows_read, filtered_same}
 use Rattle.sql_schema.proofs.DomainRows.{d_entry_texts, d_unit_texts, one_d_unit}
 use Rattle.sql_schema.proofs.Views.{from_view, to_view}
 use Rattle.sql_statements.specs.Queries.{AreUnits, ShowsMessagesIn, by_column, entry_places, unit_places}
-use Rattle.sql_statements.proofs.MessageQuery.{names}
 use Rattle.sql_statements.proofs.OnePassing.{none_passing, one_passing}
 use Rattle.sql_statements.proofs.Seen.{mapped_seen}
 
@@ -51,6 +50,9 @@ shown_terms = col 1 4 ∷ col 1 5 ∷ col 1 6 ∷ col 1 7 ∷ col 1 3 ∷ col 1 
 
 abbrev messages_query : Layout by_domain → Query
 messages_query layout = joined_query (placed layout d_template_table).tree (placed layout d_unit_table).tree message_tests shown_terms (2 ∷ [])
+
+abbrev names : List (List ℕ)
+names = codes "plural" ∷ codes "extracted" ∷ codes "refs" ∷ codes "flags" ∷ codes "key" ∷ codes "place" ∷ codes "forms" ∷ codes "state" ∷ codes "comment" ∷ codes "previous" ∷ []
 
 messages_are : (layout : Layout by_domain) → Asks layout messages_text (messages_query layout) names
 unfolding understood everything

@@ -1,5 +1,5 @@
 -- The table of the templates of all domains: what an insertion of an entry does, what taking a domain's entries out does, and a look at an entry.
-use Rattle.std.proofs.Common.{ℕ, ℤ, List, [], ◌∷◌, codes, Option, refl}
+use Rattle.std.proofs.Common.{ℕ, ℤ, List, [], ◌∷◌, ◌&&◌, codes, Option, refl, ap}
 use Rattle.std.proofs.Math.Bool.{and-true}
 use Rattle.sqlite.specs.declared.types.Value.TheVariants.{Null, Int, Text}
 use Rattle.sqlite.specs.Order.{Row}
@@ -19,6 +19,7 @@ use Rattle.sql_schema.proofs.Queries.{IsQueryOf, ReadsLastOf, is_given, given_is
 use Rattle.sql_schema.proofs.TextQueries.{are_given, reads_by_all}
 use Rattle.sql_schema.proofs.DomainRows.{d_entry_texts, one_d_entry_place}
 use Rattle.sql_statements.specs.DomainAnswers.{ShowsDomainEntry}
+use Rattle.sql_statements.specs.DomainEntries.{is_entry_of}
 use Rattle.sql_statements.proofs.Removals.{IsRemoval, TakesOf, takes_rows}
 
 -- ---- an entry goes in
@@ -56,6 +57,22 @@ delete_is from_second = record { is_placed = d_template_placed from_second; is =
 pub takes_entries : (domain : List ℕ) → TakesOf by_domain delete_text (Text domain ∷ []) (codes "d_template") (has_text 1 domain)
 takes_entries domain = takes_rows delete_is (Text domain ∷ []) (has_text 1 domain)
     (λ db has sound row there. rw (given_is (Text domain ∷ []) row 1 0 domain (d_entry_texts.0 db has sound row there) refl) (and-true _))
+
+-- ---- an entry goes
+
+abbrev take_text : List ℕ
+take_text = codes "DELETE FROM d_template WHERE domain = ?1 AND key = ?2"
+
+take_is : (layout : Layout by_domain) → IsRemoval layout take_text d_template_table (is_given 1 0 ∷ is_given 3 1 ∷ [])
+unfolding understood same_name joined everything
+take_is made_last = record { is_placed = d_template_placed made_last; is = refl; plain = (refl, refl); none = λ olds. refl }
+take_is from_first = record { is_placed = d_template_placed from_first; is = refl; plain = (refl, refl); none = λ olds. refl }
+take_is from_second = record { is_placed = d_template_placed from_second; is = refl; plain = (refl, refl); none = λ olds. refl }
+
+pub takes_entry : (domain key : List ℕ) → TakesOf by_domain take_text (Text domain ∷ Text key ∷ []) (codes "d_template") (is_entry_of domain key)
+takes_entry domain key = takes_rows take_is (Text domain ∷ Text key ∷ []) (is_entry_of domain key)
+    (λ db has sound row there. rw (given_is (Text domain ∷ Text key ∷ []) row 1 0 domain (d_entry_texts.0 db has sound row there) refl, given_is (Text domain ∷ Text key ∷ []) row 3 1 key (d_entry_texts.1.0 db has sound row there) refl)
+    (ap (λ b. has_text 1 domain row && b) (and-true _)))
 
 -- ---- a look at an entry
 

@@ -34,7 +34,6 @@ use Rattle.sql_schema.proofs.DomainRows.{d_unit_texts, d_tally_texts}
 use Rattle.sql_statements.specs.DomainRenewed.{is_approved_in_domain, unapproved_in_domain, HaveNextRevisionsInDomains, unapproved_tally, HaveTallySums}
 use Rattle.sql_statements.proofs.Untouched.{none_refers}
 use Rattle.sql_statements.proofs.Renewals.{IsRenewal, RenewsOf, RenewsAloneOf, renews_rows, renews_alone_rows}
-use Rattle.sql_statements.proofs.UnitsUnapproved.{plus_one}
 use Rattle.sql_statements.proofs.DomainUnitPuts.{cast_unit}
 use Rattle.sql_statements.proofs.TallyRows.{cast_tally}
 
@@ -55,6 +54,11 @@ unfolding understood same_name joined everything
 units_are made_last = record { is_placed = d_unit_placed made_last; is = refl; plain = (refl, refl); none = none_refers (schema_of made_last) (placed made_last d_unit_table).tree (λ olds news. refl); no_rows = refl }
 units_are from_first = record { is_placed = d_unit_placed from_first; is = refl; plain = (refl, refl); none = none_refers (schema_of from_first) (placed from_first d_unit_table).tree (λ olds news. refl); no_rows = refl }
 units_are from_second = record { is_placed = d_unit_placed from_second; is = refl; plain = (refl, refl); none = none_refers (schema_of from_second) (placed from_second d_unit_table).tree (λ olds news. refl); no_rows = refl }
+
+-- a sum that 64 bits hold
+summed : (m n : ℤ) → fits_i64 (m +ℤ n) ≡ true → binary (by.Arith arithmetic.Add) (Int m) (Int n) ≡ Int (m +ℤ n)
+unfolding binary
+summed m n fits = rw fits refl
 
 module _ (db : Database) (has : HasLayoutOf by_domain db) (sound : IsDatabase db) (row : Row) (there : Has (rows_named db (codes "d_unit")) row) where
   state_is : column row 6 ≡ Int (id_in (column row 6))
@@ -88,7 +92,7 @@ module _ (db : Database) (has : HasLayoutOf by_domain db) (sound : IsDatabase db
   -- the unit's row, column by column
   unit_becomes_it : (whole : is_int (rowid row) ≡ true) → fits_i64 (id_in (column row 8) +ℤ pos 1) ≡ true → cast_row d_unit_table (drop 1 (shows [] unit_becomes row)) ≡ unapproved_in_domain row
   unit_becomes_it whole fits =
-      let plus : binary (by.Arith arithmetic.Add) (column row 8) (Int (pos 1)) ≡ Int (id_in (column row 8) +ℤ pos 1) = subst (λ v. binary (by.Arith arithmetic.Add) v (Int (pos 1)) ≡ Int (id_in (column row 8) +ℤ pos 1)) (sym revision_is) (plus_one _ fits) in
+      let plus : binary (by.Arith arithmetic.Add) (column row 8) (Int (pos 1)) ≡ Int (id_in (column row 8) +ℤ pos 1) = subst (λ v. binary (by.Arith arithmetic.Add) v (Int (pos 1)) ≡ Int (id_in (column row 8) +ℤ pos 1)) (sym revision_is) (summed _ (pos 1) fits) in
       let cells : unapproved_in_domain row
       ≡ Int (id_in (rowid row)) ∷ d_unit_row (bytes (column row 1)) (bytes (column row 2)) (bytes (column row 3)) plural_is.0 (bytes (column row 5)) (pos 2) (id_in (column row 7)) (id_in (column row 8) +ℤ pos 1) (bytes (column row 9)) (bytes (column row 10)) =
       λ i. int_is (rowid row) whole i ∷ d_unit_texts.0 db has sound row there i ∷ d_unit_texts.1.0 db has sound row there i ∷ d_unit_texts.1.1.0 db has sound row there i ∷ plural_is.1 i ∷ forms_are i ∷ Int (pos 2) ∷ obsolete_is i ∷ Int (id_in (column row 8) +ℤ pos 1) ∷ comment_is i ∷ previous_is i ∷ [] in
@@ -112,10 +116,6 @@ unfolding understood same_name joined everything
 tallies_are made_last = record { is_placed = d_tally_placed made_last; is = refl; plain = (refl, refl); none = none_refers (schema_of made_last) (placed made_last d_tally_table).tree (λ olds news. refl); no_rows = refl }
 tallies_are from_first = record { is_placed = d_tally_placed from_first; is = refl; plain = (refl, refl); none = none_refers (schema_of from_first) (placed from_first d_tally_table).tree (λ olds news. refl); no_rows = refl }
 tallies_are from_second = record { is_placed = d_tally_placed from_second; is = refl; plain = (refl, refl); none = none_refers (schema_of from_second) (placed from_second d_tally_table).tree (λ olds news. refl); no_rows = refl }
-
-summed : (m n : ℤ) → fits_i64 (m +ℤ n) ≡ true → binary (by.Arith arithmetic.Add) (Int m) (Int n) ≡ Int (m +ℤ n)
-unfolding binary
-summed m n fits = rw fits refl
 
 module _ (db : Database) (has : HasLayoutOf by_domain db) (sound : IsDatabase db) (row : Row) (there : Has (rows_named db (codes "d_tally")) row) where
   untranslated_is : column row 3 ≡ Int (id_in (column row 3))

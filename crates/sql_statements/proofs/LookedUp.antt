@@ -1,5 +1,5 @@
 -- A whole transaction that looks up by one read: it answers, or its commit fails.
-use Rattle.std.proofs.Common.{◌≡◌, false, true, Result, Ok, Err, IsTrue, subst}
+use Rattle.std.proofs.Common.{◌≡◌, false, true, Result, Ok, Err, IsTrue, refl, sym, subst}
 use Rattle.std.specs.Result.{IsErr}
 use Rattle.sqlite.specs.Effect.{Database}
 use Rattle.sqlite.specs.Held.{Held, state}
@@ -8,7 +8,7 @@ use Rattle.sqlite.specs.Steps.{FailsToCommit}
 use Rattle.sqlite.specs.declared.error.Error.{Error}
 use Rattle.sqlite_trees.specs.declared.store.Store as store
 use Rattle.sql_schema.specs.Layouts.{Form}
-use Rattle.sql_schema.specs.Inside.{IsReadOf}
+use Rattle.sql_schema.specs.Inside.{IsReadOf, IsSteadyOver}
 use Rattle.sql_schema.specs.Whole.{IsIdleOver, IsLookUp}
 use Rattle.sql_schema.proofs.Whole.{looked_up, fails_looking}
 
@@ -28,3 +28,7 @@ module _ {form : Form} {S : Type 0} (g : store.Ghosts S) (old begun mid last : H
   fails_to_answer (Err e) is cause fails =
       let it = fails_looking g old mid last idle within.kept within.survives cause ended (λ clean. (within.stays clean).inside) fails end {A = A} IsAnswer same in
       record { answer = λ clean. tt; same = it.same; is_open = λ clean. tt; ended = it.ended; survives = it.survives }
+
+-- a transaction that has begun over an office's tables
+pub steady_begun : {S : Type 0} (g : store.Ghosts S) {form : Form} (old begun : Held S) → begun ≡ record old { in_transaction = true } → IsIdleOver form (state g old) → IsSteadyOver form (state g begun)
+steady_begun g {form} old begun begins idle = subst (λ h. IsSteadyOver form (state g h)) (sym begins) (record { inside = λ clean. refl; ready = idle.ready })

@@ -27,7 +27,7 @@ use Rattle.sql_schema.proofs.Insertions.{PutsOf, cast_int}
 use Rattle.sql_schema.proofs.TableRows.{member_names, one_member}
 use Rattle.sql_statements.proofs.Untouched.{none_refers, drop_false}
 use Rattle.sql_statements.proofs.Upserts.{IsUpsert, puts_or_renews_values}
-use Rattle.sql_schema.specs.Layouts.{Form, Layout, made_new, made_last, from_first, from_second, schema_of, HasLayoutOf, placed, rows_named}
+use Rattle.sql_schema.specs.Layouts.{Form, Layout, made_new, made_second, made_last, from_first, from_second, schema_of, HasLayoutOf, placed, rows_named}
 use Rattle.sql_schema.proofs.Layouts.{team_placed}
 
 -- ---- the text
@@ -44,6 +44,7 @@ becomes = col 1 0 ∷ col 1 0 ∷ col 1 1 ∷ col 0 5 ∷ []
 upsert_is : {form : Form} (layout : Layout form) → IsUpsert layout upsert_text 3 2 team_table upsert_terms (1 ∷ []) becomes
 unfolding understood same_name joined everything
 upsert_is made_new = record { is_placed = team_placed made_new; uncounted = refl; is = refl; plain = (refl, refl); none = none_refers (schema_of made_new) (placed made_new team_table).tree (λ olds news. refl) }
+upsert_is made_second = record { is_placed = team_placed made_second; uncounted = refl; is = refl; plain = (refl, refl); none = none_refers (schema_of made_second) (placed made_second team_table).tree (λ olds news. refl) }
 upsert_is made_last = record { is_placed = team_placed made_last; uncounted = refl; is = refl; plain = (refl, refl); none = none_refers (schema_of made_last) (placed made_last team_table).tree (λ olds news. refl) }
 upsert_is from_first = record { is_placed = team_placed from_first; uncounted = refl; is = refl; plain = (refl, refl); none = none_refers (schema_of from_first) (placed from_first team_table).tree (λ olds news. refl) }
 upsert_is from_second = record { is_placed = team_placed from_second; uncounted = refl; is = refl; plain = (refl, refl); none = none_refers (schema_of from_second) (placed from_second team_table).tree (λ olds news. refl) }
@@ -60,6 +61,7 @@ module _ (name : List ℕ) (role : ℤ) where
   conflict_is : {form : Form} (layout : Layout form) (r : Row) (id : ℤ) → conflicts (Some (1 ∷ [])) (schema_of layout).indexes (placed layout team_table) (Int id ∷ values) r ≡ true
       → agree plain (1 ∷ []) r (1 ∷ []) (Int id ∷ values) ≡ true
   conflict_is made_new r id h = drop_false (agree plain (1 ∷ []) r (1 ∷ []) (Int id ∷ values)) h
+  conflict_is made_second r id h = drop_false (agree plain (1 ∷ []) r (1 ∷ []) (Int id ∷ values)) h
   conflict_is made_last r id h = drop_false (agree plain (1 ∷ []) r (1 ∷ []) (Int id ∷ values)) h
   conflict_is from_first r id h = drop_false (agree plain (1 ∷ []) r (1 ∷ []) (Int id ∷ values)) h
   conflict_is from_second r id h = drop_false (agree plain (1 ∷ []) r (1 ∷ []) (Int id ∷ values)) h

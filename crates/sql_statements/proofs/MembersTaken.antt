@@ -18,7 +18,7 @@ use Rattle.sql_laws.proofs.Comparisons.{texts_compared}
 use Rattle.sql_schema.specs.Keys.{first_text, has_text}
 use Rattle.sql_schema.proofs.TableRows.{member_names}
 use Rattle.sql_statements.proofs.Removals.{IsRemoval, TakesOf, takes_rows}
-use Rattle.sql_schema.specs.Layouts.{Form, Layout, made_new, made_last, from_first, from_second}
+use Rattle.sql_schema.specs.Layouts.{Form, Layout, made_new, made_second, made_last, from_first, from_second}
 use Rattle.sql_schema.proofs.Layouts.{team_placed}
 use Rattle.sql_schema.specs.Schema.{team_table}
 
@@ -31,6 +31,7 @@ delete_terms = op2 (by.Compare compare.Eq Binary) (col 1 1) (col 0 0) ∷ []
 delete_is : {form : Form} (layout : Layout form) → IsRemoval layout delete_text team_table delete_terms
 unfolding understood same_name joined everything
 delete_is made_new = record { is_placed = team_placed made_new; is = refl; plain = (refl, refl); none = λ olds. refl }
+delete_is made_second = record { is_placed = team_placed made_second; is = refl; plain = (refl, refl); none = λ olds. refl }
 delete_is made_last = record { is_placed = team_placed made_last; is = refl; plain = (refl, refl); none = λ olds. refl }
 delete_is from_first = record { is_placed = team_placed from_first; is = refl; plain = (refl, refl); none = λ olds. refl }
 delete_is from_second = record { is_placed = team_placed from_second; is = refl; plain = (refl, refl); none = λ olds. refl }

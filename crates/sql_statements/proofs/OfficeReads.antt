@@ -20,11 +20,11 @@ use Rattle.sqlite_rules.proofs.TableLemmas.{int_is}
 use Rattle.sql_laws.proofs.Comparisons.{ints_compared}
 use Rattle.sql_schema.specs.Inside.{ShowsKey}
 use Rattle.sql_schema.specs.Keys.{first_text, row_number, columns}
-use Rattle.sql_schema.proofs.TableRows.{member_names, language_codes}
-use Rattle.sql_schema.proofs.Queries.{IsQueryOf, IsQuery, ReadsLastOf, ReadsLast, AreTestsOf, is_given, reads_all, reads_key, reads_by_text}
-use Rattle.sql_schema.specs.Layouts.{Form, made_new, made_last, from_first, from_second}
-use Rattle.sql_schema.proofs.Layouts.{team_placed, policy_placed, language_placed}
-use Rattle.sql_schema.specs.Schema.{team_table, policy_table, language_table}
+use Rattle.sql_schema.proofs.TableRows.{member_names}
+use Rattle.sql_schema.proofs.Queries.{IsQueryOf, ReadsLastOf, AreTestsOf, is_given, reads_all, reads_key, reads_by_text}
+use Rattle.sql_schema.specs.Layouts.{Form, made_new, made_second, made_last, from_first, from_second}
+use Rattle.sql_schema.proofs.Layouts.{team_placed, policy_placed}
+use Rattle.sql_schema.specs.Schema.{team_table, policy_table}
 
 -- ---- a member's role
 
@@ -34,24 +34,13 @@ member_text = codes "SELECT role FROM team WHERE name = ?1"
 member_is : {form : Form} → IsQueryOf form member_text team_table (is_given 1 0 ∷ []) (2 ∷ []) (codes "role" ∷ [])
 unfolding understood everything
 member_is made_new = record { command = refl; own_tables = refl; plain = (refl, refl) }
+member_is made_second = record { command = refl; own_tables = refl; plain = (refl, refl) }
 member_is made_last = record { command = refl; own_tables = refl; plain = (refl, refl) }
 member_is from_first = record { command = refl; own_tables = refl; plain = (refl, refl) }
 member_is from_second = record { command = refl; own_tables = refl; plain = (refl, refl) }
 
 pub finds_member : {form : Form} (name : List ℕ) → ReadsLastOf form member_text (Text name ∷ []) (ShowsKey (codes "team") first_text (columns (2 ∷ [])) name)
 finds_member = reads_by_text member_text team_table team_placed 1 (2 ∷ []) _ member_is member_names
-
--- ---- a language's header and plural rule
-
-abbrev language_text : List ℕ
-language_text = codes "SELECT header, plural FROM language WHERE lang = ?1"
-
-language_is : IsQuery language_text language_table (is_given 1 0 ∷ []) (2 ∷ 3 ∷ []) (codes "header" ∷ codes "plural" ∷ [])
-unfolding understood everything
-language_is made_new = record { command = refl; own_tables = refl; plain = (refl, refl) }
-
-pub finds_language : (lang : List ℕ) → ReadsLast language_text (Text lang ∷ []) (ShowsKey (codes "language") first_text (columns (2 ∷ 3 ∷ [])) lang)
-finds_language = reads_by_text language_text language_table language_placed 1 (2 ∷ 3 ∷ []) _ language_is language_codes
 
 -- ---- the policy
 
@@ -65,6 +54,7 @@ policy_is : {form : Form} → IsQueryOf form policy_text policy_table policy_ter
     (codes "schema" ∷ codes "reviews" ∷ codes "guests_suggest" ∷ codes "voting" ∷ codes "accept_at" ∷ codes "placeholders" ∷ codes "line_ends" ∷ [])
 unfolding understood everything
 policy_is made_new = record { command = refl; own_tables = refl; plain = (refl, refl) }
+policy_is made_second = record { command = refl; own_tables = refl; plain = (refl, refl) }
 policy_is made_last = record { command = refl; own_tables = refl; plain = (refl, refl) }
 policy_is from_first = record { command = refl; own_tables = refl; plain = (refl, refl) }
 policy_is from_second = record { command = refl; own_tables = refl; plain = (refl, refl) }

@@ -29,7 +29,7 @@ use Rattle.sql_schema.proofs.RowNumbers.{one_row_number}
 use Rattle.sql_schema.proofs.Insertions.{PutsOf, cast_null, cast_int}
 use Rattle.sql_statements.proofs.Untouched.{none_refers, drop_false}
 use Rattle.sql_statements.proofs.Upserts.{IsUpsert, IsPuttable, puts_or_renews}
-use Rattle.sql_schema.specs.Layouts.{Form, Layout, made_new, made_last, from_first, from_second, schema_of, placed, rows_named}
+use Rattle.sql_schema.specs.Layouts.{Form, Layout, made_new, made_second, made_last, from_first, from_second, schema_of, placed, rows_named}
 use Rattle.sql_schema.proofs.Layouts.{policy_placed}
 
 -- ---- the text
@@ -46,6 +46,7 @@ becomes = col 1 0 ∷ col 1 0 ∷ lit Null ∷ col 0 10 ∷ col 0 11 ∷ col 0 1
 upsert_is : {form : Form} (layout : Layout form) → IsUpsert layout upsert_text 9 7 policy_table upsert_terms (0 ∷ []) becomes
 unfolding understood same_name joined everything
 upsert_is made_new = record { is_placed = policy_placed made_new; uncounted = refl; is = refl; plain = (refl, refl); none = none_refers (schema_of made_new) (placed made_new policy_table).tree (λ olds news. refl) }
+upsert_is made_second = record { is_placed = policy_placed made_second; uncounted = refl; is = refl; plain = (refl, refl); none = none_refers (schema_of made_second) (placed made_second policy_table).tree (λ olds news. refl) }
 upsert_is made_last = record { is_placed = policy_placed made_last; uncounted = refl; is = refl; plain = (refl, refl); none = none_refers (schema_of made_last) (placed made_last policy_table).tree (λ olds news. refl) }
 upsert_is from_first = record { is_placed = policy_placed from_first; uncounted = refl; is = refl; plain = (refl, refl); none = none_refers (schema_of from_first) (placed from_first policy_table).tree (λ olds news. refl) }
 upsert_is from_second = record { is_placed = policy_placed from_second; uncounted = refl; is = refl; plain = (refl, refl); none = none_refers (schema_of from_second) (placed from_second policy_table).tree (λ olds news. refl) }
@@ -73,6 +74,7 @@ module _ (schema reviews guests_suggest voting accept_at placeholders line_ends 
   conflict_is : {form : Form} (layout : Layout form) (r : Row) → conflicts (Some (0 ∷ [])) (schema_of layout).indexes (placed layout policy_table) policy_row r ≡ true
       → agree plain (0 ∷ []) r (0 ∷ []) policy_row ≡ true
   conflict_is made_new r h = drop_false (agree plain (0 ∷ []) r (0 ∷ []) policy_row) h
+  conflict_is made_second r h = drop_false (agree plain (0 ∷ []) r (0 ∷ []) policy_row) h
   conflict_is made_last r h = drop_false (agree plain (0 ∷ []) r (0 ∷ []) policy_row) h
   conflict_is from_first r h = drop_false (agree plain (0 ∷ []) r (0 ∷ []) policy_row) h
   conflict_is from_second r h = drop_false (agree plain (0 ∷ []) r (0 ∷ []) policy_row) h

@@ -7,7 +7,7 @@ use Rattle.sql_schema.specs.Inside.{ShowsKey}
 use Rattle.sql_schema.specs.Keys.{first_text, columns}
 use Rattle.sql_schema.proofs.Queries.{IsQueryOf, ReadsLastOf, is_given, reads_by_text}
 use Rattle.sql_schema.proofs.TableRows.{record_numbers}
-use Rattle.sql_schema.specs.Layouts.{Form, made_new, made_last, from_first, from_second}
+use Rattle.sql_schema.specs.Layouts.{Form, made_new, made_second, made_last, from_first, from_second}
 use Rattle.sql_schema.proofs.Layouts.{record_placed}
 use Rattle.sql_schema.specs.Schema.{record_table}
 
@@ -17,6 +17,7 @@ find_text = codes "SELECT content, status, body FROM record WHERE number = ?1"
 find_is : {form : Form} → IsQueryOf form find_text record_table (is_given 1 0 ∷ []) (2 ∷ 3 ∷ 4 ∷ []) (codes "content" ∷ codes "status" ∷ codes "body" ∷ [])
 unfolding understood everything
 find_is made_new = record { command = refl; own_tables = refl; plain = (refl, refl) }
+find_is made_second = record { command = refl; own_tables = refl; plain = (refl, refl) }
 find_is made_last = record { command = refl; own_tables = refl; plain = (refl, refl) }
 find_is from_first = record { command = refl; own_tables = refl; plain = (refl, refl) }
 find_is from_second = record { command = refl; own_tables = refl; plain = (refl, refl) }

@@ -9,7 +9,7 @@ use Rattle.sql_schema.specs.Keys.{first_text}
 use Rattle.sql_schema.specs.Inside.{HoldsValues}
 use Rattle.sql_schema.proofs.Insertions.{IsInsertion, PutsOf, puts_values, cast_null, cast_int}
 use Rattle.sql_schema.proofs.TableRows.{one_record}
-use Rattle.sql_schema.specs.Layouts.{Form, Layout, made_new, made_last, from_first, from_second}
+use Rattle.sql_schema.specs.Layouts.{Form, Layout, made_new, made_second, made_last, from_first, from_second}
 use Rattle.sql_schema.proofs.Layouts.{record_placed}
 use Rattle.sql_schema.specs.Schema.{record_table}
 
@@ -22,6 +22,7 @@ insert_terms = lit Null ∷ col 0 0 ∷ col 0 1 ∷ col 0 2 ∷ col 0 3 ∷ []
 insert_is : {form : Form} (layout : Layout form) → IsInsertion layout insert_text 5 record_table insert_terms
 unfolding understood everything
 insert_is made_new = record { is_placed = record_placed made_new; uncounted = refl; is = refl; plain = (refl, refl); none = λ news. refl }
+insert_is made_second = record { is_placed = record_placed made_second; uncounted = refl; is = refl; plain = (refl, refl); none = λ news. refl }
 insert_is made_last = record { is_placed = record_placed made_last; uncounted = refl; is = refl; plain = (refl, refl); none = λ news. refl }
 insert_is from_first = record { is_placed = record_placed from_first; uncounted = refl; is = refl; plain = (refl, refl); none = λ news. refl }
 insert_is from_second = record { is_placed = record_placed from_second; uncounted = refl; is = refl; plain = (refl, refl); none = λ news. refl }

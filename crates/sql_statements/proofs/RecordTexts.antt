@@ -5,7 +5,7 @@ use Rattle.sqlite_tied.specs.Compute.{everything}
 use Rattle.sql_schema.proofs.Queries.{ReadsAllOf}
 use Rattle.sql_statements.proofs.TableQueries.{IsTableQueryOf, reads_table}
 use Rattle.sql_statements.specs.RecordTable.{ShowsRecords}
-use Rattle.sql_schema.specs.Layouts.{Form, made_new, made_last, from_first, from_second}
+use Rattle.sql_schema.specs.Layouts.{Form, made_new, made_second, made_last, from_first, from_second}
 use Rattle.sql_schema.proofs.Layouts.{record_placed}
 use Rattle.sql_schema.specs.Schema.{record_table}
 
@@ -16,6 +16,7 @@ records_are : {form : Form} → IsTableQueryOf form records_text record_table (2
     (codes "content" ∷ codes "status" ∷ codes "body" ∷ codes "number" ∷ [])
 unfolding understood everything
 records_are made_new = record { command = refl; own_tables = refl; plain = (refl, refl) }
+records_are made_second = record { command = refl; own_tables = refl; plain = (refl, refl) }
 records_are made_last = record { command = refl; own_tables = refl; plain = (refl, refl) }
 records_are from_first = record { command = refl; own_tables = refl; plain = (refl, refl) }
 records_are from_second = record { command = refl; own_tables = refl; plain = (refl, refl) }

@@ -26,7 +26,7 @@ use Rattle.sql_laws.specs.OrderedQueries.{ordered_query}
 use Rattle.sql_laws.proofs.PlainQueries.{ordered_permuted}
 use Rattle.sql_laws.proofs.OrderedQueries.{answers_in_order}
 use Rattle.sql_laws.proofs.Comparisons.{truth_is}
-use Rattle.sql_schema.specs.Layouts.{Form, for_main, by_domain, Layout, made_new, made_last, from_first, from_second, schema_of, placed, rows_named, is_own_table}
+use Rattle.sql_schema.specs.Layouts.{Form, for_main, by_domain, Layout, made_new, made_second, made_last, from_first, from_second, schema_of, placed, rows_named, is_own_table}
 use Rattle.sql_schema.specs.Schema.{record_table}
 use Rattle.sql_schema.specs.Keys.{first_text, columns}
 use Rattle.sql_schema.specs.Inside.{IsReadyFor, ShowsKey}
@@ -44,6 +44,7 @@ place_text = codes "SELECT rowid FROM record WHERE number = ?1"
 place_is : {form : Form} → IsQueryOf form place_text record_table (is_given 1 0 ∷ []) (0 ∷ []) (codes "rowid" ∷ [])
 unfolding understood everything
 place_is made_new = record { command = refl; own_tables = refl; plain = (refl, refl) }
+place_is made_second = record { command = refl; own_tables = refl; plain = (refl, refl) }
 place_is made_last = record { command = refl; own_tables = refl; plain = (refl, refl) }
 place_is from_first = record { command = refl; own_tables = refl; plain = (refl, refl) }
 place_is from_second = record { command = refl; own_tables = refl; plain = (refl, refl) }
@@ -71,6 +72,7 @@ behind_terms = op2 (by.Compare compare.Gt Binary) (col 1 0) (col 0 0) ∷ []
 all_is : {form : Form} → IsOrderedQueryOf form all_text record_table [] places 0 names
 unfolding understood everything
 all_is made_new = record { command = refl; own_tables = refl; plain = (refl, refl) }
+all_is made_second = record { command = refl; own_tables = refl; plain = (refl, refl) }
 all_is made_last = record { command = refl; own_tables = refl; plain = (refl, refl) }
 all_is from_first = record { command = refl; own_tables = refl; plain = (refl, refl) }
 all_is from_second = record { command = refl; own_tables = refl; plain = (refl, refl) }
@@ -78,6 +80,7 @@ all_is from_second = record { command = refl; own_tables = refl; plain = (refl, 
 behind_is : {form : Form} → IsOrderedQueryOf form behind_text record_table behind_terms places 0 names
 unfolding understood everything
 behind_is made_new = record { command = refl; own_tables = refl; plain = (refl, refl) }
+behind_is made_second = record { command = refl; own_tables = refl; plain = (refl, refl) }
 behind_is made_last = record { command = refl; own_tables = refl; plain = (refl, refl) }
 behind_is from_first = record { command = refl; own_tables = refl; plain = (refl, refl) }
 behind_is from_second = record { command = refl; own_tables = refl; plain = (refl, refl) }
@@ -92,7 +95,8 @@ above (Text x) n whole = absurd cc
 above (Blob x) n whole = absurd cc
 
 record_is_own : (form : Form) → is_own_table form (codes "record") ≡ true
-record_is_own for_main = refl
+record_is_own (for_main false) = refl
+record_is_own (for_main true) = refl
 record_is_own by_domain = refl
 
 module _ {form : Form} (text : List ℕ) (terms : List Term) (means : IsOrderedQueryOf form text record_table terms places 0 names) (params : Row) (place : Option ℤ) (s : State) (ready : IsReadyFor form s)

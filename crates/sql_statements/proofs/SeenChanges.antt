@@ -18,6 +18,7 @@ use Rattle.sql_schema.specs.Views.{viewed, entry_seen, unit_seen, language_seen,
 use Rattle.sql_schema.proofs.Layouts.{by_name, names_differ}
 use Rattle.sql_schema.proofs.Views.{IsView, from_view, to_view, put_seen, put_unseen, removed_seen, none_removed}
 use Rattle.sql_schema.proofs.DomainViews.{is_text, not_text, languages_viewed}
+use Rattle.sql_statements.specs.DomainEntries.{is_entry_of}
 use Rattle.sql_statements.specs.Renewed.{AreRenewed, is_approved_row, unapproved_row}
 use Rattle.sql_statements.specs.DomainRenewed.{is_approved_in_domain, unapproved_in_domain}
 
@@ -206,6 +207,19 @@ module _ (domain : List ℕ) (old new : NamedRows) (taken : IsRemoved (has_text 
   templates_left_seen other differ = same_by_name (codes "template") (seen_in other old) (seen_in other new)
       (none_removed (has_text 1 other) entry_seen (has_text 1 domain) (old (codes "d_template")) (new (codes "d_template"))
       (λ row passes. not_text 1 domain row (λ e. differ (sym (texts_are_one (text_at 1 row) other passes) ∙ e))) taken)
+      (other_than_templates old new spared other)
+
+-- ---- an entry goes
+
+module _ (domain key : List ℕ) (old new : NamedRows) (taken : IsRemoved (is_entry_of domain key) (old (codes "d_template")) (new (codes "d_template"))) (spared : SparesOthers (codes "d_template") old new) where
+  pub entry_taken_seen : IsRemoved (has_text 2 key) (seen_in domain old (codes "template")) (seen_in domain new (codes "template"))
+  entry_taken_seen = removed_seen (has_text 1 domain) entry_seen (is_entry_of domain key) (has_text 2 key) (old (codes "d_template")) (new (codes "d_template"))
+      (λ row own. ap (λ b. b && has_text 3 key row) own) taken
+
+  pub entries_left_seen : (other : List ℕ) → other ≢ domain → AreSameByName (seen_in other old) (seen_in other new)
+  entries_left_seen other differ = same_by_name (codes "template") (seen_in other old) (seen_in other new)
+      (none_removed (has_text 1 other) entry_seen (is_entry_of domain key) (old (codes "d_template")) (new (codes "d_template"))
+      (λ row passes. ap (λ b. b && has_text 3 key row) (not_text 1 domain row (λ e. differ (sym (texts_are_one (text_at 1 row) other passes) ∙ e)))) taken)
       (other_than_templates old new spared other)
 
 -- ---- the units of all domains are renewed

@@ -24,7 +24,7 @@ use Rattle.sql_schema.specs.Keys.{columns}
 use Rattle.sql_schema.specs.Inside.{IsReadyFor}
 use Rattle.sql_schema.proofs.Queries.{Asks, ReadsAllOf, AreTestsOf, queries_inside, filtered_same, rows_read, shows_columns}
 use Rattle.sql_statements.specs.Tables.{by_columns, ShowsTable, ShowsPart}
-use Rattle.sql_schema.specs.Layouts.{Form, for_main, Layout, schema_of, placed, rows_named, IsPlaced}
+use Rattle.sql_schema.specs.Layouts.{Form, Layout, schema_of, placed, rows_named, IsPlaced}
 
 -- these columns of a table's rows that pass the tests, upwards by some of them, one after the other
 abbrev pub part_query : ℕ → List Term → List ℕ → List ℕ → Query
@@ -40,9 +40,6 @@ table_query tree = part_query tree []
 
 abbrev pub IsTableQueryOf : Form → List ℕ → Table → List ℕ → List ℕ → List (List ℕ) → Type 0
 IsTableQueryOf form text table places by names = (layout : Layout form) → Asks layout text (table_query (placed layout table).tree places by) names
-
-abbrev pub IsTableQuery : List ℕ → Table → List ℕ → List ℕ → List (List ℕ) → Type 0
-IsTableQuery = IsTableQueryOf for_main
 
 -- what is in the order of outputs is in an order of what they show, where the two compare alike
 shown_sorted : (outputs : List Output) (compare : Output → Output → Ordering) (by : Row → Row → Ordering)

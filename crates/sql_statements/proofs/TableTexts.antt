@@ -1,11 +1,11 @@
 -- The texts that read whole tables.
-use Rattle.std.proofs.Common.{ℕ, List, [], ◌∷◌, codes, refl}
+use Rattle.std.proofs.Common.{ℕ, Bool, List, [], ◌∷◌, codes, refl}
 use Rattle.sqlite.specs.Listing.{understood}
 use Rattle.sqlite_tied.specs.Compute.{everything}
-use Rattle.sql_schema.proofs.Queries.{ReadsAllOf, ReadsAll}
+use Rattle.sql_schema.proofs.Queries.{ReadsAllOf}
 use Rattle.sql_statements.specs.Tables.{ShowsTeam, ShowsTemplate, ShowsLanguages, ShowsUnits, ShowsSuggestions, ShowsVotes}
-use Rattle.sql_statements.proofs.TableQueries.{IsTableQueryOf, IsTableQuery, reads_table}
-use Rattle.sql_schema.specs.Layouts.{Form, made_new, made_last, from_first, from_second}
+use Rattle.sql_statements.proofs.TableQueries.{IsTableQueryOf, reads_table}
+use Rattle.sql_schema.specs.Layouts.{Form, for_main, made_new, made_second, made_last, from_first, from_second}
 use Rattle.sql_schema.proofs.Layouts.{team_placed, template_placed, language_placed, unit_placed, suggestion_placed, vote_placed}
 use Rattle.sql_schema.specs.Schema.{team_table, template_table, language_table, unit_table, suggestion_table, vote_table}
 
@@ -16,6 +16,7 @@ team_is : {form : Form} → IsTableQueryOf form team_text team_table (2 ∷ 1 �
     (codes "role" ∷ codes "name" ∷ [])
 unfolding understood everything
 team_is made_new = record { command = refl; own_tables = refl; plain = (refl, refl) }
+team_is made_second = record { command = refl; own_tables = refl; plain = (refl, refl) }
 team_is made_last = record { command = refl; own_tables = refl; plain = (refl, refl) }
 team_is from_first = record { command = refl; own_tables = refl; plain = (refl, refl) }
 team_is from_second = record { command = refl; own_tables = refl; plain = (refl, refl) }
@@ -26,54 +27,59 @@ reads_team = reads_table team_text team_table team_placed (2 ∷ 1 ∷ []) (1 �
 abbrev template_text : List ℕ
 template_text = codes "SELECT plural, extracted, refs, flags, key, place FROM template ORDER BY place"
 
-template_is : IsTableQuery template_text template_table (3 ∷ 4 ∷ 5 ∷ 6 ∷ 2 ∷ 0 ∷ []) (0 ∷ [])
+template_is : {figures : Bool} → IsTableQueryOf (for_main figures) template_text template_table (3 ∷ 4 ∷ 5 ∷ 6 ∷ 2 ∷ 0 ∷ []) (0 ∷ [])
     (codes "plural" ∷ codes "extracted" ∷ codes "refs" ∷ codes "flags" ∷ codes "key" ∷ codes "place" ∷ [])
 unfolding understood everything
 template_is made_new = record { command = refl; own_tables = refl; plain = (refl, refl) }
+template_is made_second = record { command = refl; own_tables = refl; plain = (refl, refl) }
 
-pub reads_template : ReadsAll template_text [] ShowsTemplate
+pub reads_template : {figures : Bool} → ReadsAllOf (for_main figures) template_text [] ShowsTemplate
 reads_template = reads_table template_text template_table template_placed (3 ∷ 4 ∷ 5 ∷ 6 ∷ 2 ∷ 0 ∷ []) (0 ∷ []) (5 ∷ []) _ template_is (λ tree r s. refl)
 
 abbrev languages_text : List ℕ
 languages_text = codes "SELECT header, plural, lang FROM language ORDER BY lang"
 
-languages_is : IsTableQuery languages_text language_table (2 ∷ 3 ∷ 1 ∷ []) (1 ∷ [])
+languages_is : {figures : Bool} → IsTableQueryOf (for_main figures) languages_text language_table (2 ∷ 3 ∷ 1 ∷ []) (1 ∷ [])
     (codes "header" ∷ codes "plural" ∷ codes "lang" ∷ [])
 unfolding understood everything
 languages_is made_new = record { command = refl; own_tables = refl; plain = (refl, refl) }
+languages_is made_second = record { command = refl; own_tables = refl; plain = (refl, refl) }
 
-pub reads_languages : ReadsAll languages_text [] ShowsLanguages
+pub reads_languages : {figures : Bool} → ReadsAllOf (for_main figures) languages_text [] ShowsLanguages
 reads_languages = reads_table languages_text language_table language_placed (2 ∷ 3 ∷ 1 ∷ []) (1 ∷ []) (2 ∷ []) _ languages_is (λ tree r s. refl)
 
 abbrev units_text : List ℕ
 units_text = codes "SELECT plural, forms, state, obsolete, revision, comment, previous, lang, key FROM unit ORDER BY lang, key"
 
-units_is : IsTableQuery units_text unit_table (3 ∷ 4 ∷ 5 ∷ 6 ∷ 7 ∷ 8 ∷ 9 ∷ 1 ∷ 2 ∷ []) (1 ∷ 2 ∷ [])
+units_is : {figures : Bool} → IsTableQueryOf (for_main figures) units_text unit_table (3 ∷ 4 ∷ 5 ∷ 6 ∷ 7 ∷ 8 ∷ 9 ∷ 1 ∷ 2 ∷ []) (1 ∷ 2 ∷ [])
     (codes "plural" ∷ codes "forms" ∷ codes "state" ∷ codes "obsolete" ∷ codes "revision" ∷ codes "comment" ∷ codes "previous" ∷ codes "lang" ∷ codes "key" ∷ [])
 unfolding understood everything
 units_is made_new = record { command = refl; own_tables = refl; plain = (refl, refl) }
+units_is made_second = record { command = refl; own_tables = refl; plain = (refl, refl) }
 
-pub reads_units : ReadsAll units_text [] ShowsUnits
+pub reads_units : {figures : Bool} → ReadsAllOf (for_main figures) units_text [] ShowsUnits
 reads_units = reads_table units_text unit_table unit_placed (3 ∷ 4 ∷ 5 ∷ 6 ∷ 7 ∷ 8 ∷ 9 ∷ 1 ∷ 2 ∷ []) (1 ∷ 2 ∷ []) (7 ∷ 8 ∷ []) _ units_is (λ tree r s. refl)
 
 abbrev suggestions_text : List ℕ
 suggestions_text = codes "SELECT number, place, suggester, forms, lang, key FROM suggestion ORDER BY lang, key, place"
 
-suggestions_is : IsTableQuery suggestions_text suggestion_table (1 ∷ 4 ∷ 5 ∷ 6 ∷ 2 ∷ 3 ∷ []) (2 ∷ 3 ∷ 4 ∷ [])
+suggestions_is : {figures : Bool} → IsTableQueryOf (for_main figures) suggestions_text suggestion_table (1 ∷ 4 ∷ 5 ∷ 6 ∷ 2 ∷ 3 ∷ []) (2 ∷ 3 ∷ 4 ∷ [])
     (codes "number" ∷ codes "place" ∷ codes "suggester" ∷ codes "forms" ∷ codes "lang" ∷ codes "key" ∷ [])
 unfolding understood everything
 suggestions_is made_new = record { command = refl; own_tables = refl; plain = (refl, refl) }
+suggestions_is made_second = record { command = refl; own_tables = refl; plain = (refl, refl) }
 
-pub reads_suggestions : ReadsAll suggestions_text [] ShowsSuggestions
+pub reads_suggestions : {figures : Bool} → ReadsAllOf (for_main figures) suggestions_text [] ShowsSuggestions
 reads_suggestions = reads_table suggestions_text suggestion_table suggestion_placed (1 ∷ 4 ∷ 5 ∷ 6 ∷ 2 ∷ 3 ∷ []) (2 ∷ 3 ∷ 4 ∷ []) (4 ∷ 5 ∷ 1 ∷ []) _ suggestions_is (λ tree r s. refl)
 
 abbrev votes_text : List ℕ
 votes_text = codes "SELECT voter, value, number FROM vote ORDER BY number, voter"
 
-votes_is : IsTableQuery votes_text vote_table (2 ∷ 3 ∷ 1 ∷ []) (1 ∷ 2 ∷ [])
+votes_is : {figures : Bool} → IsTableQueryOf (for_main figures) votes_text vote_table (2 ∷ 3 ∷ 1 ∷ []) (1 ∷ 2 ∷ [])
     (codes "voter" ∷ codes "value" ∷ codes "number" ∷ [])
 unfolding understood everything
 votes_is made_new = record { command = refl; own_tables = refl; plain = (refl, refl) }
+votes_is made_second = record { command = refl; own_tables = refl; plain = (refl, refl) }
 
-pub reads_votes : ReadsAll votes_text [] ShowsVotes
+pub reads_votes : {figures : Bool} → ReadsAllOf (for_main figures) votes_text [] ShowsVotes
 reads_votes = reads_table votes_text vote_table vote_placed (2 ∷ 3 ∷ 1 ∷ []) (1 ∷ 2 ∷ []) (2 ∷ 0 ∷ []) _ votes_is (λ tree r s. refl)

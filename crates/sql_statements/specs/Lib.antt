@@ -1,7 +1,6 @@
 pub mod Taken
 pub mod Renewed
 pub mod Added
-pub mod Emptied
 pub mod RecordTable
 pub mod RecordsInOrder
 pub mod Tables
@@ -14,3 +13,4 @@ pub mod DomainAnswers
 pub mod DomainRenewed
 pub mod DomainUnitRows
 pub mod Owners
+pub mod DomainEntries

@@ -35,9 +35,6 @@ pub record ShowsMessagesIn (unit_of : Row → Row) (tables : NamedRows) (rows : 
   pub all : IsPermutation (map (λ row. columns entry_places row ++ columns unit_places (unit_of row)) (tables (codes "template"))) rows
   pub in_order : IsSorted (by_column 5) rows
 
-abbrev pub ShowsMessages : (Row → Row) → Database → List Row → Type 0
-ShowsMessages unit_of db rows = ShowsMessagesIn unit_of (rows_named db) rows
-
 -- an obsolete unit of a language
 abbrev pub is_obsolete_of : List ℕ → Row → Bool
 is_obsolete_of lang row = has_text 1 lang row && is_eq (value_cmp (column row 6) (Int (pos 1)))
@@ -46,6 +43,3 @@ is_obsolete_of lang row = has_text 1 lang row && is_eq (value_cmp (column row 6)
 pub record ShowsObsoleteIn (lang : List ℕ) (tables : NamedRows) (rows : List Row) : Type 0 where
   pub all : IsPermutation (map (columns (3 ∷ 4 ∷ 5 ∷ 8 ∷ 9 ∷ 2 ∷ [])) (filter (is_obsolete_of lang) (tables (codes "unit")))) rows
   pub in_order : IsInOrder 5 rows
-
-abbrev pub ShowsObsolete : List ℕ → Database → List Row → Type 0
-ShowsObsolete lang db rows = ShowsObsoleteIn lang (rows_named db) rows

@@ -29,11 +29,3 @@ is_approved_row row = is_eq (value_cmp (column row 5) (Int (pos 3)))
 abbrev pub unapproved_row : Row → Row
 unapproved_row row =
     column row 0 ∷ column row 1 ∷ column row 2 ∷ column row 3 ∷ column row 4 ∷ Int (pos 2) ∷ column row 6 ∷ Int (id_in (column row 7) +ℤ pos 1) ∷ column row 8 ∷ column row 9 ∷ []
-
--- 64 bits hold the revision after that of each approved unit
-abbrev pub HaveNextRevisions : Database → Type 0
-HaveNextRevisions db = (row : Row) → Has (rows_named db (codes "unit")) row → is_approved_row row ≡ true → fits_i64 (id_in (column row 7) +ℤ pos 1) ≡ true
-
--- no unit stays approved
-abbrev pub UnapprovesUnits : Database → Database → Type 0
-UnapprovesUnits old new = HaveNextRevisions old → RenewsRows (codes "unit") is_approved_row unapproved_row old new

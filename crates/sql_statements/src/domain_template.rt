@@ -7,6 +7,7 @@ ghost use Rattle.sql_schema.specs.Views.{seen_in};
 ghost use Rattle.sql_schema.specs.Inside.{IsSteadyOver, IsInsideOf, PutsRow, HoldsValues, IsReadOf};
 ghost use Rattle.sql_schema.specs.Keys.{has_text, domain_place};
 ghost use Rattle.sql_statements.specs.Taken.{TakesRows};
+ghost use Rattle.sql_statements.specs.DomainEntries.{is_entry_of};
 ghost use Rattle.sql_statements.specs.DomainAnswers.{ShowsDomainEntry};
 ghost use Rattle.sql_statements.specs.Tables.{ShowsTemplateIn};
 ghost use Rattle.std.specs.Option.{option_copied};
@@ -26,6 +27,24 @@ pub fn empty_domain_template<S: Alter>(
 {
     tx.execute("DELETE FROM d_template WHERE domain = ?1", params![domain])
         .and(Ok(()))
+}
+
+/// Takes the entry of a key out of a domain's template, where it has one.
+pub fn take_domain_entry<'a, S: Alter>(
+    tx: &mut Transaction<'_, S>,
+    domain: &'a str,
+    key: &'a str,
+) -> Result<(), Error>
+    requires steady { IsSteadyOver by_domain (state S.Store tx.old.conn.now) }
+    ensures same_reference { tx.new.conn.ghost_name ≡ tx.old.conn.ghost_name }
+    ensures taken { IsInsideOf by_domain (state S.Store tx.old.conn.now) (state S.Store tx.new.conn.now) result
+        (TakesRows (codes "d_template") (is_entry_of domain.now key.now)) }
+{
+    tx.execute(
+        "DELETE FROM d_template WHERE domain = ?1 AND key = ?2",
+        params![domain, key],
+    )
+    .and(Ok(()))
 }
 
 /// The entry of a key in a domain's template: plural, extracted comments, references and flags. None, where the template has no such
@@ -72,7 +91,7 @@ pub fn put_domain_entry<'a, S: Alter>(
 }
 
 /// A domain's template by place: each entry's plural, extracted comments, references, flags, key and place.
-pub(crate) fn all_domain_entries<S: Alter>(
+pub fn all_domain_entries<S: Alter>(
     tx: &mut Transaction<'_, S>,
     domain: &str,
 ) -> Result<Vec<Row>, Error>

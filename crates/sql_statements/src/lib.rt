@@ -1,22 +1,22 @@
-//! Every statement on the eight tables but those that look at a file that nobody knows yet, one function each, in a
+//! Every statement on an office's tables but those that look at a file that nobody knows yet, one function each, in a
 //! module for each table, and its law beside it.
 //!
-//! - `records`, `team`, `policy`, `template`, `languages`, `units`, `suggestions`, `votes`: one table each
+//! - `records`, `team`, `policy`: one table each, which each form of an office's tables has
 //! - `domains`, `domain_template`, `domain_languages`, `domain_units`, `domain_suggestions`, `domain_votes`, `vote_sums`,
 //!   `tallies`: tables by domains, one each
-//! - `queries`, `domain_queries`: the join that an export walks, and the obsolete units behind it
+//! - `domain_queries`: the join that an export walks, and the obsolete units behind it
 //! - `record_queries`: the records in the order in which the office took them
 //! - `unit_rows`: the rows that a look at a unit shows
-//! - `whole_office`: the rows of all tables, read in one transaction
-//! - `domain_office`: what a domain sees of them
+//! - `whole_office`: the rows of all tables without a column for a domain, read in one transaction
+//! - `domain_office`: what a domain sees of those by domains
 //! - `owners`: of which domain each row is
 //!
 //! Specs: `Answers`, `DomainAnswers`, `UnitRows`, `Queries`, `Tables`, `RecordTable`, `RecordsInOrder`, `WholeOffice`, `Owners` are what reads show; `Added`,
-//! `Taken`, `Emptied`, `Renewed`, `DomainCleared` what becomes of rows. A lemma about one table's texts stands in `proofs/` under the
-//! table's name (`UnitPuts`, `PolicySet`, `UnitReads`); what INSERT, INSERT with ON CONFLICT, DELETE and UPDATE do to
+//! `Taken`, `Renewed`, `DomainCleared` what becomes of rows. A lemma about one table's texts stands in `proofs/` under the
+//! table's name (`DomainUnitPuts`, `PolicySet`, `DomainUnitReads`); what INSERT, INSERT with ON CONFLICT, DELETE and UPDATE do to
 //! any table of the office in `Additions`, `Upserts`, `Removals`, `Renewals`.
 //!
-//! A function takes a transaction that is open and leaves it open, but those of `queries`, `domain_queries`,
+//! A function takes a transaction that is open and leaves it open, but those of `domain_queries`,
 //! `record_queries`, `whole_office` and `look_up_domain`. What is said of values is said while the disk returns what was written.
 #![tactic(auto)]
 
@@ -28,18 +28,12 @@ pub mod domain_template;
 pub mod domain_units;
 pub mod domain_votes;
 pub mod domains;
-pub mod languages;
 pub mod owners;
 pub mod policy;
-pub mod queries;
 pub mod record_queries;
 pub mod records;
-pub mod suggestions;
 pub mod tallies;
 pub mod team;
-pub mod template;
 pub mod unit_rows;
-pub mod units;
 pub mod vote_sums;
-pub mod votes;
 pub mod whole_office;

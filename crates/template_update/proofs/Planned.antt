@@ -7,14 +7,15 @@ use Rattle.template_update.specs.declared.plans.Counts.{Counts}
 use Rattle.template_update.specs.declared.plans.Plan.{Plan}
 use Rattle.template_update.specs.Units.{within_limits, has_revision}
 
-pub record IsPlan (units : List Unit) (counts : Counts) (plan : Plan) : Type 0 where
+pub record IsPlan (units : List Unit) (stays : List Bool) (counts : Counts) (plan : Plan) : Type 0 where
   pub all : plan.units ≡ units
+  pub stay : plan.stays ≡ stays
   pub told : plan.counts ≡ counts
 
-by_limit : (within : Bool) (units : List Unit) (counts : Counts) (plan : Plan)
-    → cond within (Some (record { units = units; counts = counts })) None ≡ Some plan → IsPlan units counts plan
-by_limit true units counts plan e = record { all = cc; told = cc }
-by_limit false units counts plan e = cc
+by_limit : (within : Bool) (units : List Unit) (stays : List Bool) (counts : Counts) (plan : Plan)
+    → cond within (Some (record { units = units; stays = stays; counts = counts })) None ≡ Some plan → IsPlan units stays counts plan
+by_limit true units stays counts plan e = record { all = cc; stay = cc; told = cc }
+by_limit false units stays counts plan e = cc
 
-pub planned : (units : List Unit) (counts : Counts) (plan : Plan) → within_limits units counts ≡ Some plan → IsPlan units counts plan
-planned units counts plan e = by_limit (nat_le (length units) unit_limit && list_all has_revision units) units counts plan e
+pub planned : (units : List Unit) (stays : List Bool) (counts : Counts) (plan : Plan) → within_limits units stays counts ≡ Some plan → IsPlan units stays counts plan
+planned units stays counts plan e = by_limit (nat_le (length units) unit_limit && list_all has_revision units) units stays counts plan e

@@ -1,5 +1,5 @@
 -- Worked rows on templates and languages.
-use Rattle.std.specs.Prelude.{◌≡◌, List, [], ◌∷◌, ◌++◌, true, Some, None, codes, refl}
+use Rattle.std.specs.Prelude.{◌≡◌, List, [], ◌∷◌, ◌++◌, true, false, Some, None, codes, refl}
 use Rattle.std.specs.FinMap as maps
 use Rattle.po_text.specs.declared.entry.Entry.{Entry}
 use Rattle.po_text.specs.Texts.{Text}
@@ -42,25 +42,25 @@ module _ (tree : Tree) where
   two = record { count = 2; tree = tree }
 
   -- an empty template makes the unit obsolete
-  gone : plan_of (entry ∷ []) (translated ∷ []) [] two ≡ Some (record { units = record translated { obsolete = true; revision = 3 } ∷ []; counts = Updated 0 0 0 1 0 })
+  gone : plan_of (entry ∷ []) (translated ∷ []) [] two ≡ Some (record { units = record translated { obsolete = true; revision = 3 } ∷ []; stays = false ∷ []; counts = Updated 0 0 0 1 0 })
   unfolding plan_of
   gone = refl
 
   -- one key stays and one comes
   one_more : plan_of (entry ∷ []) (demo_unit ∷ []) (entry ∷ plain_entry (codes "Bye") [] ∷ []) two
-      ≡ Some (record { units = demo_unit ∷ record demo_unit { key = record { ctx = None; id = codes "Bye" } } ∷ []; counts = Updated 1 0 1 0 0 })
+      ≡ Some (record { units = demo_unit ∷ record demo_unit { key = record { ctx = None; id = codes "Bye" } } ∷ []; stays = true ∷ []; counts = Updated 1 0 1 0 0 })
   unfolding plan_of
   one_more = refl
 
   -- the flag `read-only` comes: the translation stays
   read_only : plan_of (entry ∷ []) (translated ∷ []) (record entry { flags = codes "read-only" ∷ [] } ∷ []) two
-      ≡ Some (record { units = record translated { revision = 3 } ∷ []; counts = Updated 0 1 0 0 0 })
+      ≡ Some (record { units = record translated { revision = 3 } ∷ []; stays = false ∷ []; counts = Updated 0 1 0 0 0 })
   unfolding plan_of
   read_only = refl
 
   -- an obsolete unit whose key doesn't come back stays, and isn't counted
   untouched : plan_of [] (record translated { obsolete = true } ∷ []) (plain_entry (codes "Bye") [] ∷ []) two
-      ≡ Some (record { units = record translated { obsolete = true } ∷ record demo_unit { key = record { ctx = None; id = codes "Bye" } } ∷ []; counts = Updated 1 0 0 0 0 })
+      ≡ Some (record { units = record translated { obsolete = true } ∷ record demo_unit { key = record { ctx = None; id = codes "Bye" } } ∷ []; stays = true ∷ []; counts = Updated 1 0 0 0 0 })
   unfolding plan_of
   untouched = refl
 
@@ -85,13 +85,14 @@ module _ (tree : Tree) where
   away = record datei { obsolete = true; revision = 3 }
 
   -- a unit goes and comes back under another msgid_plural
-  goes : plan_of (files (codes "%d files") ∷ []) (datei ∷ []) [] two ≡ Some (record { units = away ∷ []; counts = Updated 0 0 0 1 0 })
+  goes : plan_of (files (codes "%d files") ∷ []) (datei ∷ []) [] two ≡ Some (record { units = away ∷ []; stays = false ∷ []; counts = Updated 0 0 0 1 0 })
   unfolding plan_of
   goes = refl
 
   comes_back : plan_of [] (away ∷ []) (files (codes "%d pieces") ∷ []) two
       ≡ Some (record {
         units = record datei { plural = Some (codes "%d pieces"); state = stored.NeedsEditing; revision = 4; previous = record { ctx = None; id = Some (codes "%d file"); plural = Some (codes "%d files") } } ∷ [];
+        stays = false ∷ [];
         counts = Updated 0 0 0 0 1;
       })
   unfolding plan_of
@@ -105,7 +106,7 @@ module _ (tree : Tree) where
   suggestions_go :
       let s : Suggestion = record { number = twentieth; suggester = codes "ann"; forms = hallo; votes = maps.empty } in
       plan_of (entry ∷ []) (record demo_unit { suggestions = s ∷ [] } ∷ []) (record entry { plural = Some (codes "Hellos") } ∷ []) two
-      ≡ Some (record { units = record demo_unit { plural = Some (codes "Hellos"); forms = [] ∷ [] ∷ []; revision = 2 } ∷ []; counts = Updated 0 1 0 0 0 })
+      ≡ Some (record { units = record demo_unit { plural = Some (codes "Hellos"); forms = [] ∷ [] ∷ []; revision = 2 } ∷ []; stays = false ∷ []; counts = Updated 0 1 0 0 0 })
   unfolding plan_of
   suggestions_go = refl
 
@@ -116,6 +117,7 @@ module _ (tree : Tree) where
   french : load_of (entry ∷ []) (french_header ∷ plain_entry (codes "Hello") (codes "Bonjour") ∷ record (plain_entry (codes "Old") (codes "Vieux")) { obsolete = true } ∷ []) two closed_policy
       ≡ Some (record {
         units = record demo_unit { forms = codes "Bonjour" ∷ []; state = stored.Translated } ∷ record demo_unit { key = record { ctx = None; id = codes "Old" }; forms = codes "Vieux" ∷ []; state = stored.Translated; obsolete = true } ∷ [];
+        stays = [];
         counts = Loaded 1 0 1;
       })
   unfolding load_of result_state
@@ -123,6 +125,6 @@ module _ (tree : Tree) where
 
   -- an entry without a translation, one that the text doesn't have, and a leftover without a form
   missing : load_of (entry ∷ plain_entry (codes "Bye") [] ∷ []) (french_header ∷ plain_entry (codes "Old") [] ∷ entry ∷ []) two closed_policy
-      ≡ Some (record { units = demo_unit ∷ record demo_unit { key = record { ctx = None; id = codes "Bye" } } ∷ []; counts = Loaded 1 1 0 })
+      ≡ Some (record { units = demo_unit ∷ record demo_unit { key = record { ctx = None; id = codes "Bye" } } ∷ []; stays = []; counts = Loaded 1 1 0 })
   unfolding load_of result_state
   missing = refl

@@ -1,4 +1,5 @@
 pub mod Views
+pub mod Marks
 pub mod Templates
 pub mod Units
 pub mod Updates

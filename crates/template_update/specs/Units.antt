@@ -60,5 +60,5 @@ abbrev pub has_revision : Unit → Bool
 has_revision unit = nat_le unit.revision revision_limit
 
 -- where no limit is passed
-abbrev pub within_limits : List Unit → Counts → Option Plan
-within_limits units counts = if nat_le (length units) unit_limit && list_all has_revision units then Some (record { units = units; counts = counts }) else None
+abbrev pub within_limits : List Unit → List Bool → Counts → Option Plan
+within_limits units stays counts = if nat_le (length units) unit_limit && list_all has_revision units then Some (record { units = units; stays = stays; counts = counts }) else None

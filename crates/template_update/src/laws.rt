@@ -14,10 +14,11 @@ ghost use Rattle.template_update.specs.Loads.{load_of, leftovers};
 ghost use Rattle.template_update.specs.Laws.{KeepsUnits, same_key};
 
 /// No unit is lost and none gets another key, no revision falls, a unit whose entry is as before, or that was obsolete and stays so, is
-/// left as it is, and each unit that comes is of a key of the new template that no unit had.
+/// left as it is, each unit that comes is of a key of the new template that no unit had, and the units that are told to stay are those that
+/// were there.
 pub fn plans_keep_units()
     ensures { (present : List Entry) (units : List Unit) (next : List Entry) (rule : Rule) (plan : Plan) →
-        plan_of present units next rule ≡ Some plan → KeepsUnits present units next plan.units }
+        plan_of present units next rule ≡ Some plan → KeepsUnits present units next plan.units plan.stays }
 {}
 
 /// The numbers of the reply count each key once: of the units that weren't obsolete, as changed, kept or obsolete now, and of the new

@@ -234,8 +234,8 @@ fn add_leftovers<'a>(
 /// entry whose key the text has takes its comment lines and forms where they can be kept, and needs editing where the text's entry is
 /// `fuzzy`, has another msgid_plural, lacks a form or fails an enforced check; other template entries stay untranslated. Entries with a
 /// translation that the template doesn't have become obsolete units. First come the units of the template, in its order, then the
-/// obsolete ones in the text's. All revisions are 1. (The states of Weblate's documentation, "Translation states"; the GNU gettext
-/// manual, "The Format of PO Files".)
+/// obsolete ones in the text's; none was there before. All revisions are 1. (The states of Weblate's documentation, "Translation
+/// states"; the GNU gettext manual, "The Format of PO Files".)
 ///
 /// None exactly where the language would have more than 150,000 units. `Memory` where a growth was refused.
 pub fn load(
@@ -260,5 +260,5 @@ pub fn load(
         missing: (template.len() - loaded) as u64,
         obsolete: (all.len() - count) as u64,
     };
-    Ok(within_limit(all, counts))
+    Ok(within_limit(all, Items::new(alloc), counts))
 }

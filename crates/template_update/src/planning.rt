@@ -15,7 +15,7 @@ ghost use Rattle.template_update.specs.Views.{IsIndexOf};
 use crate::index::KeyIndex;
 use crate::plans::{Counts, Plan};
 use crate::refit::new_unit;
-use crate::update::{UnitUpdate, counts_of, updated_unit};
+use crate::update::{UnitUpdate, counts_of, stays_of, updated_unit};
 use crate::updates::UpdatedUnits;
 use plural_expr::PluralForms;
 use po_text::{Catalogue, Entry, Items};
@@ -86,12 +86,13 @@ fn add_new<'a>(
 }
 
 /// The plan of these units, if they aren't too many.
-pub(crate) fn within_limit(units: Vec<Unit>, counts: Counts) -> Option<Plan>
-    ensures { result ≡ (if nat_le (length units.items) unit_limit then Some (record { units = units.items; counts = counts }) else None) }
+pub(crate) fn within_limit(units: Vec<Unit>, stays: Items<bool>, counts: Counts) -> Option<Plan>
+    ensures { result ≡ (if nat_le (length units.items) unit_limit then Some (record { units = units.items; stays = stays; counts = counts }) else None) }
 {
     if units.len() <= MAX_UNITS {
         Some(Plan {
             units: Items::from_vec(units),
+            stays,
             counts,
         })
     } else {
@@ -130,17 +131,18 @@ fn with_new<'a>(
         units: before,
         updates,
     } = done;
+    let stays = stays_of(alloc, &updates)?;
     let count = before.len();
     let all = add_new(alloc, rule, &known, next, before)?;
     let counts = counts_of(all.len() - count, &updates);
-    Ok(within_limit(all, counts))
+    Ok(within_limit(all, stays, counts))
 }
 
 /// What a new template makes of one language's units: of the present template, all units of the language, the new template and the
 /// language's plural rule. A unit whose key goes becomes obsolete, and is taken back when the key returns; a unit whose msgid_plural
 /// changes keeps its forms where they can be kept, and then needs editing. First come the units that were there, in their order, then
-/// those of new keys in the template's. (The states of Weblate's documentation, "Translation states"; the GNU gettext manual, "The
-/// Format of PO Files".)
+/// those of new keys in the template's; of each that was there the plan says whether it stays as it was. (The states of Weblate's
+/// documentation, "Translation states"; the GNU gettext manual, "The Format of PO Files".)
 ///
 /// None exactly where the language would have more than 150,000 units, or a unit would pass revision 9,000,000,000,000,000. `Memory`
 /// where a growth was refused.

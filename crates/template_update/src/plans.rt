@@ -29,9 +29,12 @@ pub enum Counts {
     },
 }
 
-/// All units of a language afterwards, and the numbers of the reply.
+/// All units of a language afterwards, which of them stay as they were, and the numbers of the reply.
 #[derive(Drop)]
 pub struct Plan {
+    /// First those that were there, in their order.
     pub units: Items<Unit>,
+    /// Of the units that were there, in their order, whether each stays as it was.
+    pub stays: Items<bool>,
     pub counts: Counts,
 }

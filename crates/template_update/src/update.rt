@@ -1,6 +1,6 @@
 //! What becomes of a unit under a new template.
 
-ghost use Rattle.std.specs.Prelude.{◌≡◌, ◌+◌, ◌==◌, nat_le, IfOk, Some, None, if◌then◌else◌, count_by};
+ghost use Rattle.std.specs.Prelude.{◌≡◌, ◌+◌, ◌==◌, nat_le, IfOk, Some, None, if◌then◌else◌, count_by, map};
 ghost use Rattle.std.specs.Option.{option_copied};
 ghost use Rattle.units.specs.Limits.{revision_limit};
 ghost use Rattle.units.specs.Units.{is_read_only};
@@ -155,6 +155,27 @@ pub(crate) fn updated_unit(
     let mut unit = moved_by(alloc, rule, update, plural_of(next), unit.duplicate()?)?;
     unit.revision = revision;
     Ok(Some((update, unit)))
+}
+
+/// Whether a unit stays as it was.
+fn stays_by(update: UnitUpdate) -> bool
+    ensures { result ≡ spec.stays_by update }
+{
+    match update {
+        UnitUpdate::Kept | UnitUpdate::Untouched => true,
+        UnitUpdate::Changed | UnitUpdate::Gone | UnitUpdate::Revived => false,
+    }
+}
+
+/// Of each unit, by what becomes of it, whether it stays as it was.
+pub(crate) fn stays_of(alloc: Global, updates: &[UnitUpdate]) -> Result<Items<bool>, AllocError>
+    ensures { IfOk result (λ stays. stays ≡ map spec.stays_by updates.now) }
+{
+    let mut stays = Items::new(alloc);
+    for update in updates {
+        stays.push(stays_by(*update))?;
+    }
+    Ok(stays)
 }
 
 fn is_update(a: UnitUpdate, b: UnitUpdate) -> bool

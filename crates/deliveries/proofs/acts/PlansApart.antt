@@ -164,9 +164,9 @@ stayed_keys present next [] (s ∷ stayed) z = absurd z
 stayed_keys present next (u ∷ units) [] z = absurd z
 stayed_keys present next (u ∷ units) (s ∷ stayed) z = λ i. z.0.key i ∷ stayed_keys present next units stayed z.1 i
 
-plan_keys : (present : List Entry) (units : List Unit) (next : List Entry) (after : List Unit) → KeepsUnits present units next after → IsDistinct same_key (keys_of units) → HasUniqueKeys next
+plan_keys : (present : List Entry) (units : List Unit) (next : List Entry) (after : List Unit) (stays : List Bool) → KeepsUnits present units next after stays → IsDistinct same_key (keys_of units) → HasUniqueKeys next
     → IsDistinct same_key (keys_of after)
-plan_keys present units next after keeps own unique =
+plan_keys present units next after stays keeps own unique =
     subst (IsDistinct same_key)
     (sym (ap (map (λ (unit : Unit). unit.key)) keeps.whole ∙ map-append (λ (unit : Unit). unit.key) keeps.stayed keeps.came ∙ (λ i. stayed_keys present next units keeps.stayed keeps.each i ++ keeps.keys i)))
     (distinct_joined same_key (keys_of units) (map key_of (added units next)) own (kept_distinct (λ entry. not (is_known units entry)) next unique)
@@ -250,7 +250,7 @@ pub plans_apart : KeepsEach → (project : Project) (next : List Entry) (all : L
 plans_apart keeps project next all planned unique rules =
     all_distinct project next (maps.entries project.headers) all (maps.entries_sorted project.headers) (zipped project next (languages project) all planned)
     (each_one (PlanHas project next (λ lang plan. IsDistinct same_key (keys_of plan.units)))
-    (λ lang plan is. plan_keys project.template (units_of project lang) next plan.units (keeps project.template (units_of project lang) next (rule_at project lang) plan is)
+    (λ lang plan is. plan_keys project.template (units_of project lang) next plan.units plan.stays (keeps project.template (units_of project lang) next (rule_at project lang) plan is)
     (own_distinct lang (maps.entries project.units) (maps.entries_sorted project.units) at_keys) unique) (languages project))
   where
     at_keys : AllByRecursion (λ e. e.1.key ≡ e.0.1) (maps.entries project.units)

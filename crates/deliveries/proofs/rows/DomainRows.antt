@@ -307,7 +307,7 @@ abbrev gone : Unit
 gone = record after_one { obsolete = true; revision = 3 }
 
 abbrev plans_without : List LanguagePlan
-plans_without = (de, record { units = gone ∷ []; counts = counted.Updated 0 0 0 1 0 }) ∷ []
+plans_without = (de, record { units = gone ∷ []; stays = false ∷ []; counts = counted.Updated 0 0 0 1 0 }) ∷ []
 
 one_gone : plans project_after [] ≡ Some plans_without
 unfolding plan_of

@@ -28,7 +28,7 @@ use Rattle.units.specs.Orders.{text_total, place_total}
 use Rattle.template_update.specs.declared.plans.Counts.TheVariants as counted
 use Rattle.template_update.specs.declared.plans.Plan.{Plan}
 use Rattle.template_update.specs.Units.{has_revision}
-use Rattle.template_update.specs.Updates.{plan_of, update_of, updated_unit, counts_of}
+use Rattle.template_update.specs.Updates.{plan_of, update_of, updated_unit, stays_by, counts_of}
 use Rattle.template_update.proofs.Moving.{updated_by-moved}
 use Rattle.replies.specs.Bodies.{Stepped, refuse, refused_with, reply, po_fault_fields, template_fields, policy_fields}
 use Rattle.deliveries.specs.MainAlone.{main_alone}
@@ -172,6 +172,7 @@ past rule =
 abbrev changed_plan : Rule → Plan
 changed_plan rule = record {
   units = changed_unit rule ∷ [];
+  stays = stays_by (update_of at_last.template (in_plural ∷ []) (approved_unit revision_limit)) ∷ [];
   counts = counts_of 0 (update_of at_last.template (in_plural ∷ []) (approved_unit revision_limit) ∷ []);
 }
 
@@ -192,7 +193,7 @@ fault_comes_first = ap (by_result _ _) not_read
 
 -- a template that only adds a message changes no unit, and is taken
 abbrev pub one_added : List LanguagePlan
-one_added = (de, record { units = approved_unit revision_limit ∷ record demo_unit { key = record { ctx = None; id = codes "Bye" } } ∷ []; counts = counted.Updated 1 0 1 0 0 }) ∷ []
+one_added = (de, record { units = approved_unit revision_limit ∷ record demo_unit { key = record { ctx = None; id = codes "Bye" } } ∷ []; stays = true ∷ []; counts = counted.Updated 1 0 1 0 0 }) ∷ []
 
 added_plans : plans at_last (message ∷ bye ∷ []) ≡ Some one_added
 unfolding plan_of
@@ -221,7 +222,7 @@ gone = record (approved_unit revision_limit) { obsolete = true }
 abbrev pub after_template : Project
 after_template = record before_last { template = []; units = maps.insert maps.empty place gone }
 
-one_gone : plans before_last [] ≡ Some ((de, record { units = gone ∷ []; counts = counted.Updated 0 0 0 1 0 }) ∷ [])
+one_gone : plans before_last [] ≡ Some ((de, record { units = gone ∷ []; stays = false ∷ []; counts = counted.Updated 0 0 0 1 0 }) ∷ [])
 unfolding plan_of
 one_gone = rw (headers_there, units_there 8999999999999999) refl
 

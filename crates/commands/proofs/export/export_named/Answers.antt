@@ -1,10 +1,10 @@
-use Rattle.std.proofs.Common.{refl, sym, ap, Result, Err}
+use Rattle.std.proofs.Common.{refl, ap, Result, Err}
 use Rattle.std.specs.Prelude.{option_map}
 use Rattle.office.specs.declared.export.ExportReceipt.{ExportReceipt}
 use Rattle.office.specs.declared.faults.ExportFault.{ExportFault}
 use Rattle.commands.specs.DeliverLines.{unnamed, written, faulted}
 use Rattle.office.proofs.Streaming.{took_none}
-use Rattle.commands.proofs.Exporting.{still_exported, text_taken}
+use Rattle.commands.proofs.Exporting.{text_taken}
 use Rattle.commands.proofs.export.export_named.Goals as goal
 
 pub returns-in-None-clause-exported : goal.returns-in-None-clause-exported
@@ -13,15 +13,12 @@ returns-in-None-clause-exported g c = unnamed (ap (option_map _) c.in-None.is) (
 pub returns-in-Ok-clause-exported : goal.returns-in-Ok-clause-exported
 returns-in-Ok-clause-exported g c =
     let done = c.in-Ok.ensures in
-    written c.in-Some.lang.now (ap (option_map _) c.in-Some.is) done.kept.open_still
-    (λ h. text_taken _ _ _ _ (still_exported _ _ (g.T.Tables.means c.args.desk.now) (g.T.Tables.means c.export.new.self) c.args.domain.now c.in-Some.lang.now _ _ _ done.kept.open_still done.same done.text h))
-    (took_none _ _) refl
+    written c.in-Some.lang.now (ap (option_map _) c.in-Some.is) done.kept.open_still (λ h. text_taken _ _ _ _ (done.text h)) (took_none _ _) refl
 
 pub returns-in-Err-clause-exported : goal.returns-in-Err-clause-exported
 returns-in-Err-clause-exported g c =
     let cut = c.in-Err.ensures in
     faulted c.in-Some.lang.now (ap (option_map _) c.in-Some.is)
-    (g.T.Tables.means c.args.desk.now).office (λ h w. sym (ap (λ m. m.office) (cut.same h w)))
     (record { fault = c.in-Err.fault; cut = cut.err; device = cut.device; disk = cut.kept.disk; told = c.tell_fault.ensures.told })
     (λ h none. cut.open_still h (ap {A = ExportFault} {B = Result ExportReceipt ExportFault} (λ e. Err e) none))
     c.tell_fault.ensures.status

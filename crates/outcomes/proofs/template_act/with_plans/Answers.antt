@@ -5,6 +5,7 @@ use Rattle.deliveries.specs.ProjectActs.{LanguagePlan, with_template}
 use Rattle.deliveries.specs.Tally.{counts_in}
 use Rattle.deliveries.proofs.acts.Possible.{plans_of_all, none_goes}
 use Rattle.deliveries.proofs.acts.PlansApart.{plans_apart}
+use Rattle.deliveries.proofs.acts.StaysThere.{stays_there}
 use Rattle.outcomes.proofs.template_act.with_plans.Goals as goal
 
 pub returns-in-Ok : goal.returns-in-Ok
@@ -21,5 +22,6 @@ returns-in-Ok c =
         tallied = c.in-Ok.ensures.tallies ∙ (λ i. map (λ (p : LanguagePlan). (p.0, counts_in (sym c.into_catalogue.ensures i) p.1.units)) (c.as_slice.ensures.value i));
         apart = plans_apart c.plans_keep_units.ensures project next all planned c.requires.valid.unique;
         none_goes = none_goes c.plans_keep_units.ensures project next all planned;
+        still = stays_there c.plans_keep_units.ensures project next all planned;
       };
     }

@@ -12,4 +12,4 @@ returns-clause-found g c =
     let two = reads_both old first second _ _ _ _ c.in_ok-tallies.ensures.found c.in_ok-suggestions.ensures.found in
     let three = reads_both old second third _ _ _ _ two c.in_ok-votes.ensures.found in
     let four = reads_both old third fourth _ _ _ _ three c.in_ok-sums.ensures.found in
-    read_mapped old fourth _ _ _ _ (λ db it. record { tallies = it.0.0.0; suggestions = it.0.0.1; votes = it.0.1; sums = it.1 }) four
+    read_mapped old fourth _ _ _ _ (λ db it. record { tallies = it.0.0.0.all; suggestions = it.0.0.1.all; votes = it.0.1.all; sums = it.1.all }) four

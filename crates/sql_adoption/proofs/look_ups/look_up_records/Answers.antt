@@ -9,8 +9,7 @@ use Rattle.sql_schema.specs.Inside.{IsReadOf}
 use Rattle.sql_schema.specs.Whole.{IsLookUp}
 use Rattle.sql_schema.proofs.Whole.{stops_looking}
 use Rattle.sql_statements.specs.RecordTable.{ShowsRecords}
-use Rattle.sql_statements.proofs.LookedUp.{answers, fails_to_answer}
-use Rattle.sql_adoption.proofs.Looked.{steady_begun}
+use Rattle.sql_statements.proofs.LookedUp.{answers, fails_to_answer, steady_begun}
 use Rattle.sql_adoption.proofs.look_ups.look_up_records.Goals as goal
 
 -- what is looked for

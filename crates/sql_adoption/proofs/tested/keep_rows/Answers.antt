@@ -1,4 +1,4 @@
-use Rattle.std.proofs.Common.{Ok, sym, subst}
+use Rattle.std.proofs.Common.{Ok, true, false, sym, subst}
 use Rattle.std.proofs.lemmas.Result.{err_from_is_err_and}
 use Rattle.sqlite.specs.Held.{state}
 use Rattle.office_maps.specs.OfficeIn.{office_in}
@@ -14,7 +14,27 @@ pub returns-in-ForMain-clause-found : goal.returns-in-ForMain-clause-found
 returns-in-ForMain-clause-found g c =
     let old = state g.S.Store c.args.connection.now in
     let idle = subst (λ form. IsIdleOver (form_told form) old) c.in-ForMain.is c.requires.idle in
-    rw c.in-ForMain.is (book_alone_kept _ _ (office_in c.args.read.now.maps) old (state g.S.Store c.keep_book.new.connection) (c.in_ok-keep_book.ensures.found for_main idle))
+    rw c.in-ForMain.is (book_alone_kept _ _ (office_in c.args.read.now.maps) old (state g.S.Store c.keep_book.new.connection) (c.in_ok-keep_book.ensures.found (for_main false) idle))
+
+pub keep_main_figures-requires-clause-idle : goal.keep_main_figures-requires-clause-idle
+keep_main_figures-requires-clause-idle g c =
+    let old = state g.S.Store c.args.connection.now in
+    let idle = subst (λ form. IsIdleOver (form_told form) old) c.in-WithFigures.is c.requires.idle in
+    idle_still old (state g.S.Store c.keep_book.new.connection) _ _ idle (c.in_ok-keep_book.ensures.found (for_main true) idle)
+
+pub returns-in-WithFigures-clause-found : goal.returns-in-WithFigures-clause-found
+returns-in-WithFigures-clause-found g c =
+    let old = state g.S.Store c.args.connection.now in
+    let idle = subst (λ form. IsIdleOver (form_told form) old) c.in-WithFigures.is c.requires.idle in
+    rw c.in-WithFigures.is (rows_are_kept (for_main true) _ (office_in c.args.read.now.maps) old (state g.S.Store c.keep_book.new.connection) (state g.S.Store c.keep_main_figures.new.connection) c.keep_main_figures.result
+    (c.in_ok-keep_book.ensures.found (for_main true) idle) c.keep_main_figures.ensures.found)
+
+pub returns-in-WithFigures-clause-refused : goal.returns-in-WithFigures-clause-refused
+returns-in-WithFigures-clause-refused g c =
+    let old = state g.S.Store c.args.connection.now in
+    let idle = subst (λ form. IsIdleOver (form_told form) old) c.in-WithFigures.is c.requires.idle in
+    rw c.in-WithFigures.is (rows_refused (for_main true) _ (office_in c.args.read.now.maps) old (state g.S.Store c.keep_book.new.connection) (state g.S.Store c.keep_main_figures.new.connection) c.keep_main_figures.result
+    (c.in_ok-keep_book.ensures.found (for_main true) idle) c.keep_main_figures.ensures.found c.keep_main_figures.ensures.refused)
 
 pub keep_figures-requires-clause-idle : goal.keep_figures-requires-clause-idle
 keep_figures-requires-clause-idle g c =
@@ -26,14 +46,14 @@ pub returns-in-ByDomain-clause-found : goal.returns-in-ByDomain-clause-found
 returns-in-ByDomain-clause-found g c =
     let old = state g.S.Store c.args.connection.now in
     let idle = subst (λ form. IsIdleOver (form_told form) old) c.in-ByDomain.is c.requires.idle in
-    rw c.in-ByDomain.is (rows_are_kept _ (office_in c.args.read.now.maps) old (state g.S.Store c.keep_book.new.connection) (state g.S.Store c.keep_figures.new.connection) c.keep_figures.result
+    rw c.in-ByDomain.is (rows_are_kept by_domain _ (office_in c.args.read.now.maps) old (state g.S.Store c.keep_book.new.connection) (state g.S.Store c.keep_figures.new.connection) c.keep_figures.result
     (c.in_ok-keep_book.ensures.found by_domain idle) c.keep_figures.ensures.found)
 
 pub returns-in-ByDomain-clause-refused : goal.returns-in-ByDomain-clause-refused
 returns-in-ByDomain-clause-refused g c =
     let old = state g.S.Store c.args.connection.now in
     let idle = subst (λ form. IsIdleOver (form_told form) old) c.in-ByDomain.is c.requires.idle in
-    rw c.in-ByDomain.is (rows_refused _ (office_in c.args.read.now.maps) old (state g.S.Store c.keep_book.new.connection) (state g.S.Store c.keep_figures.new.connection) c.keep_figures.result
+    rw c.in-ByDomain.is (rows_refused by_domain _ (office_in c.args.read.now.maps) old (state g.S.Store c.keep_book.new.connection) (state g.S.Store c.keep_figures.new.connection) c.keep_figures.result
     (c.in_ok-keep_book.ensures.found by_domain idle) c.keep_figures.ensures.found c.keep_figures.ensures.refused)
 
 pub returns-in_err-keep_book-clause-refused : goal.returns-in_err-keep_book-clause-refused

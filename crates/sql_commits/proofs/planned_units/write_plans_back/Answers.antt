@@ -2,6 +2,7 @@ use Rattle.std.proofs.Common.{refl, sym, append-nil, [], Ok, ℕ, ◌∙◌}
 use Rattle.sqlite.specs.Held.{state}
 use Rattle.sqlite.specs.declared.error.Error.{Error}
 use Rattle.sql_decoding.specs.declared.faults.Failure.{Failure}
+use Rattle.template_update.specs.Marks.{unmarked}
 use Rattle.sql_changes.specs.UnitWrites.{WritesUnitsBack}
 use Rattle.sql_commits.proofs.PlannedWrites.{PlansBehind, plans_behind}
 use Rattle.sql_commits.proofs.WritesInTurn.{write_then, write_told}
@@ -23,11 +24,12 @@ loop-last-preserved g c =
     let others = c.in-Some.others.now in
     let last = c.in-Some.last.now in
     let units = c.as_slice.result.now in
-    let One = OnDomain domain (WritesUnitsBack last.0 units) in (
+    let stays = c.as_slice-in-Some.result.now in
+    let One = OnDomain domain (WritesUnitsBack last.0 (unmarked units stays)) in (
       c.in_ok-write_units_back.ensures.same_reference ∙ c.loop-last.invariant.0,
       write_then old mid new {A = ℕ} {B = ℕ} {E = Error} {F = Error} 0 (Ok 0) (OnDomain domain (PlansBehind plans left)) One (OnDomain domain (PlansBehind plans others))
-          (on_domain_then domain (PlansBehind plans left) (WritesUnitsBack last.0 units) (PlansBehind plans others)
-          (plans_behind plans left others last units (seen domain old.now) (seen domain mid.now) (seen domain new.now) c.in-Some.ensures.cases.0 c.as_slice.ensures)) c.loop-last.invariant.1
+          (on_domain_then domain (PlansBehind plans left) (WritesUnitsBack last.0 (unmarked units stays)) (PlansBehind plans others)
+          (plans_behind plans left others last units stays (seen domain old.now) (seen domain mid.now) (seen domain new.now) c.in-Some.ensures.cases.0 c.as_slice.ensures c.as_slice-in-Some.ensures)) c.loop-last.invariant.1
           (write_told mid new {E = Failure} c.in_ok-write_units_back.field-0 0 One One (λ made. made) c.in_ok-write_units_back.ensures.put),
       write_then old mid new {A = ℕ} {B = ℕ} {E = Error} {F = Error} 0 (Ok 0) FiguresStay FiguresStay FiguresStay stay_both c.loop-last.invariant.2
           (write_told mid new {E = Failure} c.in_ok-write_units_back.field-0 0 FiguresStay FiguresStay (λ stays. stays) c.in_ok-write_units_back.ensures.figures),

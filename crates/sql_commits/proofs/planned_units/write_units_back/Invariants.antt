@@ -8,11 +8,11 @@ use Rattle.sql_changes.specs.OnDomains.{OnDomain}
 use Rattle.sql_figures.specs.Figures.{FiguresStay}
 use Rattle.sql_schema.specs.Layouts.{by_domain}
 
--- the units behind those that are left are written
+-- the units behind those that are left are written, but those that stay
 abbrev pub invariant-loop-last : goal.invariant-loop-last
 invariant-loop-last g l =
     (l.tx.conn.ghost_name ≡ l.fn.tx.conn.ghost_name)
-    × IsInsideOf {A = ℕ} {E = Error} by_domain (state g.S.Store l.fn.tx.conn.now) (state g.S.Store l.tx.conn.now) (Ok 0) (OnDomain l.domain (UnitsBehind l.lang l.fn.units l.left))
+    × IsInsideOf {A = ℕ} {E = Error} by_domain (state g.S.Store l.fn.tx.conn.now) (state g.S.Store l.tx.conn.now) (Ok 0) (OnDomain l.domain (UnitsBehind l.lang l.stays l.fn.units l.left))
     × IsInsideOf {A = ℕ} {E = Error} by_domain (state g.S.Store l.fn.tx.conn.now) (state g.S.Store l.tx.conn.now) (Ok 0) FiguresStay
 
 abbrev pub decreases-loop-last : goal.decreases-loop-last

@@ -3,13 +3,26 @@ use Rattle.sqlite.specs.Effect.{Database}
 use Rattle.sqlite.specs.Held.{state}
 use Rattle.po_text.specs.Texts.{Text}
 use Rattle.office_maps.specs.OfficeIn.{office_in}
-use Rattle.sql_schema.specs.Layouts.{by_domain}
+use Rattle.sql_schema.specs.Inside.{IsSteadyOver, IsSteadyForMain}
+use Rattle.sql_schema.specs.Layouts.{Form, by_domain}
 use Rattle.sql_schema.specs.Whole.{IsCommitOf}
+use Rattle.sql_statements.proofs.LookedUp.{steady_begun}
 use Rattle.sql_commits.proofs.FiguresInTurn.{write_joined}
+use Rattle.sql_adoption.specs.Tables.{form_told}
+use Rattle.sql_schema.proofs.Layouts.{of_main}
 use Rattle.sql_conversion.specs.Conversion.{WritesAnew, FollowsLanguages, Converts}
 use Rattle.sql_conversion.proofs.OneTransaction.{finishes, commits_as}
 use Rattle.sql_conversion.proofs.Whole.{converts_adopted}
 use Rattle.sql_conversion.proofs.converting.convert.Goals as goal
+
+pub write_anew-written-requires : goal.write_anew-written-requires
+write_anew-written-requires g c =
+    let adopted = c.args.adopted.now in
+    let begun = state g.S.Store c.transaction-tx.result.conn.now in
+    record {
+      steady = of_main (λ (form : Form). IsSteadyOver form begun → IsSteadyForMain begun) (form_told adopted.form) c.requires.form (λ figures steady. (figures, steady))
+          (steady_begun g.S.Store c.args.connection.now c.transaction-tx.result.conn.now c.transaction-tx.ensures.begun c.requires.idle);
+    }
 
 pub returns : goal.returns
 returns g c =
@@ -27,6 +40,6 @@ returns g c =
     (write_joined (state g.S.Store begun) (state g.S.Store written) c.write_anew-written.result (WritesAnew office langs) (FollowsLanguages office langs) Makes (λ made counted. (made, counted)) c.write_anew-written.ensures.put c.write_anew-written.ensures.figures)) in
     record {
       converted = commits_as (state g.S.Store old) (state g.S.Store c.connection-1.given.0) c.finish.result Makes Converts
-          (λ clean is_open after ready made. converts_adopted (state g.S.Store old).now after adopted c.requires.form (c.requires.adopted clean is_open) (c.requires.idle.ready clean is_open) ready
-          (subst (λ (ls : List Text). WritesAnew office ls (state g.S.Store old).now after × FollowsLanguages office ls (state g.S.Store old).now after) all made)) whole;
+          (λ clean is_open after ready made. converts_adopted (state g.S.Store old).now after adopted (c.requires.adopted clean is_open) ready
+          (subst (λ (ls : List Text). WritesAnew office ls (state g.S.Store old).now after × FollowsLanguages office ls (state g.S.Store old).now after) all made) c.requires.form (c.requires.idle.ready clean is_open)) whole;
     }

@@ -1,0 +1,16 @@
+use Rattle.sqlite.specs.Held.{state}
+use Rattle.sql_conversion.specs.Conversion.{IsTakenOver, IsGivenBack}
+use Rattle.sql_conversion.proofs.TakenOver.{told_ok, told_err, conversion_taken, conversion_given_back}
+use Rattle.sql_conversion.proofs.taking.convert_adopted.Goals as goal
+
+pub returns-clause-taken : goal.returns-clause-taken
+returns-clause-taken g c =
+    let old = state g.S.Store c.args.connection.now in
+    let new = state g.S.Store c.convert.new.connection in
+    told_ok _ (IsTakenOver old new) c.convert.result c.map_err-done.result c.map_err-done.ensures.cases (conversion_taken old new c.args.adopted c.requires.adopted c.requires.form c.convert.result c.convert.ensures.converted)
+
+pub returns-clause-given_back : goal.returns-clause-given_back
+returns-clause-given_back g c =
+    let old = state g.S.Store c.args.connection.now in
+    let new = state g.S.Store c.convert.new.connection in
+    told_err _ (IsGivenBack old new) c.convert.result c.map_err-done.result c.map_err-done.ensures.cases (conversion_given_back old new c.args.adopted c.requires.adopted c.requires.form c.convert.result c.convert.ensures.converted)

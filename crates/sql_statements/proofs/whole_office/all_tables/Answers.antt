@@ -1,0 +1,27 @@
+use Rattle.sqlite.specs.Held.{state}
+use Rattle.sql_schema.specs.Layouts.{for_main}
+use Rattle.sql_schema.proofs.Sequences.{reads_both, read_mapped, steady_read, fails_after, read_failed_as}
+use Rattle.sql_statements.proofs.whole_office.all_tables.Goals as goal
+
+pub returns-in_err-office-clause-found : goal.returns-in_err-office-clause-found
+returns-in_err-office-clause-found g c figures steady =
+    let old = state g.S.Store c.args.tx.now.conn.now in
+    let first = state g.S.Store c.office_tables.new.tx.conn.now in
+    read_failed_as old first _ _ _ _ c.from_residual.ensures.0 (c.in_err-office.ensures.found figures steady)
+
+pub returns-in_err-units-clause-found : goal.returns-in_err-units-clause-found
+returns-in_err-units-clause-found g c figures steady =
+    let old = state g.S.Store c.args.tx.now.conn.now in
+    let first = state g.S.Store c.office_tables.new.tx.conn.now in
+    let one = c.in_ok-office.ensures.found figures steady in
+    let second = state g.S.Store c.unit_tables.new.tx.conn.now in
+    fails_after old first second _ _ _ _ _ _ c.from_residual-in_err-units.ensures.0 one (c.in_err-units.ensures.found figures (steady_read old first _ _ one))
+
+pub returns-clause-found : goal.returns-clause-found
+returns-clause-found g c figures steady =
+    let old = state g.S.Store c.args.tx.now.conn.now in
+    let first = state g.S.Store c.office_tables.new.tx.conn.now in
+    let one = c.in_ok-office.ensures.found figures steady in
+    let second = state g.S.Store c.unit_tables.new.tx.conn.now in
+    let two = reads_both old first second _ _ _ _ one (c.in_ok-units.ensures.found figures (steady_read old first _ _ one)) in
+    read_mapped old second _ _ _ _ (λ db it. record { office = it.0; units = it.1 }) two

@@ -1,0 +1,39 @@
+use Rattle.sqlite.specs.Held.{state}
+use Rattle.sql_schema.specs.Layouts.{for_main}
+use Rattle.sql_schema.proofs.Sequences.{reads_both, read_mapped, steady_read, fails_after, read_failed_as}
+use Rattle.sql_statements.proofs.whole_office.unit_tables.Goals as goal
+
+pub returns-in_err-units-clause-found : goal.returns-in_err-units-clause-found
+returns-in_err-units-clause-found g c figures steady =
+    let old = state g.S.Store c.args.tx.now.conn.now in
+    let first = state g.S.Store c.all_units.new.tx.conn.now in
+    read_failed_as old first _ _ _ _ c.from_residual.ensures.0 (c.in_err-units.ensures.found figures steady)
+
+pub returns-in_err-suggestions-clause-found : goal.returns-in_err-suggestions-clause-found
+returns-in_err-suggestions-clause-found g c figures steady =
+    let old = state g.S.Store c.args.tx.now.conn.now in
+    let first = state g.S.Store c.all_units.new.tx.conn.now in
+    let one = c.in_ok-units.ensures.found figures steady in
+    let second = state g.S.Store c.all_suggestions.new.tx.conn.now in
+    fails_after old first second _ _ _ _ _ _ c.from_residual-in_err-suggestions.ensures.0 one (c.in_err-suggestions.ensures.found figures (steady_read old first _ _ one))
+
+pub returns-in_err-votes-clause-found : goal.returns-in_err-votes-clause-found
+returns-in_err-votes-clause-found g c figures steady =
+    let old = state g.S.Store c.args.tx.now.conn.now in
+    let first = state g.S.Store c.all_units.new.tx.conn.now in
+    let one = c.in_ok-units.ensures.found figures steady in
+    let second = state g.S.Store c.all_suggestions.new.tx.conn.now in
+    let two = reads_both old first second _ _ _ _ one (c.in_ok-suggestions.ensures.found figures (steady_read old first _ _ one)) in
+    let third = state g.S.Store c.all_votes.new.tx.conn.now in
+    fails_after old second third _ _ _ _ _ _ c.from_residual-in_err-votes.ensures.0 two (c.in_err-votes.ensures.found figures (steady_read old second _ _ two))
+
+pub returns-clause-found : goal.returns-clause-found
+returns-clause-found g c figures steady =
+    let old = state g.S.Store c.args.tx.now.conn.now in
+    let first = state g.S.Store c.all_units.new.tx.conn.now in
+    let one = c.in_ok-units.ensures.found figures steady in
+    let second = state g.S.Store c.all_suggestions.new.tx.conn.now in
+    let two = reads_both old first second _ _ _ _ one (c.in_ok-suggestions.ensures.found figures (steady_read old first _ _ one)) in
+    let third = state g.S.Store c.all_votes.new.tx.conn.now in
+    let three = reads_both old second third _ _ _ _ two (c.in_ok-votes.ensures.found figures (steady_read old second _ _ two)) in
+    read_mapped old third _ _ _ _ (λ db it. record { units = it.0.0; suggestions = it.0.1; votes = it.1 }) three
