@@ -17,11 +17,14 @@ import front_servers as servers
 import identity
 from front_servers import ASKED, OPENED, PROJECT, SECONDS, TOP
 from looks import HOST, free_port
+from patience import seconds
 
 HEADER = 'msgid ""\nmsgstr ""\n"Content-Type: text/plain; charset=UTF-8\\n"\n"Plural-Forms: nplurals=2; plural=n != 1;\\n"\n'
 MESSAGES = ("typed", "saved", "sent")
 ANN = {"sub": "248289761001", "preferred_username": "Ann@Example.org"}
 SIGN_IN = b'{"error":"sign-in"}'
+# The shortest time that a sign-in may have.
+LASTS = seconds(15)
 
 
 class NoRedirects(urllib.request.HTTPRedirectHandler):
@@ -109,8 +112,7 @@ def run(folder, program, same):
     place = folder / "page"
     place.mkdir()
     place.chmod(0o755)
-    # The shortest time that a sign-in may have.
-    with served(place, program, **{"OIDCSessionMaxDuration 86400": "OIDCSessionMaxDuration 15"}) as (provider, apache, path, _):
+    with served(place, program, **{"OIDCSessionMaxDuration 86400": f"OIDCSessionMaxDuration {LASTS}"}) as (provider, apache, path, _):
         runs_out(same, place, apache, provider)
     same("who acted on the page", records(path), [("ann", "saved", 200)])
 
@@ -217,7 +219,7 @@ def runs_out(same, folder, apache, provider):
         opened(tab, "saved")
         tab.fill("#form-0", "gesichert")
         provider.person = None
-        tab.rest(max(0, 17 - (time.monotonic() - begun)))
+        tab.rest(max(0, LASTS + 2 - (time.monotonic() - begun)))
         tab.click("#translate")
         tab.wait_text("#outbox", "1 request waits: you aren't signed in")
         loaded(tab, apache.at)

@@ -4,6 +4,8 @@
 local PASSWORDS, MINUTE, HOUR = 120, 60, 3600
 -- Bytes of refused requests in an hour, of a translator and of a manager.
 local BYTES = { ["0"] = 2000000, ["1"] = 100000000 }
+-- What a record has in the office's file beside its content.
+local ROW = 150
 -- Where a request has one of these it may be recorded for good; 499: its client went away first.
 local COSTS = { [403] = true, [404] = true, [409] = true, [422] = true, [499] = true, [504] = true }
 
@@ -25,6 +27,11 @@ local function password()
   return "right " .. ngx.sha1_bin(var.project .. "\n" .. address() .. "\n" .. (var.http_authorization or ""))
 end
 
+-- What a request costs where it is refused.
+local function cost()
+  return tonumber(var.content_length) + ROW
+end
+
 local phases = {}
 
 function phases.rewrite()
@@ -41,7 +48,7 @@ function phases.access()
   if var.charges == "1" then
     local hour = math.floor(ngx.time() / HOUR) .. " " .. var.project .. " " .. var.caller
     var.charged = hour
-    if refused:incr(hour, tonumber(var.content_length), 0, 2 * HOUR) > BYTES[var.manages] then
+    if refused:incr(hour, cost(), 0, 2 * HOUR) > BYTES[var.manages] then
       return ngx.exec("@refused")
     end
   end
@@ -51,7 +58,7 @@ function phases.log()
   if ngx.status == 401 then
     sign_ins:incr(wrong_passwords(), 1, 0, 2 * MINUTE)
   elseif (var.charged or "") ~= "" and not COSTS[ngx.status] then
-    refused:incr(var.charged, -tonumber(var.content_length))
+    refused:incr(var.charged, -cost())
   end
 end
 
