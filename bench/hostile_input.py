@@ -2,7 +2,9 @@
 """Measures what small messages of anybody cost: input that is allowed, and that the office once worked on for seconds.
 
 Refused acts: a stranger's act on the office and a stranger's translation, each refused for the role and recorded, in
-an office of many units. Votes: a look at a unit of 49 suggestions with 9,999 votes each, and the opening of its file.
+an office of many units. Counts: a question for those of a language there, and of one that isn't there, behind a
+translation each. Votes: a look at a unit of 49 suggestions with 9,999 votes each, a vote on one of them, and the
+opening of its file. Role: a stranger's refused translation of a unit with 100 suggestions of eight long forms.
 Placeholders: a translation of a message of 16,383 directives into one with the same directives in another order.
 First act: a translation behind an opening, beside the next ones, in the office of many units. Each the best of
 several, of one program or of two in turn, the second in the second column, say that of the commit before; and what is
@@ -12,6 +14,7 @@ The offices are made by requests. Then Python's sqlite3 copies the rows of one l
 
 Usage: bench/hostile_input.py PROGRAM [OTHER [FOLDER [LANGUAGES [ENTRIES]]]]      (the files are made in FOLDER, which should lie on a disk)
 """
+import contextlib
 import json
 import os
 import shutil
@@ -29,6 +32,9 @@ LANGUAGES = int(sys.argv[4]) if len(sys.argv) > 4 else 32
 ENTRIES = int(sys.argv[5]) if len(sys.argv) > 5 else 15_000
 ROUNDS = 5
 SUGGESTIONS, VOTES = 49, 9_999
+# A vote on a unit that has many takes long, so few are tried.
+VOTERS = 2
+LONG_SUGGESTIONS, FORMS, LETTERS = 100, 8, 50_000
 DIRECTIVES = 16_383
 POLICY = {"accept_at": 0, "guests_suggest": True, "line_ends": True, "placeholders": True, "reviews": False, "voting": True}
 # The first number of the requests by which an office is measured.
@@ -131,6 +137,7 @@ def many_votes(path, requests):
         requests.line("template", po='msgid "Hello"\nmsgstr ""\n'),
         requests.line("language", lang="de", po=HEADER),
         requests.line("policy", **POLICY),
+        requests.line("team", name="ann", role="translator"),
     ]
     lines += [requests.line("suggest", forms=["Hallo %d" % i], id="Hello", lang="de", seen=1) for i in range(SUGGESTIONS)]
     made(path, lines)
@@ -143,6 +150,20 @@ def many_votes(path, requests):
         db.execute(f"UPDATE d_vote_sum SET sum = 1 + ({votes})")
 
     written(path, vote)
+
+
+def long_suggestions(path, requests):
+    """An office of one unit, which has many suggestions of as many forms as may be, each of them long."""
+    header = HEADER.replace("nplurals=2; plural=n != 1;", "nplurals=%d; plural=n %% %d;" % (FORMS, FORMS))
+    lines = [
+        requests.line("template", po='msgid "Hello"\nmsgid_plural "Hellos"\nmsgstr[0] ""\nmsgstr[1] ""\n'),
+        requests.line("language", lang="de", po=header),
+    ]
+    lines += [
+        requests.line("suggest", forms=["%d %s" % (i, "x" * LETTERS)] * FORMS, id="Hello", lang="de", seen=1)
+        for i in range(LONG_SUGGESTIONS)
+    ]
+    made(path, lines)
 
 
 def directives(first, second, count=DIRECTIVES):
@@ -174,7 +195,33 @@ def of_many_units(program, path):
             line = requests.line("translate", "stranger", forms=["Text"], seen=1, **unit)
             translations.append(desk.ask(line, REFUSED))
             offices.append(desk.ask(requests.line("team", "stranger", name="stranger", role="manager"), REFUSED))
-    return [min(translations), min(offices), acts[0], min(acts[1:])]
+    return [min(translations), min(offices), acts[0], min(acts[1:]), *of_counts(program, path, requests)]
+
+
+def of_counts(program, path, requests):
+    """A question for a language's counts, which have to be right, and for those of a language that isn't there."""
+    none = {"approved": 0, "needs-editing": 0, "obsolete": 0, "read-only": 0, "suggestions": 0, "translated": ENTRIES, "untranslated": 0}
+    here, nowhere = [], []
+    with talking(program, path) as (_, client), client.makefile("rb") as reader:
+        for turn in range(ROUNDS):
+            act = {"act": "translate", "forms": ["Text of turn %d" % turn], "id": key(8), "lang": code(0), "seen": turn + 1}
+            posted(client, reader, number(requests.count + turn + 1), act)
+            for lang, times, status, wanted in ((code(0), here, 200, none), ("yy", nowhere, 404, {"error": "no-language"})):
+                start = time.monotonic()
+                client.sendall(b"GET /v1/stats/%s HTTP/1.1\r\nHost: 127.0.0.1\r\n\r\n" % lang.encode())
+                body = answered(reader, status)[1]
+                times.append(time.monotonic() - start)
+                if json.loads(body) != wanted:
+                    raise SystemExit("counts of %s: %.300s" % (lang, body))
+    return [min(here), min(nowhere)]
+
+
+def posted(client, reader, number, act):
+    """Has an act done by a served office."""
+    body = json.dumps(act).encode()
+    head = "POST /v1/requests/%s HTTP/1.1\r\nHost: 127.0.0.1\r\nX-Office-Caller: root\r\nContent-Length: %d\r\n\r\n" % (number, len(body))
+    client.sendall(head.encode() + body)
+    answered(reader)
 
 
 def looked(program, path, target, right):
@@ -196,7 +243,28 @@ def of_many_votes(program, path):
     def right(view):
         return [it["votes"] for it in view["suggestions"]] == [1 + VOTES % 2] * SUGGESTIONS
 
-    return list(looked(program, path, b"/v1/unit?lang=de&id=Hello", right))
+    return [*looked(program, path, b"/v1/unit?lang=de&id=Hello", right), voted(program, path)]
+
+
+def voted(program, path):
+    """The seconds of the best of some votes, each on another suggestion, which have to be counted."""
+    with contextlib.closing(sqlite3.connect(path)) as db:
+        own = [it for (it,) in db.execute("SELECT number FROM d_suggestion LIMIT ?", (VOTERS,))]
+    wanted = '200 {"accepted":false,"revision":1,"state":"untranslated","votes":%d}' % (2 + VOTES % 2)
+    requests, times = Requests(LATER), []
+    with Desk(program, path) as desk:
+        for it in own:
+            line = requests.line("vote", "ann", id="Hello", lang="de", seen=1, suggestion=it, value=1)
+            times.append(desk.ask(line, wanted))
+    return min(times)
+
+
+def of_long_suggestions(program, path):
+    """A stranger's translation, which is refused for the role."""
+    requests = Requests(LATER)
+    with Desk(program, path) as desk:
+        lines = [requests.line("translate", "stranger", forms=["Text"] * FORMS, id="Hello", lang="de", seen=1) for _ in range(ROUNDS)]
+        return [min(desk.ask(it, REFUSED) for it in lines)]
 
 
 def of_many_directives(program, path):
@@ -238,15 +306,21 @@ def main():
         print("%-48s %s%s" % (what, "".join("%12.2f ms" % (it * 1e3) for it in seconds), wanted))
 
     print("%d languages of %d units, the best of %d" % (LANGUAGES, ENTRIES, ROUNDS))
-    translation, office, first, following = beside(many_units, of_many_units)
+    translation, office, first, following, counts, no_counts = beside(many_units, of_many_units)
     tell("a stranger's refused translation", translation)
     tell("a stranger's refused act on the office", office, 2 * translation[0])
     tell("the first act behind an opening", first, 2 * following[0])
     tell("the next acts", following)
+    tell("a language's counts", counts, 0.01)
+    tell("those of a language that isn't there", no_counts, 0.01)
     print("a unit of %d suggestions with %d votes each" % (SUGGESTIONS, VOTES))
-    look, opening = beside(many_votes, of_many_votes)
+    look, opening, vote = beside(many_votes, of_many_votes)
     tell("a look", look, 0.3)
     tell("the opening", opening)
+    tell("a vote", vote, 0.02)
+    print("a unit of %d suggestions of %d forms of %d letters" % (LONG_SUGGESTIONS, FORMS, LETTERS))
+    (refused,) = beside(long_suggestions, of_long_suggestions)
+    tell("a stranger's refused translation", refused, 0.02)
     print("a message of %d directives" % DIRECTIVES)
     (translated,) = beside(many_directives, of_many_directives)
     tell("a translation", translated, 0.1)

@@ -74,19 +74,19 @@ def talking(program, path, used=None):
             used.append(seconds)
 
 
-def answered(reader):
-    """The fields and the body of the next answer, of status 200."""
-    return rest_of_answer(reader, reader.readline())
+def answered(reader, wanted=200):
+    """The fields and the body of the next answer, of this status."""
+    return rest_of_answer(reader, reader.readline(), wanted)
 
 
-def rest_of_answer(reader, status):
+def rest_of_answer(reader, status, wanted=200):
     """The same, where the status line was read."""
     fields = {}
     for line in iter(reader.readline, b"\r\n"):
         name, value = line.decode().split(": ", 1)
         fields[name] = value.rstrip()
     body = reader.read(int(fields["Content-Length"]))
-    if not status.startswith(b"HTTP/1.1 200 "):
+    if not status.startswith(b"HTTP/1.1 %d " % wanted):
         raise SystemExit("answered %r" % (status + body)[:300])
     return fields, body
 

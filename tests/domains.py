@@ -22,8 +22,8 @@ import subprocess
 import sys
 import tempfile
 
+import figures
 import looks
-from figures import COUNTED, KEPT, answers
 from looks import look, number, same
 
 TOP = pathlib.Path(__file__).resolve().parent.parent
@@ -129,14 +129,12 @@ def deliver(path, requests):
     return done[1].splitlines()
 
 
-class Seen:
-    """What a closed file has, as SQLite tells it."""
+class Seen(figures.Seen):
+    """What a closed file has, what is the whole office's too, and what is of no domain."""
 
     def __init__(self, path):
         with contextlib.closing(sqlite3.connect(path)) as db:
-            self.whole = answers(db, ("PRAGMA integrity_check", "PRAGMA foreign_key_check"))
-            self.kept, self.counted = answers(db, KEPT), answers(db, COUNTED)
-            self.own = {it: {name: list(db.execute(text, (it,))) for name, text in OWN.items()} for it in DOMAINS}
+            super().__init__(db, OWN, DOMAINS)
             self.office = {name: list(db.execute(text)) for name, text in OFFICE.items()}
             self.others = {name: db.execute(f"SELECT count(*) FROM {name} WHERE domain NOT IN (SELECT name FROM domain)").fetchone()[0] for name in BY_DOMAIN}
 

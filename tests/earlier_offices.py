@@ -3,15 +3,18 @@
 
     tests/earlier_offices.py [PROGRAM [EARLIER]]      (crates/cli/out/cli, as ./office has built it)
 
-Python's sqlite3 makes the eight tables of the first form, by the statements below, and the rows of such an office, as docs/FORMATS.md has them: a
-message that was translated under a policy that enforces placeholders, with one that today's check finds; and a message with 50 suggestions, a further
-one of which was refused; votes, an obsolete message, one that is read-only, and a second language. Copies that are spoilt are refused, and aren't
-converted. The program writes what they hold into tables by domains when it opens the file. What was answered then is answered again; the
-message's view shows what is found; what is asked anew is judged by today's rules. The rows of the eight tables stay, those by domains are the same with
-`main` in front, and the sums and the counts that are kept are those that a query counts. A second opening changes nothing. The program is killed at
-random moments while it opens copies: each is as it was then, or converted, and the next opening converts it. EARLIER is a program that
-knows the eight tables alone: it refuses a converted file and leaves it alone. Prints what is otherwise, and last
-`N looks, M wrong`.
+Files are made by their dumps in tests/earlier/. Of two, what they hold is written below too, and compared: the eight tables of the first schema and
+the ten of the second, by their statements, and the rows of such an office, as docs/FORMATS.md has them: a message that was translated under a policy
+that enforces placeholders, with one that today's check finds; and a message with 50 suggestions, a further one of which was refused; votes, an
+obsolete message, one that is read-only, and a second language. In the second schema a query counts the sums and the tallies. Copies that are spoilt
+are refused, and aren't converted: those with a row that names one that isn't there are among them, and in the second schema those whose sums or
+tallies aren't what counting gives. The program writes what they hold into tables by domains when it opens the file. What was answered then is
+answered again; the message's view shows what is found; what is asked anew is judged by today's rules. The rows of the old tables stay, those by
+domains are the same with `main` in front, and the sums and the counts that are kept are those that a query counts. A second opening changes nothing.
+The program is killed at random moments while it opens copies: each is as it was then, or converted, and the next opening converts it. EARLIER is a
+program that knows the first schema alone: it refuses a converted file and leaves it alone. Then the files that programs have left, one of schema 1
+and one of schema 3 with a further domain (tests/earlier/make.py has written them): each request that they recorded gets its reply again, and the
+exports have the bytes that they had. Prints what is otherwise, and last `N looks, M wrong`.
 """
 import json
 import pathlib
@@ -24,6 +27,7 @@ import tempfile
 import time
 
 import looks
+from dumps import dumped, made
 from figures import kept_and_counted
 from looks import asked, free_port, number, same
 from patience import seconds
@@ -31,6 +35,7 @@ from patience import seconds
 TOP = pathlib.Path(__file__).resolve().parent.parent
 PROGRAM = pathlib.Path(sys.argv[1] if len(sys.argv) > 1 else TOP / "crates" / "cli" / "out" / "cli").resolve()
 EARLIER = pathlib.Path(sys.argv[2]).resolve() if len(sys.argv) > 2 else None
+DUMPS = TOP / "tests" / "earlier"
 SECONDS = seconds(20)
 FIRST = [
     "CREATE TABLE record (number TEXT NOT NULL PRIMARY KEY, content TEXT NOT NULL, status INTEGER NOT NULL, body TEXT NOT NULL) STRICT",
@@ -46,6 +51,12 @@ FIRST = [
     "CREATE TABLE vote (number TEXT NOT NULL REFERENCES suggestion (number) ON DELETE CASCADE, voter TEXT NOT NULL, "
     "value INTEGER NOT NULL CHECK (value BETWEEN -1 AND 1) CHECK (value <> 0), PRIMARY KEY (number, voter)) STRICT",
 ]
+COUNTED = ("untranslated", "needs_editing", "translated", "approved", "read_only", "suggestions", "obsolete")
+SECOND = [
+    *FIRST,
+    "CREATE TABLE vote_sum (number TEXT NOT NULL PRIMARY KEY REFERENCES suggestion (number) ON DELETE CASCADE, sum INTEGER NOT NULL) STRICT",
+    f"CREATE TABLE tally (lang TEXT NOT NULL PRIMARY KEY, {', '.join(f'{it} INTEGER NOT NULL' for it in COUNTED)}) STRICT",
+]
 # The columns of each of the eight that a domain has of its own, and its table by domains.
 MOVED = {
     "template": "place, key, plural, extracted, refs, flags",
@@ -54,11 +65,17 @@ MOVED = {
     "suggestion": "number, lang, key, place, suggester, forms",
     "vote": "number, voter, value",
 }
+# What is kept in the second schema, as counted.
+OLD_SUMS = "SELECT s.number, 1 + coalesce((SELECT sum(value) FROM vote v WHERE v.number = s.number), 0) FROM suggestion s ORDER BY 1"
+OLD_COUNTS = """SELECT l.lang, total(obsolete = 0 AND flags NOT LIKE '%"read-only"%' AND state = 0), total(obsolete = 0 AND flags NOT LIKE '%"read-only"%' AND state = 1),
+    total(obsolete = 0 AND flags NOT LIKE '%"read-only"%' AND state = 2), total(obsolete = 0 AND flags NOT LIKE '%"read-only"%' AND state = 3),
+    total(obsolete = 0 AND flags LIKE '%"read-only"%'), total((SELECT count(*) FROM suggestion s WHERE u.obsolete = 0 AND s.lang = u.lang AND s.key = u.key)), total(obsolete)
+    FROM language l LEFT JOIN unit u ON u.lang = l.lang LEFT JOIN template t ON t.key = u.key GROUP BY l.lang ORDER BY 1"""
 # What is done to a copy of the file, as SQL, before it is converted: it is no office's then. And after: the first two are refused, and the last
 # isn't, since nobody reads the rows of the old tables.
 SPOILT = {
     "the number of the later schema": "UPDATE policy SET schema = 3",
-    "another number": "UPDATE policy SET schema = 2",
+    "the number 0": "UPDATE policy SET schema = 0",
     "no policy": "DELETE FROM policy",
     "a table by domains beside": "CREATE TABLE domain (name TEXT NOT NULL PRIMARY KEY) STRICT",
     "a table missing": "DROP TABLE vote",
@@ -68,11 +85,36 @@ SPOILT = {
     "no manager": "DELETE FROM team WHERE role = 3",
     "a record that is no request": "UPDATE record SET content = '{}'",
 }
+SPOILT_FIRST = {
+    "the number of the second schema": "UPDATE policy SET schema = 2",
+    "a table of sums beside": SECOND[8],
+    "tables of sums and tallies beside, without a row": f"{SECOND[8]}; {SECOND[9]}",
+    "these with the number of their schema": f"{SECOND[8]}; {SECOND[9]}; UPDATE policy SET schema = 2",
+}
+SPOILT_SECOND = {
+    "the number of the first schema": "UPDATE policy SET schema = 1",
+    "no table of tallies": "DROP TABLE tally",
+    "a sum that is another": f"UPDATE vote_sum SET sum = sum + 1 WHERE number = '{looks.number(1000)}'",
+    "a sum missing": f"DELETE FROM vote_sum WHERE number = '{looks.number(1001)}'",
+    "a vote more": f"INSERT INTO vote VALUES ('{looks.number(1003)}', 'bea', 1)",
+    "a tally missing": "DELETE FROM tally WHERE lang = 'fr'",
+    "a tally more": "INSERT INTO tally SELECT 'it', untranslated, needs_editing, translated, approved, read_only, suggestions, obsolete FROM tally WHERE lang = 'fr'",
+    **{f"another count of {it}": f"UPDATE tally SET {it} = {it} + 1 WHERE lang = 'de'" for it in COUNTED},
+}
+# What leaves a row that names one that isn't there: such a file isn't opened.
+ORPHANS = {
+    "a suggestion without its record": f"DELETE FROM record WHERE number = '{looks.number(1004)}'",
+    "a vote on no suggestion": f"INSERT INTO vote VALUES ('{looks.number(50)}', 'bea', 1)",
+}
+ORPHANS_SECOND = {"a sum of no suggestion": f"INSERT INTO vote_sum VALUES ('{looks.number(50)}', 1)"}
 SPOILT_THEN = {
     "an old table missing": ("DROP TABLE vote", 1, b"store fault 3\n"),
     "the number of the first schema": ("UPDATE policy SET schema = 1", 1, b"store fault 3\n"),
+    "the number of the second schema": ("UPDATE policy SET schema = 2", 1, b"store fault 3\n"),
     "rows of the old tables that are no office's": ("UPDATE unit SET revision = 0; DELETE FROM language", 0, b""),
 }
+# Files that programs have left, by the schema of each.
+LEFT = ("left_1", "left_3")
 THEN, NOW = 50, 100
 KILLS = 40
 RULE = "nplurals=2; plural=n != 1;"
@@ -135,13 +177,13 @@ def write_later_suggestion(db, n, place):
     db.execute("INSERT INTO d_vote_sum VALUES (?, 1)", (request[0],))
 
 
-def write_office(db):
+def write_office(db, schema):
     """The tables and the rows of the office as it was left."""
     none = compact([None, None, None])
-    for text in FIRST:
+    for text in {1: FIRST, 2: SECOND}[schema]:
         db.execute(text)
     db.execute("INSERT INTO team VALUES ('root', 3), ('ann', 1)")
-    db.execute("INSERT INTO policy VALUES (1, 1, 0, 0, 0, 0, 1, 0)")
+    db.execute("INSERT INTO policy VALUES (1, ?, 0, 0, 0, 0, 1, 0)", (schema,))
     db.execute("INSERT INTO template VALUES (1, 'Hi {name}', NULL, '[]', '[]', '[\"python-brace-format\"]')")
     db.execute("INSERT INTO template VALUES (2, 'Hello', NULL, '[]', '[]', '[]')")
     db.execute("INSERT INTO language VALUES ('de', ?, ?)", (compact(HEADER), RULE))
@@ -152,6 +194,9 @@ def write_office(db):
         write_suggestion(db, 1000 + place, place)
     record(db, suggest(22, "Gruezi"), FULL)
     write_more(db)
+    if schema == 2:
+        db.execute(f"INSERT INTO vote_sum {OLD_SUMS}")
+        db.execute(f"INSERT INTO tally {OLD_COUNTS}")
 
 
 def change(path, write):
@@ -265,14 +310,16 @@ def stopped(path):
         same(f"behind kill {kill}", dump(copy), wanted)
 
 
-def converted(path):
+def converted(path, schema):
     """What an opening makes of the file."""
     old = {name: f"SELECT {columns} FROM {name} ORDER BY 1, 2" for name, columns in MOVED.items()}
+    kept = ("SELECT * FROM vote_sum ORDER BY 1", "SELECT * FROM tally ORDER BY 1") if schema == 2 else ()
     by_domain = {name: f"SELECT {columns} FROM d_{name} ORDER BY 1, 2" for name, columns in MOVED.items()}
     others = ("SELECT * FROM record ORDER BY 1", "SELECT * FROM team ORDER BY 1")
-    before, beside = rows_of(path, *old.values()), rows_of(path, *others)
+    before, beside, counted = rows_of(path, *old.values()), rows_of(path, *others), rows_of(path, *kept)
     opened(path)
     same("the rows of the eight tables", rows_of(path, *old.values()), before)
+    same("those of sums and tallies", rows_of(path, *kept), counted)
     same("records and team", rows_of(path, *others), beside)
     first = before[0]
     after = rows_of(path, *by_domain.values())
@@ -293,21 +340,53 @@ def converted(path):
         same("the file behind it", dump(path), whole)
 
 
+def office_of(schema, folder):
+    """What is done with a file of one schema."""
+    path = str(pathlib.Path(folder) / f"office{schema}.db")
+    text = (DUMPS / f"schema_{schema}.sql").read_text()
+    made(path, text)
+    written = str(pathlib.Path(folder) / f"written{schema}.db")
+    change(written, lambda db: write_office(db, schema))
+    same(f"the dump of schema {schema}", dumped(written), text)
+    for what, text in {**SPOILT, **{1: SPOILT_FIRST, 2: SPOILT_SECOND}[schema]}.items():
+        spoilt(path, what, text, 1, b"store fault 3\n")
+    for what, text in {**ORPHANS, **(ORPHANS_SECOND if schema == 2 else {})}.items():
+        spoilt(path, what, text, 1, b"store fault 2\n")
+    stopped(path)
+    converted(path, schema)
+    braces(path)
+    suggestions(path)
+    figures(path)
+    change(path, lambda db: write_later_suggestion(db, 3000, 7000))
+    done = subprocess.run([PROGRAM, "deliver", "--store", path], input=b"", capture_output=True, timeout=SECONDS)
+    same("a suggestion more than there may be", (done.returncode, done.stderr), (1, b"store fault 3\n"))
+
+
+def left(name, folder):
+    """What an earlier program has left: its requests come again, in their order and backwards, and its languages are exported."""
+    path = str(pathlib.Path(folder) / f"{name}.db")
+    made(path, (DUMPS / f"{name}.sql").read_text())
+    records = rows_of(path, "SELECT number, content, status, body FROM record ORDER BY rowid")[0]
+    for taken in (records, records[::-1]):
+        lines = "".join(compact({**json.loads(content), "number": name}) + "\n" for name, content, _, _ in taken)
+        replies = "".join(f"{status} {body}\n" for _, _, status, body in taken)
+        same(f"{name}: its requests", looks.run(PROGRAM, "deliver", "--store", path, given=lines), (0, replies, ""))
+    texts = {tuple(it.name.split(".")[1:3]): it.read_text() for it in DUMPS.glob(f"{name}.*.po")}
+    same(f"{name}: its languages", rows_of(path, "SELECT domain, lang FROM d_language ORDER BY 1, 2")[0], sorted(texts))
+    for (domain, lang), text in texts.items():
+        done = looks.run(PROGRAM, "export", "--store", path, "--lang", lang, "--domain", domain)
+        same(f"{name}: the export of {domain} {lang}", done[:2], (0, text))
+    same(f"{name}: its records", rows_of(path, "SELECT number, content, status, body FROM record ORDER BY rowid")[0], records)
+    figures(path)
+
+
 def main():
     with tempfile.TemporaryDirectory() as folder:
-        path = str(pathlib.Path(folder) / "office.db")
-        change(path, write_office)
-        for what, text in SPOILT.items():
-            spoilt(path, what, text, 1, b"store fault 3\n")
-        stopped(path)
-        converted(path)
-        braces(path)
-        suggestions(path)
-        figures(path)
-        change(path, lambda db: write_later_suggestion(db, 3000, 7000))
-        done = subprocess.run([PROGRAM, "deliver", "--store", path], input=b"", capture_output=True, timeout=SECONDS)
-        same("a suggestion more than there may be", (done.returncode, done.stderr), (1, b"store fault 3\n"))
-    print(f"of {KILLS // 2} kills {untouched} left the file as it was")
+        for schema in (1, 2):
+            office_of(schema, folder)
+        for name in LEFT:
+            left(name, folder)
+    print(f"of {KILLS} kills {untouched} left the file as it was")
     return looks.told()
 
 

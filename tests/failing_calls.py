@@ -3,7 +3,7 @@
 
     tests/failing_calls.py [PROGRAM] [--every K] [--minutes M] [--only WORD] [--spoil]      (crates/cli/out/cli, each call, no end; wants cc)
 
-`init`, `deliver`, `export`, `serve`, and `deliver` over a file of the first schema, which is converted, run with one write, sync, truncation,
+`init`, `deliver`, `export`, `serve`, and `deliver` over files of the first and the second schema, which are converted, run with one write, sync, truncation,
 opening or removal failed, the first, the second and so on till none is met, by EIO and by ENOSPC, and with a write that takes half its bytes; and
 with all calls from one on failed. Files are cut at every 512 bytes of their log too, and the last 512 are torn. Behind each the file has to be
 whole for SQLite, each request that was answered there with its reply, the next one perhaps, and nothing else; then the same lines by the program
@@ -49,7 +49,7 @@ TEXT = HEADER + '\nmsgid "Hello"\nmsgstr "Hallo"\n'
 KINDS = ("pwrite", "sync", "truncate", "open", "unlink")
 LIE = {"FAIL_ERRNO": "0", "FAIL_LIE": "1"}
 WAYS = [{"FAIL_ERRNO": "5"}, {"FAIL_ERRNO": "28"}, {"FAIL_ERRNO": "5", "FAIL_ON": "1"}]
-PROGRAMS = ("init", "deliver", "convert", "export", "serve", "cuts")
+PROGRAMS = ("init", "deliver", "convert", "convert_second", "export", "serve", "cuts")
 SHORT = {"FAIL_ERRNO": "0", "FAIL_SHORT": "1"}
 
 
@@ -94,13 +94,13 @@ class Trial:
         for it in begun.iterdir():
             shutil.copy(it, self.folder)
 
-    def begin_first(self):
-        """An office of the first schema that has taken the first request."""
+    def begin_earlier(self, schema):
+        """An office of the first schema or of the second that has taken the first request."""
         self.begin(1)
         later = self.folder / "later.db"
         self.store.rename(later)
         self.clear()
-        first_tables.make(self.store, later)
+        first_tables.make(self.store, later, schema)
 
     def recorded(self, what):
         """The numbers and replies that a copy of the file has, which has to be whole."""
@@ -149,7 +149,11 @@ class Trial:
         self.deliver_all(what, how)
 
     def convert(self, what, how):
-        self.begin_first()
+        self.begin_earlier(1)
+        self.deliver_all(what, how)
+
+    def convert_second(self, what, how):
+        self.begin_earlier(2)
         self.deliver_all(what, how)
 
     def deliver_all(self, what, how):

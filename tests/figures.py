@@ -22,3 +22,12 @@ def kept_and_counted(path):
     """The sums and the counts of a file: those that are kept, and those that are counted."""
     with contextlib.closing(sqlite3.connect(path)) as db:
         return answers(db, KEPT), answers(db, COUNTED)
+
+
+class Seen:
+    """What a closed file has, as SQLite tells it: whether it is whole, what is kept and what counting gives, and what each domain has by queries."""
+
+    def __init__(self, db, own, domains):
+        self.whole = answers(db, ("PRAGMA integrity_check", "PRAGMA foreign_key_check"))
+        self.kept, self.counted = answers(db, KEPT), answers(db, COUNTED)
+        self.own = {it: {name: list(db.execute(text, (it,))) for name, text in own.items()} for it in domains}

@@ -1,4 +1,4 @@
-"""Files of the first schema, as programs before the tables by domains made them."""
+"""Files of the first and of the second schema: tables without a column for a domain, and in the second sums of votes and tallies beside them."""
 import contextlib
 import sqlite3
 
@@ -34,16 +34,22 @@ TABLES = {
         "value INTEGER NOT NULL CHECK (value BETWEEN -1 AND 1) CHECK (value <> 0), PRIMARY KEY (number, voter)",
     ),
 }
+# What the second schema has beside them.
+COUNTED = ("untranslated", "needs_editing", "translated", "approved", "read_only", "suggestions", "obsolete")
+FIGURES = {
+    "vote_sum": ("d_vote_sum", "number TEXT NOT NULL PRIMARY KEY REFERENCES suggestion (number) ON DELETE CASCADE, sum INTEGER NOT NULL"),
+    "tally": ("d_tally", "lang TEXT NOT NULL PRIMARY KEY, " + ", ".join(f"{it} INTEGER NOT NULL" for it in COUNTED)),
+}
 
 
-def make(path, later):
-    """Makes a file of the first schema, with the rows of a later one."""
+def make(path, later, schema=1):
+    """Makes a file of the first schema or the second, with the rows of a later one."""
     with contextlib.closing(sqlite3.connect(path)) as db:
         db.execute("PRAGMA journal_mode = WAL")
         db.execute("ATTACH ? AS later", (str(later),))
-        for name, (source, columns) in TABLES.items():
+        for name, (source, columns) in {**TABLES, **(FIGURES if schema == 2 else {})}.items():
             db.execute(f"CREATE TABLE {name} ({columns}) STRICT")
             names = ", ".join(it[1] for it in db.execute(f"PRAGMA table_info({name})"))
             db.execute(f"INSERT INTO {name} SELECT {names} FROM later.{source} ORDER BY rowid")
-        db.execute("UPDATE policy SET schema = 1")
+        db.execute("UPDATE policy SET schema = ?", (schema,))
         db.commit()

@@ -2,16 +2,17 @@
 """Fills a language of the demo office with as many units as it may have, 150,000, and asks for one more.
 
 Each template brings new messages, and those of the one before become obsolete units and stay. Replies of status 200 are told
-by their status, refusals by their bodies too.
+by their status, refusals by their bodies too. With --spoil the template that goes past the limit by one has a message less, as for a program that
+takes one more than it may, which has to be found.
 
-Usage: tests/limits.py [PROGRAM]   (from the top of the repository, after ./office --version has built the program)
+Usage: tests/limits.py [PROGRAM] [--spoil]   (from the top of the repository, after ./office --version has built the program)
 """
+import argparse
 import json
 import os
 import subprocess
 import sys
 
-PROGRAM = sys.argv[1] if len(sys.argv) > 1 else os.path.join("crates", "cli", "out", "cli")
 LIMIT = '422 {"refusal":"limit","rule":17}'
 ROLE = '403 {"refusal":"role","rule":3}'
 # The fourth line's number doesn't follow.
@@ -28,32 +29,38 @@ def messages(letters, count):
     return "".join('msgid "%s%d"\nmsgstr ""\n\n' % (letters, n) for n in range(count))
 
 
-# The demo office has one unit in `de`.
-ROWS = [
-    (1, "root", messages("a", 50000), "200"),
-    (2, "root", messages("b", 50000), "200"),
-    (3, "root", messages("c", 50000), LIMIT),
-    (4, "root", messages("c", 49999), "200"),
-    (5, "root", messages("d", 1), LIMIT),
-    (6, "ann", messages("d", 1), ROLE),
-    (7, "root", FAULTY, PO),
-    (8, "root", messages("a", 50000), "200"),
-]
+def rows(first_too_many):
+    # The demo office has one unit in `de`.
+    return [
+        (1, "root", messages("a", 50000), "200"),
+        (2, "root", messages("b", 50000), "200"),
+        (3, "root", messages("c", first_too_many), LIMIT),
+        (4, "root", messages("c", 49999), "200"),
+        (5, "root", messages("d", 1), LIMIT),
+        (6, "ann", messages("d", 1), ROLE),
+        (7, "root", FAULTY, PO),
+        (8, "root", messages("a", 50000), "200"),
+    ]
 
 
 def main():
-    lines = "".join(template(number, caller, text) for number, caller, text, _ in ROWS)
-    done = subprocess.run([PROGRAM, "deliver", "--demo"], input=lines.encode(), capture_output=True)
+    parser = argparse.ArgumentParser(description=__doc__.split("\n", 1)[0])
+    parser.add_argument("program", nargs="?", default=os.path.join("crates", "cli", "out", "cli"))
+    parser.add_argument("--spoil", action="store_true")
+    given = parser.parse_args()
+    tried = rows(49999 if given.spoil else 50000)
+    lines = "".join(template(number, caller, text) for number, caller, text, _ in tried)
+    done = subprocess.run([given.program, "deliver", "--demo"], input=lines.encode(), capture_output=True)
     replies = done.stdout.decode().splitlines()
     wrong = [
         (row[0], reply[:80], row[3])
-        for row, reply in zip(ROWS, replies)
+        for row, reply in zip(tried, replies)
         if not (reply == row[3] or row[3] == "200" and reply.startswith("200 "))
     ]
-    if done.returncode or len(replies) != len(ROWS) or wrong:
+    if done.returncode or len(replies) != len(tried) or wrong:
         print("FAILED", done.returncode, len(replies), wrong, done.stderr.decode()[:200])
         return 1
-    print("%d templates, each answered as it has to be" % len(ROWS))
+    print("%d templates, each answered as it has to be" % len(tried))
     return 0
 
 

@@ -348,7 +348,7 @@ def case_answers(world):
         unit = world.office.unit("answers")
         same(f"{answer}: once", (unit["revision"], unit["forms"], tab.waits()), (revision + 1, [text], []))
         if answer[0] == 429:
-            same("no sooner than after the second that the answer says", world.relay.pauses()[-1] > 0.95, True)
+            same("no sooner than the answer says", world.relay.pauses()[-1] > page_office.PAUSE - 0.05, True)
     world.relay.mode = (400, "application/json", '{"error":"malformed"}')
     tab.fill("#form-0", "weggeworfen")
     tab.click("#translate")
@@ -1262,21 +1262,69 @@ def case_domains(world):
     tab.wait_for("#office-text")
     same("and is there", tab.value("#form-0"), "nur getippt")
     tab.close()
-    manages_domain(world)
 
 
-def manages_domain(world):
-    """A manager adds a language to the domain that is chosen."""
+OFFERED = "[...document.getElementById('template-domain').options].map(it => it.value)"
+MOST_DOMAINS = int(re.search(r"^\| domains of an office, .* \| (\d+) \|$", (TOP / "docs" / "FORMATS.md").read_text(), re.M)[1])
+
+
+def case_begun(world):
+    """A manager adds a language to the domain that is chosen, and makes a domain, which gets a template and a language."""
+    same("the domain", world.office.act("root", act="domain", name="manual")[0] in (200, 409), True)
     tab = PageTab(world, "root", asks=False)
     tab.eval("location.hash = '#/~manage'")
     tab.wait_for("#language-domain")
-    tab.choose("language-domain", "manual")
+    adds_language(tab, "manual")
+    same("a language of its domain alone", [world.office.ask("GET", f"/v1/{it}stats/fi")[0] for it in ("domains/manual/", "")], [200, 404])
+    world.relay.mode = "half"
+    makes_domain(tab, "web")
+    tab.wait_text("#status", "The domain web is there.")
+    has("in the replies", tab.text("#replies"), "Make a domain: web")
+    same("what was chosen and typed stays", (tab.value("#language-domain"), tab.value("#language-code")), ("manual", "fi"))
+    tab.reload()
+    tab.wait_for("#template-domain")
+    same("it can be chosen", tab.eval(OFFERED), ["main", "manual", "web"])
+    file = world.folder / "web.pot"
+    file.write_text('msgid "the web"\nmsgstr ""\n')
+    tab.choose("template-domain", "web")
+    tab.give("#template-file", file)
+    tab.click("#template-send")
+    tab.wait_text("#status", "The template is set.")
+    adds_language(tab, "web")
+    same("its message", world.office.unit("the web", "fi", domain="web")["state"], "untranslated")
+    refused_domains(world, tab)
+    tab.close()
+
+
+def makes_domain(tab, name):
+    tab.fill("#new-domain-name", name)
+    tab.click("#new-domain-send")
+
+
+def adds_language(tab, domain):
+    tab.choose("language-domain", domain)
     tab.fill("#language-code", "fi")
     tab.fill("#language-rule", "nplurals=2; plural=n != 1;")
     tab.click("#language-send")
     tab.wait_text("#status", "The language fi is there: translations taken over: 0")
-    same("a language of its domain alone", [world.office.ask("GET", f"/v1/{it}stats/fi")[0] for it in ("domains/manual/", "")], [200, 404])
-    tab.close()
+
+
+def refused_domains(world, tab):
+    """A domain that somebody else made, one too many, and one of who is no manager any more."""
+    act = world.office.act
+    same("another's", act("root", act="domain", name="docs")[0], 200)
+    makes_domain(tab, "docs")
+    tab.wait_text("#alert", "Not done. The office has this domain already.")
+    same("can be chosen too", tab.eval(OFFERED), ["main", "manual", "web", "docs"])
+    same("as many as may be", {act("root", act="domain", name=f"d{n}")[0] for n in range(4, MOST_DOMAINS)}, {200})
+    makes_domain(tab, "more")
+    tab.wait_text("#alert", f"Not done. The office has {MOST_DOMAINS} domains, and no office has more.")
+    same("none of that name", tab.eval(OFFERED), ["main", "manual", "web", "docs"])
+    same("another manager", [act("root", act="team", name="bea", role="manager")[0], act("bea", act="team", name="root", role="guest")[0]], [200, 200])
+    makes_domain(tab, "mine")
+    tab.wait_text("#alert", "Not done. Your role doesn't allow this.")
+    tab.wait_text("#manage-pane", "Only managers do this.")
+    same("as before", [act("bea", act="team", name="root", role="manager")[0], act("root", act="team", name="bea", role="translator")[0]], [200, 200])
 
 
 # ---- the page's own words

@@ -21,6 +21,8 @@ from patience import seconds
 
 PROJECT = front_servers.PROJECT
 SECONDS = seconds(30)
+# What the relay's answer of 429 says, in seconds: longer than the page's first pause is on a busy machine.
+PAUSE = 5
 
 
 class Office:
@@ -137,7 +139,7 @@ class RelayedMessage(socketserver.StreamRequestHandler):
                 self.wfile.write(answer[: len(answer) - 10])
             case status, kind, text:
                 relay.mode = "pass"
-                pause = "Retry-After: 1\r\n" if status == 429 else ""
+                pause = f"Retry-After: {PAUSE}\r\n" if status == 429 else ""
                 told = f"HTTP/1.1 {status} Told\r\nContent-Type: {kind}\r\n{pause}Content-Length: {len(text.encode())}\r\n\r\n{text}"
                 self.wfile.write(told.encode())
 

@@ -3,7 +3,7 @@
 
     tests/power_cuts.py [PROGRAM] [--draws N] [--seed S] [--minutes M] [--only WORD] [--spoil N]      (crates/cli/out/cli; 12 draws, no end; wants cc)
 
-`init`, `deliver`, `serve`, and `deliver` over a file of the first schema, which is converted, run once, and what they write to their files, sync
+`init`, `deliver`, `serve`, and `deliver` over files of the first and the second schema, which are converted, run once, and what they write to their files, sync
 and answer is recorded by a preloaded library. Behind each call the power is cut: what a file had at its last sync is there, and of what was done to
 it since, each write is there, missing or torn, in any choice. A torn write has some of its bytes; past the end that was synced it may have any. All
 that is there, nothing, each write alone there, missing or torn, and so many draws are tried. A file whose folder was never synced may be missing.
@@ -28,7 +28,7 @@ from looks import free_port
 
 TOP = failing.TOP
 SECTOR = 512
-PROGRAMS = ("init", "deliver", "convert", "serve")
+PROGRAMS = ("init", "deliver", "convert", "convert_second", "serve")
 MISTAKES = ("never syncs", "answers before it syncs", "syncs the database alone")
 
 
@@ -198,7 +198,7 @@ class Programs:
                 process.stdin.flush()
                 process.stdout.readline()
 
-    convert = deliver
+    convert = convert_second = deliver
 
     def serve(self, how):
         port = free_port()
@@ -221,7 +221,7 @@ class Programs:
 def cut_all(trial, given):
     cuts, programs = Cuts(trial, given), Programs(trial)
     for name in given.only or PROGRAMS:
-        {"init": trial.clear, "convert": trial.begin_first}.get(name, lambda: trial.begin(1))()
+        {"init": trial.clear, "convert": lambda: trial.begin_earlier(1), "convert_second": lambda: trial.begin_earlier(2)}.get(name, lambda: trial.begin(1))()
         before, calls = cuts.record(getattr(programs, name))
         cuts.cut_each(name, before, calls, programs.look_at_init if name == "init" else programs.look)
     return cuts

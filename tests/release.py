@@ -165,10 +165,13 @@ def served_exports(folder, path, people, texts):
         same("served: the same", {lang: (folder / "served" / f"{lang}.po").read_text() for lang in texts}, texts)
         status, out, faults = tool("office-export", *at(port), folder / "none")
         same("served, languages unknown", (status, out, "name them, or give --log" in faults), (1, "", True))
-        listed = {"/office.json": (200, b'{"project":"popt","languages":["fr","xx"]}')}
+        listed = {"/office.json": (200, b'{"project":"popt","languages":["fr","xx"],"domains":{"manual":["yy"]}}')}
         with relay(port, own=listed) as front:
             status, out, faults = tool("office-export", *at(front), "--tries", 2, folder / "listed")
+            further = [tool("office-export", *at(front), "--tries", 2, "--domain", it, folder / it)[::2] for it in ("manual", "web")]
         same("served, by office.json", (status, out, faults), (1, "1 written, 1 not\n", "office-export: xx: no-language: the office hasn't this language\n"))
+        same("served, a domain of office.json", further[0], (1, "office-export: yy: no-language: the office hasn't this language\n"))
+        same("served, a domain that isn't there", (further[1][0], "name them, or give --log" in further[1][1]), (1, True))
         same("served, without a log", fields_of((folder / "listed" / "fr.po").read_text())["Last-Translator"], "Ettore Atalan <atalanttore@googlemail.com>")
         with relay(port, change=lambda text: text.replace(b"Unbekannte", b"unbekannte")) as front:
             status, out, faults = tool("office-export", *at(front), "--tries", 2, "--lang", "fr", folder / "bent")
@@ -753,19 +756,16 @@ def new_languages(folder):
             fcntl.flock(it, fcntl.LOCK_EX)
             status, out, faults = tool("office-git", *words, "sync", project.clone, environment=ENVIRONMENT)
             same("a second run", (status, out, "another run is at work there just now" in faults), (1, "", True))
-        status, out, faults = tool("office-git", *words, "--domain", "manual", "pull", project.clone, environment=ENVIRONMENT)
-        same("another domain", (status, "no-domain: the office hasn't this domain" in out + faults), (1, True))
 
 
 def domains(folder):
     """A program and its manual in one repository and one office: each domain has a folder, and what is done in one is nothing to the other."""
     texts = {"popt.pot": (EXAMPLE / "popt.pot").read_text(), "de.po": (EXAMPLE / "de.po").read_text()}
-    project, path = Project(folder, {f"{place}/{name}": text for place in ("po", "doc") for name, text in texts.items()}), git_office(folder)
+    project, path = Project(folder, {f"{place}/{name}": text for place in ("po", "doc", "help") for name, text in texts.items()}), git_office(folder)
     own = ["--domain", "manual", "--folder", "doc"]
     taken, nothing = (0, "taken: the template\ntaken: de\n2 taken\n", ""), (0, "nothing has changed\n", "")
     with served(path) as port:
-        act(port, 1, "git", act="domain", name="manual")
-        same("domains: the manual's pull", sync(project, port, *own, words="pull"), taken)
+        same("domains: the manual's pull", sync(project, port, *own, words="pull"), (0, f"taken: the domain manual\n{taken[1].replace('2', '3')}", ""))
         same("domains: main has nothing", ask(port, "GET", "/v1/export/de")[0], 404)
         same("domains: main's pull", sync(project, port, words="pull"), taken)
         act(port, 2, "ann", act="translate", domain="manual", lang="de", id=UNKNOWN, forms=["unbekannt, im Handbuch"], seen=1)
@@ -779,6 +779,29 @@ def domains(folder):
         same("domains: upstream's change of the program", (sync(project, port, *own, words="pull"), sync(project, port, words="pull")[0]), (nothing, 0))
         seen = [view(port, NUMERIC, **it)["forms"] == ["Zahl ist falsch"] for it in ({}, {"domain": "manual"})]
         same("domains: is the program's alone", seen, [True, False])
+        makes_domains(project, port, taken)
+    names = [it[1]["name"] for it in records(path) if it[1]["act"] == "domain" and it[2] == 200]
+    same("domains: each made once", (names[:2], len(set(names)), len(names)), (["manual", "docs"], len(names), tools.told_limits()[DOMAINS] - 1))
+
+
+DOMAINS = "domains of an office, `main` among them"
+
+
+def makes_domains(project, port, taken):
+    """A domain that is there is not told; one by who is no manager, and one too many, are, each time anew, and come with a manager or another name."""
+    def pull(domain, caller="git"):
+        return tool("office-git", *at(port), "--caller", caller, "--domain", domain, "--folder", "help", "pull", project.clone, environment=ENVIRONMENT)
+
+    act(port, 3, "git", act="domain", name="docs")
+    same("domains: one that is there", pull("docs"), taken)
+    for turn in range(2):
+        status, out, faults = pull("help", "ann")
+        same(f"domains: no manager, {turn}", (status, out, "ann: role: the caller's role doesn't allow it: a manager gives it a role" in faults), (1, "", True))
+    same("domains: a manager", pull("help")[:2], (0, f"taken: the domain help\n{taken[1].replace('2', '3')}"))
+    for n in range(4, tools.told_limits()[DOMAINS]):
+        act(port, n, "git", act="domain", name=f"d{n}")
+    told = "office-git: the domain more isn't made: the office has as many as it may have, and the next run sends all anew\n"
+    same("domains: one too many", [pull("more"), pull("more")], [(1, "", told)] * 2)
 
 
 # ---- office-import, office-upload

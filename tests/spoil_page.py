@@ -92,7 +92,16 @@ CHANGES = (
     Change("line ends of other systems", "po.js", '.replaceAll("\\r\\n", "\\n")', "", "manage"),
     Change("no way out", "main.js", "out.hidden = this.signOut === null", "out.hidden = true", "sign_out"),
     Change("one draft for all domains", "drafts.js", '${unit.domain === MAIN ? "" : `${unit.domain}/`}', "", "domains"),
-    Change("a manager's texts are main's", "manage.js", "(select.value === MAIN ? {} : { domain: select.value })", "({})", "domains"),
+    Change("a manager's texts are main's", "manage.js", "(select.value === MAIN ? {} : { domain: select.value })", "({})", "begun"),
+    Change("a domain's reply is none", "outbox.js", '    case "domain":\n', "", "begun"),
+    Change("a new domain is told as a template", "words.js", 'case "domain":', 'case "none":', "begun"),
+    Change("a new domain is forgotten", "main.js", ', ...this.#chosen("domains", [])])]', "])]", "begun"),
+    Change("a domain of another's can't be chosen", "main.js", '(status === 200 || body.refusal === "domain-exists")', "status === 200", "begun"),
+    Change("a new domain isn't offered before a reload", "main.js", "this.manage.offerDomains();", "", "begun"),
+    Change("a new domain takes the place of the one that was chosen", "manage.js", "select.value = chosen;", "", "begun"),
+    Change("what was typed goes with a reply", "main.js", "this.manage.onRights();", "this.manage.draw();", "begun"),
+    Change("a limit of domains is any", "words.js", 'if (refusal === "limit" && act === "domain")', "if (false)", "begun"),
+    Change("a domain's refusal teaches nothing", "rights.js", ", domain: MANAGER", "", "begun"),
     Change("acts are main's", "drafts.js", "return { ...(domain === MAIN ? {} : { domain }), lang", "return { lang", "domains"),
     Change("one form for all numbers", "i18n.js", "index?.(n) ?? 0", "0", "own_words"),
     Change("a code is told twice", "locales.js", "...(name === code ? [] : [code])", "code", "own_words"),
@@ -139,10 +148,12 @@ def main():
     program = given.program.resolve()
     if not passes(program, sorted({it.case for it in tried})):
         sys.exit("the page as it is doesn't pass")
-    missed = [it for it in tried if passes(program, [it.case], it)]
-    for it in missed:
-        print(f"{it.name}: {it.case} doesn't tell")
-    print(f"{len(tried) - len(missed)} told, {len(missed)} not")
+    missed = 0
+    for it in tried:
+        if passes(program, [it.case], it):
+            missed += 1
+            print(f"{it.name}: {it.case} doesn't tell", flush=True)
+    print(f"{len(tried) - missed} told, {missed} not")
     sys.exit(bool(missed))
 
 

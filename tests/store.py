@@ -5,8 +5,8 @@
 
 The program runs the rows of tests/store/rows.txt in files, one for each office, and a few requests more. Of each file, once it is
 closed and without the log beside it: SQLite finds it whole, its references held, its schema that of the tables as they are written down
-here, its rows those that the rows of the program tell, and the sums and tallies that are kept what counting gives. A run that is killed has to leave a file of which as much holds. Each
-statement of the crates on SQLite that reads or removes finds its rows by a key, and those that the bench runs by themselves are the same as
+here, its rows those that the rows of the program tell, and the sums and tallies that are kept what counting gives. A run that is killed has
+to leave a file of which as much holds. Each statement of the crates on SQLite that reads or removes finds its rows by a key, and those that the bench runs by themselves are the same as
 the tables'. Prints what fails, and last how much was looked at; the status is 1 if anything failed.
 """
 import functools
@@ -22,6 +22,7 @@ import tempfile
 import time
 
 from figures import COUNTED, KEPT, answers
+from first_tables import FIGURES, TABLES
 from looks import number
 from looks import run as run_in_time
 
@@ -256,11 +257,16 @@ def is_by_key(text, step):
 
 
 def all_tables():
-    """A database with the tables of both forms, as a file has them that was converted: some statements read the old ones."""
+    """A database with the tables of each form, as a file of the second schema has them that was converted: some statements read the old ones."""
     db = sqlite3.connect(":memory:")
+    made = set()
+    for name, (_, columns) in {**TABLES, **FIGURES}.items():
+        db.execute(f"CREATE TABLE {name} ({columns}) STRICT")
+        made.add(name)
     for path in STATEMENTS:
         for text in texts_of(path, "CREATE"):
-            db.execute(text)
+            if re.match(r"CREATE TABLE (\w+)", text)[1] not in made:
+                db.execute(text)
     return db
 
 

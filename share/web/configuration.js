@@ -15,10 +15,10 @@ export function faultOfConfiguration({ status, body }) {
 
 const areDomains = (domains) => typeof domains === "object" && domains !== null && Object.values(domains).every(areTexts);
 
-// `domains` are all that have languages, `main` first; `references` is a pattern of addresses, `glossary` are files beside the page,
+// `domains` are all that are named, `main` first, each with its languages; `references` is a pattern of addresses, `glossary` are files beside the page,
 // `source` is the language of the messages, and `signOut` an address; each absent where it isn't told.
 export function configurationIn(body, base) {
-  const further = Object.entries(body.domains ?? {}).filter(([domain, languages]) => domain !== MAIN && languages.length > 0);
+  const further = Object.entries(body.domains ?? {}).filter(([domain]) => domain !== MAIN);
   return {
     project: body.project,
     domains: [[MAIN, body.languages], ...further].map(([domain, languages]) => ({ domain, languages })),

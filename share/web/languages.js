@@ -18,7 +18,8 @@ export class LanguagesPane {
   }
 
   async open() {
-    const domains = this.#app.domains.map(({ domain, languages }) => ({
+    const shown = this.#app.domains.filter(({ domain, languages }) => domain === MAIN || languages.length > 0);
+    const domains = shown.map(({ domain, languages }) => ({
       domain,
       rows: languages.map((lang) => ({ domain, lang, counts: el("div", { className: "progress" }, "…") })),
     }));

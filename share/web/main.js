@@ -95,6 +95,16 @@ class Page {
     this.#choose("policy", value);
   }
 
+  // The domains of office.json, and those that were found to be there in this browser.
+  get domainNames() {
+    return [...new Set([...this.domains.map((it) => it.domain), ...this.#chosen("domains", [])])];
+  }
+
+  #learnDomain(name) {
+    this.#choose("domains", [...new Set([...this.#chosen("domains", []), name])]);
+    this.manage.offerDomains();
+  }
+
   start() {
     byId("project").textContent = this.project;
     byId("outbox").onclick = () => byId("requests-title").focus();
@@ -132,7 +142,7 @@ class Page {
   #allowed() {
     this.#named();
     if (this.unit.view !== null) this.unit.draw();
-    if (document.body.dataset.view === "manage") this.manage.draw();
+    if (document.body.dataset.view === "manage") this.manage.onRights();
   }
 
   // Asks for the role, where it isn't known, or `again`.
@@ -261,6 +271,7 @@ class Page {
     if (caller !== this.caller) return;
     this.rights.hear(act, status, body);
     if (status === 200) this.drafts.settle(act);
+    if (act.act === "domain" && (status === 200 || body.refusal === "domain-exists")) this.#learnDomain(act.name);
     const name = nameIn(act);
     const isHere = name !== null && this.unit.unit !== null && isSame(name, this.unit.unit);
     const words = replyWords(act, status, body);

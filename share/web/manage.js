@@ -1,4 +1,4 @@
-// What managers do: roles, the policy, the template, and languages. Each is a request like any other.
+// What managers do: roles, the policy, templates, languages, and domains. Each is a request like any other.
 
 import { button, byId, el } from "./dom.js";
 import { mark, numberText, t } from "./i18n.js";
@@ -22,6 +22,9 @@ const FIRST_POLICY = { reviews: false, voting: false, guests_suggest: false, pla
 export class ManagePane {
   #app;
   #root;
+  #isAllowed = null;
+  // The fields that choose a domain.
+  #choices = [];
 
   constructor(app, root) {
     this.#app = app;
@@ -32,14 +35,22 @@ export class ManagePane {
     this.draw();
   }
 
+  // Draws anew where all this is allowed now, or isn't any more; else what was typed stays.
+  onRights() {
+    if (this.#isAllowed !== this.#app.rights.may("team")) this.draw();
+  }
+
   draw() {
+    this.#isAllowed = this.#app.rights.may("team");
+    this.#choices = [];
     const title = el("h2", { id: "manage-title", tabIndex: -1 }, t("Manage"));
-    if (!this.#app.rights.may("team")) {
+    if (!this.#isAllowed) {
       const again = button("ask-manage", t("Ask the office again what I may do"), () => this.#app.askRole(true));
       this.#root.replaceChildren(title, el("p", {}, t("Only managers do this.")), again);
       return;
     }
-    this.#root.replaceChildren(title, this.#team(), this.#policy(), this.#template(), this.#language());
+    this.#root.replaceChildren(title, this.#team(), this.#policy(), this.#template(), this.#language(), this.#newDomain());
+    this.offerDomains();
   }
 
   #form(id, title, note, fields, words, send) {
@@ -95,16 +106,28 @@ export class ManagePane {
   // ---- texts
 
   #domain(id) {
-    const domains = this.#app.domains.map((it) => it.domain);
-    const select = el("select", { id }, ...domains.map((value) => el("option", { value }, value)));
-    return { select, label: domains.length < 2 ? [] : [el("label", {}, t("Domain"), " ", select)], value: () => (select.value === MAIN ? {} : { domain: select.value }) };
+    const select = el("select", { id });
+    const label = el("label", {}, t("Domain"), " ", select);
+    this.#choices.push({ select, label });
+    return { label, value: () => (select.value === MAIN ? {} : { domain: select.value }) };
+  }
+
+  // Offers the domains that are known now, where there is more than one; what was chosen stays so.
+  offerDomains() {
+    const names = this.#app.domainNames;
+    for (const { select, label } of this.#choices) {
+      const chosen = select.value || MAIN;
+      select.replaceChildren(...names.map((value) => el("option", { value }, value)));
+      select.value = chosen;
+      label.hidden = names.length < 2;
+    }
   }
 
   #template() {
     const domain = this.#domain("template-domain");
     const file = el("input", { id: "template-file", type: "file", accept: ".pot,.po", required: true });
     return this.#form("template", t("Template"), t("A new template (.pot) takes the place of the one before; messages that aren't in it are put away, with their translations."),
-      [...domain.label, el("label", {}, t("File"), " ", file)],
+      [domain.label, el("label", {}, t("File"), " ", file)],
       t("Set the template"), () => this.#sendText(file.files[0], (po) => ({ act: "template", ...domain.value(), po })));
   }
 
@@ -119,7 +142,7 @@ export class ManagePane {
       else this.#app.send(act(headerWith(lang.value, rule.value)));
     };
     return this.#form("language", t("New language"), t("With a file (.po) its translations are taken over. Without one the language begins empty, with this rule for plural forms. The page lists it once office.json names it."),
-      [...domain.label, el("label", {}, t("Code"), " ", lang), el("label", {}, t("File"), " ", file), el("label", { className: "line" }, t("Plural forms"), " ", rule)],
+      [domain.label, el("label", {}, t("Code"), " ", lang), el("label", {}, t("File"), " ", file), el("label", { className: "line" }, t("Plural forms"), " ", rule)],
       t("Add the language"), send);
   }
 
@@ -132,6 +155,15 @@ export class ManagePane {
     } catch {
       this.#app.alert(t("The file isn't read: it isn't in the charset that it names."));
     }
+  }
+
+  // ---- domains
+
+  #newDomain() {
+    const name = el("input", { id: "new-domain-name", required: true, pattern: NAME, autocomplete: "off", spellcheck: false });
+    return this.#form("new-domain", t("New domain"), t("For a part of the project with messages and languages of its own, its manual say. It begins without any, and can't be taken away again. The page lists it once office.json names it with a language."),
+      [el("label", {}, t("Name"), " ", name)],
+      t("Make the domain"), () => this.#app.send({ act: "domain", name: name.value }));
   }
 }
 

@@ -50,6 +50,7 @@ function isDone(body, act) {
     case "language":
       return Number.isInteger(body.loaded);
     case "team":
+    case "domain":
       return typeof body.name === "string";
     case "policy":
       return Number.isInteger(body.units);

@@ -9,7 +9,7 @@ export const ROLES = ["guest", "translator", "reviewer", "manager"];
 const [GUEST, TRANSLATOR, REVIEWER, MANAGER] = [0, 1, 2, 3];
 const NEEDED = {
   suggest: GUEST, vote: TRANSLATOR, accept: TRANSLATOR, dismiss: TRANSLATOR, translate: TRANSLATOR, comment: TRANSLATOR,
-  approve: REVIEWER, "send-back": REVIEWER, team: MANAGER, policy: MANAGER, template: MANAGER, language: MANAGER,
+  approve: REVIEWER, "send-back": REVIEWER, team: MANAGER, policy: MANAGER, template: MANAGER, language: MANAGER, domain: MANAGER,
 };
 // Tested before the role, so they say nothing of it.
 const BEFORE_ROLE = new Set(["no-language", "no-unit"]);

@@ -32,6 +32,7 @@ export const ACTS = {
   policy: mark("Set the policy"),
   template: mark("Set the template"),
   language: mark("Add a language"),
+  domain: mark("Make a domain"),
 };
 
 const DONE = {
@@ -132,7 +133,7 @@ export function faultWords(status, body) {
 
 export function replyWords(act, status, body) {
   if (body.error === "number-used") return t(NUMBER_USED);
-  if (status !== 200) return t("Not done. {why}", { why: refusalWords(body) });
+  if (status !== 200) return t("Not done. {why}", { why: refusalWords(act, body) });
   if (act.id === undefined) return officeWords(act, body);
   if (act.act === "suggest") return t("Suggested. It stands among the suggestions below.");
   if (act.act === "vote" && !body.accepted) return t("Voted. The sum is {votes} now.", { votes: body.votes });
@@ -140,12 +141,13 @@ export function replyWords(act, status, body) {
   return t("{done}. The message is now: {state}.", { done, state: t(STATES[body.state]) });
 }
 
-function refusalWords({ refusal, line, kind, fault, at }) {
+function refusalWords({ act }, { refusal, line, kind, fault, at }) {
   if (refusal === "po") return t("The PO text has a fault in line {line}: {fault}.", { line, fault: t(PO_KINDS[kind] ?? String(kind)) });
   if (refusal === "plural-forms") {
     const words = t(RULE_FAULTS[fault] ?? String(fault), { number: at });
     return t("The header's rule Plural-Forms: {fault}.", { fault: words });
   }
+  if (refusal === "limit" && act === "domain") return t("The office has 8 domains, and no office has more.");
   return REFUSALS[refusal] === undefined ? t("Refused: {refusal}.", { refusal }) : t(REFUSALS[refusal]);
 }
 
@@ -158,6 +160,8 @@ function officeWords(act, body) {
   switch (act.act) {
     case "team":
       return t("{name} is a {role} now.", { name: body.name, role: t(ROLES[body.role] ?? body.role) });
+    case "domain":
+      return t("The domain {name} is there.", { name: body.name });
     case "policy":
       return nt("The policy is set; {count} message changed its state.", "The policy is set; {count} messages changed their state.", body.units);
     case "language":

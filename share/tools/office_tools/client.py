@@ -217,9 +217,12 @@ class Office:
         return status == 200
 
     def languages(self):
-        """The languages that a front's office.json lists; None where there is none."""
+        """The domain's languages, as a front's office.json lists them; None where it doesn't."""
         status, text = self.ask("GET", "/office.json")
-        found = body_of(text).get("languages") if status == 200 else None
+        listed = body_of(text) if status == 200 else {}
+        further = listed.get("domains")
+        domains = {**(further if isinstance(further, dict) else {}), MAIN: listed.get("languages")}
+        found = domains.get(self.domain)
         is_list = isinstance(found, list) and all(isinstance(it, str) and LANG.fullmatch(it) for it in found)
         return sorted(found) if is_list else None
 

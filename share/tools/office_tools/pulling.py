@@ -41,7 +41,9 @@ class Told:
 def named(request):
     """What a request is about, as it is told."""
     parts = [request.get("lang")] + [compact(request[field]) for field in ("ctx", "id") if field in request]
-    return " ".join(it for it in parts if it) if "lang" in request else "the template"
+    if "lang" in request:
+        return " ".join(it for it in parts if it)
+    return f"the domain {request['name']}" if request.get("act") == "domain" else "the template"
 
 
 def why(request, status, body):
@@ -53,7 +55,7 @@ def why(request, status, body):
 
 
 class Plan:
-    """What one pull sends, in two files: first the template, then, made when that has acted, what is about languages."""
+    """What one pull sends, in two files: first the domain and the template, then, made when these have acted, what is about languages."""
 
     def __init__(self, state, commit):
         self.commit = commit
@@ -84,14 +86,14 @@ class Pull:
     def begin(self, head):
         """The plan of what came up to a commit."""
         plan = Plan(self.repository.state, head)
-        plan.begin(self.template_requests(head))
+        plan.begin(self.domain_requests(head) + self.template_requests(head))
         return plan
 
     def carry_out(self, plan, office):
         """Sends what a plan has, and what follows from its template, to the end."""
         self.office = office
         for request in RequestFile(plan.first).requests:
-            if self.send(request, plan):
+            if self.send(request, plan) and request["act"] == "template":
                 write(self.sent_template, request["po"].encode())
         if not plan.second.exists():
             RequestFile(plan.second).add(list(self.language_requests(plan.commit)))
@@ -109,7 +111,13 @@ class Pull:
         domain = {} if self.given.domain == MAIN else {"domain": self.given.domain}
         return {**fields, **domain, "caller": self.caller}
 
-    # ---- the template
+    # ---- the domain and the template
+
+    def domain_requests(self, head):
+        """The request that makes the domain, as long as no template of it was taken: no question tells whether it is there."""
+        if self.given.domain == MAIN or self.sent_template.exists():
+            return []
+        return [{"act": "domain", "name": self.given.domain, "caller": self.caller, "number": self.number("domain", head)}]
 
     def template_requests(self, head):
         """The request of the template, where it is another than the one that was sent last."""
@@ -204,7 +212,11 @@ class Pull:
         status, body = self.office.send(request)
         word = word_of(body)
         if word == "role":
-            self.give_up(plan, in_words(status, body))
+            self.give_up(plan, f"{self.caller}: {in_words(status, body)}: a manager gives it a role")
+        elif word == "limit" and request["act"] == "domain":
+            self.give_up(plan, f"the domain {request['name']} isn't made: the office has as many as it may have")
+        elif word == "domain-exists":
+            pass
         elif status == 200 and request["act"] == "suggest":
             self.told.tell(CONFLICT, named(request), SUGGESTED)
         elif status == 200:
@@ -239,7 +251,7 @@ class Pull:
         attempt = int(self.attempts.read_text(encoding="ascii")) if self.attempts.exists() else 0
         write(self.attempts, str(attempt + 1).encode())
         plan.end()
-        raise Fault(f"{self.caller}: {why}: a manager gives it a role, and the next run sends all anew")
+        raise Fault(f"{why}, and the next run sends all anew")
 
 
 def undated(text):
