@@ -358,11 +358,11 @@ class RabbitNodes(Nodes):
         """How many bytes a node's disk has to have free, or the log takes nothing."""
         return self.told(name, f"rabbit_disk_monitor:set_disk_free_limit({size}).")
 
-    def wait_for_all(self):
+    def wait_for_all(self, seconds=1800):
         """Waits until all have joined: a stream that is made before that has no replica on the others."""
         for name in NAMES:
             self.wait(name)
-        end = time.monotonic() + 1800
+        end = time.monotonic() + seconds
         while not all(self.told(name, "rabbit_nodes:all_running().").count("@localhost") == len(NAMES) for name in NAMES):
             if end < time.monotonic():
                 raise TimeoutError("the nodes haven't joined")
@@ -410,9 +410,9 @@ class NatsNodes(Nodes):
     def pid(self, name):
         return self.running[name].pid
 
-    def wait_for_all(self):
+    def wait_for_all(self, seconds=1800):
         for name in NAMES:
-            self.wait(name)
+            self.wait(name, seconds)
         # The nodes elect a leader of their own before they make streams.
         time.sleep(3)
 
@@ -456,12 +456,20 @@ def engine_of(nodes):
     return office_streams.engine(tool_words(nodes))
 
 
-def stream_whole(nodes, project, name=NAMES[0], quiet=3.0, seconds=120):
-    """The messages of a project's stream from its beginning to its end, as one node has them."""
+def stream_whole(nodes, project, name=NAMES[0], quiet=3.0, seconds=120, tries=5):
+    """The messages of a project's stream from its beginning to its end, as one node has them. A busy node may not answer in time."""
     if nodes.engine == "nats":
         return nats_whole(nodes, project, name)
-    words = tool_words(nodes, (name,))
-    reader = engine_of(nodes).Reader(words)
+    for _ in range(tries):
+        found, lost = read_whole(nodes, project, name, quiet, seconds)
+        if not lost:
+            return found
+    raise RuntimeError(f"{project} at {name}: {lost[0]!r}")
+
+
+def read_whole(nodes, project, name, quiet, seconds):
+    """The same once, and why it was broken off, where it was."""
+    reader = engine_of(nodes).Reader(tool_words(nodes, (name,)))
     found, lost = [], []
 
     def hear(message):
@@ -470,14 +478,13 @@ def stream_whole(nodes, project, name=NAMES[0], quiet=3.0, seconds=120):
 
     reader.attach(project, 0, 0, hear, lost.append)
     began, seen, changed = time.monotonic(), 0, time.monotonic()
-    while time.monotonic() - changed < quiet and time.monotonic() - began < seconds and not lost:
+    # Each stream has a first message.
+    while time.monotonic() - changed < (quiet if found else 20.0) and time.monotonic() - began < seconds and not lost:
         time.sleep(0.1)
         if len(found) != seen:
             seen, changed = len(found), time.monotonic()
-    if lost:
-        raise RuntimeError(f"{project} at {name}: {lost[0]!r}")
     reader.close()
-    return found
+    return found, lost
 
 
 def nats_whole(nodes, project, name, tries=60):

@@ -1,5 +1,5 @@
 #!/usr/bin/python3
-"""Plants a wrong feed or a wrong door in a copy of the tools, one at a time: tests/cluster.py or tests/doubts.py has to tell it.
+"""Plants a wrong feed or a wrong door in a copy of the tools, one at a time: cluster.py, doubts.py or heard.py has to tell it.
 
     tests/spoil_cluster.py [--engine rabbitmq] [--program FILE] [WORD..]
 
@@ -61,6 +61,18 @@ SPOILS = (
         "if has_log else self.was_late", "if has_log else True",
         doubts("power"),
     ),
+    (
+        "a feed that is late for good where it loses the log",
+        REPLICA,
+        "self.was_late = self.is_behind and", "self.was_late = bool(self.waiting) or self.is_behind and",
+        ["heard.py"],
+    ),
+    (
+        "a feed that answers questions though it dropped what it heard",
+        REPLICA,
+        "self.was_late = self.was_late or bool(self.waiting)", "pass",
+        ["heard.py"],
+    ),
     ("a feed that isn't held", REPLICA, "            self.stop()\n            hold.rename", "            hold.rename", doubts("held")),
     (
         "a door that answers on a confirm",
@@ -86,6 +98,20 @@ SPOILS_OF = {
             "office_streams/rabbitmq.py",
             "channel._impl.close()", "channel.close()",
             doubts("apart"),
+        ),
+        (
+            "a door that takes a node's word that there is no stream",
+            "office_streams/rabbitmq.py",
+            "self.connection.ioloop.call_later(AGAIN, lambda: self.publish(asked))", "asked.settle(404, b'{\"error\":\"no-project\"}')",
+            doubts("late"),
+        ),
+    ),
+    "nats": (
+        (
+            "a door that takes a node's word that there is no stream",
+            "office_streams/nats.py",
+            "self.again.append((time.monotonic() + AGAIN, asked))", "asked.settle(404, b'{\"error\":\"no-project\"}')",
+            doubts("late"),
         ),
     ),
 }
