@@ -33,6 +33,8 @@ from log_nodes import HOST, NAMES, memory_of, seconds_of
 PARTS = ("latency", "replay", "takeover", "streams")
 MESSAGES = 2000
 FILLER = "x" * 100
+# So many of the streams are looked at.
+LOOKED = 100
 HEAD = ("| What | Measured | Load of the machine |", "|---|---|---|")
 # What stands before the table in a page, and behind it.
 MARKS = ("<!-- bench/streams.py writes this table -->", "<!-- up to here -->")
@@ -220,8 +222,12 @@ class Figures:
         self.rows.add("a late replica, from the stream's beginning, a line at a time", self.caught_up(self.host("slow", *one_line)))
         files = late.store("many").parent.glob("office.db*")
         self.rows.add("a request in a replica's file", f"{sum(it.stat().st_size for it in files) / count:.0f} bytes")
-        late.store("many").with_name("office.db.offset").unlink()
+        hint = late.store("many").with_name("office.db.offset")
+        kept = hint.read_bytes()
+        hint.unlink()
         self.rows.add("a replica that has it all, without its hint: all repeats", self.caught_up(late))
+        # Repeats write none.
+        hint.write_bytes(kept)
         began = time.monotonic()
         late.to_the_end("many")
         self.rows.add("a replica that has it all, with its hint, up to the end", f"{time.monotonic() - began:.1f} s")
@@ -290,6 +296,11 @@ class Figures:
         took = time.monotonic() - began
         maker.close()
         self.rows.add("streams made", f"{count} in {took:.0f} s, {took / count * 1000:.0f} ms each")
+        some = names[:: max(1, count // LOOKED)]
+        began = time.monotonic()
+        assert self.place.looked(*some)
+        took = time.monotonic() - began
+        self.rows.add("streams looked at through each node", f"{len(some)} in {took:.1f} s, {took / len(some) * 1000:.0f} ms each")
         time.sleep(10)
         costs = [[now - was for now, was in zip((self.nodes.memory(it), self.nodes.disk(it), self.nodes.files(it)), before[it])] for it in NAMES]
         memory, disk, files = (max(it[part] for it in costs) / count for part in range(3))
@@ -344,8 +355,8 @@ def main():
     parser.add_argument("--program", type=lambda it: str(pathlib.Path(it).resolve()), default=str(TOP / "crates" / "cli" / "out" / "cli"))
     log_nodes.add_words(parser)
     parser.add_argument("--folder", help="where all is [default: a new one, which is taken away]")
-    parser.add_argument("--seconds", type=float, default=10)
-    parser.add_argument("--requests", type=int, default=20000)
+    parser.add_argument("--seconds", type=float, default=5)
+    parser.add_argument("--requests", type=int, default=6000)
     parser.add_argument("--streams", type=int, default=3000)
     parser.add_argument("--memory", metavar="FOLDER", help="a folder in memory, where a late replica is made too")
     parser.add_argument("--page", metavar="FILE", help="a page that has a place for the table")
