@@ -2,7 +2,6 @@
 use Rattle.std.specs.Prelude.{⊤}
 use Rattle.std.proofs.Common.{◌≡◌, ◌≢◌, List, Bool, true, false, Some, inl, refl, sym, ap, subst, ◌∙◌, codes}
 use Rattle.std.specs.Prelude.{IsTrue}
-use Rattle.std.specs.FinMap as maps
 use Rattle.sqlite.specs.Effect.{Database}
 use Rattle.sqlite.specs.Order.{Row}
 use Rattle.sql_laws.specs.RowMaps.{IsPut}

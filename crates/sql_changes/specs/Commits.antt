@@ -1,14 +1,12 @@
 -- What a commit of a change of an office makes of the rows that a domain sees, by the names of their tables: its request's record, whose number is 16 bytes, and the rows that the change
 -- writes.
-use Rattle.std.specs.Prelude.{◌≡◌, ℕ, ◌+◌, ℤ, pos, Bool, true, false, List, [], ◌∷◌, Option, Some, None, unwrap_or, codes}
+use Rattle.std.specs.Prelude.{◌≡◌, ℤ, pos, Bool, true, false, List, [], ◌∷◌, Option, Some, None, unwrap_or, codes}
 use Rattle.sqlite.specs.declared.types.Value.TheVariants.{Null, Int, Text as Words}
 use Rattle.sqlite.specs.Order.{Row}
 use Rattle.po_text.specs.declared.entry.Entry.{Entry}
 use Rattle.po_text.specs.Strings.{is_forms}
 use Rattle.po_text.specs.Texts.{Text}
-use Rattle.units.specs.KeyTexts.{HasStrings}
 use Rattle.units.specs.Rules.{plural_field}
-use Rattle.units.specs.Units.{key_of, key_text}
 use Rattle.units.specs.declared.unit.Policy.{Policy}
 use Rattle.units.specs.declared.unit.Role.{Role}
 use Rattle.units.specs.declared.unit.Unit.{Unit}
@@ -20,10 +18,9 @@ use Rattle.deliveries.specs.declared.values.Language.{Language}
 use Rattle.request_book.specs.Acts.{IsNumber}
 use Rattle.request_book.specs.declared.book.Record.{Record}
 use Rattle.sql_columns.specs.Numbers.{role_number, flag_number}
-use Rattle.sql_columns.specs.Written.{ArePrevious, texts_text, header_text}
+use Rattle.sql_columns.specs.Written.{ArePrevious, header_text}
 use Rattle.sql_schema.specs.Inside.{PutsIn, HoldsValues, Then}
 use Rattle.sql_schema.specs.Keys.{first_text, row_number, has_text}
-use Rattle.sql_schema.specs.Rows.{text_or_null}
 use Rattle.sql_meaning.specs.Cells.{record_cells}
 pub use Rattle.sql_changes.specs.EntryWrites.{entry_row, PutsEntry, PutsEntries}
 use Rattle.sql_changes.specs.EntryWrites.{HoldsEntries}
