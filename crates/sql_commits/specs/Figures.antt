@@ -4,10 +4,15 @@ use Rattle.std.specs.FinMap as maps
 use Rattle.sqlite.specs.declared.types.Value.TheVariants.{Int, Text as Words}
 use Rattle.sqlite.specs.Effect.{Database}
 use Rattle.po_text.specs.Texts.{Text}
-use Rattle.units.specs.Project.{Project, entry_of}
+use Rattle.units.specs.Project.{Project, entry_of, view_of}
+use Rattle.units.specs.declared.unit.Key.{Key}
+use Rattle.units.specs.declared.unit.Suggestion.{Suggestion}
 use Rattle.units.specs.declared.unit.Policy.{Policy}
 use Rattle.units.specs.declared.unit.UnitView.{UnitView}
 use Rattle.deliveries.specs.declared.tally.Tally.{Tally}
+use Rattle.deliveries.specs.UnitAccess.{view_written, IsWriteOver}
+use Rattle.deliveries.specs.declared.values.UnitWrite.{UnitWrite}
+use Rattle.deliveries.specs.declared.values.UnitWrite.TheVariants.{Whole, Row, Suggested, Voted}
 use Rattle.deliveries.specs.declared.values.Change.{Change}
 use Rattle.deliveries.specs.declared.values.Change.TheVariants.{OneRole, NewPolicy, NewDomain, InDomain}
 use Rattle.deliveries.specs.declared.values.DomainChange.{DomainChange}
@@ -62,6 +67,13 @@ FollowsUnit domain project lang view old new =
 abbrev pub FollowsView : Text → Text → UnitView → Database → Database → Type 0
 FollowsView domain lang view old = FollowsUnit domain (project_at domain old) lang view old
 
+-- the same where the unit's own values are written alone: it counts as many suggestions as it did
+abbrev pub FollowsRow : Text → Text → Key → UnitView → Database → Database → Type 0
+FollowsRow domain lang key view old new =
+    let project = project_at domain old in
+    (there : UnitView) → view_of project (lang, key) ≡ Some there → view.unit.key ≡ key → view.source ≡ there.source
+    → FiguresFollow (moved_at domain lang (counted project.template there.unit) (counted project.template (view_written (Row view) there).unit)) old new
+
 -- where the domain isn't there, nothing is counted
 abbrev pub FollowsIf : Bool → (Database → Database → Type 0) → Database → Database → Type 0
 FollowsIf true Follows = Follows
@@ -70,9 +82,27 @@ FollowsIf false Follows = FiguresStay
 abbrev pub FollowsIn : Text → (Database → Database → Type 0) → Database → Database → Type 0
 FollowsIn domain Follows old new = FollowsIf (is_domain (rows_named old) domain) Follows old new
 
-abbrev pub FollowsAct : Text → Text → Option UnitView → Database → Database → Type 0
-FollowsAct domain lang None = FiguresStay
-FollowsAct domain lang (Some view) = FollowsIn domain (FollowsView domain lang view)
+-- a suggestion more on a unit that is there is one more of those that its language counts, unless the unit is obsolete
+abbrev pub FollowsSuggestion : Text → Text → Key → Suggestion → Database → Database → Type 0
+FollowsSuggestion domain lang key s old new =
+    let project = project_at domain old in
+    (view : UnitView) → view_of project (lang, key) ≡ Some view → view.unit.key ≡ key → s.votes ≡ maps.empty
+    → FiguresFollow (moved_at domain lang (counted project.template view.unit) (counted project.template (view_written (Suggested s) view).unit)) old new
+
+-- a vote changes the sum of its suggestion, if that is what the votes sum up to then, and no count
+abbrev pub FollowsVote : Text → Text → Key → UnitWrite → Database → Database → Type 0
+FollowsVote domain lang key write old new =
+    (view : UnitView) → view_of (project_at domain old) (lang, key) ≡ Some view → IsWriteOver view write → FiguresStay old new
+
+abbrev pub FollowsWrite : Text → Text → Key → UnitWrite → Database → Database → Type 0
+FollowsWrite domain lang key (Whole view) = FollowsView domain lang view
+FollowsWrite domain lang key (Row view) = FollowsRow domain lang key view
+FollowsWrite domain lang key (Suggested s) = FollowsSuggestion domain lang key s
+FollowsWrite domain lang key (Voted number voter value sum) = FollowsVote domain lang key (Voted number voter value sum)
+
+abbrev pub FollowsAct : Text → Text → Key → Option UnitWrite → Database → Database → Type 0
+FollowsAct domain lang key None = FiguresStay
+FollowsAct domain lang key (Some write) = FollowsIn domain (FollowsWrite domain lang key write)
 
 -- ---- a change of the office
 
