@@ -91,8 +91,8 @@ pub fn put_tallies<S: Alter>(
     Ok(())
 }
 
-/// Moves a language's tally by what the unit that is there counts, and what its new view does. Where both count the same, nothing is
-/// written. A language that has no tally is an error: another program has written the file.
+/// Moves a language's tally by what the unit that is there counts, and what its new view does. An act doesn't change the template, so the new
+/// view's entry is the old one's. A language that has no tally is an error: another program has written the file.
 pub fn move_tally<S: Alter>(
     tx: &mut Transaction<'_, S>,
     alloc: Global,
@@ -105,8 +105,79 @@ pub fn move_tally<S: Alter>(
     ensures spares { IsInsideOf by_domain (state S.Store tx.old.conn.now) (state S.Store tx.new.conn.now) result SparesDomains }
     ensures figures { IsInsideOf by_domain (state S.Store tx.old.conn.now) (state S.Store tx.new.conn.now) result (FollowsView domain.now lang.now view.now) }
 {
-    let was = counted_there(tx, alloc, domain, lang, view)?;
+    let found = unit_there(tx, alloc, domain, lang, &view.unit.key)?;
+    let was = match found {
+        Some(there) => counted_so(&view.source, &there.numbers, there.suggestions),
+        None => Tally::none(),
+    };
     let is = counted(&view.source, &view.unit)?;
+    put_difference(tx, domain, lang, was, is)
+}
+
+/// Moves a language's tally by what the unit that is there counts, and what it does with the values of its new view and the suggestions that
+/// it has.
+pub fn move_row_tally<S: Alter>(
+    tx: &mut Transaction<'_, S>,
+    alloc: Global,
+    domain: &Name,
+    lang: &Lang,
+    view: &UnitView,
+) -> Result<(), Failure>
+    requires steady { IsSteadyOver by_domain (state S.Store tx.old.conn.now) }
+    ensures same_reference { tx.new.conn.ghost_name ≡ tx.old.conn.ghost_name }
+    ensures spares { IsInsideOf by_domain (state S.Store tx.old.conn.now) (state S.Store tx.new.conn.now) result SparesDomains }
+    ensures figures { IsInsideOf by_domain (state S.Store tx.old.conn.now) (state S.Store tx.new.conn.now) result (FollowsRowAt domain.now lang.now view.now) }
+{
+    let found = unit_there(tx, alloc, domain, lang, &view.unit.key)?;
+    match found {
+        Some(there) => {
+            let was = counted_so(&view.source, &there.numbers, there.suggestions);
+            let is = counted_so(&view.source, &numbers_of(&view.unit), there.suggestions);
+            put_difference(tx, domain, lang, was, is)
+        }
+        None => Ok(()),
+    }
+}
+
+/// Counts a suggestion more in a language's tally, unless the unit that is there is obsolete.
+pub fn count_suggestion<S: Alter>(
+    tx: &mut Transaction<'_, S>,
+    alloc: Global,
+    domain: &Name,
+    lang: &Lang,
+    key: &Key,
+) -> Result<(), Failure>
+    requires steady { IsSteadyOver by_domain (state S.Store tx.old.conn.now) }
+    ensures same_reference { tx.new.conn.ghost_name ≡ tx.old.conn.ghost_name }
+    ensures spares { IsInsideOf by_domain (state S.Store tx.old.conn.now) (state S.Store tx.new.conn.now) result SparesDomains }
+    ensures figures { IsInsideOf by_domain (state S.Store tx.old.conn.now) (state S.Store tx.new.conn.now) result (CountsSuggestion domain.now lang.now key.now) }
+{
+    key_fits(key);
+    let text = key.text(alloc)?;
+    let found = find_domain_unit(tx, domain.as_str(), lang.as_str(), text.as_str())?;
+    match found {
+        Some(row) => {
+            let numbers = unit_numbers(&row)?;
+            put_difference(tx, domain, lang, Tally::none(), one_suggestion(&numbers))
+        }
+        None => Ok(()),
+    }
+}
+
+/// Moves a language's tally from what one unit counted to what another counts. Where both count the same, nothing is read or written.
+fn put_difference<S: Alter>(
+    tx: &mut Transaction<'_, S>,
+    domain: &Name,
+    lang: &Lang,
+    was: Tally,
+    is: Tally,
+) -> Result<(), Failure>
+    requires steady { IsSteadyOver by_domain (state S.Store tx.old.conn.now) }
+    requires open { HasCleanDisk (state S.Store tx.old.conn.now) → IsTrue (state S.Store tx.old.conn.now).is_open }
+    ensures same_reference { tx.new.conn.ghost_name ≡ tx.old.conn.ghost_name }
+    ensures spares { IsInsideOf by_domain (state S.Store tx.old.conn.now) (state S.Store tx.new.conn.now) result SparesDomains }
+    ensures figures { IsInsideOf by_domain (state S.Store tx.old.conn.now) (state S.Store tx.new.conn.now) result (FiguresFollow (moved_at domain.now lang.now was is)) }
+{
     if was == is {
         Ok(())
     } else {
@@ -138,92 +209,38 @@ fn put_moved<S: Alter>(
     }
 }
 
-/// What the unit that is there counts; where there is none, nothing. An act doesn't change the template, so the new view's entry is the
-/// old one's.
-fn counted_there<S: Alter>(
+/// What is read of a unit that is there, to count it: the numbers of its row, and how many suggestions it has.
+#[derive(Drop)]
+struct UnitThere {
+    numbers: UnitNumbers,
+    suggestions: usize,
+}
+
+/// What there is of the unit of a key, if there is one. Of its suggestions the places are read, and no forms.
+fn unit_there<S: Alter>(
     tx: &mut Transaction<'_, S>,
     alloc: Global,
     domain: &Name,
     lang: &Lang,
-    view: &UnitView,
-) -> Result<Tally, Failure>
+    key: &Key,
+) -> Result<Option<UnitThere>, Failure>
     requires steady { IsSteadyOver by_domain (state S.Store tx.old.conn.now) }
     ensures same_reference { tx.new.conn.ghost_name ≡ tx.old.conn.ghost_name }
-    ensures spares { IsInsideOf by_domain (state S.Store tx.old.conn.now) (state S.Store tx.new.conn.now) result (λ old new. new ≡ old) }
-    ensures counted { HasCleanDisk (state S.Store tx.new.conn.now) → IfOk result (CountsThere domain.now lang.now view.now (state S.Store tx.old.conn.now).now) }
+    ensures found { IsReadOf by_domain (state S.Store tx.old.conn.now) (state S.Store tx.new.conn.now) result (IsUnitThere domain.now lang.now key.now) }
 {
-    key_fits(&view.unit.key);
-    let key = view.unit.key.text(alloc)?;
-    let found = find_domain_unit(tx, domain.as_str(), lang.as_str(), key.as_str())?;
-    let suggestions = domain_suggestions_of(tx, domain.as_str(), lang.as_str(), key.as_str())?;
+    key_fits(key);
+    let text = key.text(alloc)?;
+    let found = find_domain_unit(tx, domain.as_str(), lang.as_str(), text.as_str())?;
+    let places = suggestion_places(tx, domain.as_str(), lang.as_str(), text.as_str())?;
     match found {
         Some(row) => {
             let numbers = unit_numbers(&row)?;
-            Ok(counted_so(&view.source, &numbers, suggestions.len()))
+            Ok(Some(UnitThere {
+                numbers,
+                suggestions: places.len(),
+            }))
         }
-        None => Ok(Tally::none()),
-    }
-}
-
-/// What a unit counts, whose entry in the template this is.
-fn counted(source: &Option<Entry>, unit: &Unit) -> Result<Tally, Failure>
-    ensures { IfOk result (λ tally. (template : List EntryValue) → source.now ≡ entry_of template unit.now.key → tally ≡ counts_one template unit.now) }
-{
-    let mut tally = Tally::none();
-    tally.add(source.as_ref(), unit)?;
-    Ok(tally)
-}
-
-/// What a unit counts whose row shows these numbers, and that has this many suggestions.
-fn counted_so(source: &Option<Entry>, numbers: &UnitNumbers, suggestions: usize) -> Tally
-    ensures { (template : List EntryValue) (unit : UnitValue) → source.now ≡ entry_of template unit.key → unit.state ≡ numbers.now.state → unit.obsolete ≡ numbers.now.obsolete
-        → length unit.suggestions ≡ suggestions → result ≡ counts_one template unit }
-{
-    if numbers.obsolete {
-        let mut tally = Tally::none();
-        tally.obsolete = 1;
-        tally
-    } else {
-        shown_once(shown(source, numbers.state), suggestions)
-    }
-}
-
-/// What a unit counts that is shown in this state, and that has this many suggestions.
-fn shown_once(state: ShownState, suggestions: usize) -> Tally
-    ensures { result ≡ one_more state (record none_counted { suggestions = suggestions }) }
-{
-    let mut tally = Tally::none();
-    tally.suggestions = suggestions;
-    match state {
-        ShownState::Untranslated => tally.untranslated = 1,
-        ShownState::NeedsEditing => tally.needs_editing = 1,
-        ShownState::Translated => tally.translated = 1,
-        ShownState::Approved => tally.approved = 1,
-        ShownState::ReadOnly => tally.read_only = 1,
-    }
-    tally
-}
-
-/// What callers see as the state of a unit, whose entry in the template this is.
-fn shown(source: &Option<Entry>, state: UnitState) -> ShownState
-    ensures { (unit : UnitValue) → unit.state ≡ state → result ≡ shown_state source.now unit }
-{
-    if is_read_only(source) {
-        ShownState::ReadOnly
-    } else {
-        stored_shown(state)
-    }
-}
-
-/// What callers see of a stored state, where the template doesn't make the unit read-only.
-fn stored_shown(state: UnitState) -> ShownState
-    ensures { result ≡ stored_as_shown state }
-{
-    match state {
-        UnitState::Untranslated => ShownState::Untranslated,
-        UnitState::NeedsEditing => ShownState::NeedsEditing,
-        UnitState::Translated => ShownState::Translated,
-        UnitState::Approved => ShownState::Approved,
+        None => Ok(None),
     }
 }
 
