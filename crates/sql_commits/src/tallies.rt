@@ -1,30 +1,28 @@
 //! Tallies inside a transaction: how many units of each language are in each state.
-ghost use Rattle.std.specs.Prelude.{◌≡◌, ◌+◌, ◌-◌, pos, List, IfOk, IsTrue, length};
+ghost use Rattle.std.specs.Prelude.{◌≡◌, ◌+◌, ◌-◌, pos, IfOk, IsTrue};
 ghost use Rattle.sqlite.specs.Held.{state};
 ghost use Rattle.sqlite.specs.State.{HasCleanDisk};
 ghost use Rattle.sql_schema.specs.Layouts.{by_domain};
-ghost use Rattle.sql_schema.specs.Inside.{IsSteadyOver, IsInsideOf};
+ghost use Rattle.sql_schema.specs.Inside.{IsSteadyOver, IsInsideOf, IsReadOf};
 ghost use Rattle.sql_changes.specs.OnDomains.{SparesDomains};
-ghost use Rattle.deliveries.specs.Counting.{none_counted, one_more};
-ghost use Rattle.tables.specs.Tallies.{counted as counts_one, moved as moves};
-ghost use Rattle.units.specs.Project.{entry_of};
-ghost use Rattle.units.specs.Units.{shown_state, stored_as_shown};
-ghost use Rattle.units.specs.declared.unit.Unit.{Unit as UnitValue};
-ghost use Rattle.po_text.specs.declared.entry.Entry.{Entry as EntryValue};
-ghost use Rattle.sql_commits.specs.Figures.{PutsTally, FollowsView, CountsThere};
+ghost use Rattle.tables.specs.Tallies.{moved as moves};
+ghost use Rattle.sql_commits.specs.Counted.{ShowsValues};
+ghost use Rattle.sql_commits.specs.Figures.{PutsTally, FollowsView, FollowsOwnRow, FollowsOneMore};
 ghost use Rattle.sql_figures.specs.Figures.{with_tallies, moved_at, FiguresFollow};
 
+use crate::unit_counts::{
+    CountedValues, counted, counted_so, counted_there, one_suggestion, values_beside,
+};
 use deliveries::Tally;
-use po_text::Entry;
-use sql_decoding::{Failure, UnitNumbers, tally_in, unit_numbers};
+use sql_decoding::{Failure, tally_in, unit_numbers};
 use sql_keepable::key_fits;
-use sql_statements::domain_suggestions::domain_suggestions_of;
+use sql_statements::domain_suggestions::places_of;
 use sql_statements::domain_units::find_domain_unit;
 use sql_statements::tallies::{find_tally, put_tally};
 use sqlite::{Alter, Transaction};
 use std::alloc::Global;
 use tables::Lost;
-use units::{Lang, Name, ShownState, Unit, UnitState, UnitView, is_read_only};
+use units::{Key, Lang, Name, UnitView};
 
 /// The last count that a column holds.
 const LAST_COUNT: usize = 9_223_372_036_854_775_807;
@@ -105,11 +103,8 @@ pub fn move_tally<S: Alter>(
     ensures spares { IsInsideOf by_domain (state S.Store tx.old.conn.now) (state S.Store tx.new.conn.now) result SparesDomains }
     ensures figures { IsInsideOf by_domain (state S.Store tx.old.conn.now) (state S.Store tx.new.conn.now) result (FollowsView domain.now lang.now view.now) }
 {
-    let found = unit_there(tx, alloc, domain, lang, &view.unit.key)?;
-    let was = match found {
-        Some(there) => counted_so(&view.source, &there.numbers, there.suggestions),
-        None => Tally::none(),
-    };
+    let there = values_there(tx, alloc, domain, lang, &view.unit.key)?;
+    let was = counted_there(&view.source, &there);
     let is = counted(&view.source, &view.unit)?;
     put_difference(tx, domain, lang, was, is)
 }
@@ -126,13 +121,13 @@ pub fn move_row_tally<S: Alter>(
     requires steady { IsSteadyOver by_domain (state S.Store tx.old.conn.now) }
     ensures same_reference { tx.new.conn.ghost_name ≡ tx.old.conn.ghost_name }
     ensures spares { IsInsideOf by_domain (state S.Store tx.old.conn.now) (state S.Store tx.new.conn.now) result SparesDomains }
-    ensures figures { IsInsideOf by_domain (state S.Store tx.old.conn.now) (state S.Store tx.new.conn.now) result (FollowsRowAt domain.now lang.now view.now) }
+    ensures figures { IsInsideOf by_domain (state S.Store tx.old.conn.now) (state S.Store tx.new.conn.now) result (FollowsOwnRow domain.now lang.now view.now) }
 {
-    let found = unit_there(tx, alloc, domain, lang, &view.unit.key)?;
-    match found {
-        Some(there) => {
-            let was = counted_so(&view.source, &there.numbers, there.suggestions);
-            let is = counted_so(&view.source, &numbers_of(&view.unit), there.suggestions);
+    let there = values_there(tx, alloc, domain, lang, &view.unit.key)?;
+    match there {
+        Some(values) => {
+            let was = counted_so(&view.source, &values);
+            let is = counted_so(&view.source, &values_beside(&view.unit, values.suggestions));
             put_difference(tx, domain, lang, was, is)
         }
         None => Ok(()),
@@ -150,7 +145,7 @@ pub fn count_suggestion<S: Alter>(
     requires steady { IsSteadyOver by_domain (state S.Store tx.old.conn.now) }
     ensures same_reference { tx.new.conn.ghost_name ≡ tx.old.conn.ghost_name }
     ensures spares { IsInsideOf by_domain (state S.Store tx.old.conn.now) (state S.Store tx.new.conn.now) result SparesDomains }
-    ensures figures { IsInsideOf by_domain (state S.Store tx.old.conn.now) (state S.Store tx.new.conn.now) result (CountsSuggestion domain.now lang.now key.now) }
+    ensures figures { IsInsideOf by_domain (state S.Store tx.old.conn.now) (state S.Store tx.new.conn.now) result (FollowsOneMore domain.now lang.now key.now) }
 {
     key_fits(key);
     let text = key.text(alloc)?;
@@ -158,7 +153,7 @@ pub fn count_suggestion<S: Alter>(
     match found {
         Some(row) => {
             let numbers = unit_numbers(&row)?;
-            put_difference(tx, domain, lang, Tally::none(), one_suggestion(&numbers))
+            put_difference(tx, domain, lang, Tally::none(), one_suggestion(numbers.obsolete))
         }
         None => Ok(()),
     }
@@ -209,34 +204,28 @@ fn put_moved<S: Alter>(
     }
 }
 
-/// What is read of a unit that is there, to count it: the numbers of its row, and how many suggestions it has.
-#[derive(Drop)]
-struct UnitThere {
-    numbers: UnitNumbers,
-    suggestions: usize,
-}
-
-/// What there is of the unit of a key, if there is one. Of its suggestions the places are read, and no forms.
-fn unit_there<S: Alter>(
+/// What a tally counts of the unit of a key, if there is one. Of its suggestions the places are read, and no forms.
+fn values_there<S: Alter>(
     tx: &mut Transaction<'_, S>,
     alloc: Global,
     domain: &Name,
     lang: &Lang,
     key: &Key,
-) -> Result<Option<UnitThere>, Failure>
+) -> Result<Option<CountedValues>, Failure>
     requires steady { IsSteadyOver by_domain (state S.Store tx.old.conn.now) }
     ensures same_reference { tx.new.conn.ghost_name ≡ tx.old.conn.ghost_name }
-    ensures found { IsReadOf by_domain (state S.Store tx.old.conn.now) (state S.Store tx.new.conn.now) result (IsUnitThere domain.now lang.now key.now) }
+    ensures found { IsReadOf by_domain (state S.Store tx.old.conn.now) (state S.Store tx.new.conn.now) result (ShowsValues domain.now lang.now key.now) }
 {
     key_fits(key);
     let text = key.text(alloc)?;
     let found = find_domain_unit(tx, domain.as_str(), lang.as_str(), text.as_str())?;
-    let places = suggestion_places(tx, domain.as_str(), lang.as_str(), text.as_str())?;
+    let places = places_of(tx, domain.as_str(), lang.as_str(), text.as_str())?;
     match found {
         Some(row) => {
             let numbers = unit_numbers(&row)?;
-            Ok(Some(UnitThere {
-                numbers,
+            Ok(Some(CountedValues {
+                state: numbers.state,
+                obsolete: numbers.obsolete,
                 suggestions: places.len(),
             }))
         }

@@ -1,19 +1,42 @@
 //! What one unit counts in a tally.
-ghost use Rattle.std.specs.Prelude.{◌≡◌, List, IfOk, length};
+ghost use Rattle.std.specs.Prelude.{◌≡◌, List, Option, IfOk};
 ghost use Rattle.deliveries.specs.Counting.{none_counted, one_more};
+ghost use Rattle.sql_commits.specs.Counted.{HasValues, HasValuesIf, CountsOneMore};
+ghost use Rattle.sql_figures.specs.KeptTallies.{counted_at};
 ghost use Rattle.tables.specs.Tallies.{counted as counts_one};
 ghost use Rattle.units.specs.Project.{entry_of};
 ghost use Rattle.units.specs.Units.{shown_state, stored_as_shown};
+ghost use Rattle.units.specs.declared.unit.Key.{Key as KeyValue};
 ghost use Rattle.units.specs.declared.unit.Unit.{Unit as UnitValue};
 ghost use Rattle.po_text.specs.declared.entry.Entry.{Entry as EntryValue};
 
 use deliveries::Tally;
 use po_text::Entry;
-use sql_decoding::{Failure, UnitNumbers};
+use sql_decoding::Failure;
 use units::{ShownState, Unit, UnitState, is_read_only};
 
+/// What a tally counts of a unit.
+#[derive(Drop)]
+pub struct CountedValues {
+    pub state: UnitState,
+    pub obsolete: bool,
+    /// How many suggestions it has.
+    pub suggestions: usize,
+}
+
+/// The values of a unit that has so many suggestions.
+pub fn values_beside(unit: &Unit, suggestions: usize) -> CountedValues
+    ensures { result ≡ record { state = unit.now.state; obsolete = unit.now.obsolete; suggestions = suggestions } }
+{
+    CountedValues {
+        state: unit.state,
+        obsolete: unit.obsolete,
+        suggestions,
+    }
+}
+
 /// What a unit counts, whose entry in the template this is.
-fn counted(source: &Option<Entry>, unit: &Unit) -> Result<Tally, Failure>
+pub fn counted(source: &Option<Entry>, unit: &Unit) -> Result<Tally, Failure>
     ensures { IfOk result (λ tally. (template : List EntryValue) → source.now ≡ entry_of template unit.now.key → tally ≡ counts_one template unit.now) }
 {
     let mut tally = Tally::none();
@@ -21,18 +44,38 @@ fn counted(source: &Option<Entry>, unit: &Unit) -> Result<Tally, Failure>
     Ok(tally)
 }
 
-/// What a unit counts whose row shows these numbers, and that has this many suggestions.
-fn counted_so(source: &Option<Entry>, numbers: &UnitNumbers, suggestions: usize) -> Tally
-    ensures { (template : List EntryValue) (unit : UnitValue) → source.now ≡ entry_of template unit.key → unit.state ≡ numbers.now.state → unit.obsolete ≡ numbers.now.obsolete
-        → length unit.suggestions ≡ suggestions → result ≡ counts_one template unit }
+/// What the unit of a key counts that has these values, and whose entry in the template this is; nothing where there is none.
+pub fn counted_there(source: &Option<Entry>, there: &Option<CountedValues>) -> Tally
+    ensures { (template : List EntryValue) (key : KeyValue) (unit : Option UnitValue) → source.now ≡ entry_of template key → HasValuesIf key unit there.now → result ≡ counted_at template unit }
 {
-    if numbers.obsolete {
+    match there {
+        Some(values) => counted_so(source, values),
+        None => Tally::none(),
+    }
+}
+
+/// What a unit counts that has these values, and whose entry in the template this is.
+pub fn counted_so(source: &Option<Entry>, values: &CountedValues) -> Tally
+    ensures { (template : List EntryValue) (unit : UnitValue) → source.now ≡ entry_of template unit.key → HasValues unit values.now → result ≡ counts_one template unit }
+{
+    if values.obsolete {
         let mut tally = Tally::none();
         tally.obsolete = 1;
         tally
     } else {
-        shown_once(shown(source, numbers.state), suggestions)
+        shown_once(shown(source, values.state), values.suggestions)
     }
+}
+
+/// What a suggestion more on a unit counts: nothing where the unit is obsolete.
+pub fn one_suggestion(obsolete: bool) -> Tally
+    ensures { CountsOneMore obsolete result }
+{
+    let mut tally = Tally::none();
+    if !obsolete {
+        tally.suggestions = 1;
+    }
+    tally
 }
 
 /// What a unit counts that is shown in this state, and that has this many suggestions.
