@@ -26,3 +26,5 @@ mod voting;
 pub use deciding::decide;
 pub use decision::{Decision, Values};
 pub use refusing::early_refusal;
+pub use suggestions::{find_suggestion, voted_suggestions};
+pub use units_after::with_suggestions;
