@@ -40,7 +40,7 @@ use Rattle.sql_changes.specs.UnitWrites.{is_suggested, PutsVote, WritesVote}
 -- ---- the suggestion of a number has a row
 
 pub row_of_number : (old : NamedRows) (lang key : Text) (unit : Unit) (number : Text) (s : Suggestion) → suggestions_in old lang key ≡ unit.suggestions → IsNumber number → suggestion_of number unit ≡ Some s
-    → (row : Row) × Has (old (codes "suggestion")) row × (is_on_unit lang key row ≡ true) × (first_text row ≡ number_text number)
+    → (row : Row) × Has (old (codes "suggestion")) row × (is_on_unit lang key row ≡ true) × (first_text row ≡ number_text number) × (s ≡ suggestion_of_row old row)
 row_of_number old lang key unit number s stand valid found =
     let at = has_found (has_number number) unit.suggestions s found in
     let r =
@@ -48,7 +48,7 @@ row_of_number old lang key unit number s stand valid found =
     (subst (λ (ss : List Suggestion). Has ss s) (sym stand) at.0) in
     let f = has_filtered (is_on_unit lang key) (old (codes "suggestion")) r.0 r.1 in
     let is : number_at 1 r.0 ≡ number = sym (ap (λ (x : Suggestion). x.number) r.2) ∙ sym ((bytes_decides number s.number).0 at.1) in
-    (r.0, f.0, f.1, text_of_number (first_text r.0) number valid is)
+    (r.0, f.0, f.1, text_of_number (first_text r.0) number valid is, r.2)
 
 -- ---- what is written
 
