@@ -9,12 +9,14 @@ use Rattle.po_text.specs.Texts.{Text}
 use Rattle.units.specs.Rules.{plural_field}
 use Rattle.units.specs.declared.unit.Policy.{Policy}
 use Rattle.units.specs.declared.unit.Role.{Role}
+use Rattle.units.specs.declared.unit.Key.{Key}
 use Rattle.units.specs.declared.unit.Unit.{Unit}
 use Rattle.template_update.specs.declared.plans.Plan.{Plan}
 use Rattle.deliveries.specs.ProjectActs.{LanguagePlan}
 use Rattle.deliveries.specs.declared.values.DomainChange.{DomainChange}
 use Rattle.deliveries.specs.declared.values.DomainChange.TheVariants.{NewLanguage, NewTemplate}
 use Rattle.deliveries.specs.declared.values.Language.{Language}
+use Rattle.deliveries.specs.declared.values.UnitWrite.{UnitWrite}
 use Rattle.request_book.specs.Acts.{IsNumber}
 use Rattle.request_book.specs.declared.book.Record.{Record}
 use Rattle.sql_columns.specs.Numbers.{role_number, flag_number}
@@ -24,7 +26,7 @@ use Rattle.sql_schema.specs.Keys.{first_text, row_number, has_text}
 use Rattle.sql_meaning.specs.Cells.{record_cells}
 pub use Rattle.sql_changes.specs.EntryWrites.{entry_row, PutsEntry, PutsEntries}
 use Rattle.sql_changes.specs.EntryWrites.{HoldsEntries}
-use Rattle.sql_changes.specs.UnitWrites.{LeavesRows, WritesNumberedUnit, WritesUnits, WritesPlansBack}
+use Rattle.sql_changes.specs.UnitWrites.{LeavesRows, WritesOfUnit, WritesUnits, WritesPlansBack}
 use Rattle.sqlite.specs.Effect.{Database}
 use Rattle.sql_schema.specs.Layouts.{NamedRows, rows_named}
 use Rattle.sql_schema.specs.Views.{AreSameByName}
@@ -69,8 +71,8 @@ MakesPolicy row policy = Then (PutsNumberedRecord row) (WritesPolicy policy)
 
 -- ---- a unit
 
-unfoldable pub WritesRecordAndUnit : Record → Text → Unit → NamedRows → NamedRows → Type 0
-WritesRecordAndUnit row lang unit = Then (PutsNumberedRecord row) (WritesNumberedUnit lang unit)
+unfoldable pub WritesRecordAndUnit : Record → Text → Key → UnitWrite → NamedRows → NamedRows → Type 0
+WritesRecordAndUnit row lang key write = Then (PutsNumberedRecord row) (WritesOfUnit lang key write)
 
 -- ---- a language
 
