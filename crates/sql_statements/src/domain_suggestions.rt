@@ -1,4 +1,8 @@
 //! The table of the suggestions of all domains.
+//!
+//! Where a suggestion is looked up by its number, `+` before its unit's columns keeps the query to the index of numbers (SQLite, "The SQLite
+//! Query Optimizer Overview"): that of units and places has more of the columns that are asked for, and would lead through all
+//! suggestions on the unit.
 ghost use Rattle.std.specs.Prelude.{◌≡◌, ◌∷◌, [], codes};
 ghost use Rattle.sqlite.specs.Held.{state};
 ghost use Rattle.sqlite.specs.declared.types.Value.TheVariants.{Int, Text};
@@ -107,7 +111,7 @@ pub fn find_domain_suggestion<'a, S: Alter>(
         (ShowsSuggestionOf domain.now lang.now key.now number.now) }
 {
     let mut rows = tx.query_all(
-        "SELECT number, place, suggester, forms FROM d_suggestion WHERE number = ?1 AND domain = ?2 AND lang = ?3 AND key = ?4",
+        "SELECT number, place, suggester, forms FROM d_suggestion WHERE number = ?1 AND +domain = ?2 AND +lang = ?3 AND +key = ?4",
         params![number, domain, lang, key],
     )?;
     Ok(rows.pop())
@@ -127,7 +131,7 @@ pub fn find_domain_place<'a, S: Alter>(
         (ShowsPlaceOf domain.now lang.now key.now number.now) }
 {
     let mut rows = tx.query_all(
-        "SELECT place FROM d_suggestion WHERE number = ?1 AND domain = ?2 AND lang = ?3 AND key = ?4",
+        "SELECT place FROM d_suggestion WHERE number = ?1 AND +domain = ?2 AND +lang = ?3 AND +key = ?4",
         params![number, domain, lang, key],
     )?;
     Ok(rows.pop())
