@@ -1,6 +1,6 @@
 -- What the writers of units make of rows by the names of their tables: the rows of a unit in the place of those that are there, and units one after the other.
 -- Numbers of requests are 16 bytes, and strings those of a catalogue.
-use Rattle.std.specs.Prelude.{◌≡◌, ◌&&◌, ℕ, ◌+◌, pos, int_lt, Bool, true, List, [], ◌∷◌, map, Option, Some, None, codes}
+use Rattle.std.specs.Prelude.{⊤, ◌≡◌, ◌&&◌, ℕ, ◌+◌, pos, int_lt, Bool, true, List, [], ◌∷◌, map, Option, Some, None, codes}
 use Rattle.std.specs.List.{list_any}
 use Rattle.sqlite.specs.Order.{Row}
 use Rattle.std.specs.FinMap as maps
@@ -84,7 +84,7 @@ PutsVote number voter None = TakesIn (codes "vote") (λ row. has_text 1 (number_
 
 -- on a suggestion that is on the unit; on another nothing
 abbrev pub WritesVote : Text → Text → Text → Text → Option VoteValue → NamedRows → NamedRows → Type 0
-WritesVote lang key number voter value old new = MakesIf (is_suggested lang key number old) (PutsVote number voter value) (λ before after. after ≡ before) old new
+WritesVote lang key number voter value old new = MakesIf (is_suggested lang key number old) (PutsVote number voter value) (λ before after. after ≡ before) old new × IsNumber number
 
 -- what an act writes of the unit at a key
 abbrev pub WritesOfUnit : Text → Key → UnitWrite → NamedRows → NamedRows → Type 0
@@ -92,6 +92,13 @@ WritesOfUnit lang key (writes.Whole view) = WritesNumberedUnit lang view.unit
 WritesOfUnit lang key (writes.Row view) = PutsUnitRow lang view.unit
 WritesOfUnit lang key (writes.Suggested s) = AddsLast lang (key_text key) s
 WritesOfUnit lang key (writes.Voted number voter value sum) = WritesVote lang (key_text key) number voter value
+
+-- the previous strings of a unit whose row is written are strings of a catalogue
+abbrev pub ArePreviousIn : UnitWrite → Type 0
+ArePreviousIn (writes.Whole view) = ArePrevious view.unit.previous
+ArePreviousIn (writes.Row view) = ArePrevious view.unit.previous
+ArePreviousIn (writes.Suggested s) = ⊤
+ArePreviousIn (writes.Voted number voter value sum) = ⊤
 
 -- ---- units, one after the other
 
