@@ -30,7 +30,7 @@ ghost use Rattle.sql_files.specs.Files.{IsOfficeFile, IsLost, KeepsFile, LeavesF
 ghost use Rattle.sqlite.specs.Effect.{IsDatabase};
 ghost use Rattle.store_sql.specs.Adopting.{AreAdopted};
 ghost use Rattle.store_sql.specs.Faults.{RefusesIn};
-ghost use Rattle.store_sql.specs.Kept.{KeepsOffice, KeepsOwnRules, LeavesItsOwn, LeavesOwnTrees, IsAtHand, is_honest, is_whole, means, may_leave, is_stopped, is_loaded};
+ghost use Rattle.store_sql.specs.Kept.{KeepsOffice, KeepsOwnRules, LeavesItsOwn, LeavesOwnTrees, LeavesReadable, IsAtHand, is_honest, is_whole, means, may_leave, is_stopped, is_loaded};
 ghost use Rattle.store_sql.specs.Making.{AreMade, IsHandedBack};
 ghost use Rattle.store_sql.specs.RecordsBehind.{WereHanded};
 ghost use Rattle.store_sql.specs.declared.recorded.HandingFault.TheVariants.{NoTables as Unreadable};
@@ -173,11 +173,12 @@ impl<S: Alter> Rows<S> {
         connection
     }
 
-    /// The rules of an office with its book hold, and a stop leaves what the tables mean. (A law: what it reads says so, and is
-    /// compiled away.)
+    /// The rules of an office with its book hold, and a stop leaves what the tables mean, and always what can be read. (A law: what it
+    /// reads says so, and is compiled away.)
     pub(crate) fn rules(&self)
         ensures rules { KeepsOwnRules S.Store self.now }
         ensures settled { LeavesItsOwn S.Store self.now }
+        ensures readable { LeavesReadable S.Store self.now }
     {
         let _read = self.stopped;
     }
