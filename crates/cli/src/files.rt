@@ -1,7 +1,7 @@
 //! Offices in files.
 
-use crate::store_fault;
 use crate::work::{Work, done, told_closed};
+use crate::{STOPPED, store_fault};
 use file_commands::Closed;
 use sqlite::{Connection, Error, ErrorCode, File, FileStore, Files, Options, Unknown};
 use sqlite_std_file::OpenError;
@@ -40,8 +40,8 @@ pub(crate) fn is_file(rt: &HostRuntime, path: &str) -> bool {
 /// Says that a large file is opened, where somebody may wait for it at a terminal.
 fn tell_opening(rt: &HostRuntime, path: &str, length: u64) {
     if LARGE <= length && rt.stderr().is_terminal() {
-        // Where it can't be told, the file is opened all the same.
-        let _ = eprintln!(rt; "opening {path}");
+        // A file's name gives no orders to the terminal. Where it can't be told, the file is opened all the same.
+        let _ = eprintln!(rt; "opening {}", path.escape_debug());
     }
 }
 
@@ -114,6 +114,8 @@ fn in_open_file(rt: &HostRuntime, path: &str, work: Work<'_>) -> u8 {
             } = done(rt, connection, work);
             match connection.close() {
                 Ok(()) => told_closed(rt, work, status),
+                // That the disk failed is told already.
+                Err(_) if status == STOPPED => STOPPED,
                 Err(_) => store_fault(rt, OpenFault::Disk),
             }
         }

@@ -86,6 +86,9 @@ fn asked_status(rt: &HostRuntime, asked: &Asked<'_>) -> io::Result<u8> {
 /// The exit status where all was done.
 const DONE: u8 = 0;
 
+/// The exit status of a server whose office a failure of the disk stopped: from there on it answered that alone.
+const STOPPED: u8 = 3;
+
 fn error_status(rt: &HostRuntime, error: &Error) -> io::Result<u8> {
     error.print(rt)?;
     Ok(error_code(error))

@@ -84,8 +84,10 @@ fn put_together(
     }
 }
 
-/// The unit with these suggestions.
-pub(crate) fn with_suggestions(
+/// A copy of the unit with these suggestions.
+///
+/// `AllocError` where a growth was refused.
+pub fn with_suggestions(
     unit: &Unit,
     suggestions: Items<Suggestion>,
 ) -> Result<Unit, AllocError>

@@ -46,6 +46,15 @@ pub record KeepsOthers (old new : NamedRows) : Type 0 where
   pub template : new (codes "template") ≡ old (codes "template")
   pub languages : new (codes "language") ≡ old (codes "language")
 
+pub kept_others : (old new : NamedRows) → ((t : List ℕ) → t ≢ codes "unit" → t ≢ codes "suggestion" → t ≢ codes "vote" → new t ≡ old t) → KeepsOthers old new
+kept_others old new spares = record {
+  records = spares (codes "record") (names_differ refl) (names_differ refl) (names_differ refl);
+  team = spares (codes "team") (names_differ refl) (names_differ refl) (names_differ refl);
+  policy = spares (codes "policy") (names_differ refl) (names_differ refl) (names_differ refl);
+  template = spares (codes "template") (names_differ refl) (names_differ refl) (names_differ refl);
+  languages = spares (codes "language") (names_differ refl) (names_differ refl) (names_differ refl);
+}
+
 module _ (old new : NamedRows) (lang : Text) (unit : Unit) (mid cleared : NamedRows) (put : PutsIn (codes "unit") first_texts (HoldsValues (unit_cells lang unit)) old mid)
     (clear : ClearsIn lang (key_text unit.key) mid cleared) (puts : PutsSuggestions lang (key_text unit.key) 0 unit.suggestions cleared new) where
   -- a table that is none of the three stays, and that of units from its row on
@@ -57,13 +66,7 @@ module _ (old new : NamedRows) (lang : Text) (unit : Unit) (mid cleared : NamedR
   spares t no_unit no_suggestion no_vote = clears_spares t no_suggestion no_vote ∙ put.others t no_unit
 
   pub keeps_others : KeepsOthers old new
-  keeps_others = record {
-    records = spares (codes "record") (names_differ refl) (names_differ refl) (names_differ refl);
-    team = spares (codes "team") (names_differ refl) (names_differ refl) (names_differ refl);
-    policy = spares (codes "policy") (names_differ refl) (names_differ refl) (names_differ refl);
-    template = spares (codes "template") (names_differ refl) (names_differ refl) (names_differ refl);
-    languages = spares (codes "language") (names_differ refl) (names_differ refl) (names_differ refl);
-  }
+  keeps_others = kept_others old new spares
 
   same_units : new (codes "unit") ≡ mid (codes "unit")
   same_units = clears_spares (codes "unit") (names_differ refl) (names_differ refl)
@@ -147,22 +150,12 @@ writes_unit old new lang unit ready fits written =
 
 -- ---- other tables may differ
 
-module _ (old new : NamedRows) (suggestions : new (codes "suggestion") ≡ old (codes "suggestion")) where
-  pub keyed_same : new (codes "vote") ≡ old (codes "vote") → AreKeyed old → AreKeyed new
-  keyed_same votes it = record {
-    one_number = subst (OneEach first_text) (sym suggestions) it.one_number;
-    one_place = λ r s in_r in_s. it.one_place r s (subst (λ rows. Has rows r) suggestions in_r) (subst (λ rows. Has rows s) suggestions in_s);
-    one_vote = subst (OneEach first_texts) (sym votes) it.one_vote;
-    has_suggestion = λ v there.
-        let s = it.has_suggestion v (subst (λ rows. Has rows v) votes there) in
-        (s.0, subst (λ rows. Has rows s.0) (sym suggestions) s.1, s.2);
-  }
-
-  pub writable_same : (lang : Text) (unit : Unit) → IsWritable old lang unit → IsWritable new lang unit
-  writable_same lang unit it = record {
-    key = it.key;
-    previous = it.previous;
-    numbers = it.numbers;
-    own = it.own;
-    free = λ s there row in_row off. it.free s there row (subst (λ rows. Has rows row) suggestions in_row) off;
-  }
+pub keyed_same : (old new : NamedRows) → new (codes "suggestion") ≡ old (codes "suggestion") → new (codes "vote") ≡ old (codes "vote") → AreKeyed old → AreKeyed new
+keyed_same old new suggestions votes it = record {
+  one_number = subst (OneEach first_text) (sym suggestions) it.one_number;
+  one_place = λ r s in_r in_s. it.one_place r s (subst (λ rows. Has rows r) suggestions in_r) (subst (λ rows. Has rows s) suggestions in_s);
+  one_vote = subst (OneEach first_texts) (sym votes) it.one_vote;
+  has_suggestion = λ v there.
+      let s = it.has_suggestion v (subst (λ rows. Has rows v) votes there) in
+      (s.0, subst (λ rows. Has rows s.0) (sym suggestions) s.1, s.2);
+}

@@ -147,7 +147,7 @@ class Replica:
         """A log that takes nothing for now, where a disk is full, say, may be silent too. So where it ends is asked before anything is said."""
         try:
             ends = self.reader.end(self.name)
-        except (Fault, NoStream, *engine(self.words).LOST):
+        except (Fault, *engine(self.words).LOST):
             return
         with self.lock:
             is_behind = 0 <= ends < seen.begin == self.begin and self.unheard
@@ -171,7 +171,7 @@ class Replica:
             self.pause = 0.1 if self.taken_now else min(self.pause * 2, 3.0)
             self.taken_now = 0
             self.due = time.monotonic() + self.pause
-        self.say("there is no stream" if isinstance(why, NoStream) else why)
+        self.say("the log finds no stream" if isinstance(why, NoStream) else why)
 
     def hear(self, seen, message):
         with self.lock:
