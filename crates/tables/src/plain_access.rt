@@ -16,7 +16,9 @@ use units::{Key, Lang, Name, Role, Suggestion};
 use uuid::Uuid;
 
 impl Tables for PlainTables {
+    ghost use Rattle.request_book.specs.Book.{OfficeWithBook};
     ghost use Rattle.tables.specs.PlainMeaning.{meaning_of};
+    ghost use Rattle.tables.specs.Stops.{left_readable};
 
     ghost is_honest = { λ t. ⊤ };
 
@@ -26,6 +28,12 @@ impl Tables for PlainTables {
 
     ghost may_leave = { λ t m. m ≡ meaning_of t };
 
+    ghost Left = { OfficeWithBook };
+
+    ghost leaves = { λ t left. left ≡ meaning_of t };
+
+    ghost reads = { λ left m. m ≡ left };
+
     ghost is_stopped = { λ t. false };
 
     ghost is_loaded = { λ t. ⊤ };
@@ -33,6 +41,8 @@ impl Tables for PlainTables {
     ghost rules = { λ t honest whole. t.kept };
 
     ghost settled = { λ t honest whole other left. left };
+
+    ghost readable = { λ t honest. left_readable (meaning_of t) };
 
     fn stopped(&self) -> bool {
         false
@@ -101,7 +111,8 @@ impl Tables for PlainTables {
         key: &Key,
         write: Option<UnitWrite>,
     ) -> Result<(), Lost> {
-        self.maps.commit_unit(self.alloc, row, domain, lang, key, write)
+        self.maps
+            .commit_unit(self.alloc, row, domain, lang, key, write)
     }
 
     fn commit_office(&mut self, row: Record, change: Option<Change>) -> Result<(), Lost> {
