@@ -149,7 +149,7 @@ pub record LeavesLast (lang key : Text) (s : Suggestion) (old new : NamedRows) :
   pub keeps : KeepsOthers old new
 
 pub leaves_last : (lang key : Text) (s : Suggestion) (old new : NamedRows) → AreKeyed old → s.votes ≡ maps.empty → AddsLast lang key s old new → LeavesLast lang key s old new
-leaves_last lang key s old new keyed unvoted (place, before, (mid, adds, votes), valid) =
+leaves_last lang key s old new keyed unvoted (place, before, ((mid, adds, votes), valid)) =
     let none : map (vote_cells (number_text s.number)) (maps.entries s.votes) ≡ [] =
     ap (λ (m : FinMap text_cmp VoteValue). map (vote_cells (number_text s.number)) (maps.entries m)) unvoted ∙ ap (map (vote_cells (number_text s.number))) (no_entries text_cmp VoteValue) in
     let same = no_rows (map (vote_cells (number_text s.number)) (maps.entries s.votes)) mid new none votes in
