@@ -277,8 +277,9 @@ fn deliver_unit_act<T: Tables>(
     ensures kept { IsKept T.is_honest T.is_whole T.means T.may_leave T.is_stopped tables.old tables.new result Disk
         (λ m. m ≡ (first_delivered (T.means tables.old) request.now).0) }
 {
-    let UnitOutcome { write, reply } =
-        read_and_decide(alloc, tables, request, domain, lang, key, act)?;
+    let UnitOutcome { write, reply } = read_and_decide(
+        alloc, tables, request, domain, lang, key, act,
+    )?;
     let row = match record_with(request, content, &reply) {
         Some(row) => row,
         None => {

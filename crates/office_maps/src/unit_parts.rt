@@ -68,11 +68,7 @@ fn with_one_more(unit: &Unit, suggestion: Suggestion) -> Result<Unit, AllocError
 }
 
 /// What a write leaves of a unit.
-pub(crate) fn unit_written(
-    alloc: Global,
-    unit: &Unit,
-    write: UnitWrite,
-) -> Result<Unit, AllocError>
+pub(crate) fn unit_written(alloc: Global, unit: &Unit, write: UnitWrite) -> Result<Unit, AllocError>
     ensures { IfOk result (λ u. (source : Option EntryValue) → u ≡ (view_written write (record { unit = unit.now; source = source })).unit) }
 {
     match write {

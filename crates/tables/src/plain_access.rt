@@ -111,7 +111,8 @@ impl Tables for PlainTables {
         key: &Key,
         write: Option<UnitWrite>,
     ) -> Result<(), Lost> {
-        self.maps.commit_unit(self.alloc, row, domain, lang, key, write)
+        self.maps
+            .commit_unit(self.alloc, row, domain, lang, key, write)
     }
 
     fn commit_office(&mut self, row: Record, change: Option<Change>) -> Result<(), Lost> {
