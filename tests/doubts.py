@@ -18,7 +18,7 @@ PART is one of these, and all are tried where none is named:
   placement      a project's replica is moved, copied while it is held, and made late
   rules          an upgrade that changes a rule, at one offset of all replicas; one host hasn't the program
   full_disk      the disk of a node is full: RabbitMQ's own limit, and a small disk of its own (a tmpfs, where this process may mount one)
-  rolling        all three nodes are started again, one after another, while clients act
+  rolling        all three nodes are started again, one after another, as the page says, while clients act
   power          two nodes are killed, and then all three at once, while clients act
   lost_end       all nodes lose what they wrote last, as by power; then a file is the project, and its copy begins a new stream
 
@@ -579,29 +579,32 @@ class Doubts:
                   "the node has what it missed", 120)
 
     def rolling(self):
-        """Each node is stopped in good order and started again, the next when it is back, while clients act."""
+        """Each node is stopped in good order and started again, while clients act; the next when each stream is read through each node, as the page
+        has operators wait."""
 
-        def restart(_project, _door):
+        def restart(projects, _door):
             for name in NAMES:
                 self.nodes.kill(name, signal.SIGTERM)
                 self.nodes.start(name)
                 self.nodes.wait_for_all()
-                time.sleep(5)
+                began = time.monotonic()
+                good = self.wait_quietly(lambda: self.place.looked(*projects), 600)
+                self.check(good, f"behind the start of {name} each stream is read through each node in {time.monotonic() - began:.1f} s")
 
         self.while_clients_act("roll", restart)
 
     def power(self):
         """Two nodes are killed, so that nothing is taken, and then, with these there again, all three at once."""
 
-        def fail(project, door):
+        def fail(projects, door):
             for name in NAMES[:2]:
                 self.nodes.kill(name)
             # So long it takes at most until feeds know that they have lost the log.
             time.sleep(25)
             sender = clients.Sender([door.port])
-            status = sender.once(project, clients.new_number(), "nobody", b'{"act":"team","name":"nobody","role":"guest"}')[0]
+            status = sender.once(projects[0], clients.new_number(), "nobody", b'{"act":"team","name":"nobody","role":"guest"}')[0]
             self.check(status == 504, f"two nodes are away, and an act is late: {status}")
-            self.check(sender.get(project, "/v1/stats/xx", tries=2)[0] == 404, "a question is answered")
+            self.check(sender.get(projects[0], "/v1/stats/xx", tries=2)[0] == 404, "a question is answered")
             for name in NAMES[:2]:
                 self.nodes.start(name)
             self.nodes.wait_for_all()
@@ -633,7 +636,7 @@ class Doubts:
         threads = [threading.Thread(target=client, args=(it,), daemon=True) for it in projects]
         for it in threads:
             it.start()
-        what(projects[0], door)
+        what(projects, door)
         stopping.set()
         for it in threads:
             it.join(900)

@@ -36,16 +36,20 @@ pub(crate) fn serve_opened<S: Alter + Drop>(
 
 /// Tells that a failure of the disk stopped the office, where one did, and has the exit status tell it too.
 fn told_stopped<S>(rt: &HostRuntime, closed: Closed<S>) -> Closed<S> {
-    if !closed.stopped {
-        return closed;
+    let Closed {
+        status,
+        stopped,
+        connection,
+    } = closed;
+    if stopped {
+        // Where it can't be told, the status tells it.
+        let mut faults = Faults::new(rt);
+        let _ = writeln!(faults, "disk fault");
     }
-    // Where it can't be told, the status tells it.
-    let mut faults = Faults::new(rt);
-    let _ = writeln!(faults, "disk fault");
     Closed {
-        status: STOPPED,
-        stopped: true,
-        connection: closed.connection,
+        status: if stopped { STOPPED } else { status },
+        stopped,
+        connection,
     }
 }
 

@@ -81,7 +81,7 @@ module _ (caller number : Text) (act : UnitAct) where
   row_is None e = record { reply = refl; view = refl; over = tt }
   row_is (Some f) e = by f.view e
     where
-      abbrev early : UnitView → Option Refusal
+      early : UnitView → Option Refusal
       early v = first_refusal (early_refusals f.policy f.rule f.role v act)
 
       by_kind : (v : UnitView) (row : Bool) → is_of_row act.action ≡ row → (o : Option Refusal) → early v ≡ o → (not row && is_none o) ≡ false →
@@ -170,18 +170,22 @@ module _ (caller number : Text) (seen : ℕ) (named : Text) (value : Option Vote
       let told : UnitOutcome = record { write = Some (Voted named caller value sum); reply = done values } in
       let some : of_vote named caller value (outcome_of_decision (Done w values)) ≡ Some told =
       ap (λ (all : List Suggestion). option_map (λ (sum : ℤ). record { write = Some (Voted named caller value sum); reply = done values }) (option_map (λ (s : Suggestion). vote_sum s.votes) (slice_get all 0))) with_it in
-      subst (λ (o : Option UnitOutcome). IsTold v whole o) (sym some)
-      (record {
-        reply = ap (λ d. (outcome_of_decision d).reply) (sym is);
-        view = ap (λ d. (outcome_of_decision d).view) (sym is);
-        over = (v, refl, (s, found, refl));
-      }, sym (ap accepts_voted is ∙ quiet))
-  by_vote f v (Refused refusal) whole is =
-      (record {
-        reply = ap (λ d. (outcome_of_decision d).reply) (sym is);
-        view = ap (λ d. (outcome_of_decision d).view) (sym is);
-        over = tt;
-      }, sym (ap accepts_voted is))
+      subst (λ (o : Option UnitOutcome). IsTold v whole o) (sym some) (
+        record {
+          reply = ap (λ d. (outcome_of_decision d).reply) (sym is);
+          view = ap (λ d. (outcome_of_decision d).view) (sym is);
+          over = (v, refl, (s, found, refl));
+        },
+        sym (ap accepts_voted is ∙ quiet),
+      )
+  by_vote f v (Refused refusal) whole is = (
+    record {
+      reply = ap (λ d. (outcome_of_decision d).reply) (sym is);
+      view = ap (λ d. (outcome_of_decision d).view) (sym is);
+      over = tt;
+    },
+    sym (ap accepts_voted is),
+  )
 
   pub voted_is : (full : Option ActContext) (suggestion : Option Suggestion) → IfSome (view_found full) (λ v. suggestion ≡ suggestion_of named v.unit) →
       let written = of_vote named caller value (outcome_of (shown (at_most_one suggestion) (without_suggestions full)) caller number asked) in

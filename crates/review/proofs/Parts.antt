@@ -70,6 +70,7 @@ is_with suggestions (Some refusal) after values = refl
 -- are decided over the unit without its suggestions, which stay
 pub row_step : (policy : Policy) (rule : Rule) (role : Role) (caller number : Text) (view : UnitView) (act : UnitAct) → is_of_row act.action ≡ true →
     IsWith view.unit.suggestions (unit_step policy rule role caller number (bare view) act) (unit_step policy rule role caller number view act)
+unfolding unit_step refusals unit_after
 row_step policy rule role caller number view act = by act.action
   where
     step : UnitView → UnitAction → Decision
@@ -85,7 +86,6 @@ row_step policy rule role caller number view act = by act.action
     values action = values_of policy caller number (bare view) (unit_after policy rule caller number (bare view) action) action
 
     by : (action : UnitAction) → is_of_row action ≡ true → IsWith view.unit.suggestions (step (bare view) action) (step view action)
-    unfolding unit_step refusals unit_after
     by (Suggest forms) e = cc
     by (Vote named value) e = cc
     by (Accept named) e = cc
@@ -125,7 +125,6 @@ suggest_step policy rule role caller number view seen forms =
     part = with_these (map without_votes view.unit.suggestions) view
 
     done : UnitView → Decision
-    unfolding unit_after
     done v =
         let unit = unit_after policy rule caller number v (Suggest forms) in
         Done (record v { unit = unit }) (values_of policy caller number v unit (Suggest forms))
@@ -141,7 +140,6 @@ suggest_step policy rule role caller number view seen forms =
         ∷ [])
 
     by : (o : Option Refusal) → IsSuggested view (option_map_or Refused o (done part)) (option_map_or Refused o (done view))
-    unfolding unit_after
     by None = (record { number = number; suggester = caller; forms = forms; votes = maps.empty }, refl, refl, refl)
     by (Some refusal) = refl
 
@@ -232,7 +230,7 @@ module _ (policy : Policy) (rule : Rule) (role : Role) (caller number : Text) (v
 
   -- where it isn't there
   none_step : None ≡ suggestion_of named view.unit → IsVoted (unit_step policy rule role caller number (bare view) act) (unit_step policy rule role caller number view act)
-  unfolding unit_step unit_after
+  unfolding unit_step refusals unit_after
   none_step e =
       subst (λ (o : Option Refusal). IsVoted (unit_step policy rule role caller number (bare view) act) (option_map_or Refused o (done view (is_due policy named (voted view)))))
       (same_first [] e) (by (first_refusal (refusals policy rule role caller number (bare view) act)) refl)
@@ -243,7 +241,6 @@ module _ (policy : Policy) (rule : Rule) (role : Role) (caller number : Text) (v
 
       by : (o : Option Refusal) → first_refusal (refusals policy rule role caller number (bare view) act) ≡ o →
           IsVoted (option_map_or Refused o (done (bare view) (is_due policy named (voted (bare view))))) (option_map_or Refused o (done view (is_due policy named (voted view))))
-      unfolding refusals
       by None none =
           refused (first_refusal (early_refusals policy rule role (bare view) act))
           (sym (first_of_both (early_refusals policy rule role (bare view) act) (refusals_by_act policy rule caller number (bare view) (Vote named value))) ∙ none)
@@ -282,8 +279,13 @@ module _ (policy : Policy) (rule : Rule) (role : Role) (caller number : Text) (v
       by_due : (due : Bool) → IsVoted (done one due) (done view due)
       by_due true = inl (gone, refl)
       by_due false =
-          inr (s, sym e, with_it, refl,
-          ap (λ (sum : ℤ). Done (record view { unit = voted view }) (Voted false view.unit.revision (shown_state view.source (voted view)) sum)) (sym (same_sum (s ∷ []) there)))
+          inr (
+            s,
+            sym e,
+            with_it,
+            refl,
+            ap (λ (sum : ℤ). Done (record view { unit = voted view }) (Voted false view.unit.revision (shown_state view.source (voted view)) sum)) (sym (same_sum (s ∷ []) there)),
+          )
 
       by : (o : Option Refusal) → IsVoted (option_map_or Refused o (done one (is_due policy named (voted one)))) (option_map_or Refused o (done view (is_due policy named (voted view))))
       by None = subst (λ (due : Bool). IsVoted (done one due) (done view (is_due policy named (voted view)))) (sym (same_due (s ∷ []) there)) (by_due (is_due policy named (voted view)))

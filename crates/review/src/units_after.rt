@@ -87,10 +87,7 @@ fn put_together(
 /// A copy of the unit with these suggestions.
 ///
 /// `AllocError` where a growth was refused.
-pub fn with_suggestions(
-    unit: &Unit,
-    suggestions: Items<Suggestion>,
-) -> Result<Unit, AllocError>
+pub fn with_suggestions(unit: &Unit, suggestions: Items<Suggestion>) -> Result<Unit, AllocError>
     ensures { IfOk result (λ u. u ≡ record unit.now { suggestions = suggestions }) }
 {
     let remarks = match remarks_of(unit) {

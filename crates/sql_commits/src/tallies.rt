@@ -153,7 +153,13 @@ pub fn count_suggestion<S: Alter>(
     match found {
         Some(row) => {
             let numbers = unit_numbers(&row)?;
-            put_difference(tx, domain, lang, Tally::none(), one_suggestion(numbers.obsolete))
+            put_difference(
+                tx,
+                domain,
+                lang,
+                Tally::none(),
+                one_suggestion(numbers.obsolete),
+            )
         }
         None => Ok(()),
     }

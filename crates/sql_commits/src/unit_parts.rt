@@ -102,7 +102,14 @@ fn write_suggestion<S: Alter>(
 {
     count_suggestion(tx, alloc, domain, lang, key)?;
     let text = key.text(alloc)?;
-    add_last(tx, alloc, domain.as_str(), lang.as_str(), text.as_str(), suggestion)
+    add_last(
+        tx,
+        alloc,
+        domain.as_str(),
+        lang.as_str(),
+        text.as_str(),
+        suggestion,
+    )
 }
 
 /// Adds a suggestion behind the last on a unit.

@@ -7,7 +7,7 @@ ghost use Rattle.std.specs.Coded.{coded×, coded_bool};
 ghost use Rattle.std.specs.FinMap as maps;
 ghost use Rattle.sqlite.specs.Held.{Held, held_code, state};
 ghost use Rattle.request_book.specs.Book.{row_of, with_record};
-ghost use Rattle.deliveries.specs.UnitAccess.{found_of, IsPossibleWrite, with_write_in};
+ghost use Rattle.deliveries.specs.UnitAccess.{found_of, without_suggestions, suggestions_at, suggestion_at, IsPossibleWrite, with_write_in};
 ghost use Rattle.deliveries.specs.OfficeChanges.{changed_by, IsPossibleChange};
 ghost use Rattle.deliveries.specs.OfficeRules.{KeepsRules};
 ghost use Rattle.request_book.specs.Contents.{IsContent};
@@ -41,10 +41,11 @@ use crate::making::make;
 use crate::recorded::{HandingFault, hand_records};
 use crate::records::read_record;
 use crate::tallies::read_tally;
-use crate::unit_views::{read_role, read_view};
+use crate::unit_views::{read_role, read_suggestion, read_suggestions, read_unit, read_view};
 use crate::whole_office::{forget, keep, read_office};
 use deliveries::{ActContext, Change, Tally, UnitWrite};
 use office_maps::OfficeMaps;
+use po_text::Items;
 use request_book::Record;
 use sql_adoption::OpenFault;
 use sql_commits::{commit_act, commit_change};
@@ -56,7 +57,7 @@ use sqlite::{Alter, Connection};
 use std::alloc::Global;
 use std::marker::Model;
 use tables::{EachFault, EntrySink, Lost, Start};
-use units::{Key, Lang, Name, Role};
+use units::{Key, Lang, Name, Role, Suggestion};
 use uuid::Uuid;
 
 /// A connection to an office's tables by domains, between transactions, and what was read of them.
@@ -259,6 +260,85 @@ impl<S: Alter> Rows<S> {
             name,
             &mut self.kept_rule,
         ) {
+            Ok(found) => Ok(found),
+            Err(failure) => {
+                forget(self.alloc, &mut self.office);
+                Err(self.lost(failure))
+            }
+        }
+    }
+
+    /// The same but for the unit's suggestions, which aren't read: the view has none.
+    pub(crate) fn unit_of(
+        &mut self,
+        domain: &Name,
+        lang: &Lang,
+        key: &Key,
+        name: &Name,
+    ) -> Result<Option<ActContext>, Lost>
+        ensures answer { is_honest S.Store self.new → IfOk result (λ r. r ≡ without_suggestions (found_of (project_in (means S.Store self.old).office domain.now) lang.now key.now name.now)) }
+        ensures same { is_honest S.Store self.new → is_whole S.Store self.new → means S.Store self.new ≡ means S.Store self.old }
+        ensures kept { IsKept (is_honest S.Store) (is_whole S.Store) (means S.Store) (may_leave S.Store) (is_stopped S.Store) self.old self.new result Disk Nothing }
+    {
+        if self.stopped {
+            return Err(Lost::Disk);
+        }
+        match read_unit(
+            &mut self.connection,
+            self.alloc,
+            domain,
+            lang,
+            key,
+            name,
+            &mut self.kept_rule,
+        ) {
+            Ok(found) => Ok(found),
+            Err(failure) => {
+                forget(self.alloc, &mut self.office);
+                Err(self.lost(failure))
+            }
+        }
+    }
+
+    /// The suggestions on a unit, in their order, without the votes on them, which aren't read. None where the unit isn't there.
+    pub(crate) fn suggestions_of(
+        &mut self,
+        domain: &Name,
+        lang: &Lang,
+        key: &Key,
+    ) -> Result<Items<Suggestion>, Lost>
+        ensures answer { is_honest S.Store self.new → IfOk result (λ r. r ≡ suggestions_at (project_in (means S.Store self.old).office domain.now) lang.now key.now) }
+        ensures same { is_honest S.Store self.new → is_whole S.Store self.new → means S.Store self.new ≡ means S.Store self.old }
+        ensures kept { IsKept (is_honest S.Store) (is_whole S.Store) (means S.Store) (may_leave S.Store) (is_stopped S.Store) self.old self.new result Disk Nothing }
+    {
+        if self.stopped {
+            return Err(Lost::Disk);
+        }
+        match read_suggestions(&mut self.connection, self.alloc, domain, lang, key) {
+            Ok(found) => Ok(found),
+            Err(failure) => {
+                forget(self.alloc, &mut self.office);
+                Err(self.lost(failure))
+            }
+        }
+    }
+
+    /// The suggestion of a number on a unit, with the votes on it; nothing where the unit or the suggestion isn't there.
+    pub(crate) fn suggestion_of(
+        &mut self,
+        domain: &Name,
+        lang: &Lang,
+        key: &Key,
+        number: &Uuid,
+    ) -> Result<Option<Suggestion>, Lost>
+        ensures answer { is_honest S.Store self.new → IfOk result (λ r. r ≡ suggestion_at (project_in (means S.Store self.old).office domain.now) lang.now key.now number.now) }
+        ensures same { is_honest S.Store self.new → is_whole S.Store self.new → means S.Store self.new ≡ means S.Store self.old }
+        ensures kept { IsKept (is_honest S.Store) (is_whole S.Store) (means S.Store) (may_leave S.Store) (is_stopped S.Store) self.old self.new result Disk Nothing }
+    {
+        if self.stopped {
+            return Err(Lost::Disk);
+        }
+        match read_suggestion(&mut self.connection, self.alloc, domain, lang, key, *number) {
             Ok(found) => Ok(found),
             Err(failure) => {
                 forget(self.alloc, &mut self.office);
