@@ -26,11 +26,7 @@ use Rattle.deliveries.specs.declared.values.UnitWrite.{UnitWrite}
 use Rattle.deliveries.specs.declared.values.UnitWrite.TheVariants.{Whole, Row, Suggested, Voted}
 use Rattle.deliveries.specs.UnitAccess.{without_suggestions, view_written, IsWriteOver}
 use Rattle.deliveries.specs.UnitOutcomes.{outcome_of, outcome_of_decision, refusing, view_found, needs_suggestions, accepts_found, IsOutcomeBy}
-use Rattle.outcomes.specs.UnitWrites.{of_whole, of_row, of_vote, first_sum}
-
--- what was found, with these suggestions on the unit
-abbrev pub shown : List Suggestion → Option ActContext → Option ActContext
-shown suggestions found = option_map (λ f. record f { view = option_map (with_these suggestions) f.view }) found
+use Rattle.outcomes.specs.UnitParts.{shown, of_whole, of_row, of_vote}
 
 -- nothing is written where the act is refused
 refused_is : (there : Option UnitView) (whole : Outcome) (written : UnitOutcome) → written.reply ≡ whole.reply → whole.view ≡ None → written.write ≡ None → IsOutcomeBy there whole written

@@ -1,6 +1,7 @@
 //! What was found for an act on a unit, with other suggestions on the unit.
 ghost use Rattle.std.specs.Prelude.{◌≡◌, IfOk, option_map};
 ghost use Rattle.review.specs.Parts as part;
+ghost use Rattle.outcomes.specs.UnitParts as spec;
 
 use deliveries::ActContext;
 use po_text::Items;
@@ -47,7 +48,7 @@ pub(crate) fn with_suggestions(
     found: Option<ActContext>,
     suggestions: Items<Suggestion>,
 ) -> Option<ActContext>
-    ensures { result ≡ option_map (λ f. record f { view = option_map (part.with_these suggestions) f.view }) found }
+    ensures { result ≡ spec.shown suggestions found }
 {
     match found {
         None => {

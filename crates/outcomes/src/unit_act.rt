@@ -1,5 +1,5 @@
 //! What an act on a unit comes to, by the whole of the unit or by what the act touches of it.
-ghost use Rattle.std.specs.Prelude.{◌≡◌, IfOk, IfSome, List, ℕ, Some, map, is_none, true};
+ghost use Rattle.std.specs.Prelude.{◌≡◌, IfOk, IfSome, List, ℕ, Option, Some, map, is_none, true};
 ghost use Rattle.units.specs.Units.{suggestion_of};
 ghost use Rattle.review.specs.UnitStep.{unit_step, is_vote, named_by};
 ghost use Rattle.review.specs.Parts as part;

@@ -2,7 +2,7 @@
 ghost use Rattle.std.specs.Prelude.{◌≡◌, ◌++◌, ◌∷◌, [], List, Some, None, MatchOption, IfOk};
 ghost use Rattle.units.specs.declared.unit.Suggestion.{Suggestion as SuggestionValue};
 ghost use Rattle.deliveries.specs.declared.values.UnitWrite.TheVariants.{Suggested};
-ghost use Rattle.outcomes.specs.UnitWrites as spec;
+ghost use Rattle.outcomes.specs.UnitParts as spec;
 
 use deliveries::{Outcome, UnitOutcome, UnitWrite};
 use po_text::Duplicate;

@@ -1,13 +1,23 @@
--- What is written of a unit, by what the act on it came to. This project's own words, for inner functions.
-use Rattle.std.specs.Prelude.{Option, Some, None, option_map, slice_get, ℤ}
+-- What was found for an act on a unit, with other suggestions on the unit, and what is written of it, by what the act came to. This project's own words, for
+-- inner functions.
+use Rattle.std.specs.Prelude.{List, Option, Some, None, option_map, slice_get, ℤ}
 use Rattle.std.specs.Option.{option_map_or}
 use Rattle.po_text.specs.Texts.{Text}
 use Rattle.units.specs.Units.{vote_sum}
+use Rattle.units.specs.declared.unit.Suggestion.{Suggestion}
 use Rattle.units.specs.declared.unit.UnitView.{UnitView}
 use Rattle.units.specs.declared.votes.VoteValue.{VoteValue}
+use Rattle.review.specs.Parts.{with_these}
+use Rattle.deliveries.specs.declared.values.ActContext.{ActContext}
 use Rattle.deliveries.specs.declared.values.Outcome.{Outcome}
 use Rattle.deliveries.specs.declared.values.UnitOutcome.{UnitOutcome}
 use Rattle.deliveries.specs.declared.values.UnitWrite.TheVariants.{Whole, Row, Voted}
+
+-- what was found, if anything was, with these suggestions on the unit, if it is there
+abbrev pub shown : List Suggestion → Option ActContext → Option ActContext
+shown suggestions found = option_map {T = ActContext} (λ f. record f { view = option_map (with_these suggestions) f.view }) found
+
+-- ---- what is written
 
 -- the whole
 abbrev pub of_whole : Outcome → UnitOutcome
