@@ -14,7 +14,7 @@ use Rattle.units.specs.declared.votes.VoteValue.{VoteValue}
 use Rattle.units.specs.Units.{suggestion_of, vote_sum}
 use Rattle.review.specs.declared.decision.Decision.{Decision}
 use Rattle.review.specs.declared.decision.Decision.TheVariants.{Done, Refused}
-use Rattle.review.specs.UnitStep.{unit_step, early_refusals, first_refusal, set_vote}
+use Rattle.review.specs.UnitStep.{unit_step, early_refusals, first_refusal, set_vote, named_by}
 use Rattle.review.specs.Parts.{with_these, bare, without_votes, at_most_one, is_of_row, is_suggest, accepts_voted}
 use Rattle.review.proofs.Steps.{unit_step-early}
 use Rattle.review.proofs.Parts.{HasSource, source_stays, IsWith, row_step, IsSuggested, suggest_step, IsVoted, vote_step}
@@ -35,6 +35,11 @@ refused_is there whole written replied refused none = record {
   view = ap (λ (o : Option UnitWrite). option_and_then (λ w. option_map (view_written w) there) o) none ∙ sym refused;
   over = subst (λ (o : Option UnitWrite). IfSome o (λ w. (view : UnitView) × (there ≡ Some view) × IsWriteOver view w)) (sym none) tt;
 }
+
+-- what is known of what is written: the last suggestion of the decided view
+abbrev pub WritesLast : Outcome → UnitOutcome → Type 0
+WritesLast outcome written =
+    MatchOption outcome.view (written.write ≡ None) (λ view. (before : List Suggestion) (s : Suggestion) → view.unit.suggestions ≡ before ++ s ∷ [] → written.write ≡ Some (Suggested s))
 
 module _ (caller number : Text) (act : UnitAct) where
   -- what the act comes to, with this view
@@ -96,11 +101,6 @@ module _ (caller number : Text) (act : UnitAct) where
       by (Some v) e = by_kind v (is_of_row act.action) refl (early v) refl e
 
   -- ---- by the suggestions without the votes on them
-
-  -- what is known of what is written: the last suggestion of the decided view
-  abbrev pub WritesLast : Outcome → UnitOutcome → Type 0
-  WritesLast outcome written =
-      MatchOption outcome.view (written.write ≡ None) (λ view. (before : List Suggestion) (s : Suggestion) → view.unit.suggestions ≡ before ++ s ∷ [] → written.write ≡ Some (Suggested s))
 
   by_suggestion : (v : UnitView) (written : UnitOutcome) (d whole : Decision) → IsSuggested v d whole → written.reply ≡ (outcome_of_decision d).reply → WritesLast (outcome_of_decision d) written →
       IsOutcomeBy (Some v) (outcome_of_decision whole) written
@@ -196,3 +196,19 @@ module _ (caller number : Text) (seen : ℕ) (named : Text) (value : Option Vote
       by (Some v) is =
           by_vote f v (unit_step f.policy f.rule f.role caller number (with_these (at_most_one suggestion) v) asked) (unit_step f.policy f.rule f.role caller number v asked)
           (vote_step f.policy f.rule f.role caller number v seen named value suggestion is)
+
+-- the same, of an act that votes
+pub voted_told : (caller number : Text) (act : UnitAct) (own named : Text) (value : Option VoteValue) → act.action ≡ Vote own value → named_by act.action ≡ Some named →
+    (full : Option ActContext) (suggestion : Option Suggestion) → IfSome (view_found full) (λ v. suggestion ≡ suggestion_of named v.unit) →
+    (written : Option UnitOutcome) → written ≡ of_vote own caller value (outcome_of (shown (at_most_one suggestion) (without_suggestions full)) caller number act) →
+    IfSome written (IsOutcomeBy (view_found full) (outcome_of full caller number act)) × (is_none written ≡ accepts_found full caller number act)
+voted_told caller number act own named value votes names full suggestion there written told =
+    let one : Some own ≡ Some named = sym (ap named_by votes) ∙ names in
+    let same : own ≡ named = cc in
+    let is : act ≡ record { seen = act.seen; action = Vote own value } = ap (λ (action : UnitAction). record { seen = act.seen; action = action }) votes in
+    subst (λ (w : Option UnitOutcome). IfSome w (IsOutcomeBy (view_found full) (outcome_of full caller number act)) × (is_none w ≡ accepts_found full caller number act)) (sym told)
+    (subst (λ (x : UnitAct).
+    let w = of_vote own caller value (outcome_of (shown (at_most_one suggestion) (without_suggestions full)) caller number x) in
+    IfSome w (IsOutcomeBy (view_found full) (outcome_of full caller number x)) × (is_none w ≡ accepts_found full caller number x)) (sym is)
+    (voted_is caller number act.seen own value full suggestion
+    (subst (λ (n : Text). IfSome (view_found full) (λ v. suggestion ≡ suggestion_of n v.unit)) (sym same) there)))
