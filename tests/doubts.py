@@ -13,12 +13,12 @@ PART is one of these, and all are tried where none is named:
   lines          bodies that hide what a line would have, taken as lines
   held           a file isn't written while its project is held
   apart          a project that is let go in the midst of its messages costs no other its connection
-  late           no replica answers: a door tells it in time
+  late           no replica answers, or the log finds no stream of the project: a door tells it in time
   disagreement   a door tells that two replicas differ
   placement      a project's replica is moved, copied while it is held, and made late
   rules          an upgrade that changes a rule, at one offset of all replicas; one host hasn't the program
   full_disk      the disk of a node is full: RabbitMQ's own limit, and a small disk of its own (a tmpfs, where this process may mount one)
-  rolling        all three nodes are started again, one after another, while clients act
+  rolling        all three nodes are started again, one after another, as the page says, while clients act
   power          two nodes are killed, and then all three at once, while clients act
   lost_end       all nodes lose what they wrote last, as by power; then a file is the project, and its copy begins a new stream
 
@@ -48,6 +48,9 @@ PARTS = (
     "older_file no_memory refused another_log lost_beginning messages lines held apart late disagreement placement rules full_disk rolling power lost_end"
 ).split()
 SMALL_DISK = "size=160m"
+TEAM = b'{"act":"team","name":"ann","role":"translator"}'
+LATE = 504, b'{"error":"late"}', "1"
+NO_PROJECT = 404, b'{"error":"no-project"}'
 
 # `office deliver` by a sound program, but a third of the lines is lost for want of memory: they are answered 503 and don't reach it. Where it
 # is told to stop at the first lost line it does, as the program's own option.
@@ -395,18 +398,30 @@ class Doubts:
         self.place.make("late")
         self.place.table.place("late", self.host)
         self.place.table.write()
-        sender = clients.Sender([self.new_door(wait=2.0).port])
+        door = self.new_door(wait=2.0)
+        sender = clients.Sender([door.port])
         began = time.monotonic()
-        status, body = sender.once("late", clients.new_number(), "root", b'{"act":"team","name":"ann","role":"translator"}')
+        found = answered(sender, "late", "POST", f"/v1/requests/{clients.new_number()}", TEAM)
         took = time.monotonic() - began
-        self.check((status, body) == (504, b'{"error":"late"}') and took < 5, f"without a replica: {status} {body} in {took:.1f} s")
-        asked = sender.connection()
-        asked.request("GET", "/v1/stats/de", headers={"Host": "late.local"})
-        answer = asked.getresponse()
-        found = answer.status, answer.read(), answer.getheader("Retry-After")
+        self.check(found == LATE and took < 5, f"without a replica: {found} in {took:.1f} s")
+        found = answered(sender, "late", "GET", "/v1/stats/de")
         self.check(found == (502, b'{"error":"no-office"}', "1"), f"a question: {found}")
         found = sender.once("nobody", clients.new_number(), "root", b"{}")
-        self.check(found == (404, b'{"error":"no-project"}'), f"a project that isn't in the table: {found}")
+        self.check(found == NO_PROJECT, f"a project that isn't in the table: {found}")
+        self.unfound(door, sender)
+
+    def unfound(self, door, sender):
+        """A log that finds no stream, as behind a start of all its nodes, says nothing about the project: the request waits, or comes again."""
+        self.place.table.place("unfound", self.host)
+        self.place.table.write()
+        self.wait_quietly(lambda: sender.get("unfound", "/v1/stats/de", tries=1) != NO_PROJECT)
+        number = clients.new_number()
+        found = answered(sender, "unfound", "POST", f"/v1/requests/{number}", TEAM)
+        self.check(found == LATE and door.told().get("returned", 0), f"a project of the table whose stream isn't found: {found} {door.told()}")
+        self.place.make("unfound")
+        self.host.start()
+        found = sender.post("unfound", number, "root", TEAM, seconds=60)
+        self.check(found[0] == 200, f"and the same request, once it is there: {found}")
 
     def disagreement(self):
         """One host's program answers otherwise: who forgot an upgrade, say."""
@@ -564,29 +579,32 @@ class Doubts:
                   "the node has what it missed", 120)
 
     def rolling(self):
-        """Each node is stopped in good order and started again, the next when it is back, while clients act."""
+        """Each node is stopped in good order and started again, while clients act; the next when each stream is read through each node, as the page
+        has operators wait."""
 
-        def restart(_project, _door):
+        def restart(projects, _door):
             for name in NAMES:
                 self.nodes.kill(name, signal.SIGTERM)
                 self.nodes.start(name)
                 self.nodes.wait_for_all()
-                time.sleep(5)
+                began = time.monotonic()
+                good = self.wait_quietly(lambda: self.place.looked(*projects), 600)
+                self.check(good, f"behind the start of {name} each stream is read through each node in {time.monotonic() - began:.1f} s")
 
         self.while_clients_act("roll", restart)
 
     def power(self):
         """Two nodes are killed, so that nothing is taken, and then, with these there again, all three at once."""
 
-        def fail(project, door):
+        def fail(projects, door):
             for name in NAMES[:2]:
                 self.nodes.kill(name)
             # So long it takes at most until feeds know that they have lost the log.
             time.sleep(25)
             sender = clients.Sender([door.port])
-            status = sender.once(project, clients.new_number(), "nobody", b'{"act":"team","name":"nobody","role":"guest"}')[0]
+            status = sender.once(projects[0], clients.new_number(), "nobody", b'{"act":"team","name":"nobody","role":"guest"}')[0]
             self.check(status == 504, f"two nodes are away, and an act is late: {status}")
-            self.check(sender.get(project, "/v1/stats/xx", tries=2)[0] == 404, "a question is answered")
+            self.check(sender.get(projects[0], "/v1/stats/xx", tries=2)[0] == 404, "a question is answered")
             for name in NAMES[:2]:
                 self.nodes.start(name)
             self.nodes.wait_for_all()
@@ -618,7 +636,7 @@ class Doubts:
         threads = [threading.Thread(target=client, args=(it,), daemon=True) for it in projects]
         for it in threads:
             it.start()
-        what(projects[0], door)
+        what(projects, door)
         stopping.set()
         for it in threads:
             it.join(900)
@@ -760,6 +778,16 @@ def patiently(place, message, tries=30):
             break
         time.sleep(1)
     return answer
+
+
+def answered(sender, project, method, target, body=None):
+    """The answer to one message of root: its status, its body, and when to come again."""
+    asked = sender.connection()
+    asked.request(method, target, body, {"Host": f"{project}.local", "X-Office-Caller": "root"})
+    answer = asked.getresponse()
+    found = answer.status, answer.read(), answer.getheader("Retry-After")
+    asked.close()
+    return found
 
 
 def head(first, *lines):

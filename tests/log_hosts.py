@@ -49,10 +49,17 @@ class Place:
         return self.stream("--manager", manager, *further, *projects)
 
     def stream(self, *words):
-        done = subprocess.run([*self.tool("office-stream"), *map(str, words)], capture_output=True, text=True, check=False)
+        done = self.told(*words)
         if done.returncode != 0:
             raise RuntimeError(f"office-stream: {done.stdout} {done.stderr}")
         return done.stdout
+
+    def looked(self, *projects):
+        """Whether office-stream finds each of these streams at each node."""
+        return self.told("--look", *projects).returncode == 0
+
+    def told(self, *words):
+        return subprocess.run([*self.tool("office-stream"), *map(str, words)], capture_output=True, text=True, check=False)
 
 
 class Host:

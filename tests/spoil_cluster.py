@@ -87,6 +87,20 @@ SPOILS_OF = {
             "channel._impl.close()", "channel.close()",
             doubts("apart"),
         ),
+        (
+            "a door that takes a node's word that there is no stream",
+            "office_streams/rabbitmq.py",
+            "self.connection.ioloop.call_later(AGAIN, lambda: self.publish(asked))", "asked.settle(404, b'{\"error\":\"no-project\"}')",
+            doubts("late"),
+        ),
+    ),
+    "nats": (
+        (
+            "a door that takes a node's word that there is no stream",
+            "office_streams/nats.py",
+            "self.again.append((time.monotonic() + AGAIN, asked))", "asked.settle(404, b'{\"error\":\"no-project\"}')",
+            doubts("late"),
+        ),
     ),
 }
 

@@ -33,7 +33,7 @@ with_view_in office domain lang key view = with_project office domain (with_view
 
 -- what is found for it, without the unit's suggestions
 abbrev pub without_suggestions : Option ActContext → Option ActContext
-without_suggestions found = option_map (λ f. record f { view = option_map bare f.view }) found
+without_suggestions found = option_map {T = ActContext} (λ f. record f { view = option_map bare f.view }) found
 
 -- the suggestions of the unit at a key, without the votes on them; none where there is no unit
 abbrev pub suggestions_at : Project → Text → Key → List Suggestion

@@ -32,6 +32,4 @@ pub use laws::{
     equal_exports, run_goes_on, unit_act_leaves_the_rest,
 };
 pub use tally::Tally;
-pub use values::{
-    ActContext, Change, DomainChange, Language, Outcome, UnitOutcome, UnitWrite,
-};
+pub use values::{ActContext, Change, DomainChange, Language, Outcome, UnitOutcome, UnitWrite};

@@ -24,6 +24,7 @@ pub mod RowsInOrder
 pub mod MapValues
 pub mod ShownVotes
 pub mod ShownSuggestions
+pub mod PlacesShown
 pub mod ShownEntries
 pub mod ShownPolicy
 pub mod OfficeQueries

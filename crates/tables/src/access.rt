@@ -8,7 +8,7 @@ ghost use Rattle.deliveries.specs.UnitAccess.{found_of, without_suggestions, sug
 ghost use Rattle.deliveries.specs.OfficeChanges.{changed_by, IsPossibleChange};
 ghost use Rattle.deliveries.specs.OfficeRules.{KeepsRules};
 ghost use Rattle.request_book.specs.Contents.{IsContent};
-ghost use Rattle.tables.specs.Stops.{Nothing, LeavesOnly};
+ghost use Rattle.tables.specs.Stops.{Nothing, LeavesOnly, IsReadable};
 ghost use Rattle.tables.specs.Kept.{IsKept};
 ghost use Rattle.tables.specs.Sinks.{WasCutShort};
 ghost use Rattle.tables.specs.Entries.{entries_of};
@@ -30,8 +30,8 @@ use uuid::Uuid;
 ///
 /// Each call says what it answers or writes, what the tables mean then, and by `IsKept` what it keeps, whatever it answers. What it
 /// answers holds while the disk returns what was written; what the tables mean then, while no failure has shut the store. An error
-/// is `Memory` where a growth was refused, and the tables run on; and `Disk` where the disk failed: then the tables are stopped, and
-/// answer `Disk` to each further call.
+/// is `Memory`, as where a growth was refused, and the tables run on; or `Disk`, as where the disk failed: then the tables are
+/// stopped, and answer `Disk` to each further call.
 pub trait Tables: Drop {
     /// So far the disk has returned what was written.
     ghost is_honest: { Self → Type 0 };
@@ -44,6 +44,15 @@ pub trait Tables: Drop {
 
     /// What an opening after a stop at this moment may find.
     ghost may_leave: { Self → OfficeWithBook → Type 0 };
+
+    /// What a stop leaves, of a file its trees.
+    ghost Left: { Type 0 };
+
+    /// Whether a stop at this moment may leave this.
+    ghost leaves: { Self → Left → Type 0 };
+
+    /// What an opening reads of what is left.
+    ghost reads: { Left → OfficeWithBook → Type 0 };
 
     /// Whether they answer `Disk` until they are opened again.
     ghost is_stopped: { Self → Bool };
@@ -182,4 +191,8 @@ pub trait Tables: Drop {
 
     /// While no failure has shut the store, a stop leaves what the tables mean, and nothing else.
     ghost settled: { (t : Self) → is_honest t → is_whole t → LeavesOnly (may_leave t) (means t) };
+
+    /// A stop always leaves something, and whatever it leaves can be read, as what an opening may find and as nothing else; also where a
+    /// failure has shut the store.
+    ghost readable: { (t : Self) → is_honest t → IsReadable (leaves t) reads (may_leave t) };
 }

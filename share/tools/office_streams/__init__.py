@@ -40,8 +40,11 @@ Message = collections.namedtuple("Message", "offset kind number caller body repl
 Node = collections.namedtuple("Node", "host port")
 
 
-class NoStream(Exception):
-    """A project has no stream."""
+class NoStream(Fault):
+    """The log finds no stream of a project. Behind a start of all its nodes it finds one that is there in some seconds."""
+
+    def __init__(self, name):
+        super().__init__(f"{name}: the log finds no stream of it")
 
 
 def say(tool, text):

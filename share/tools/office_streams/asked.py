@@ -7,6 +7,8 @@ from office_streams import say
 
 # How many replies are kept, so that those of further replicas are compared.
 RECENT = 20_000
+# A log that says it has no such stream may be about to find it, as its nodes do where all of them come back. It is asked again so often.
+AGAIN = 0.5
 
 
 class Asked:
@@ -29,9 +31,6 @@ class Asked:
             self.status, self.answer, self.replica = status, answer, replica
             self.done.set()
 
-    def no_project(self):
-        self.settle(404, b'{"error":"no-project"}')
-
 
 class Asking:
     """What an engine's writer stands on: who waits, and what was replied."""
@@ -50,6 +49,11 @@ class Asking:
     def forget(self, asked):
         with self.lock:
             self.asked.pop(asked.key, None)
+
+    def waits(self, asked):
+        """Whether somebody still waits for the reply."""
+        with self.lock:
+            return asked.key in self.asked
 
     def waiting(self):
         with self.lock:

@@ -13,7 +13,7 @@ import threading
 import time
 
 from office_streams import REQUEST, Fault, Message, NoStream, login, say, stream, tls
-from office_streams.asked import Asking
+from office_streams.asked import AGAIN, Asking
 
 LOST = (OSError, EOFError)
 STREAM = "office"
@@ -499,7 +499,7 @@ class Writer(Asking):
             self.known.add(name)
 
     def publish(self, asked):
-        if not self.ready or asked.done.is_set():
+        if not self.ready or not self.waits(asked):
             return
         try:
             self.is_known(asked.name)
@@ -509,7 +509,8 @@ class Writer(Asking):
             self.unconfirmed[publication] = (asked, time.monotonic())
             self.connection.publish(stream(asked.name), asked.body, headers, f"{self.connection.inbox}.ack.{publication}")
         except NoStream:
-            asked.no_project()
+            self.counts["returned"] += 1
+            self.again.append((time.monotonic() + AGAIN, asked))
         except LOST:
             self.again.append((time.monotonic() + 0.3, asked))
 

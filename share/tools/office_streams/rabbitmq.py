@@ -13,7 +13,7 @@ import pika
 import pika.adapters.utils.connection_workflow as workflow
 
 from office_streams import REQUEST, Fault, Message, NoStream, login, say, stream, tls
-from office_streams.asked import Asking
+from office_streams.asked import AGAIN, Asking
 
 # What a connection ends with. A handshake that isn't answered is told by an error of another family.
 LOST = (pika.exceptions.AMQPError, workflow.AMQPConnectorException, OSError)
@@ -456,7 +456,7 @@ class Writer(Asking):
         return line
 
     def publish(self, asked):
-        if not self.ready or asked.done.is_set():
+        if not self.ready or not self.waits(asked):
             return
         line = self.line(asked)
         if line is None:
@@ -507,14 +507,16 @@ class Writer(Asking):
                 self.publish(asked)
 
     def returned(self, _channel, _method, properties, _body):
-        """No stream took it. That is told before the log confirms it all the same."""
+        """No stream took it, says the node, before it confirms it all the same. That is no word on the project: behind a start of all nodes none
+        knows a stream before that has a leader. So the same comes again, as long as somebody waits."""
         asked = self.asked_by(properties.correlation_id)
         if asked is None:
             return
+        self.counts["returned"] += 1
         line = self.lines.get(asked.name)
         if line is not None:
             line.unconfirmed = {tag: it for tag, it in line.unconfirmed.items() if it[0] is not asked}
-        asked.no_project()
+        self.connection.ioloop.call_later(AGAIN, lambda: self.publish(asked))
 
     def replied(self, _channel, _method, properties, body):
         headers = properties.headers or {}

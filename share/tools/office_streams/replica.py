@@ -122,7 +122,7 @@ class Replica:
 
     def attach(self):
         with self.lock:
-            self.waiting.clear()
+            self.drop()
             seen = self.seen = Seen(self.begin, self.last)
             self.turn += 1
         handle = self.reader.attach(self.name, seen.begin, self.turn, lambda it: self.hear(seen, it), lambda why: self.lost(seen, why))
@@ -147,7 +147,7 @@ class Replica:
         """A log that takes nothing for now, where a disk is full, say, may be silent too. So where it ends is asked before anything is said."""
         try:
             ends = self.reader.end(self.name)
-        except (Fault, NoStream, *engine(self.words).LOST):
+        except (Fault, *engine(self.words).LOST):
             return
         with self.lock:
             is_behind = 0 <= ends < seen.begin == self.begin and self.unheard
@@ -158,7 +158,7 @@ class Replica:
         with self.lock:
             self.note_late()
             seen, self.seen = self.seen, None
-            self.waiting.clear()
+            self.drop()
         if seen is not None and seen.handle is not None:
             seen.handle.close()
 
@@ -171,7 +171,7 @@ class Replica:
             self.pause = 0.1 if self.taken_now else min(self.pause * 2, 3.0)
             self.taken_now = 0
             self.due = time.monotonic() + self.pause
-        self.say("there is no stream" if isinstance(why, NoStream) else why)
+        self.say("the log finds no stream" if isinstance(why, NoStream) else why)
 
     def hear(self, seen, message):
         with self.lock:
@@ -323,12 +323,17 @@ class Replica:
         if not pathlib.Path(self.store).exists():
             return True
         has_log = self.seen is not None and self.seen.compared
-        return now - self.late_at < QUIET if has_log else self.was_late
+        return now - self.late_at < QUIET if has_log else self.was_late or bool(self.waiting)
 
     def note_late(self):
-        """The log is lost; the lock is held."""
+        """The log is lost; the lock is held. What was heard of it may still be taken."""
         if self.seen is not None and self.seen.compared:
-            self.was_late = bool(self.waiting) or self.is_behind and time.monotonic() - self.late_at < SURE
+            self.was_late = self.is_behind and time.monotonic() - self.late_at < SURE
+
+    def drop(self):
+        """What was heard and isn't taken is let go, since it comes again; the lock is held."""
+        self.was_late = self.was_late or bool(self.waiting)
+        self.waiting.clear()
 
     def take(self, messages):
         requests = []
