@@ -33,7 +33,7 @@ use Rattle.sql_meaning.proofs.Suggestions.{off_unit}
 use Rattle.sql_meaning.proofs.UniqueKeys.{one_place_each}
 use Rattle.sql_meaning.proofs.UnitsWritten.{KeepsOthers, kept_others}
 use Rattle.sql_meaning.proofs.UnitValues.{suggestion_read_back, is_on_its_unit}
-use Rattle.sql_changes.specs.UnitWrites.{AreBefore, AddsNumberedSuggestion, AddsLast}
+use Rattle.sql_changes.specs.UnitWrites.{AreBefore, AddsLast}
 
 module _ (old new : NamedRows) (lang key : Text) (place : ℕ) (s : Suggestion) (keyed : AreKeyed old) (before : AreBefore lang key place (old (codes "suggestion"))) (unvoted : s.votes ≡ maps.empty)
     (valid : IsNumber s.number) (added : AddsIn (codes "suggestion") first_text (HoldsValues (suggestion_cells lang key place s)) old new) where
