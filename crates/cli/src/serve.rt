@@ -35,7 +35,7 @@ pub(crate) fn serve_opened<S: Alter + Drop>(
 }
 
 /// Tells that a failure of the disk stopped the office, where one did, and has the exit status tell it too.
-fn told_stopped<S>(rt: &HostRuntime, closed: Closed<S>) -> Closed<S> {
+fn told_stopped<S: Alter>(rt: &HostRuntime, closed: Closed<S>) -> Closed<S> {
     let Closed {
         status,
         stopped,

@@ -54,18 +54,18 @@ handed_on (Err e) reply now Left delivered is left leads = tt
 
 -- ---- an act on a unit
 
--- the view that was found is that of the unit
-view_there : (project : Project) (lang : Text) (key : Key) (caller : Text) (view : UnitView) → view_found (found_of project lang key caller) ≡ Some view → view_of project (lang, key) ≡ Some view
-view_there project lang key caller view = by (maps.get project.headers lang)
-  where
-    abbrev found : Entry → ActContext
-    found header = record { rule = rule_at project lang; policy = project.policy; role = role_of project caller; view = view_of project (lang, key) }
-
-    by : (o : Option Entry) → view_found (option_map found o) ≡ Some view → view_of project (lang, key) ≡ Some view
-    by None e = let never : ◌≡◌ {A = Option UnitView} None (Some view) = e in cc
-    by (Some header) e = e
-
 module _ (project : Project) (lang : Text) (key : Key) (caller : Text) where
+  abbrev found : Entry → ActContext
+  found header = record { rule = rule_at project lang; policy = project.policy; role = role_of project caller; view = view_of project (lang, key) }
+
+  -- the view that was found is that of the unit
+  view_there : (view : UnitView) → view_found (found_of project lang key caller) ≡ Some view → view_of project (lang, key) ≡ Some view
+  view_there view = by (maps.get project.headers lang)
+    where
+      by : (o : Option Entry) → view_found (option_map found o) ≡ Some view → view_of project (lang, key) ≡ Some view
+      by None e = let never : ◌≡◌ {A = Option UnitView} None (Some view) = e in cc
+      by (Some header) e = e
+
   abbrev There : UnitWrite → Type 0
   There w = (view : UnitView) × (view_found (found_of project lang key caller) ≡ Some view) × IsWriteOver view w
 
@@ -75,7 +75,7 @@ module _ (project : Project) (lang : Text) (key : Key) (caller : Text) where
     where
       by : (o : Option UnitWrite) → IfSome o There → IsPossibleWrite project lang key o
       by None h = tt
-      by (Some w) h = (h.0, view_there project lang key caller h.0 h.1, h.2)
+      by (Some w) h = (h.0, view_there h.0 h.1, h.2)
 
   -- what is written is the view that the act makes
   act_written : (whole : Outcome) (outcome : UnitOutcome) → IsOutcomeBy (view_found (found_of project lang key caller)) whole outcome → written_at project lang key outcome.write ≡ whole.view
@@ -83,7 +83,7 @@ module _ (project : Project) (lang : Text) (key : Key) (caller : Text) where
     where
       by : (o : Option UnitWrite) → IfSome o There → written_at project lang key o ≡ option_and_then (λ w. option_map (view_written w) (view_found (found_of project lang key caller))) o
       by None h = refl
-      by (Some w) h = ap (option_map (view_written w)) (view_there project lang key caller h.0 h.1 ∙ sym h.1)
+      by (Some w) h = ap (option_map (view_written w)) (view_there h.0 h.1 ∙ sym h.1)
 
   pub act_decided : (whole : Outcome) (outcome : UnitOutcome) → IsOutcomeBy (view_found (found_of project lang key caller)) whole outcome →
       ◌≡◌ {A = Outcome} (record { view = written_at project lang key outcome.write; reply = outcome.reply }) whole

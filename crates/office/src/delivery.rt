@@ -230,7 +230,7 @@ fn read_and_decide<T: Tables>(
     }
 }
 
-/// Commits an act on a unit, and hands on its reply, which is made: nothing here takes memory.
+/// Commits an act on a unit, and hands on its reply, which is made before: what is committed is answered.
 fn commit_unit_act<T: Tables>(
     tables: &mut T,
     row: Record,
@@ -255,8 +255,7 @@ fn commit_unit_act<T: Tables>(
     Ok(reply)
 }
 
-/// Decides and commits an act on a unit whose number is new. Reply and record are made before the commit: nothing after it takes
-/// memory.
+/// Decides and commits an act on a unit whose number is new. Reply and record are made before the commit: nothing after it fails.
 fn deliver_unit_act<T: Tables>(
     alloc: Global,
     tables: &mut T,
@@ -328,7 +327,7 @@ fn ask_role_and_decide<T: Tables>(
     read_office_and_decide(alloc, tables, request)
 }
 
-/// Commits an act on the office, and hands on its reply, which is made: nothing here takes memory.
+/// Commits an act on the office, and hands on its reply, which is made before: what is committed is answered.
 fn commit_office_act<T: Tables>(
     tables: &mut T,
     row: Record,
@@ -350,8 +349,7 @@ fn commit_office_act<T: Tables>(
     Ok(reply)
 }
 
-/// Decides and commits an act on the office whose number is new. Reply and record are made before the commit: nothing after it
-/// takes memory.
+/// Decides and commits an act on the office whose number is new. Reply and record are made before the commit: nothing after it fails.
 fn deliver_office_act<T: Tables>(
     alloc: Global,
     tables: &mut T,

@@ -30,8 +30,8 @@ use uuid::Uuid;
 ///
 /// Each call says what it answers or writes, what the tables mean then, and by `IsKept` what it keeps, whatever it answers. What it
 /// answers holds while the disk returns what was written; what the tables mean then, while no failure has shut the store. An error
-/// is `Memory` where a growth was refused, and the tables run on; and `Disk` where the disk failed: then the tables are stopped, and
-/// answer `Disk` to each further call.
+/// is `Memory`, as where a growth was refused, and the tables run on; or `Disk`, as where the disk failed: then the tables are
+/// stopped, and answer `Disk` to each further call.
 pub trait Tables: Drop {
     /// So far the disk has returned what was written.
     ghost is_honest: { Self → Type 0 };
