@@ -389,7 +389,7 @@ def disk_failed(folder):
     with server(path, 1, ends=(3, "", "disk fault\n"), before=before) as (port, _):
         client, found = http.client.HTTPConnection(HOST, port, timeout=SECONDS), []
         for n in range(1, 41):
-            body = json.dumps({"act": "comment", "id": "Hello", "lang": "de", "lines": [f"{n}" * 400] * 20, "seen": 1})
+            body = json.dumps({"act": "comment", "id": "Hello", "lang": "de", "lines": [f"{n}" * 400] * 20, "seen": n})
             client.request("POST", f"/v1/requests/{number(n)}", body.encode(), {"X-Office-Caller": "root"})
             reply = client.getresponse()
             found.append((reply.status, reply.read().decode()[:16]))
@@ -397,7 +397,7 @@ def disk_failed(folder):
     taken = sum(status == 200 for status, _ in found)
     same("some requests are taken, and then none", found[taken:], [(507, '{"error":"disk"}')] * (40 - taken))
     same("on a disk that takes no more", 0 < taken < 40, True)
-    line = json.dumps({"act": "comment", "caller": "root", "id": "Hello", "lang": "de", "lines": [], "number": number(41), "seen": 1})
+    line = json.dumps({"act": "comment", "caller": "root", "id": "Hello", "lang": "de", "lines": [], "number": number(41), "seen": taken + 1})
     same("the office is whole behind it", run("deliver", "--store", path, given=line + "\n")[1][:4], "200 ")
 
 
