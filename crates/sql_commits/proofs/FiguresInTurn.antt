@@ -19,6 +19,7 @@ use Rattle.units.specs.declared.unit.Key.{Key}
 use Rattle.units.specs.declared.unit.Policy.{Policy}
 use Rattle.units.specs.declared.unit.Suggestion.{Suggestion}
 use Rattle.units.specs.declared.unit.UnitView.{UnitView}
+use Rattle.units.specs.declared.votes.VoteValue.{VoteValue}
 use Rattle.deliveries.specs.UnitAccess.{view_written as with_written}
 use Rattle.deliveries.specs.declared.tally.Tally.{Tally}
 use Rattle.deliveries.specs.declared.values.UnitWrite.{UnitWrite}
@@ -45,8 +46,8 @@ use Rattle.sql_meaning.proofs.OfficeQueries.{suggestions_found}
 use Rattle.sql_meaning.proofs.Units.{finds_unit}
 use Rattle.sql_figures.specs.KeptTallies.{Counts, counted_at}
 use Rattle.sql_figures.specs.Figures.{with_tally, with_tallies, moved_at, HaveRoom, FiguresFollowWhere, FiguresFollow, FiguresStay}
-use Rattle.sql_figures.proofs.FigureSteps.{stay_first, stay_last, stay_both, stay_where, follow_both, follow_tally, follow_moved, follow_turned, nothing_moves, stay_beside, units_turned, record_beside, policy_beside, record_alone, record_leaves_domain}
-use Rattle.sql_commits.specs.Figures.{PutsTally, AddsWithSum, PutsSum, project_at, counted_before, FollowsView, FollowsOwnRow, FollowsSuggestionAt, FollowsOneMore, FollowsWriteIn, FollowsWrite, FollowsIf, FollowsIn, FollowsDomainChange, turned_unless, FollowsPolicy, FollowsOneChange}
+use Rattle.sql_figures.proofs.FigureSteps.{nothing_follows, stay_first, stay_last, stay_both, stay_where, follow_both, follow_tally, follow_moved, follow_turned, nothing_moves, stay_beside, units_turned, record_beside, policy_beside, record_alone, record_leaves_domain}
+use Rattle.sql_commits.specs.Figures.{PutsTally, AddsWithSum, PutsSum, project_at, counted_before, FollowsView, FollowsOwnRow, FollowsSuggestionAt, FollowsOneMore, FollowsVoteAt, FollowsWriteIn, FollowsWrite, FollowsIf, FollowsIn, FollowsDomainChange, turned_unless, FollowsPolicy, FollowsOneChange}
 
 module _ (a b : State) where
   -- a query, with what it answers
@@ -94,6 +95,14 @@ moves_row given code domain lang found row tally after was is old mid new is_giv
     (subst (λ (t : Tally). PutsTally domain lang t mid new) (is_after ∙ ap (λ (t : Tally). moved t was is) is_tally) put))
 
 -- ---- and what is written behind
+
+-- what stays behind a query
+pub same_stays : (old mid new : Database) → mid ≡ old → FiguresStay mid new → FiguresStay old new
+same_stays old mid new same stays = subst (λ (db : Database). FiguresStay db new) same stays
+
+-- where nothing is written of a vote
+pub vote_nowhere_follows : (domain lang : Text) (key : Key) (number voter : Text) (value : Option VoteValue) (sum : ℤ) (old mid : Database) → mid ≡ old → FollowsVoteAt domain lang key number voter value sum old mid
+vote_nowhere_follows domain lang key number voter value sum old mid same there is over = subst (FiguresStay old) (sym same) (nothing_follows old)
 
 module _ (domain lang : Text) (old mid new : Database) (stays : FiguresStay mid new) where
   -- the unit of a view

@@ -54,7 +54,7 @@ module _ (db : Database) (ready : AreOfficeTablesOf by_domain db) (domain lang :
   abbrev tables : NamedRows
   tables = seen_in domain (rows_named db)
 
-  abbrev suggested : List Suggestion
+  abbrev pub suggested : List Suggestion
   suggested = suggestions_in tables lang (key_text key)
 
   -- by the texts of its place
