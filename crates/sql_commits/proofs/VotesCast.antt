@@ -142,7 +142,10 @@ module _ (domain lang : Text) (key : Key) (number voter : Text) (value : Option 
       where
         by_row : (o : Option Row) → o ≡ Some row → ShowsPlaceOf domain lang (key_text key) (number_text number) old o
             → (r : Row) × Has (rows_named old (codes "d_suggestion")) r × (text_at 2 r ≡ domain) × (first_text r ≡ number_text number)
-        by_row (Some shown) e it = (it.0, it.1, let keys = it.2 in cc, let keys = it.2 in cc)
+        by_row (Some cells) e it =
+            let own_domain : text_at 2 it.0 ≡ domain = let keys = it.2 in cc in
+            let own_number : first_text it.0 ≡ number_text number = let keys = it.2 in cc in
+            (it.0, it.1, own_domain, own_number)
         by_row None e it = absurd (let none = e in cc)
 
     vote_on : (o : Option VoteValue) (next : Database) → PutsVoteRow (number_text number) voter o old next → OnDomain domain (PutsVote number voter o) old next
