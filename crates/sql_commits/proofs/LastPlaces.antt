@@ -76,7 +76,7 @@ places_before db ready domain lang key rows place shown before x there on =
     before row listed_so (integer_at 4 x) (ap (λ (y : Row). column y 4) (sym r.3) ∙ (domain_rows db ready domain).typed.suggestion_places x there)
 
 pub adds_last : (domain lang key : Text) (s : Suggestion) (rows : List Row) (place : ℕ) (old mid new : Database) → (IsInOrder 0 rows → ArePlacesBefore place rows)
-    → AreOfficeTablesOf by_domain old × (mid ≡ old) × ShowsPlaces domain lang key old rows → OnDomain domain (AddsNumberedSuggestion lang key place s) mid new → OnDomain domain (AddsLast lang key s) old new
+    → AreOfficeTablesOf by_domain old × ((mid ≡ old) × ShowsPlaces domain lang key old rows) → OnDomain domain (AddsNumberedSuggestion lang key place s) mid new → OnDomain domain (AddsLast lang key s) old new
 adds_last domain lang key s rows place old mid new behind shown added =
-    on_domain_as domain (AddsNumberedSuggestion lang key place s) (AddsLast lang key s) (λ made. (place, places_before old shown.0 domain lang key rows place shown.2 (behind shown.2.1), made))
-    (subst (λ (db : Database). OnDomain domain (AddsNumberedSuggestion lang key place s) db new) shown.1 added)
+    on_domain_as domain (AddsNumberedSuggestion lang key place s) (AddsLast lang key s) (λ made. (place, places_before old shown.0 domain lang key rows place shown.1.1 (behind shown.1.1.1), made))
+    (subst (λ (db : Database). OnDomain domain (AddsNumberedSuggestion lang key place s) db new) shown.1.0 added)

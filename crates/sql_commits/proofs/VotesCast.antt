@@ -118,9 +118,9 @@ Casts number voter value sum = Then (PutsVoteRow number voter value) (PutsSum nu
 
 module _ (domain lang : Text) (key : Key) (number voter : Text) (value : Option VoteValue) (given code column named : Text) (is_domain : given ≡ domain) (is_lang : code ≡ lang) (is_key : column ≡ key_text key)
     (is_named : named ≡ number_text number) (valid : IsNumber number) (found : Option Row) (old mid : Database)
-    (shown : AreOfficeTablesOf by_domain old × (mid ≡ old) × ShowsPlaceOf given code column named old found) where
+    (shown : AreOfficeTablesOf by_domain old × ((mid ≡ old) × ShowsPlaceOf given code column named old found)) where
   place : ShowsPlaceOf domain lang (key_text key) (number_text number) old found
-  place = subst (λ (x : Text × Text × Text × Text). ShowsPlaceOf x.0 x.1 x.2 x.3 old found) (λ i. (is_domain i, is_lang i, is_key i, is_named i)) shown.2
+  place = subst (λ (x : Text × Text × Text × Text). ShowsPlaceOf x.0 x.1 x.2 x.3 old found) (λ i. (is_domain i, is_lang i, is_key i, is_named i)) shown.1.1
 
   told : is_suggested lang (key_text key) number (seen domain old) ≡ is_some found
   told = suggestion_told domain lang (key_text key) number old found place
@@ -129,13 +129,13 @@ module _ (domain lang : Text) (key : Key) (number voter : Text) (value : Option 
   pub vote_nowhere : found ≡ None → OnDomain domain (WritesVote lang (key_text key) number voter value) old mid
   vote_nowhere is_found =
       let missing : is_suggested lang (key_text key) number (seen domain old) ≡ false = told ∙ ap is_some is_found in
-      subst (OnDomain domain (WritesVote lang (key_text key) number voter value) old) (sym shown.1)
+      subst (OnDomain domain (WritesVote lang (key_text key) number voter value) old) (sym shown.1.0)
       (nothing_on_domain domain (WritesVote lang (key_text key) number voter value) old
       (subst (λ b. MakesIf b (PutsVote number voter value) (λ before after. after ≡ before) (seen domain old) (seen domain old)) (sym missing) refl, valid))
 
   module _ (row : Row) (is_found : found ≡ Some row) (again by : Text) (sum : ℤ) (new : Database) (is_again : again ≡ number_text number) (is_voter : by ≡ voter) (cast : Casts again by value sum mid new) where
     own : Casts (number_text number) voter value sum old new
-    own = subst (λ (x : Text × Text × Database). Casts x.0 x.1 value sum x.2 new) (λ i. (is_again i, is_voter i, shown.1 i)) cast
+    own = subst (λ (x : Text × Text × Database). Casts x.0 x.1 value sum x.2 new) (λ i. (is_again i, is_voter i, shown.1.0 i)) cast
 
     on_unit : (r : Row) × Has (rows_named old (codes "d_suggestion")) r × (text_at 2 r ≡ domain) × (first_text r ≡ number_text number)
     on_unit = by_row found is_found place
