@@ -1,5 +1,5 @@
 -- A suggestion behind the last on a unit: which place is behind those that a query shows.
-use Rattle.std.proofs.Common.{◌≡◌, ℕ, suc, ◌+◌, ◌<◌, ℤ, pos, negsuc, List, [], ◌∷◌, ◌&&◌, inl, inr, length, filter, map, get_or, ◌-◌, Bool, true, false, Option, Some, None, Result, Ok, Err, refl, sym, ap, subst, ◌∙◌, arith, codes}
+use Rattle.std.proofs.Common.{◌≡◌, ℕ, suc, ◌+◌, ◌<◌, ℤ, pos, negsuc, List, [], ◌∷◌, inl, inr, length, filter, map, get_or, ◌-◌, Bool, true, false, Some, None, Result, Ok, Err, refl, sym, ap, subst, ◌∙◌, arith, codes}
 use Rattle.std.specs.Prelude.{int_lt, slice_get, IfOk}
 use Rattle.std.specs.Ordering.{is_lt, int_cmp}
 use Rattle.std.proofs.lemmas.Bool.{and_from}
@@ -64,9 +64,9 @@ last_before rows last n some is_last shows up row there at is =
 -- as the last of the rows, if there is one, shows it
 pub behind_last : (rows : List Row) (row : Row) {E : Type 0} (result : Result ℕ E) → Some row ≡ slice_get rows (length rows - 1) → IfOk result (λ place. IsPlaceBehind row place)
     → IfOk result (λ place. IsInOrder 0 rows → ArePlacesBefore place rows)
-behind_last rows row (Ok place) last (at, shows, is) up =
+behind_last rows row (Ok place) last (at, shows, is) =
     let some : 0 < length rows = omega (arith, slice_get_within rows (length rows - 1) row (sym last)) in
-    subst (λ (n : ℕ). ArePlacesBefore n rows) (sym is) (last_before rows row at some (get_or_from_slice_get rows (length rows - 1) row row (sym last)) shows up)
+    λ up. subst (λ (n : ℕ). ArePlacesBefore n rows) (sym is) (last_before rows row at some (get_or_from_slice_get rows (length rows - 1) row row (sym last)) shows up)
 behind_last rows row (Err e) last it = tt
 
 pub first_of_none : (rows : List Row) → None ≡ slice_get rows (length rows - 1) → IsInOrder 0 rows → ArePlacesBefore 0 rows

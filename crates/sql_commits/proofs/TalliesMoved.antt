@@ -14,12 +14,11 @@ use Rattle.units.specs.Units.{key_text}
 use Rattle.units.specs.declared.unit.Key.{Key}
 use Rattle.units.specs.declared.unit.Suggestion.{Suggestion}
 use Rattle.units.specs.declared.unit.Unit.{Unit}
-use Rattle.units.specs.declared.unit.UnitState.{UnitState}
 use Rattle.units.specs.declared.unit.UnitView.{UnitView}
 use Rattle.deliveries.specs.Counting.{none_counted}
 use Rattle.deliveries.specs.declared.tally.Tally.{Tally}
 use Rattle.tables.specs.Tallies.{counted, moved}
-use Rattle.sql_schema.specs.Inside.{AreOfficeTablesOf, IsInOrder}
+use Rattle.sql_schema.specs.Inside.{AreOfficeTablesOf}
 use Rattle.sql_schema.specs.Keys.{has_text, is_on_unit, columns}
 use Rattle.sql_schema.specs.Layouts.{by_domain, NamedRows, rows_named}
 use Rattle.sql_schema.specs.Views.{suggestion_seen, seen_in}

@@ -1,5 +1,5 @@
 -- A vote on a suggestion that is looked up on its unit: what its domain sees, and how the sums follow.
-use Rattle.std.proofs.Common.{◌≡◌, ◌≢◌, ℤ, List, [], ◌∷◌, ◌&&◌, filter, map, Bool, true, false, Option, Some, None, is_some, refl, sym, ap, subst, ◌∙◌, codes}
+use Rattle.std.proofs.Common.{◌≡◌, ◌≢◌, ℤ, List, [], ◌∷◌, ◌&&◌, filter, map, true, false, Option, Some, None, is_some, refl, sym, ap, subst, ◌∙◌, codes}
 use Rattle.std.proofs.lemmas.Bool.{and_parts, and_from, false_from_ne_true}
 use Rattle.std.proofs.lemmas.List.Sorted.{IsPermutation-refl}
 use Rattle.std.specs.FinMap as maps
@@ -10,18 +10,16 @@ use Rattle.sqlite_rules.proofs.ListLemmas.{some_has, some_from}
 use Rattle.sql_laws.specs.RowMaps.{OneEach}
 use Rattle.sql_laws.proofs.RowMaps.{texts_are_one}
 use Rattle.po_text.specs.Texts.{Text}
-use Rattle.units.specs.Units.{key_text, suggestion_of, vote_sum}
+use Rattle.units.specs.Units.{key_text, vote_sum}
 use Rattle.units.specs.declared.unit.Key.{Key}
 use Rattle.units.specs.declared.unit.Suggestion.{Suggestion}
-use Rattle.units.specs.declared.unit.Unit.{Unit}
-use Rattle.units.specs.declared.unit.UnitView.{UnitView}
 use Rattle.units.specs.declared.votes.VoteValue.{VoteValue}
 use Rattle.review.specs.UnitStep.{set_vote}
 use Rattle.request_book.specs.Acts.{IsNumber}
 use Rattle.request_book.specs.Words.{number_text}
 use Rattle.sql_schema.specs.Inside.{AreOfficeTablesOf, Then}
 use Rattle.sql_schema.specs.Keys.{text_at, first_text, first_texts, has_text, is_on_unit, columns}
-use Rattle.sql_schema.specs.Layouts.{by_domain, NamedRows, rows_named, SparesOthers}
+use Rattle.sql_schema.specs.Layouts.{by_domain, rows_named, SparesOthers}
 use Rattle.sql_schema.specs.Views.{suggestion_seen}
 use Rattle.sql_schema.proofs.DomainRows.{one_d_vote}
 use Rattle.sql_schema.proofs.DomainViews.{is_text}
@@ -36,7 +34,6 @@ use Rattle.sql_meaning.proofs.OneVote.{vote_put, others_at_put, vote_taken, othe
 use Rattle.sql_meaning.proofs.ShownVotes.{finds_votes}
 use Rattle.sql_meaning.proofs.UnitsKept.{suggestions_stand}
 use Rattle.sql_meaning.proofs.UnitValues.{vote_read_back}
-use Rattle.sql_figures.specs.Figures.{FiguresStay}
 use Rattle.sql_figures.specs.KeptSums.{votes_among}
 use Rattle.sql_figures.proofs.FigureSteps.{stay_voted}
 use Rattle.sql_changes.specs.OnDomains.{OnDomain, MakesIf}
