@@ -358,11 +358,11 @@ class RabbitNodes(Nodes):
         """How many bytes a node's disk has to have free, or the log takes nothing."""
         return self.told(name, f"rabbit_disk_monitor:set_disk_free_limit({size}).")
 
-    def wait_for_all(self):
+    def wait_for_all(self, seconds=1800):
         """Waits until all have joined: a stream that is made before that has no replica on the others."""
         for name in NAMES:
             self.wait(name)
-        end = time.monotonic() + 1800
+        end = time.monotonic() + seconds
         while not all(self.told(name, "rabbit_nodes:all_running().").count("@localhost") == len(NAMES) for name in NAMES):
             if end < time.monotonic():
                 raise TimeoutError("the nodes haven't joined")
@@ -410,9 +410,9 @@ class NatsNodes(Nodes):
     def pid(self, name):
         return self.running[name].pid
 
-    def wait_for_all(self):
+    def wait_for_all(self, seconds=1800):
         for name in NAMES:
-            self.wait(name)
+            self.wait(name, seconds)
         # The nodes elect a leader of their own before they make streams.
         time.sleep(3)
 

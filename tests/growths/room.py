@@ -4,10 +4,12 @@
     tests/growths/room.py [PROGRAM] [--step K] [--only WORD]      (crates/cli/out/cli, 64; wants prlimit and setarch, of util-linux)
 
 The room is what a process may have of addresses (RLIMIT_AS), its stack among them: K kilobytes more at each run, from where `office --version` runs.
-`init`, `deliver` over tables in maps and in a file, `export` and `serve` get requests that fill it, and between them lines of 127 lists and of 127
+`init`, `deliver` over tables in maps and in a file, `export` and `serve` get requests that fill it, and behind them lines of 127 lists and of 127
 objects within one another, for which a reader takes the most stack. A line gets the reply that it gets in ample room where the lines that were lost
 aren't sent, or `503 {"error":"memory"}`; or the program ends behind whole replies with a fault of memory; or it doesn't begin. A file is whole then, and
-has the records of what was answered. No run ends by a signal. The last line is `N runs, M in ample room, W wrong`; the status is 1 if anything was wrong.
+has the records of what was answered. No run ends by a signal. And where the stack alone is as small as `office --version` runs with (RLIMIT_STACK), all
+goes as ever, also with a file whose record is such a line, which is refused. The last line is `N runs, M as ever, W wrong`; the status is 1 if
+anything was wrong.
 """
 import argparse
 import contextlib
@@ -17,6 +19,7 @@ import json
 import os
 import pathlib
 import shutil
+import sqlite3
 import subprocess
 import sys
 import tempfile
@@ -41,8 +44,10 @@ ACTS = [
     {"act": "language", "lang": "de", "po": HEADER},
     *({"act": "comment", "id": f"message {n}", "lang": "de", "lines": ["x" * 900] * 20, "seen": 1} for n in range(COUNT)),
 ]
-# Each act with its number, and a deep text behind it.
-ASKED = [it for n, act in enumerate(ACTS) for it in ((number(n + 1), act), (number(n + 1), DEEP[n % 2]))]
+LAST = {"act": "comment", "id": "message 0", "lang": "de", "lines": ["y"], "seen": 2}
+# What is asked, each with a number: the deep ones once the room is filled.
+ASKED = [(number(n + 1), it) for n, it in enumerate([*ACTS, *DEEP, LAST])]
+NAMES = ("init", "maps", "deliver", "export", "serve")
 NOT_BEGUN = ["", "error: out of memory\n", "store fault 1\n"]
 
 
@@ -59,7 +64,7 @@ class Trial:
     def __init__(self, program, folder, given):
         self.program, self.folder, self.given = program, folder, given
         self.runs = self.ample = self.wrong = 0
-        self.known = {}
+        self.known, self.kind = {}, "as"
         self.store = folder / "office.db"
         self.begun = folder / "begun.db"
         self.run("init", "--store", self.begun, "--manager", "root")
@@ -70,7 +75,7 @@ class Trial:
 
     def words(self, kilobytes, *words):
         """The words of a run in so much room, where the places of its parts don't change from run to run."""
-        room = [] if kilobytes is None else ["/usr/bin/setarch", "-R", "/usr/bin/prlimit", f"--as={kilobytes * 1024}"]
+        room = [] if kilobytes is None else ["/usr/bin/setarch", "-R", "/usr/bin/prlimit", f"--{self.kind}={kilobytes * 1024}"]
         return [*room, str(self.program), *map(str, words)]
 
     def run(self, *words, given="", kilobytes=None):
@@ -210,8 +215,32 @@ class Trial:
                 yield reply.status, reply.read().decode()
         client.close()
 
+    def small_stack(self):
+        """All goes as ever with the least stack that the program starts with."""
+        self.kind = "stack"
+        # (an argument or a number of the process may take a page more)
+        kilobytes = self.least() + 8
+        for name in NAMES:
+            self.runs += 1
+            what = f"{name} with {kilobytes} KB of stack"
+            if getattr(self, name)(what, kilobytes):
+                self.ample += 1
+            else:
+                self.say(what, "not as ever")
+        for deep in DEEP:
+            self.clear(self.begun)
+            self.run("deliver", "--store", self.store, given=line_of(ASKED[0]) + "\n")
+            with contextlib.closing(sqlite3.connect(self.store)) as base, base:
+                base.execute("UPDATE record SET content = ?", [deep])
+            self.runs += 1
+            found = self.run("records", "--store", self.store, kilobytes=kilobytes)
+            if found == (1, "", "store fault 3\n"):
+                self.ample += 1
+            else:
+                self.say(f"a record of {deep[:8]}.. with {kilobytes} KB of stack", f"{found}")
+
     def all(self, start):
-        for name in ("init", "maps", "deliver", "export", "serve"):
+        for name in NAMES:
             if self.given.only not in name:
                 continue
             kilobytes, in_a_row = start, 0
@@ -235,7 +264,9 @@ def main():
         trial = Trial(given.program.resolve(), pathlib.Path(name), given)
         # (an argument or a number of the process may take a page more)
         trial.all(trial.least() + 8)
-    print(f"{trial.runs} runs, {trial.ample} in ample room, {trial.wrong} wrong")
+        if not given.only:
+            trial.small_stack()
+    print(f"{trial.runs} runs, {trial.ample} as ever, {trial.wrong} wrong")
     return 1 if trial.wrong or not trial.ample else 0
 
 

@@ -206,19 +206,16 @@ module _ (old : Database) (row : Record) (ready : AreOfficeTablesOf by_domain ol
           → AllowsOffice old row (with_write_in office domain lang key (Some write)) → Leaves (with_write_in office domain lang key (Some write))
       write_leaves kept domain lang key write strings previous possible = by (is_domain before domain) refl
         where
-          next : Project → Project
-          next project = with_view project lang key (written_at project lang key (Some write))
-
           by : (there : Bool) → is_domain before domain ≡ there → MakesThere there domain row (WritesRecordAndUnit row lang key write) old after
-              → AllowsOffice old row (with_project office domain (next (project_in office domain))) → Leaves (with_project office domain (next (project_in office domain)))
+              → AllowsOffice old row (with_write_in office domain lang key (Some write)) → Leaves (with_write_in office domain lang key (Some write))
           by true there made rules =
-              let seen = project_seen domain before in
               let its = subst (λ (p : Project). IsPossibleWrite p lang key (Some write)) (project_there old ready kept domain there) possible in
-              let same = with_view_same seen lang key (written_at seen lang key (Some write)) in
-              there_leaves domain (WritesRecordAndUnit row lang key write) there made kept next same.0 same.1
+              let same = with_view_same (project_seen domain before) lang key (written_at (project_seen domain before) lang key (Some write)) in
+              there_leaves domain (WritesRecordAndUnit row lang key write) there made kept (λ p. with_view p lang key (written_at p lang key (Some write))) same.0 same.1
               (λ ruled written. commits_write (seen_in domain before) (seen_in domain behind) row lang key write (domain_rows old ready domain) numbered ruled strings previous its written) rules
           by false missing made rules =
-              subst Leaves (sym (nothing_put office domain (next (project_in office domain)) (sym (has_domain_of_rows before domain) ∙ missing))) (record_leaves made)
+              subst Leaves (sym (nothing_put office domain (with_view (project_in office domain) lang key (written_at (project_in office domain) lang key (Some write))) (sym (has_domain_of_rows before domain) ∙ missing)))
+              (record_leaves made)
 
       -- a domain's change, where its plans follow the units that are there
       pub domain_change_leaves : KeepsRules (meaning_by_domain before) → (domain : Text) (change : DomainChange) → IsTrue (has_domain office domain) → Follows (project_in office domain) change

@@ -33,7 +33,7 @@ use Rattle.sql_meaning.proofs.Suggestions.{off_unit}
 use Rattle.sql_meaning.proofs.UniqueKeys.{one_place_each}
 use Rattle.sql_meaning.proofs.UnitsWritten.{KeepsOthers, kept_others}
 use Rattle.sql_meaning.proofs.UnitValues.{suggestion_read_back, is_on_its_unit}
-use Rattle.sql_changes.specs.UnitWrites.{AreBefore, AddsNumberedSuggestion, AddsLast}
+use Rattle.sql_changes.specs.UnitWrites.{AreBefore, AddsLast}
 
 module _ (old new : NamedRows) (lang key : Text) (place : ℕ) (s : Suggestion) (keyed : AreKeyed old) (before : AreBefore lang key place (old (codes "suggestion"))) (unvoted : s.votes ≡ maps.empty)
     (valid : IsNumber s.number) (added : AddsIn (codes "suggestion") first_text (HoldsValues (suggestion_cells lang key place s)) old new) where
@@ -149,7 +149,7 @@ pub record LeavesLast (lang key : Text) (s : Suggestion) (old new : NamedRows) :
   pub keeps : KeepsOthers old new
 
 pub leaves_last : (lang key : Text) (s : Suggestion) (old new : NamedRows) → AreKeyed old → s.votes ≡ maps.empty → AddsLast lang key s old new → LeavesLast lang key s old new
-leaves_last lang key s old new keyed unvoted (place, before, (mid, adds, votes), valid) =
+leaves_last lang key s old new keyed unvoted (place, before, ((mid, adds, votes), valid)) =
     let none : map (vote_cells (number_text s.number)) (maps.entries s.votes) ≡ [] =
     ap (λ (m : FinMap text_cmp VoteValue). map (vote_cells (number_text s.number)) (maps.entries m)) unvoted ∙ ap (map (vote_cells (number_text s.number))) (no_entries text_cmp VoteValue) in
     let same = no_rows (map (vote_cells (number_text s.number)) (maps.entries s.votes)) mid new none votes in

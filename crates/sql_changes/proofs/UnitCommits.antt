@@ -1,5 +1,5 @@
 -- What the commit of an act on a unit of `main` makes of the office with its book.
-use Rattle.std.proofs.Common.{◌≡◌, ◌++◌, [], ◌∷◌, cond, true, Option, Some, None, option_map, refl, sym, ap, subst, ◌∙◌, codes}
+use Rattle.std.proofs.Common.{◌≡◌, ◌++◌, [], ◌∷◌, cond, Option, Some, None, option_map, refl, sym, ap, subst, ◌∙◌, codes}
 use Rattle.std.specs.Cmp.{eq_by_cmp_equiv}
 use Rattle.std.specs.FinMap as maps
 use Rattle.sql_laws.specs.RowMaps.{OneEach}

@@ -1,7 +1,6 @@
 -- A vote on a suggestion of a unit is put, or goes: that suggestion has these votes, and all others are as they were.
-use Rattle.std.proofs.Common.{◌≡◌, ◌≢◌, List, [], ◌∷◌, ◌&&◌, map, filter, Bool, true, false, if◌then◌else◌, Option, Some, None, unwrap_or, refl, sym, ap, subst, ◌∙◌, codes}
+use Rattle.std.proofs.Common.{◌≡◌, ◌≢◌, List, [], ◌&&◌, map, filter, Bool, true, false, if◌then◌else◌, Option, Some, None, unwrap_or, refl, sym, ap, subst, ◌∙◌, codes}
 use Rattle.std.proofs.lemmas.Bool.{and_from}
-use Rattle.std.proofs.lemmas.Cmp.{nat_list_eq_equiv}
 use Rattle.std.specs.Cmp.Lexicographic.{bytes_decides}
 use Rattle.std.specs.Ordering.{int_cmp}
 use Rattle.std.specs.Cmp.{int_cmp_total}
@@ -26,7 +25,7 @@ use Rattle.sql_schema.specs.Layouts.{NamedRows}
 use Rattle.sql_schema.proofs.Layouts.{names_differ}
 use Rattle.sql_meaning.specs.Meaning.{number_at, votes_in, suggestion_of_row, suggestions_in}
 use Rattle.sql_meaning.specs.RowKeys.{AreKeyed}
-use Rattle.sql_meaning.specs.Values.{integer_at, vote_at}
+use Rattle.sql_meaning.specs.Values.{integer_at}
 use Rattle.sql_meaning.proofs.MapEntries.{map_of-agreeing}
 use Rattle.sql_meaning.proofs.MapValues.{value_of_row, values_mapped}
 use Rattle.sql_meaning.proofs.OneVote.{vote_put, others_at_put, vote_taken, others_at_taken}
