@@ -1,8 +1,9 @@
 -- A suggestion behind the last on a unit: which place is behind those that a query shows.
-use Rattle.std.proofs.Common.{◌≡◌, ℕ, suc, ◌+◌, ◌<◌, ℤ, pos, negsuc, List, [], ◌∷◌, ◌&&◌, inl, inr, length, filter, map, get_or, ◌-◌, Bool, true, false, refl, sym, ap, subst, ◌∙◌, arith, codes}
-use Rattle.std.specs.Prelude.{int_lt}
+use Rattle.std.proofs.Common.{◌≡◌, ℕ, suc, ◌+◌, ◌<◌, ℤ, pos, negsuc, List, [], ◌∷◌, inl, inr, length, filter, map, get_or, ◌-◌, Bool, true, false, Some, None, Result, Ok, Err, refl, sym, ap, subst, ◌∙◌, arith, codes}
+use Rattle.std.specs.Prelude.{int_lt, slice_get, IfOk}
 use Rattle.std.specs.Ordering.{is_lt, int_cmp}
 use Rattle.std.proofs.lemmas.Bool.{and_from}
+use Rattle.std.proofs.lemmas.Option.{slice_get_within, slice_get_cases, get_or_from_slice_get}
 use Rattle.std.proofs.lemmas.List.MinMax.{ranks_by}
 use Rattle.std.proofs.lemmas.List.Sorted.{sorted_far, IsPermutation-sym}
 use Rattle.sqlite.specs.declared.types.Value.TheVariants.{Int}
@@ -26,7 +27,7 @@ use Rattle.sql_meaning.proofs.DomainOfficeRows.{domain_rows}
 use Rattle.sql_changes.specs.OnDomains.{OnDomain}
 use Rattle.sql_changes.specs.UnitWrites.{AreBefore, AddsNumberedSuggestion, AddsLast}
 use Rattle.sql_changes.proofs.DomainWrites.{seen, on_domain_as}
-use Rattle.sql_commits.specs.Votes.{ArePlacesBefore}
+use Rattle.sql_commits.specs.Votes.{ArePlacesBefore, IsPlaceBehind}
 
 -- ---- the place behind the last that is shown
 
@@ -60,6 +61,20 @@ last_before rows last n some is_last shows up row there at is =
     (λ k. is_lt (value_cmp (sym (ap (λ (x : Row). column x 0) is_last ∙ shows) k) (sym (ap (λ (x : Row). column x 0) i.2 ∙ is) k))) ∙ ranked in
     below_next at n (not_less (pos n) at (ap is_lt (sym (value_cmp-Int (pos n) at)) ∙ values))
 
+-- as the last of the rows, if there is one, shows it
+pub behind_last : (rows : List Row) (row : Row) {E : Type 0} (result : Result ℕ E) → Some row ≡ slice_get rows (length rows - 1) → IfOk result (λ place. IsPlaceBehind row place)
+    → IfOk result (λ place. IsInOrder 0 rows → ArePlacesBefore place rows)
+behind_last rows row (Ok place) last (at, shows, is) =
+    let some : 0 < length rows = omega (arith, slice_get_within rows (length rows - 1) row (sym last)) in
+    λ up. subst (λ (n : ℕ). ArePlacesBefore n rows) (sym is) (last_before rows row at some (get_or_from_slice_get rows (length rows - 1) row row (sym last)) shows up)
+behind_last rows row (Err e) last it = tt
+
+pub first_of_none : (rows : List Row) → None ≡ slice_get rows (length rows - 1) → IsInOrder 0 rows → ArePlacesBefore 0 rows
+first_of_none rows none up = elim (slice_get_cases rows (length rows - 1)).1 [
+  | inl some ↦ absurd (let clash : None ≡ Some some.0 = none ∙ some.2 in cc)
+  | inr past ↦ none_before 0 rows (omega (arith, past.0))
+]
+
 -- ---- on the unit
 
 pub places_before : (db : Database) → AreOfficeTablesOf by_domain db → (domain lang key : Text) (rows : List Row) (place : ℕ) → ShowsPlaces domain lang key db rows → ArePlacesBefore place rows
@@ -76,7 +91,7 @@ places_before db ready domain lang key rows place shown before x there on =
     before row listed_so (integer_at 4 x) (ap (λ (y : Row). column y 4) (sym r.3) ∙ (domain_rows db ready domain).typed.suggestion_places x there)
 
 pub adds_last : (domain lang key : Text) (s : Suggestion) (rows : List Row) (place : ℕ) (old mid new : Database) → (IsInOrder 0 rows → ArePlacesBefore place rows)
-    → AreOfficeTablesOf by_domain old × (mid ≡ old) × ShowsPlaces domain lang key old rows → OnDomain domain (AddsNumberedSuggestion lang key place s) mid new → OnDomain domain (AddsLast lang key s) old new
+    → AreOfficeTablesOf by_domain old × ((mid ≡ old) × ShowsPlaces domain lang key old rows) → OnDomain domain (AddsNumberedSuggestion lang key place s) mid new → OnDomain domain (AddsLast lang key s) old new
 adds_last domain lang key s rows place old mid new behind shown added =
-    on_domain_as domain (AddsNumberedSuggestion lang key place s) (AddsLast lang key s) (λ made. (place, places_before old shown.0 domain lang key rows place shown.2 (behind shown.2.1), made))
-    (subst (λ (db : Database). OnDomain domain (AddsNumberedSuggestion lang key place s) db new) shown.1 added)
+    on_domain_as domain (AddsNumberedSuggestion lang key place s) (AddsLast lang key s) (λ made. (place, places_before old shown.0 domain lang key rows place shown.1.1 (behind shown.1.1.1), made))
+    (subst (λ (db : Database). OnDomain domain (AddsNumberedSuggestion lang key place s) db new) shown.1.0 added)

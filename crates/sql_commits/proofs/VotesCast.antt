@@ -1,5 +1,5 @@
 -- A vote on a suggestion that is looked up on its unit: what its domain sees, and how the sums follow.
-use Rattle.std.proofs.Common.{◌≡◌, ◌≢◌, ℤ, List, [], ◌∷◌, ◌&&◌, filter, map, Bool, true, false, Option, Some, None, is_some, refl, sym, ap, subst, ◌∙◌, codes}
+use Rattle.std.proofs.Common.{◌≡◌, ◌≢◌, ℤ, List, [], ◌∷◌, ◌&&◌, filter, map, true, false, Option, Some, None, is_some, refl, sym, ap, subst, ◌∙◌, codes}
 use Rattle.std.proofs.lemmas.Bool.{and_parts, and_from, false_from_ne_true}
 use Rattle.std.proofs.lemmas.List.Sorted.{IsPermutation-refl}
 use Rattle.std.specs.FinMap as maps
@@ -10,18 +10,16 @@ use Rattle.sqlite_rules.proofs.ListLemmas.{some_has, some_from}
 use Rattle.sql_laws.specs.RowMaps.{OneEach}
 use Rattle.sql_laws.proofs.RowMaps.{texts_are_one}
 use Rattle.po_text.specs.Texts.{Text}
-use Rattle.units.specs.Units.{key_text, suggestion_of, vote_sum}
+use Rattle.units.specs.Units.{key_text, vote_sum}
 use Rattle.units.specs.declared.unit.Key.{Key}
 use Rattle.units.specs.declared.unit.Suggestion.{Suggestion}
-use Rattle.units.specs.declared.unit.Unit.{Unit}
-use Rattle.units.specs.declared.unit.UnitView.{UnitView}
 use Rattle.units.specs.declared.votes.VoteValue.{VoteValue}
 use Rattle.review.specs.UnitStep.{set_vote}
 use Rattle.request_book.specs.Acts.{IsNumber}
 use Rattle.request_book.specs.Words.{number_text}
 use Rattle.sql_schema.specs.Inside.{AreOfficeTablesOf, Then}
 use Rattle.sql_schema.specs.Keys.{text_at, first_text, first_texts, has_text, is_on_unit, columns}
-use Rattle.sql_schema.specs.Layouts.{by_domain, NamedRows, rows_named, SparesOthers}
+use Rattle.sql_schema.specs.Layouts.{by_domain, rows_named, SparesOthers}
 use Rattle.sql_schema.specs.Views.{suggestion_seen}
 use Rattle.sql_schema.proofs.DomainRows.{one_d_vote}
 use Rattle.sql_schema.proofs.DomainViews.{is_text}
@@ -36,7 +34,6 @@ use Rattle.sql_meaning.proofs.OneVote.{vote_put, others_at_put, vote_taken, othe
 use Rattle.sql_meaning.proofs.ShownVotes.{finds_votes}
 use Rattle.sql_meaning.proofs.UnitsKept.{suggestions_stand}
 use Rattle.sql_meaning.proofs.UnitValues.{vote_read_back}
-use Rattle.sql_figures.specs.Figures.{FiguresStay}
 use Rattle.sql_figures.specs.KeptSums.{votes_among}
 use Rattle.sql_figures.proofs.FigureSteps.{stay_voted}
 use Rattle.sql_changes.specs.OnDomains.{OnDomain, MakesIf}
@@ -118,9 +115,9 @@ Casts number voter value sum = Then (PutsVoteRow number voter value) (PutsSum nu
 
 module _ (domain lang : Text) (key : Key) (number voter : Text) (value : Option VoteValue) (given code column named : Text) (is_domain : given ≡ domain) (is_lang : code ≡ lang) (is_key : column ≡ key_text key)
     (is_named : named ≡ number_text number) (valid : IsNumber number) (found : Option Row) (old mid : Database)
-    (shown : AreOfficeTablesOf by_domain old × (mid ≡ old) × ShowsPlaceOf given code column named old found) where
+    (shown : AreOfficeTablesOf by_domain old × ((mid ≡ old) × ShowsPlaceOf given code column named old found)) where
   place : ShowsPlaceOf domain lang (key_text key) (number_text number) old found
-  place = subst (λ (x : Text × Text × Text × Text). ShowsPlaceOf x.0 x.1 x.2 x.3 old found) (λ i. (is_domain i, is_lang i, is_key i, is_named i)) shown.2
+  place = subst (λ (x : Text × Text × Text × Text). ShowsPlaceOf x.0 x.1 x.2 x.3 old found) (λ i. (is_domain i, is_lang i, is_key i, is_named i)) shown.1.1
 
   told : is_suggested lang (key_text key) number (seen domain old) ≡ is_some found
   told = suggestion_told domain lang (key_text key) number old found place
@@ -129,20 +126,23 @@ module _ (domain lang : Text) (key : Key) (number voter : Text) (value : Option 
   pub vote_nowhere : found ≡ None → OnDomain domain (WritesVote lang (key_text key) number voter value) old mid
   vote_nowhere is_found =
       let missing : is_suggested lang (key_text key) number (seen domain old) ≡ false = told ∙ ap is_some is_found in
-      subst (OnDomain domain (WritesVote lang (key_text key) number voter value) old) (sym shown.1)
+      subst (OnDomain domain (WritesVote lang (key_text key) number voter value) old) (sym shown.1.0)
       (nothing_on_domain domain (WritesVote lang (key_text key) number voter value) old
       (subst (λ b. MakesIf b (PutsVote number voter value) (λ before after. after ≡ before) (seen domain old) (seen domain old)) (sym missing) refl, valid))
 
   module _ (row : Row) (is_found : found ≡ Some row) (again by : Text) (sum : ℤ) (new : Database) (is_again : again ≡ number_text number) (is_voter : by ≡ voter) (cast : Casts again by value sum mid new) where
     own : Casts (number_text number) voter value sum old new
-    own = subst (λ (x : Text × Text × Database). Casts x.0 x.1 value sum x.2 new) (λ i. (is_again i, is_voter i, shown.1 i)) cast
+    own = subst (λ (x : Text × Text × Database). Casts x.0 x.1 value sum x.2 new) (λ i. (is_again i, is_voter i, shown.1.0 i)) cast
 
     on_unit : (r : Row) × Has (rows_named old (codes "d_suggestion")) r × (text_at 2 r ≡ domain) × (first_text r ≡ number_text number)
     on_unit = by_row found is_found place
       where
         by_row : (o : Option Row) → o ≡ Some row → ShowsPlaceOf domain lang (key_text key) (number_text number) old o
             → (r : Row) × Has (rows_named old (codes "d_suggestion")) r × (text_at 2 r ≡ domain) × (first_text r ≡ number_text number)
-        by_row (Some shown) e it = (it.0, it.1, let keys = it.2 in cc, let keys = it.2 in cc)
+        by_row (Some cells) e it =
+            let own_domain : text_at 2 it.0 ≡ domain = let keys = it.2 in cc in
+            let own_number : first_text it.0 ≡ number_text number = let keys = it.2 in cc in
+            (it.0, it.1, own_domain, own_number)
         by_row None e it = absurd (let none = e in cc)
 
     vote_on : (o : Option VoteValue) (next : Database) → PutsVoteRow (number_text number) voter o old next → OnDomain domain (PutsVote number voter o) old next

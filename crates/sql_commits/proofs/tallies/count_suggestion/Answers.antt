@@ -1,8 +1,6 @@
-use Rattle.std.proofs.Common.{◌≡◌, Ok, Some, option_map, rules, ap, sym, subst}
-use Rattle.std.specs.FinMap as maps
+use Rattle.std.proofs.Common.{◌≡◌, Ok, Some, rules, ap, sym, subst}
 use Rattle.sqlite.specs.Effect.{Database}
 use Rattle.sqlite.specs.Held.{state}
-use Rattle.deliveries.specs.Counting.{none_counted}
 use Rattle.deliveries.specs.declared.tally.Tally.{Tally}
 use Rattle.sql_decoding.specs.declared.faults.Failure.{Failure}
 use Rattle.sql_decoding.specs.declared.units_read.UnitNumbers.{UnitNumbers}

@@ -1,4 +1,4 @@
-use Rattle.std.proofs.Common.{◌≡◌, Ok, Some, None, rules, sym, subst}
+use Rattle.std.proofs.Common.{◌≡◌, Some, None, rules, sym, subst}
 use Rattle.sqlite.specs.Effect.{Database}
 use Rattle.sqlite.specs.Held.{state}
 use Rattle.sql_decoding.specs.declared.faults.Failure.{Failure}
@@ -31,13 +31,13 @@ returns-in-Some-clause-figures g c =
     let view = c.args.view.now in
     let there = c.in_ok-there.there in
     let values = c.in-Some.values in
-    let was = c.counted_so.result in
-    let is = c.counted_so-2.result in
+    let was = c.counted_so-was.result in
+    let is = c.counted_so-is.result in
     let Shown = λ (before after : Database). (after ≡ before) × ShowsValues domain lang view.unit.key before there in
     let read = write_answered old mid {F = Failure} there there (ShowsValues domain lang view.unit.key) c.in_ok-there.ensures.found in
     let is_there : there ≡ Some values = search rules in
     write_then old mid new there c.put_difference.result Shown (FiguresFollow (moved_at domain lang was is)) (FollowsOwnRow domain lang view)
-    (λ shown. moves_row_alone domain lang view values c.values_beside.result was is old.now mid.now new.now c.counted_so.ensures c.counted_so-2.ensures c.values_beside.ensures
+    (λ shown. moves_row_alone domain lang view values c.values_beside.result was is old.now mid.now new.now c.counted_so-was.ensures c.counted_so-is.ensures c.values_beside.ensures
     (shown.0, subst (ShowsValues domain lang view.unit.key old.now) is_there shown.1)) read c.put_difference.ensures.figures
 
 -- where there is no unit, nothing is written

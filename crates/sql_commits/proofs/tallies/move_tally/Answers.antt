@@ -1,4 +1,4 @@
-use Rattle.std.proofs.Common.{◌≡◌, Ok, subst}
+use Rattle.std.proofs.Common.{◌≡◌, subst}
 use Rattle.sqlite.specs.Effect.{Database}
 use Rattle.sqlite.specs.Held.{state}
 use Rattle.sql_decoding.specs.declared.faults.Failure.{Failure}
@@ -29,9 +29,9 @@ returns-clause-figures g c =
     let lang = c.args.lang.now in
     let view = c.args.view.now in
     let there = c.in_ok-there.there in
-    let was = c.counted_there.result in
+    let was = c.counted_there-was.result in
     let is = c.in_ok-is.is' in
     let Shown = λ (before after : Database). (after ≡ before) × ShowsValues domain lang view.unit.key before there in
     let read = write_answered old mid {F = Failure} there there (ShowsValues domain lang view.unit.key) c.in_ok-there.ensures.found in
     write_then old mid new there c.put_difference.result Shown (FiguresFollow (moved_at domain lang was is)) (FollowsView domain lang view)
-    (moves_view domain lang view there was is old.now mid.now new.now c.counted_there.ensures c.in_ok-is.ensures) read c.put_difference.ensures.figures
+    (moves_view domain lang view there was is old.now mid.now new.now c.counted_there-was.ensures c.in_ok-is.ensures) read c.put_difference.ensures.figures

@@ -1,4 +1,3 @@
-use Rattle.std.proofs.Common.{Ok}
 use Rattle.sqlite.specs.Held.{state}
 use Rattle.sql_decoding.specs.declared.faults.Failure.{Failure}
 use Rattle.sql_changes.specs.OnDomains.{SparesDomains}

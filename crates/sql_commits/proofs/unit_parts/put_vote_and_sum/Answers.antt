@@ -1,4 +1,3 @@
-use Rattle.std.proofs.Common.{refl}
 use Rattle.sqlite.specs.Held.{state}
 use Rattle.sql_schema.specs.Inside.{Then}
 use Rattle.sql_commits.specs.Figures.{PutsSum}

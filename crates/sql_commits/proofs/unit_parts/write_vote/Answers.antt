@@ -2,7 +2,6 @@ use Rattle.std.proofs.Common.{◌≡◌, Ok, rules}
 use Rattle.sqlite.specs.Effect.{Database}
 use Rattle.sqlite.specs.Held.{state}
 use Rattle.sqlite.specs.declared.error.Error.{Error}
-use Rattle.sql_decoding.specs.declared.faults.Failure.{Failure}
 use Rattle.sql_schema.specs.Inside.{AreOfficeTablesOf}
 use Rattle.sql_schema.specs.Layouts.{by_domain}
 use Rattle.units.specs.Units.{key_text}
@@ -29,11 +28,11 @@ returns-in-Some-clause-put g c =
     let Ready = λ (before after : Database). AreOfficeTablesOf by_domain before × Shown before after in
     let read = write_ready old mid (Ok found) Shown c.requires.steady
     (write_answered old mid {F = Error} found found (ShowsPlaceOf c.as_str.result.now c.as_str-2.result.now c.as_str-3.result.now c.as_str-4.result.now) c.in_ok-found.ensures.found) in
-    let Cast = Casts c.as_str-5.result.now c.as_str-6.result.now c.args.value c.args.sum in
+    let Cast = Casts c.as_str-in-Some.result.now c.as_str-in-Some-2.result.now c.args.value c.args.sum in
     let cast = write_mapped mid new c.put_vote_and_sum.result c.map_err.result _ Cast Cast c.map_err.ensures.cases (λ made. made) c.put_vote_and_sum.ensures.put in
     write_then old mid new found c.map_err.result Ready Cast (OnDomain domain (WritesVote lang (key_text key) c.args.number c.args.voter.now c.args.value))
     (λ shown made. vote_written domain lang key c.args.number c.args.voter.now c.args.value c.as_str.result.now c.as_str-2.result.now c.as_str-3.result.now c.as_str-4.result.now
-    (search rules) (search rules) (search rules) (search rules) c.in_ok-number.ensures.fits found old.now mid.now shown c.in-Some.row (search rules) c.as_str-5.result.now c.as_str-6.result.now c.args.sum new.now
+    (search rules) (search rules) (search rules) (search rules) c.in_ok-number.ensures.fits found old.now mid.now shown c.in-Some.row (search rules) c.as_str-in-Some.result.now c.as_str-in-Some-2.result.now c.args.sum new.now
     (search rules) (search rules) made) read cast
 
 pub returns-in-Some-clause-figures : goal.returns-in-Some-clause-figures
@@ -49,11 +48,11 @@ returns-in-Some-clause-figures g c =
     let Ready = λ (before after : Database). AreOfficeTablesOf by_domain before × Shown before after in
     let read = write_ready old mid (Ok found) Shown c.requires.steady
     (write_answered old mid {F = Error} found found (ShowsPlaceOf c.as_str.result.now c.as_str-2.result.now c.as_str-3.result.now c.as_str-4.result.now) c.in_ok-found.ensures.found) in
-    let Cast = Casts c.as_str-5.result.now c.as_str-6.result.now c.args.value c.args.sum in
+    let Cast = Casts c.as_str-in-Some.result.now c.as_str-in-Some-2.result.now c.args.value c.args.sum in
     let cast = write_mapped mid new c.put_vote_and_sum.result c.map_err.result _ Cast Cast c.map_err.ensures.cases (λ made. made) c.put_vote_and_sum.ensures.put in
     write_then old mid new found c.map_err.result Ready Cast (FollowsVoteAt domain lang key c.args.number c.args.voter.now c.args.value c.args.sum)
     (λ shown made. vote_follows domain lang key c.args.number c.args.voter.now c.args.value c.as_str.result.now c.as_str-2.result.now c.as_str-3.result.now c.as_str-4.result.now
-    (search rules) (search rules) (search rules) (search rules) c.in_ok-number.ensures.fits found old.now mid.now shown c.in-Some.row (search rules) c.as_str-5.result.now c.as_str-6.result.now c.args.sum new.now
+    (search rules) (search rules) (search rules) (search rules) c.in_ok-number.ensures.fits found old.now mid.now shown c.in-Some.row (search rules) c.as_str-in-Some.result.now c.as_str-in-Some-2.result.now c.args.sum new.now
     (search rules) (search rules) made) read cast
 
 -- elsewhere nothing is
