@@ -33,6 +33,8 @@ from log_nodes import HOST, NAMES, memory_of, seconds_of
 PARTS = ("latency", "replay", "takeover", "streams")
 MESSAGES = 2000
 FILLER = "x" * 100
+# So many of the streams are looked at.
+LOOKED = 100
 HEAD = ("| What | Measured | Load of the machine |", "|---|---|---|")
 # What stands before the table in a page, and behind it.
 MARKS = ("<!-- bench/streams.py writes this table -->", "<!-- up to here -->")
@@ -290,6 +292,11 @@ class Figures:
         took = time.monotonic() - began
         maker.close()
         self.rows.add("streams made", f"{count} in {took:.0f} s, {took / count * 1000:.0f} ms each")
+        some = names[:: max(1, count // LOOKED)]
+        began = time.monotonic()
+        assert self.place.looked(*some)
+        took = time.monotonic() - began
+        self.rows.add("streams looked at through each node", f"{len(some)} in {took:.1f} s, {took / len(some) * 1000:.0f} ms each")
         time.sleep(10)
         costs = [[now - was for now, was in zip((self.nodes.memory(it), self.nodes.disk(it), self.nodes.files(it)), before[it])] for it in NAMES]
         memory, disk, files = (max(it[part] for it in costs) / count for part in range(3))

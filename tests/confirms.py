@@ -196,6 +196,7 @@ class Trial:
         else:
             self.join(failed)
         time.sleep(8)
+        self.wait_for_replicas(streams)
         self.compare(f"{how}, node {failed} {'killed' if is_killed else 'stopped'}", publisher, readers, streams, is_wrong)
 
     def fail(self, name, is_killed):
@@ -218,6 +219,15 @@ class Trial:
             self.nodes.kill(failed, signal.SIGTERM)
             self.nodes.start(failed)
             self.nodes.wait_for_all()
+
+    def wait_for_replicas(self, streams, seconds=300):
+        """Waits until each stream is read through each node: one that comes back takes a while to have its replicas."""
+        end, found = time.monotonic() + seconds, 0
+        while found < len(NAMES) and time.monotonic() < end:
+            maker = log_nodes.engine_of(self.nodes).Maker(log_nodes.tool_words(self.nodes))
+            found = min(maker.replicas(streams).values())
+            maker.close()
+        self.check(found == len(NAMES), f"a stream has {found} replicas")
 
     def turns(self, mark, is_killed):
         if self.given.engine == "nats":

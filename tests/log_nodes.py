@@ -456,12 +456,20 @@ def engine_of(nodes):
     return office_streams.engine(tool_words(nodes))
 
 
-def stream_whole(nodes, project, name=NAMES[0], quiet=3.0, seconds=120):
-    """The messages of a project's stream from its beginning to its end, as one node has them."""
+def stream_whole(nodes, project, name=NAMES[0], quiet=3.0, seconds=120, tries=5):
+    """The messages of a project's stream from its beginning to its end, as one node has them. A busy node may not answer in time."""
     if nodes.engine == "nats":
         return nats_whole(nodes, project, name)
-    words = tool_words(nodes, (name,))
-    reader = engine_of(nodes).Reader(words)
+    for _ in range(tries):
+        found, lost = read_whole(nodes, project, name, quiet, seconds)
+        if not lost:
+            return found
+    raise RuntimeError(f"{project} at {name}: {lost[0]!r}")
+
+
+def read_whole(nodes, project, name, quiet, seconds):
+    """The same once, and why it was broken off, where it was."""
+    reader = engine_of(nodes).Reader(tool_words(nodes, (name,)))
     found, lost = [], []
 
     def hear(message):
@@ -470,14 +478,13 @@ def stream_whole(nodes, project, name=NAMES[0], quiet=3.0, seconds=120):
 
     reader.attach(project, 0, 0, hear, lost.append)
     began, seen, changed = time.monotonic(), 0, time.monotonic()
-    while time.monotonic() - changed < quiet and time.monotonic() - began < seconds and not lost:
+    # Each stream has a first message.
+    while time.monotonic() - changed < (quiet if found else 20.0) and time.monotonic() - began < seconds and not lost:
         time.sleep(0.1)
         if len(found) != seen:
             seen, changed = len(found), time.monotonic()
-    if lost:
-        raise RuntimeError(f"{project} at {name}: {lost[0]!r}")
     reader.close()
-    return found
+    return found, lost
 
 
 def nats_whole(nodes, project, name, tries=60):

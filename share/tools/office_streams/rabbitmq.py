@@ -5,6 +5,7 @@ messages that aren't there, and one may wait for a confirm for ever. So each pro
 returned, and a node that confirms nothing for a while is given up. Readers see only what a majority has.
 """
 import collections
+import contextlib
 import os
 import threading
 import time
@@ -125,7 +126,9 @@ class Maker:
         return found
 
     def close(self):
-        self.connection.close()
+        """A look at many streams takes longer than a node keeps a silent connection."""
+        with contextlib.suppress(*LOST):
+            self.connection.close()
 
 
 def is_read(connection, name, seconds=20.0):

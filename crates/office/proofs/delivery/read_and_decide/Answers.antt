@@ -19,9 +19,11 @@ returns-in-Some-clause-kept g c = read_done c.in_ok-found.ensures.kept
 
 -- decided with them
 pub decide_with_suggestions-requires : goal.decide_with_suggestions-requires
-decide_with_suggestions-requires g c = λ honest.
-    subst (λ (m : OfficeWithBook). c.in_ok-found.found ≡ without_suggestions (found_for m.office c.args.domain.now c.args.lang.now c.args.key.now c.args.request.now))
-    (sym (c.unit_of.ensures.same honest (c.in_ok-found.ensures.kept.open_still honest))) (c.in_ok-found.ensures.answer honest)
+decide_with_suggestions-requires g c = record {
+  found = λ honest.
+      subst (λ (m : OfficeWithBook). c.in_ok-found.found ≡ without_suggestions (found_for m.office c.args.domain.now c.args.lang.now c.args.key.now c.args.request.now))
+      (sym (c.unit_of.ensures.same honest (c.in_ok-found.ensures.kept.open_still honest))) (c.in_ok-found.ensures.answer honest);
+}
 
 pub returns-clause-answer : goal.returns-clause-answer
 returns-clause-answer g c = λ honest.
