@@ -164,11 +164,11 @@ module _ (old mid new : Database) (others : SparesOthers (codes "record") (rows_
   stays = stay_beside (codes "record") record_beside others
 
   -- what follows in a domain that is there, and elsewhere nothing
-  in_domain : (domain : Text) (Behind Whole : Database → Database → Type 0) → (Behind mid new → Whole old new) → FollowsIn domain Behind mid new → FollowsIn domain Whole old new
-  in_domain domain Behind Whole tells follows =
+  in_domain : (domain : Text) (Behind All : Database → Database → Type 0) → (Behind mid new → All old new) → FollowsIn domain Behind mid new → FollowsIn domain All old new
+  in_domain domain Behind All tells follows =
       by (is_domain (rows_named old) domain) (subst (λ (b : Bool). FollowsIf b Behind mid new) (record_leaves_domain domain (rows_named old) (rows_named mid) others) follows)
     where
-      by : (b : Bool) → FollowsIf b Behind mid new → FollowsIf b Whole old new
+      by : (b : Bool) → FollowsIf b Behind mid new → FollowsIf b All old new
       by true it = tells it
       by false it = stay_both stays it
 

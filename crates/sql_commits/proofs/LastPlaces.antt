@@ -2,7 +2,7 @@
 use Rattle.std.proofs.Common.{◌≡◌, ℕ, suc, ◌+◌, ◌<◌, ℤ, pos, negsuc, List, [], ◌∷◌, inl, inr, length, filter, map, get_or, ◌-◌, Bool, true, false, Some, None, Result, Ok, Err, refl, sym, ap, subst, ◌∙◌, arith, codes}
 use Rattle.std.specs.Prelude.{int_lt, slice_get, IfOk}
 use Rattle.std.specs.Ordering.{is_lt, int_cmp}
-use Rattle.std.proofs.lemmas.Bool.{and_from}
+use Rattle.std.proofs.lemmas.Bool.{and_from, lt-ltb, ltb-false}
 use Rattle.std.proofs.lemmas.Option.{slice_get_within, slice_get_cases, get_or_from_slice_get}
 use Rattle.std.proofs.lemmas.List.MinMax.{ranks_by}
 use Rattle.std.proofs.lemmas.List.Sorted.{sorted_far, IsPermutation-sym}
@@ -37,7 +37,7 @@ index_of (r ∷ rows) row d (inl is) = (0, omega arith, sym is)
 index_of (r ∷ rows) row d (inr later) = let at = index_of rows row d later in (suc at.0, omega (arith, at.1), at.2)
 
 below_next : (at : ℤ) (n : ℕ) → int_lt (pos n) at ≡ false → int_lt at (pos (n + 1)) ≡ true
-below_next (pos m) n e = omega arith
+below_next (pos m) n e = lt-ltb m (n + 1) (omega (arith, ltb-false n m e))
 below_next (negsuc m) n e = refl
 
 not_less : (m n : ℤ) → is_lt (int_cmp m n) ≡ false → int_lt m n ≡ false

@@ -76,8 +76,8 @@ module _ (db : Database) (ready : AreOfficeTablesOf by_domain db) (domain lang :
   module _ (given code column given_again code_again column_again : Text) (is_domain : given ≡ domain) (is_lang : code ≡ lang) (is_key : column ≡ key_text key)
       (is_domain_again : given_again ≡ domain) (is_lang_again : code_again ≡ lang) (is_key_again : column_again ≡ key_text key)
       (found : Option Row) (places : List Row) (shown : ShowsDomainUnit given code column db found × ShowsPlaces given_again code_again column_again db places) where
-    there : maps.get (project_at domain db).units (lang, key) ≡ option_map (shown_unit key suggested) found
-    there = unit_looked_up given code column found is_domain is_lang is_key shown.0
+    at_key : maps.get (project_at domain db).units (lang, key) ≡ option_map (shown_unit key suggested) found
+    at_key = unit_looked_up given code column found is_domain is_lang is_key shown.0
 
     many : length suggested ≡ length places
     many = places_seen places (subst (λ (x : Text × Text × Text). ShowsPlaces x.0 x.1 x.2 db places) (λ i. (is_domain_again i, is_lang_again i, is_key_again i)) shown.1)
@@ -86,10 +86,10 @@ module _ (db : Database) (ready : AreOfficeTablesOf by_domain db) (domain lang :
     pub values_shown : (row : Row) (values : CountedValues) → found ≡ Some row → values.state ≡ state_at 2 row → values.obsolete ≡ flag_at 3 row → values.suggestions ≡ length places
         → ShowsValues domain lang key db (Some values)
     values_shown row values is_found is_state is_obsolete are =
-        subst (λ o. HasValuesIf key o (Some values)) (sym (there ∙ ap (option_map (shown_unit key suggested)) is_found)) (refl, sym is_state, sym is_obsolete, many ∙ sym are)
+        subst (λ o. HasValuesIf key o (Some values)) (sym (at_key ∙ ap (option_map (shown_unit key suggested)) is_found)) (refl, (sym is_state, sym is_obsolete, many ∙ sym are))
 
     pub none_shown : found ≡ None → ShowsValues domain lang key db None
-    none_shown is_found = subst (λ o. HasValuesIf key o None) (sym (there ∙ ap (option_map (shown_unit key suggested)) is_found)) tt
+    none_shown is_found = subst (λ o. HasValuesIf key o None) (sym (at_key ∙ ap (option_map (shown_unit key suggested)) is_found)) tt
 
 -- ---- for its new view
 

@@ -48,16 +48,16 @@ returns-in-Some-clause-figures g c =
     (subst (λ (t : Tally). FiguresFollow (moved_at domain lang t one) mid.now new.now) c.none.ensures moved)) read c.put_difference.ensures.figures
 
 -- where there is no unit, nothing is written
-pub returns-in-None-clause-spares : goal.returns-in-None-clause-spares
-returns-in-None-clause-spares g c =
+pub returns-clause-spares : goal.returns-clause-spares
+returns-clause-spares g c =
     let old = state g.S.Store c.args.tx.now.conn.now in
     let mid = state g.S.Store c.find_domain_unit.new.tx.conn.now in
     let found = c.in_ok-found.found in
     let read = write_read old mid {F = Failure} found found (ShowsDomainUnit c.as_str.result.now c.as_str-2.result.now c.as_str-3.result.now) c.in_ok-found.ensures.found in
     write_told old mid found _ (λ (before after : Database). after ≡ before) SparesDomains (λ same. subst (SparesDomains old.now) (sym same) (nothing_made old.now)) read
 
-pub returns-in-None-clause-figures : goal.returns-in-None-clause-figures
-returns-in-None-clause-figures g c =
+pub returns-clause-figures : goal.returns-clause-figures
+returns-clause-figures g c =
     let old = state g.S.Store c.args.tx.now.conn.now in
     let mid = state g.S.Store c.find_domain_unit.new.tx.conn.now in
     let domain = c.args.domain.now in
