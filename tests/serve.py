@@ -100,14 +100,11 @@ def wait_for(port, process):
 
 
 def stop_and_go(process, times, rest=0.1):
-    """Stops a program by a signal, and has it go on, so often: what it waits for at a socket is interrupted by that."""
+    """Stops a program by a signal, and has it go on, so often: what it waits for at a socket is interrupted by that. One that ends ends it."""
     for _ in range(times):
         time.sleep(rest)
         process.send_signal(signal.SIGSTOP)
-        until = time.monotonic() + SECONDS
-        while pathlib.Path(f"/proc/{process.pid}/stat").read_text().rpartition(")")[2].split()[0] != "T":
-            if time.monotonic() > until:
-                sys.exit("the program isn't stopped")
+        while process.poll() is None and pathlib.Path(f"/proc/{process.pid}/stat").read_text().rpartition(")")[2].split()[0] != "T":
             time.sleep(0.01)
         process.send_signal(signal.SIGCONT)
     time.sleep(rest)
@@ -352,23 +349,24 @@ def deaf(folder):
 
 def stopped(folder):
     """A server that is stopped and goes on, while it reads and while it writes: no connection is lost by that."""
-    path = office(folder)
-    with server(path, 1) as (port, process), connected(port) as it:
+    path, found = office(folder), [b"", b""]
+    with server(path, 1) as (port, process), connected(port) as it, contextlib.suppress(OSError):
         stream = post(1) * 2
         for begin in range(0, len(stream), 50):
             stop_and_go(process, 2)
             it.sendall(stream[begin : begin + 50])
         stop_and_go(process, 2)
         it.shutdown(socket.SHUT_WR)
-        same("stopped while it reads", b"".join(iter(lambda: it.recv(65536), b"")), answer(200, "OK", DONE) * 2)
+        found[0] = b"".join(iter(lambda: it.recv(65536), b""))
+    same("stopped while it reads", found[0], answer(200, "OK", DONE) * 2)
     make_large(path)
     text = run("export", "--store", path, "--lang", "de")[1]
-    with server(path, 1) as (port, process), connected(port) as it:
+    with server(path, 1) as (port, process), connected(port) as it, contextlib.suppress(OSError):
         it.sendall(get("/v1/export/de") * 20)
         stop_and_go(process, 20)
         it.shutdown(socket.SHUT_WR)
-        found = b"".join(iter(lambda: it.recv(65536), b""))
-        same("stopped while it writes", found == export_answer(text) * 20, True)
+        found[1] = b"".join(iter(lambda: it.recv(65536), b""))
+    same("stopped while it writes", found[1] == export_answer(text) * 20, True)
 
 
 def stopped_and_silent(folder):
@@ -386,21 +384,21 @@ def stopped_and_silent(folder):
 def disk_failed(folder):
     """A disk that takes no more: from there on each answer says so, and at the end the server does, by a line and by its status."""
     path = office(folder)
-    kilobytes = sum(it.stat().st_size for it in path.parent.iterdir()) // 1024 + 200
+    kilobytes = max(it.stat().st_size for it in path.parent.iterdir()) // 1024 + 400
     before = ["bash", "-c", f'trap "" XFSZ; ulimit -f {kilobytes}; exec "$@"', "-"]
     with server(path, 1, ends=(3, "", "disk fault\n"), before=before) as (port, _):
         client, found = http.client.HTTPConnection(HOST, port, timeout=SECONDS), []
-        for n in range(1, 21):
-            body = json.dumps({"act": "comment", "id": "Hello", "lang": "de", "lines": ["x" * 900] * 20, "seen": n})
+        for n in range(1, 41):
+            body = json.dumps({"act": "comment", "id": "Hello", "lang": "de", "lines": [f"{n}" * 400] * 20, "seen": n})
             client.request("POST", f"/v1/requests/{number(n)}", body.encode(), {"X-Office-Caller": "root"})
             reply = client.getresponse()
             found.append((reply.status, reply.read().decode()[:16]))
         client.close()
     taken = sum(status == 200 for status, _ in found)
-    same("some requests are taken, and then none", found[taken:], [(507, '{"error":"disk"}')] * (20 - taken))
-    same("on a disk that takes no more", 0 < taken < 20, True)
-    lines = "".join(json.dumps({**it, "caller": "root"}) + "\n" for it in ({"act": "comment", "id": "Hello", "lang": "de", "lines": [], "number": number(n + 21), "seen": n + 1} for n in (taken,)))
-    same("the office is whole behind it", run("deliver", "--store", path, given=lines)[1][:4], "200 ")
+    same("some requests are taken, and then none", found[taken:], [(507, '{"error":"disk"}')] * (40 - taken))
+    same("on a disk that takes no more", 0 < taken < 40, True)
+    line = json.dumps({"act": "comment", "caller": "root", "id": "Hello", "lang": "de", "lines": [], "number": number(41), "seen": taken + 1})
+    same("the office is whole behind it", run("deliver", "--store", path, given=line + "\n")[1][:4], "200 ")
 
 
 def no_descriptors(folder):

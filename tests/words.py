@@ -302,11 +302,11 @@ def sentences_differ(program):
 
 
 def disk_fault_differs(program):
-    """A disk that takes no more than 200 kB behind the office: `serve` tells it, and at a terminal what it means."""
+    """A disk that takes no more than 400 kB behind the office: `serve` tells it, and at a terminal what it means."""
     with tempfile.TemporaryDirectory() as name:
         store, port = pathlib.Path(name) / "office.db", looks.free_port()
         run(program, ["init", "--store", str(store), "--manager", "root"])
-        limit = f'trap "" XFSZ; ulimit -f {store.stat().st_size // 1024 + 200}; exec "$@"'
+        limit = f'trap "" XFSZ; ulimit -f {store.stat().st_size // 1024 + 400}; exec "$@"'
         words = ["-c", limit, "-", str(program), "serve", "--store", str(store), "--port", str(port), "--connections", "2"]
 
         def post():

@@ -1,15 +1,15 @@
 #!/usr/bin/env python3
 """Runs the program in as little room as it starts in, and in more and more, up to where all goes as ever.
 
-    tests/growths/room.py [PROGRAM] [--step K] [--only WORD]      (crates/cli/out/cli, 64; wants prlimit and setarch, of util-linux)
+    tests/growths/room.py [PROGRAM] [--step K] [--only WORD] [--spoil]      (crates/cli/out/cli, 64; wants prlimit and setarch, of util-linux)
 
 The room is what a process may have of addresses (RLIMIT_AS), its stack among them: K kilobytes more at each run, from where `office --version` runs.
 `init`, `deliver` over tables in maps and in a file, `export` and `serve` get requests that fill it, and behind them lines of 127 lists and of 127
 objects within one another, for which a reader takes the most stack. A line gets the reply that it gets in ample room where the lines that were lost
 aren't sent, or `503 {"error":"memory"}`; or the program ends behind whole replies with a fault of memory; or it doesn't begin. A file is whole then, and
 has the records of what was answered. No run ends by a signal. And where the stack alone is as small as `office --version` runs with (RLIMIT_STACK), all
-goes as ever, also with a file whose record is such a line, which is refused. The last line is `N runs, M as ever, W wrong`; the status is 1 if
-anything was wrong.
+goes as ever, also with a file whose record is such a line, which is refused. With `--spoil` that stack is 8 kilobytes smaller, as for a program that
+takes too little of it at its start, which has to be found. The last line is `N runs, M as ever, W wrong`; the status is 1 if anything was wrong.
 """
 import argparse
 import contextlib
@@ -219,7 +219,7 @@ class Trial:
         """All goes as ever with the least stack that the program starts with."""
         self.kind = "stack"
         # (an argument or a number of the process may take a page more)
-        kilobytes = self.least() + 8
+        kilobytes = self.least() + (-8 if self.given.spoil else 8)
         for name in NAMES:
             self.runs += 1
             what = f"{name} with {kilobytes} KB of stack"
@@ -259,11 +259,13 @@ def main():
     parser.add_argument("program", nargs="?", default=TOP / "crates" / "cli" / "out" / "cli", type=pathlib.Path)
     parser.add_argument("--step", type=int, default=64)
     parser.add_argument("--only", default="")
+    parser.add_argument("--spoil", action="store_true")
     given = parser.parse_args()
     with tempfile.TemporaryDirectory() as name:
         trial = Trial(given.program.resolve(), pathlib.Path(name), given)
         # (an argument or a number of the process may take a page more)
-        trial.all(trial.least() + 8)
+        if not given.spoil:
+            trial.all(trial.least() + 8)
         if not given.only:
             trial.small_stack()
     print(f"{trial.runs} runs, {trial.ample} as ever, {trial.wrong} wrong")

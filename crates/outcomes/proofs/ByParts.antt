@@ -155,7 +155,7 @@ module _ (caller number : Text) (seen : ℕ) (named : Text) (value : Option Vote
   abbrev IsTold : UnitView → Decision → Option UnitOutcome → Type 0
   IsTold v whole written = IfSome written (IsOutcomeBy (Some v) (outcome_of_decision whole)) × (is_none written ≡ accepts_voted whole)
 
-  by_vote : (f : ActContext) (v : UnitView) (d whole : Decision) → IsVoted f.policy f.rule f.role caller v seen named value d whole →
+  by_vote : (f : ActContext) (v : UnitView) (d whole : Decision) → IsVoted f.policy f.rule f.role caller number v seen named value d whole →
       IsTold v whole (of_vote named caller value (outcome_of_decision d))
   by_vote f v (Done w values) whole (inl (gone, accepts)) =
       let none : of_vote named caller value (outcome_of_decision (Done w values)) ≡ None =

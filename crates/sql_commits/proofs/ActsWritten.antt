@@ -1,6 +1,6 @@
 -- What is written for an act behind its request's record.
 use Rattle.std.specs.Prelude.{⊤}
-use Rattle.std.proofs.Common.{◌≡◌, Bool, true, false, ap, sym, subst, codes}
+use Rattle.std.proofs.Common.{◌≡◌, Bool, true, false, ap, subst, codes}
 use Rattle.std.specs.List.{list_any}
 use Rattle.sqlite.specs.Effect.{Database}
 use Rattle.po_text.specs.Texts.{Text}

@@ -1,8 +1,7 @@
 -- Sums and tallies behind writes one after the other: of what an act writes of a unit, of plans' tallies, of a policy, and behind a request's record.
 use Rattle.std.specs.Prelude.{⊤}
-use Rattle.std.proofs.Common.{◌≡◌, ℕ, ◌+◌, ◌<◌, ℤ, pos, ◌+ℤ◌, List, [], ◌∷◌, ◌++◌, length, take, get_or, map, Bool, true, false, Option, Some, None, Result, Ok, Err, option_map, codes, refl, sym, ap, subst, ◌∙◌, arith}
-use Rattle.std.proofs.lemmas.List.{take_more, length-map}
-use Rattle.std.specs.FinMap as maps
+use Rattle.std.proofs.Common.{◌≡◌, ℕ, ◌+◌, ◌<◌, ℤ, pos, ◌+ℤ◌, List, [], ◌∷◌, ◌++◌, length, take, get_or, Bool, true, false, Option, Some, Result, Ok, Err, codes, refl, sym, ap, subst, ◌∙◌, arith}
+use Rattle.std.proofs.lemmas.List.{take_more}
 use Rattle.sqlite.specs.declared.types.Value.TheVariants.{Text as Words}
 use Rattle.sqlite.specs.Order.{Row, column}
 use Rattle.sqlite.specs.Effect.{Database}
@@ -10,15 +9,13 @@ use Rattle.sqlite.specs.State.{State, HasCleanDisk}
 use Rattle.sqlite_sql.specs.Ops.{fits_i64}
 use Rattle.sqlite_rules.specs.Edit.{id_in}
 use Rattle.sqlite_rules.specs.Lists.{Has}
-use Rattle.po_text.specs.declared.entry.Entry.{Entry}
 use Rattle.po_text.specs.Texts.{Text}
-use Rattle.units.specs.KeyTexts.{HasStrings}
-use Rattle.units.specs.Project.{Project, entry_of}
-use Rattle.units.specs.Units.{key_text}
+use Rattle.units.specs.Project.{Project}
 use Rattle.units.specs.declared.unit.Key.{Key}
 use Rattle.units.specs.declared.unit.Policy.{Policy}
 use Rattle.units.specs.declared.unit.Suggestion.{Suggestion}
 use Rattle.units.specs.declared.unit.UnitView.{UnitView}
+use Rattle.units.specs.declared.votes.VoteValue.{VoteValue}
 use Rattle.deliveries.specs.UnitAccess.{view_written as with_written}
 use Rattle.deliveries.specs.declared.tally.Tally.{Tally}
 use Rattle.deliveries.specs.declared.values.UnitWrite.{UnitWrite}
@@ -31,22 +28,16 @@ use Rattle.tables.specs.Tallies.{counted, moved}
 use Rattle.sql_schema.specs.Inside.{AreOfficeTablesOf, IsSteadyOver, IsInsideOf, IsReadOf, OnRows, PutsRow, HoldsValues}
 use Rattle.sql_schema.specs.Keys.{first_text}
 use Rattle.sql_schema.specs.Layouts.{by_domain, NamedRows, rows_named, SparesOthers}
-use Rattle.sql_schema.specs.Views.{seen_in}
-use Rattle.sql_schema.proofs.DomainViews.{unit_found_seen}
 use Rattle.sql_schema.proofs.Layouts.{names_differ}
 use Rattle.sql_statements.specs.Added.{AddsRow}
-use Rattle.sql_statements.specs.DomainAnswers.{ShowsTally, ShowsDomainUnit, ShowsDomainSuggestions}
+use Rattle.sql_statements.specs.DomainAnswers.{ShowsTally}
 use Rattle.sql_statements.specs.DomainRenewed.{is_approved_in_domain, UnapprovesDomainUnits, UnapprovesTallies}
-use Rattle.sql_statements.proofs.SeenAnswers.{suggestions_shown_seen}
 use Rattle.sql_meaning.specs.Domains.{is_domain}
-use Rattle.sql_meaning.specs.Shown.{shown_tally, shown_unit, shown_suggestion}
-use Rattle.sql_meaning.proofs.DomainOfficeRows.{domain_rows}
-use Rattle.sql_meaning.proofs.OfficeQueries.{suggestions_found}
-use Rattle.sql_meaning.proofs.Units.{finds_unit}
-use Rattle.sql_figures.specs.KeptTallies.{Counts, counted_at}
+use Rattle.sql_meaning.specs.Shown.{shown_tally}
+use Rattle.sql_figures.specs.KeptTallies.{Counts}
 use Rattle.sql_figures.specs.Figures.{with_tally, with_tallies, moved_at, HaveRoom, FiguresFollowWhere, FiguresFollow, FiguresStay}
-use Rattle.sql_figures.proofs.FigureSteps.{stay_first, stay_last, stay_both, stay_where, follow_both, follow_tally, follow_moved, follow_turned, nothing_moves, stay_beside, units_turned, record_beside, policy_beside, record_alone, record_leaves_domain}
-use Rattle.sql_commits.specs.Figures.{PutsTally, AddsWithSum, PutsSum, project_at, counted_before, FollowsView, FollowsOwnRow, FollowsSuggestionAt, FollowsOneMore, FollowsWriteIn, FollowsWrite, FollowsIf, FollowsIn, FollowsDomainChange, turned_unless, FollowsPolicy, FollowsOneChange}
+use Rattle.sql_figures.proofs.FigureSteps.{nothing_follows, stay_first, stay_last, stay_both, stay_where, follow_both, follow_tally, follow_moved, follow_turned, stay_beside, units_turned, record_beside, policy_beside, record_alone, record_leaves_domain}
+use Rattle.sql_commits.specs.Figures.{PutsTally, AddsWithSum, PutsSum, project_at, counted_before, FollowsView, FollowsOwnRow, FollowsSuggestionAt, FollowsOneMore, FollowsVoteAt, FollowsWriteIn, FollowsWrite, FollowsIf, FollowsIn, FollowsDomainChange, turned_unless, FollowsPolicy, FollowsOneChange}
 
 module _ (a b : State) where
   -- a query, with what it answers
@@ -94,6 +85,14 @@ moves_row given code domain lang found row tally after was is old mid new is_giv
     (subst (λ (t : Tally). PutsTally domain lang t mid new) (is_after ∙ ap (λ (t : Tally). moved t was is) is_tally) put))
 
 -- ---- and what is written behind
+
+-- what stays behind a query
+pub same_stays : (old mid new : Database) → mid ≡ old → FiguresStay mid new → FiguresStay old new
+same_stays old mid new same stays = subst (λ (db : Database). FiguresStay db new) same stays
+
+-- where nothing is written of a vote
+pub vote_nowhere_follows : (domain lang : Text) (key : Key) (number voter : Text) (value : Option VoteValue) (sum : ℤ) (old mid : Database) → mid ≡ old → FollowsVoteAt domain lang key number voter value sum old mid
+vote_nowhere_follows domain lang key number voter value sum old mid same there is over = subst (FiguresStay old) (sym same) (nothing_follows old)
 
 module _ (domain lang : Text) (old mid new : Database) (stays : FiguresStay mid new) where
   -- the unit of a view

@@ -1,6 +1,6 @@
 -- How a tally moves by what is read of a unit that is there: for its new view, for its row alone, and for a suggestion more.
 use Rattle.std.specs.Prelude.{⊤}
-use Rattle.std.proofs.Common.{◌≡◌, ◌&&◌, List, [], ◌∷◌, ◌++◌, map, filter, length, Bool, true, Option, Some, None, cond, option_map, nat_eq, rules, codes, refl, sym, ap, subst, ◌∙◌}
+use Rattle.std.proofs.Common.{◌≡◌, ◌&&◌, List, [], ◌∷◌, ◌++◌, map, filter, length, Bool, true, Option, Some, None, cond, option_map, unwrap_or, nat_eq, rules, codes, refl, sym, ap, subst, ◌∙◌}
 use Rattle.std.specs.FinMap as maps
 use Rattle.std.specs.List.Sorted.{IsPermutation}
 use Rattle.sqlite.specs.Effect.{Database}
@@ -14,12 +14,11 @@ use Rattle.units.specs.Units.{key_text}
 use Rattle.units.specs.declared.unit.Key.{Key}
 use Rattle.units.specs.declared.unit.Suggestion.{Suggestion}
 use Rattle.units.specs.declared.unit.Unit.{Unit}
-use Rattle.units.specs.declared.unit.UnitState.{UnitState}
 use Rattle.units.specs.declared.unit.UnitView.{UnitView}
 use Rattle.deliveries.specs.Counting.{none_counted}
 use Rattle.deliveries.specs.declared.tally.Tally.{Tally}
 use Rattle.tables.specs.Tallies.{counted, moved}
-use Rattle.sql_schema.specs.Inside.{AreOfficeTablesOf, IsInOrder}
+use Rattle.sql_schema.specs.Inside.{AreOfficeTablesOf}
 use Rattle.sql_schema.specs.Keys.{has_text, is_on_unit, columns}
 use Rattle.sql_schema.specs.Layouts.{by_domain, NamedRows, rows_named}
 use Rattle.sql_schema.specs.Views.{suggestion_seen, seen_in}
@@ -54,7 +53,7 @@ module _ (db : Database) (ready : AreOfficeTablesOf by_domain db) (domain lang :
   abbrev tables : NamedRows
   tables = seen_in domain (rows_named db)
 
-  abbrev suggested : List Suggestion
+  abbrev pub suggested : List Suggestion
   suggested = suggestions_in tables lang (key_text key)
 
   -- by the texts of its place
@@ -110,6 +109,20 @@ moves_view domain lang view there was is old mid new before now shown follows so
     let second = now project.template source in
     subst (λ (x : Tally × Tally). FiguresFollow (moved_at domain lang x.0 x.1) old new) (λ i. (first i, second i)) (subst (λ (db : Database). FiguresFollow (moved_at domain lang was is) db new) shown.0 follows)
 
+-- what a unit counts that has these values
+abbrev pub CountsSo : Option Entry → CountedValues → Tally → Type 0
+CountsSo source values tally = (template : List Entry) (unit : Unit) → source ≡ entry_of template unit.key → HasValues unit values → tally ≡ counted template unit
+
+pub counts_there : (source : Option Entry) (there : Option CountedValues) (values : CountedValues) (tally : Tally) → there ≡ Some values → CountsSo source values tally → CountsThere source there tally
+counts_there source there values tally is counts template key (Some unit) entry has =
+    let own : (unit.key ≡ key) × HasValues unit values = subst (HasValuesIf key (Some unit)) is has in
+    counts template unit (entry ∙ ap (entry_of template) (sym own.0)) own.1
+counts_there source there values tally is counts template key None entry has = absurd (subst (HasValuesIf key None) is has)
+
+pub counts_nowhere : (source : Option Entry) (there : Option CountedValues) (tally : Tally) → there ≡ None → tally ≡ none_counted → CountsThere source there tally
+counts_nowhere source there tally is nothing template key (Some unit) entry has = absurd (subst (HasValuesIf key (Some unit)) is has)
+counts_nowhere source there tally is nothing template key None entry has = nothing
+
 -- ---- for its row alone
 
 -- a view is of the unit that is there, and of its key's entry
@@ -119,14 +132,9 @@ view_parts project lang key there is = by (maps.get project.units (lang, key)) i
   where
     by : (o : Option Unit) → option_map (λ (unit : Unit). record { unit = unit; source = entry_of project.template key }) o ≡ Some there → (o ≡ Some there.unit) × (there.source ≡ entry_of project.template key)
     by (Some unit) e =
-        let seen : UnitView = record { unit = unit; source = entry_of project.template key } in
-        let same : seen ≡ there = cc in
+        let same : record { unit = unit; source = entry_of project.template key } ≡ there = ap (λ (o : Option UnitView). unwrap_or o there) e in
         (ap (λ (v : UnitView). Some v.unit) same, sym (ap (λ (v : UnitView). v.source) same))
-    by None e = absurd (let none = e in cc)
-
--- what a unit counts that has these values
-abbrev pub CountsSo : Option Entry → CountedValues → Tally → Type 0
-CountsSo source values tally = (template : List Entry) (unit : Unit) → source ≡ entry_of template unit.key → HasValues unit values → tally ≡ counted template unit
+    by None e = absurd (let none : None ≡ Some there = e in cc)
 
 pub moves_row_alone : (domain lang : Text) (view : UnitView) (values own : CountedValues) (was is : Tally) (old mid new : Database) → CountsSo view.source values was → CountsSo view.source own is
     → own ≡ record { state = view.unit.state; obsolete = view.unit.obsolete; suggestions = values.suggestions }
@@ -163,7 +171,7 @@ module _ (domain lang : Text) (key : Key) (old mid : Database) (found : Option R
       let project = project_at domain old in
       let unit = there.unit in
       let same : Some unit ≡ Some (shown_unit key units row) = sym (view_parts project lang key there is).0 ∙ shown.1 ∙ ap (option_map (shown_unit key units)) is_found in
-      let own : unit ≡ shown_unit key units row = cc in
+      let own : unit ≡ shown_unit key units row = ap (λ (o : Option Unit). unwrap_or o unit) same in
       let is_so : unit.obsolete ≡ obsolete = ap (λ (u : Unit). u.obsolete) own ∙ sym is_obsolete in
       let left : Unit = record unit { suggestions = unit.suggestions ++ s ∷ [] } in
       let change = moved_at domain lang (counted project.template unit) (counted project.template left) in

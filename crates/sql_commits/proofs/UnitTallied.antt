@@ -1,5 +1,5 @@
 -- What one unit counts, by the values that are read of it, and what a suggestion more on it does.
-use Rattle.std.proofs.Common.{◌≡◌, ℕ, ◌+◌, ◌-◌, [], ◌∷◌, ◌++◌, List, Bool, true, false, length, refl, sym, ap, ◌∙◌, zero-add, arith}
+use Rattle.std.proofs.Common.{◌≡◌, ℕ, ◌+◌, ◌-◌, [], ◌∷◌, ◌++◌, List, true, false, length, refl, sym, ap, ◌∙◌, zero-add, arith}
 use Rattle.std.proofs.lemmas.List.{length-append}
 use Rattle.po_text.specs.declared.entry.Entry.{Entry}
 use Rattle.units.specs.Project.{entry_of}
@@ -7,7 +7,6 @@ use Rattle.units.specs.Units.{shown_state}
 use Rattle.units.specs.declared.unit.Unit.{Unit}
 use Rattle.units.specs.declared.unit.ShownState.{ShownState}
 use Rattle.units.specs.declared.unit.ShownState.TheVariants.{Untranslated, NeedsEditing, Translated, Approved, ReadOnly}
-use Rattle.units.specs.declared.unit.Suggestion.{Suggestion}
 use Rattle.deliveries.specs.declared.tally.Tally.{Tally}
 use Rattle.deliveries.specs.Tally.{counts_in}
 use Rattle.deliveries.specs.Counting.{none_counted, one_more}

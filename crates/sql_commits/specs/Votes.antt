@@ -1,5 +1,5 @@
 -- A suggestion of a domain that is added, and the votes on it; and one vote. Only private clauses and proofs cite this file.
-use Rattle.std.specs.Prelude.{◌≡◌, ℕ, ℤ, pos, int_lt, true, List, [], ◌∷◌, map, Option, Some, None, codes}
+use Rattle.std.specs.Prelude.{◌≡◌, ℕ, ◌+◌, ℤ, pos, int_lt, true, List, [], ◌∷◌, map, Option, Some, None, codes}
 use Rattle.sqlite.specs.declared.types.Value.TheVariants.{Int, Text as Words}
 use Rattle.sqlite.specs.Effect.{Database}
 use Rattle.sqlite.specs.Order.{Row, column}
@@ -38,3 +38,7 @@ PutsVoteRow number voter None = TakesVote number voter
 -- each of the places that rows show is before this one
 abbrev pub ArePlacesBefore : ℕ → List Row → Type 0
 ArePlacesBefore place rows = (row : Row) → Has rows row → (at : ℤ) → column row 0 ≡ Int at → int_lt at (pos place) ≡ true
+
+-- a row shows the place before this one
+abbrev pub IsPlaceBehind : Row → ℕ → Type 0
+IsPlaceBehind row place = (at : ℕ) × (column row 0 ≡ Int (pos at)) × (place ≡ at + 1)

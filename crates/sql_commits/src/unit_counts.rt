@@ -71,11 +71,13 @@ pub fn counted_so(source: &Option<Entry>, values: &CountedValues) -> Tally
 pub fn one_suggestion(obsolete: bool) -> Tally
     ensures { CountsOneMore obsolete result }
 {
-    let mut tally = Tally::none();
-    if !obsolete {
+    if obsolete {
+        Tally::none()
+    } else {
+        let mut tally = Tally::none();
         tally.suggestions = 1;
+        tally
     }
-    tally
 }
 
 /// What a unit counts that is shown in this state, and that has this many suggestions.

@@ -1,12 +1,12 @@
 //! What an act writes of a unit, inside a transaction: the whole of it, its row alone, a suggestion more, or a vote; with the tally and the sums.
-ghost use Rattle.std.specs.Prelude.{◌≡◌, ◌<◌, ◌^◌, IfOk, OnOk};
+ghost use Rattle.std.specs.Prelude.{◌≡◌, ◌<◌, ◌^◌, IfOk};
 ghost use Rattle.sqlite.specs.Held.{state};
 ghost use Rattle.sql_schema.specs.Layouts.{by_domain};
 ghost use Rattle.sql_schema.specs.Inside.{IsSteadyOver, IsInsideOf, IsInOrder, Then};
 ghost use Rattle.sql_changes.specs.OnDomains.{OnDomain};
 ghost use Rattle.sql_changes.specs.UnitWrites.{AddsLast, PutsUnitRow, WritesNumberedUnit, WritesOfUnit, WritesVote};
 ghost use Rattle.sql_commits.specs.Figures.{PutsSum, FollowsOwnRow, FollowsSuggestionAt, FollowsView, FollowsVoteAt, FollowsWrite};
-ghost use Rattle.sql_commits.specs.Votes.{ArePlacesBefore, PutsVoteRow};
+ghost use Rattle.sql_commits.specs.Votes.{ArePlacesBefore, IsPlaceBehind, PutsVoteRow};
 ghost use Rattle.sql_figures.specs.Figures.{FiguresStay};
 ghost use Rattle.units.specs.Units.{key_text};
 
@@ -134,24 +134,32 @@ fn add_last<S: Alter>(
 /// The last place that a column holds.
 const LAST_PLACE: usize = 9_223_372_036_854_775_807;
 
-/// The place behind those that these rows show in their order; the first where there are none. A place that is no natural number, or that
-/// has none behind it, is an error: another program has written the file.
+/// The place behind those that these rows show in their order; the first where there are none.
 fn next_place(places: &[Row]) -> Result<usize, Failure>
     ensures fits { IfOk result (λ place. place < 2 ^ 63) }
     ensures behind { IfOk result (λ place. IsInOrder 0 places.now → ArePlacesBefore place places.now) }
 {
     match places.last() {
-        Some(row) => match natural_in(row, 0) {
-            Some(place) => {
-                if place < LAST_PLACE {
-                    Ok(place + 1)
-                } else {
-                    Err(Failure { lost: Lost::Disk })
-                }
-            }
-            None => Err(Failure { lost: Lost::Disk }),
-        },
+        Some(row) => place_behind(row),
         None => Ok(0),
+    }
+}
+
+/// The place behind the one that a row shows. One that is no natural number, or that has none behind it, is an error: another program has
+/// written the file.
+fn place_behind(row: &Row) -> Result<usize, Failure>
+    ensures fits { IfOk result (λ place. place < 2 ^ 63) }
+    ensures next { IfOk result (λ place. IsPlaceBehind row.now place) }
+{
+    match natural_in(row, 0) {
+        Some(place) => {
+            if place < LAST_PLACE {
+                Ok(place + 1)
+            } else {
+                Err(Failure { lost: Lost::Disk })
+            }
+        }
+        None => Err(Failure { lost: Lost::Disk }),
     }
 }
 

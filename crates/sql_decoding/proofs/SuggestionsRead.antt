@@ -1,5 +1,5 @@
 -- What reads of a unit's suggestions find of the office: of all of them without the votes on them, and of the one of a number.
-use Rattle.std.proofs.Common.{◌≡◌, inl, inr, List, [], ◌∷◌, map, filter, find, Bool, true, false, Option, Some, None, option_map, option_and_then, IfSome, codes, refl, sym, ap, subst, ◌∙◌, arith}
+use Rattle.std.proofs.Common.{◌≡◌, inl, inr, List, [], ◌∷◌, length, map, filter, find, Bool, true, false, Option, Some, None, option_map, option_and_then, IfSome, codes, refl, sym, ap, subst, ◌∙◌, arith}
 use Rattle.std.proofs.lemmas.Bool.{and_parts, and_from}
 use Rattle.std.proofs.lemmas.List.Sorted.{IsPermutation-refl}
 use Rattle.std.specs.Option.{option_map_or}
@@ -51,7 +51,7 @@ own_text text number fit is = by (number_read text) refl is
   where
     by : (o : Option Text) → number_read text ≡ o → unwrap_or o [] ≡ number → text ≡ number_text number
     by (Some read) e same = number_written text number (e ∙ ap Some same)
-    by None e none = absurd (let empty = fit.0 in let is_none = none in cc)
+    by None e none = absurd (omega (arith, subst (λ (n : Text). length n ≡ 16) (sym none) fit.0))
 
 module _ (tables : NamedRows) (office : AreOfficeRows tables) (lang : Text) (key : Key) (valid : HasStrings key) where
   abbrev on_unit : List Row

@@ -277,7 +277,8 @@ fn suggestion_part<'a, S: Alter>(
     ensures found { IsReadOf by_domain (state S.Store tx.old.conn.now) (state S.Store tx.new.conn.now) result
         (ShowsOneDomainSuggestion domain.now lang.now key.now number.now) }
 {
-    match find_domain_suggestion(tx, domain, lang, key, number)? {
+    let found = find_domain_suggestion(tx, domain, lang, key, number)?;
+    match found {
         Some(suggestion) => Ok(Some(with_votes(tx, suggestion)?)),
         None => Ok(None),
     }

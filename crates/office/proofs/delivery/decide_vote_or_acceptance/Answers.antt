@@ -9,16 +9,16 @@ use Rattle.office.proofs.delivery.decide_vote_or_acceptance.Goals as goal
 
 pub returns-in-Some-clause-answer : goal.returns-in-Some-clause-answer
 returns-in-Some-clause-answer g c = λ honest.
-    subst (λ (o : Option UnitOutcome). IfSome o (Decides (found_for (g.T.Tables.means c.args.tables.now).office c.args.domain.now c.args.lang.now c.args.key.now c.args.request.now) c.args.request.now c.args.act.now)) c.in-Some.is (c.in_ok-decide_vote.ensures.answer honest)
+    subst (λ (o : Option UnitOutcome). IfSome o (Decides (found_for (g.T.Tables.means c.args.tables.now).office c.args.domain.now c.args.lang.now c.args.key.now c.args.request.now) c.args.request.now c.args.act.now)) c.in-Some.is (c.in_ok-outcome.ensures.answer honest)
 
 pub returns-in-Some-clause-kept : goal.returns-in-Some-clause-kept
-returns-in-Some-clause-kept g c = read_done c.in_ok-decide_vote.ensures.kept
+returns-in-Some-clause-kept g c = read_done c.in_ok-outcome.ensures.kept
 
 pub returns-clause-answer : goal.returns-clause-answer
 returns-clause-answer g c = λ honest.
     let was = c.decide_whole.ensures.kept.honest honest in
     subst (λ (m : OfficeWithBook). IfOk c.decide_whole.result (Decides (found_for m.office c.args.domain.now c.args.lang.now c.args.key.now c.args.request.now) c.args.request.now c.args.act.now))
-    (c.decide_vote.ensures.same was (c.in_ok-decide_vote.ensures.kept.open_still was)) (c.decide_whole.ensures.answer honest)
+    (c.decide_vote.ensures.same was (c.in_ok-outcome.ensures.kept.open_still was)) (c.decide_whole.ensures.answer honest)
 
 pub returns-clause-same : goal.returns-clause-same
 returns-clause-same g c = λ honest whole.
@@ -27,8 +27,8 @@ returns-clause-same g c = λ honest whole.
 
 pub returns-clause-kept : goal.returns-clause-kept
 returns-clause-kept g c =
-    read_then (alike c.decide_whole.result) c.in_ok-decide_vote.ensures.kept c.decide_whole.ensures.kept (λ honest m never. never)
+    read_then (alike c.decide_whole.result) c.in_ok-outcome.ensures.kept c.decide_whole.ensures.kept (λ honest m never. never)
 
-pub returns-in_err-decide_vote-clause-kept : goal.returns-in_err-decide_vote-clause-kept
-returns-in_err-decide_vote-clause-kept g c =
-    let p = err_from_is_err_and c.from_residual.result c.from_residual.ensures.1 in rw (p.1, p.2) (read_failed c.in_err-decide_vote.ensures.kept)
+pub returns-in_err-outcome-clause-kept : goal.returns-in_err-outcome-clause-kept
+returns-in_err-outcome-clause-kept g c =
+    let p = err_from_is_err_and c.from_residual.result c.from_residual.ensures.1 in rw (p.1, p.2) (read_failed c.in_err-outcome.ensures.kept)

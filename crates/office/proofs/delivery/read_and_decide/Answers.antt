@@ -12,16 +12,18 @@ use Rattle.office.proofs.delivery.read_and_decide.Goals as goal
 pub returns-in-Some-clause-answer : goal.returns-in-Some-clause-answer
 returns-in-Some-clause-answer g c = λ honest.
     subst (λ (o : Option UnitOutcome). IfSome o (Decides (found_for (g.T.Tables.means c.args.tables.now).office c.args.domain.now c.args.lang.now c.args.key.now c.args.request.now) c.args.request.now c.args.act.now)) c.in-Some.is
-    (c.in_ok-row_outcome.ensures.decided (found_for (g.T.Tables.means c.args.tables.now).office c.args.domain.now c.args.lang.now c.args.key.now c.args.request.now) (c.in_ok-found.ensures.answer honest))
+    (c.in_ok-outcome.ensures.decided (found_for (g.T.Tables.means c.args.tables.now).office c.args.domain.now c.args.lang.now c.args.key.now c.args.request.now) (c.in_ok-found.ensures.answer honest))
 
 pub returns-in-Some-clause-kept : goal.returns-in-Some-clause-kept
 returns-in-Some-clause-kept g c = read_done c.in_ok-found.ensures.kept
 
 -- decided with them
 pub decide_with_suggestions-requires : goal.decide_with_suggestions-requires
-decide_with_suggestions-requires g c = λ honest.
-    subst (λ (m : OfficeWithBook). c.in_ok-found.found ≡ without_suggestions (found_for m.office c.args.domain.now c.args.lang.now c.args.key.now c.args.request.now))
-    (sym (c.unit_of.ensures.same honest (c.in_ok-found.ensures.kept.open_still honest))) (c.in_ok-found.ensures.answer honest)
+decide_with_suggestions-requires g c = record {
+  found = λ honest.
+      subst (λ (m : OfficeWithBook). c.in_ok-found.found ≡ without_suggestions (found_for m.office c.args.domain.now c.args.lang.now c.args.key.now c.args.request.now))
+      (sym (c.unit_of.ensures.same honest (c.in_ok-found.ensures.kept.open_still honest))) (c.in_ok-found.ensures.answer honest);
+}
 
 pub returns-clause-answer : goal.returns-clause-answer
 returns-clause-answer g c = λ honest.
@@ -42,6 +44,6 @@ pub returns-in_err-found-clause-kept : goal.returns-in_err-found-clause-kept
 returns-in_err-found-clause-kept g c =
     let p = err_from_is_err_and c.from_residual.result c.from_residual.ensures.1 in rw (p.1, p.2) (read_failed c.in_err-found.ensures.kept)
 
-pub returns-in_err-row_outcome-clause-kept : goal.returns-in_err-row_outcome-clause-kept
-returns-in_err-row_outcome-clause-kept g c =
-    let p = err_from_is_err_and c.from_residual-in_err-row_outcome.result c.from_residual-in_err-row_outcome.ensures.1 in rw (p.1, p.2) (read_then_memory c.in_ok-found.ensures.kept)
+pub returns-in_err-outcome-clause-kept : goal.returns-in_err-outcome-clause-kept
+returns-in_err-outcome-clause-kept g c =
+    let p = err_from_is_err_and c.from_residual-in_err-outcome.result c.from_residual-in_err-outcome.ensures.1 in rw (p.1, p.2) (read_then_memory c.in_ok-found.ensures.kept)

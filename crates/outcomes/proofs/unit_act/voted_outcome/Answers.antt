@@ -12,9 +12,9 @@ pub returns-in_ok-of_vote-in-Vote-clause-decided : goal.returns-in_ok-of_vote-in
 returns-in_ok-of_vote-in-Vote-clause-decided c full named names same there =
     let a = c.args in
     let asked = a.request.now in
-    (voted_told asked.caller asked.number a.act.now c.in-Vote.named.now named c.in-Vote.value.now c.in-Vote.is names full a.suggestion there c.in_ok-of_vote-in-Vote.field-0
+    (voted_told asked.caller asked.number a.act.now c.in-Vote.named named c.in-Vote.value c.in-Vote.is names full a.suggestion there c.in_ok-of_vote-in-Vote.field-0
     (c.in_ok-of_vote-in-Vote.ensures
-    ∙ ap (of_vote c.in-Vote.named.now asked.caller c.in-Vote.value.now) (c.in_ok-outcome.ensures
+    ∙ ap (of_vote c.in-Vote.named asked.caller c.in-Vote.value) (c.in_ok-outcome.ensures
     ∙ ap (λ (f : Option ActContext). outcome_of f asked.caller asked.number a.act.now) (c.with_suggestions-found.ensures
     ∙ (λ i. shown (c.in_ok-suggestions.ensures i) (same i)))))).0
 
@@ -22,8 +22,8 @@ pub returns-in_ok-of_vote-in-Vote-clause-accepts : goal.returns-in_ok-of_vote-in
 returns-in_ok-of_vote-in-Vote-clause-accepts c full named names same there =
     let a = c.args in
     let asked = a.request.now in
-    (voted_told asked.caller asked.number a.act.now c.in-Vote.named.now named c.in-Vote.value.now c.in-Vote.is names full a.suggestion there c.in_ok-of_vote-in-Vote.field-0
+    (voted_told asked.caller asked.number a.act.now c.in-Vote.named named c.in-Vote.value c.in-Vote.is names full a.suggestion there c.in_ok-of_vote-in-Vote.field-0
     (c.in_ok-of_vote-in-Vote.ensures
-    ∙ ap (of_vote c.in-Vote.named.now asked.caller c.in-Vote.value.now) (c.in_ok-outcome.ensures
+    ∙ ap (of_vote c.in-Vote.named asked.caller c.in-Vote.value) (c.in_ok-outcome.ensures
     ∙ ap (λ (f : Option ActContext). outcome_of f asked.caller asked.number a.act.now) (c.with_suggestions-found.ensures
     ∙ (λ i. shown (c.in_ok-suggestions.ensures i) (same i)))))).1

@@ -5,7 +5,7 @@ use Rattle.units.specs.declared.unit.Suggestion.{Suggestion}
 use Rattle.outcomes.proofs.unit_writes.last_suggestion.Goals as goal
 
 -- the last of a list, or the first suggestion where the list is empty
-last_from : Suggestion → List Suggestion → Suggestion
+abbrev last_from : Suggestion → List Suggestion → Suggestion
 last_from s [] = s
 last_from s (t ∷ all) = last_from t all
 

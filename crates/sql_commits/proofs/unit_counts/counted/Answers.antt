@@ -2,7 +2,7 @@ use Rattle.std.proofs.Common.{[], ◌∷◌, ap, ◌∙◌}
 use Rattle.deliveries.specs.Counting.{plus}
 use Rattle.deliveries.specs.Tally.{counts_in}
 use Rattle.deliveries.proofs.tallies.Countings.{none_and}
-use Rattle.sql_commits.proofs.tallies.counted.Goals as goal
+use Rattle.sql_commits.proofs.unit_counts.counted.Goals as goal
 
 pub returns : goal.returns
 returns c template is =

@@ -5,7 +5,7 @@ use Rattle.sql_commits.proofs.WritesInTurn.{write_then, unseen_first}
 use Rattle.sql_commits.specs.Figures.{FollowsView}
 use Rattle.sql_figures.specs.Figures.{FiguresStay}
 use Rattle.sql_commits.proofs.FiguresInTurn.{view_written}
-use Rattle.sql_commits.proofs.acts.write_view.Goals as goal
+use Rattle.sql_commits.proofs.unit_parts.write_view.Goals as goal
 
 -- the tally moves, which no domain sees, and then the unit is written
 pub returns-clause-put : goal.returns-clause-put
@@ -24,4 +24,4 @@ returns-clause-figures g c =
     let new = state g.S.Store c.write_unit.new.tx.conn.now in
     let domain = c.args.domain.now in
     let View = FollowsView domain c.args.lang.now c.args.view.now in
-    write_then old mid new c.in_ok-move_tally.field-0 c.write_unit.result View FiguresStay View (view_written domain c.args.lang.now c.args.view.now old.now mid.now new.now) c.in_ok-move_tally.ensures.figures c.write_unit.ensures.figures
+    write_then old mid new c.in_ok-move_tally.field-0 c.write_unit.result View FiguresStay View (λ moved stays. view_written domain c.args.lang.now old.now mid.now new.now stays c.args.view.now moved) c.in_ok-move_tally.ensures.figures c.write_unit.ensures.figures

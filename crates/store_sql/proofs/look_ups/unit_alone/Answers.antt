@@ -15,4 +15,4 @@ returns-clause-found g c =
     let old = state g.S.Store c.args.tx.now.conn.now in
     let new = state g.S.Store c.find_domain_entry.new.tx.conn.now in
     let two = reads_both old (state g.S.Store c.find_domain_unit.new.tx.conn.now) new _ _ _ _ c.in_ok-unit.ensures.found c.in_ok-entry.ensures.found in
-    read_mapped old new _ _ _ _ (λ db it. record { unit = it.0; entry = it.1; none = c.new.ensures }) two
+    read_mapped old new _ _ _ _ (λ db it. record { unit = it.0; entry = it.1; none = c.new.ensures.items }) two
