@@ -1,5 +1,5 @@
 #!/usr/bin/python3
-"""Plants a wrong feed or a wrong door in a copy of the tools, one at a time: tests/cluster.py or tests/doubts.py has to tell it.
+"""Plants a wrong feed or a wrong door in a copy of the tools, one at a time: cluster.py, doubts.py or heard.py has to tell it.
 
     tests/spoil_cluster.py [--engine rabbitmq] [--program FILE] [WORD..]
 
@@ -60,6 +60,18 @@ SPOILS = (
         REPLICA,
         "if has_log else self.was_late", "if has_log else True",
         doubts("power"),
+    ),
+    (
+        "a feed that is late for good where it loses the log",
+        REPLICA,
+        "self.was_late = self.is_behind and", "self.was_late = bool(self.waiting) or self.is_behind and",
+        ["heard.py"],
+    ),
+    (
+        "a feed that answers questions though it dropped what it heard",
+        REPLICA,
+        "self.was_late = self.was_late or bool(self.waiting)", "pass",
+        ["heard.py"],
     ),
     ("a feed that isn't held", REPLICA, "            self.stop()\n            hold.rename", "            hold.rename", doubts("held")),
     (
