@@ -14,19 +14,19 @@ returns-in-Some-clause-answer g c = λ honest.
 pub returns-in-Some-clause-kept : goal.returns-in-Some-clause-kept
 returns-in-Some-clause-kept g c = read_done c.in_ok-outcome.ensures.kept
 
-pub returns-clause-answer : goal.returns-clause-answer
-returns-clause-answer g c = λ honest.
+pub returns-in-None-clause-answer : goal.returns-in-None-clause-answer
+returns-in-None-clause-answer g c = λ honest.
     let was = c.decide_whole.ensures.kept.honest honest in
     subst (λ (m : OfficeWithBook). IfOk c.decide_whole.result (Decides (found_for m.office c.args.domain.now c.args.lang.now c.args.key.now c.args.request.now) c.args.request.now c.args.act.now))
     (c.decide_vote.ensures.same was (c.in_ok-outcome.ensures.kept.open_still was)) (c.decide_whole.ensures.answer honest)
 
-pub returns-clause-same : goal.returns-clause-same
-returns-clause-same g c = λ honest whole.
+pub returns-in-None-clause-same : goal.returns-in-None-clause-same
+returns-in-None-clause-same g c = λ honest whole.
     let was = c.decide_whole.ensures.kept.honest honest in
     c.decide_whole.ensures.same honest whole ∙ c.decide_vote.ensures.same was (c.decide_whole.ensures.kept.whole honest whole)
 
-pub returns-clause-kept : goal.returns-clause-kept
-returns-clause-kept g c =
+pub returns-in-None-clause-kept : goal.returns-in-None-clause-kept
+returns-in-None-clause-kept g c =
     read_then (alike c.decide_whole.result) c.in_ok-outcome.ensures.kept c.decide_whole.ensures.kept (λ honest m never. never)
 
 pub returns-in_err-outcome-clause-kept : goal.returns-in_err-outcome-clause-kept

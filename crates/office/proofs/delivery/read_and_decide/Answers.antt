@@ -25,19 +25,19 @@ decide_with_suggestions-requires g c = record {
       (sym (c.unit_of.ensures.same honest (c.in_ok-found.ensures.kept.open_still honest))) (c.in_ok-found.ensures.answer honest);
 }
 
-pub returns-clause-answer : goal.returns-clause-answer
-returns-clause-answer g c = λ honest.
+pub returns-in-None-clause-answer : goal.returns-in-None-clause-answer
+returns-in-None-clause-answer g c = λ honest.
     let was = c.decide_with_suggestions.ensures.kept.honest honest in
     subst (λ (m : OfficeWithBook). IfOk c.decide_with_suggestions.result (Decides (found_for m.office c.args.domain.now c.args.lang.now c.args.key.now c.args.request.now) c.args.request.now c.args.act.now))
     (c.unit_of.ensures.same was (c.in_ok-found.ensures.kept.open_still was)) (c.decide_with_suggestions.ensures.answer honest)
 
-pub returns-clause-same : goal.returns-clause-same
-returns-clause-same g c = λ honest whole.
+pub returns-in-None-clause-same : goal.returns-in-None-clause-same
+returns-in-None-clause-same g c = λ honest whole.
     let was = c.decide_with_suggestions.ensures.kept.honest honest in
     c.decide_with_suggestions.ensures.same honest whole ∙ c.unit_of.ensures.same was (c.decide_with_suggestions.ensures.kept.whole honest whole)
 
-pub returns-clause-kept : goal.returns-clause-kept
-returns-clause-kept g c =
+pub returns-in-None-clause-kept : goal.returns-in-None-clause-kept
+returns-in-None-clause-kept g c =
     read_then (alike c.decide_with_suggestions.result) c.in_ok-found.ensures.kept c.decide_with_suggestions.ensures.kept (λ honest m never. never)
 
 pub returns-in_err-found-clause-kept : goal.returns-in_err-found-clause-kept
