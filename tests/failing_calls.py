@@ -184,7 +184,8 @@ class Trial:
             said = self.posted(port, process)
             faults = process.communicate(timeout=SECONDS)[1].decode()
         count = next((n for n, it in enumerate(said) if it == DISK), len(said))
-        if said not in ([], REPLIES[:count] + [DISK] * (len(LINES) - count)) or faults not in ("", "store fault 2\n"):
+        ends = [(3, "disk fault\n")] if DISK in said else [(0, ""), (1, "store fault 2\n")]
+        if said not in ([], REPLIES[:count] + [DISK] * (len(LINES) - count)) or (process.returncode, faults) not in ends:
             self.say(what, f"{process.returncode} {faults} {said}")
         self.look(what, max(count, 1))
 

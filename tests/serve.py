@@ -6,6 +6,7 @@
 The clients are curl, Python's http.client, and sockets by hand: kept connections, posts behind one another, answers that are read slowly, clients
 that go away. What they have to get is written down here, from docs/FORMATS.md and the worked examples. `office send` is run against
 `office serve`, twice, against a port where nobody listens, and against servers that cut their answers, answer otherwise or close without a word.
+Both are stopped by a signal and go on while they read and while they write; and the disk under an office fails.
 Clients and servers that say nothing, or a byte a second, are waited for side by side: the whole takes two minutes.
 Prints what is otherwise than it should be, and last `N looks, M wrong`; the status is 1 if anything was.
 """
@@ -15,6 +16,7 @@ import hashlib
 import http.client
 import json
 import pathlib
+import signal
 import socket
 import subprocess
 import sys
@@ -65,12 +67,19 @@ def office(folder):
 @contextlib.contextmanager
 def serving(path, connections, ends=(0, "", ""), port=None):
     """The port where the office in a file serves so many connections, behind which it has to end so."""
+    with server(path, connections, ends, port) as (port, _):
+        yield port
+
+
+@contextlib.contextmanager
+def server(path, connections, ends=(0, "", ""), port=None, before=()):
+    """The same port, and the process, which these words start."""
     port = port or free_port()
-    words = [PROGRAM, "serve", "--store", str(path), "--port", str(port), "--connections", str(connections)]
+    words = [*before, PROGRAM, "serve", "--store", str(path), "--port", str(port), "--connections", str(connections)]
     with subprocess.Popen(words, stdin=subprocess.DEVNULL, stdout=subprocess.PIPE, stderr=subprocess.PIPE) as process:
         try:
             wait_for(port, process)
-            yield port
+            yield port, process
             out, faults = process.communicate(timeout=SECONDS)
             same("serve ends", (process.returncode, out.decode(), faults.decode()), ends)
         finally:
@@ -88,6 +97,17 @@ def wait_for(port, process):
             sys.exit(f"serve ended: {process.stderr.read().decode()}")
         time.sleep(0.02)
     sys.exit("serve doesn't listen")
+
+
+def stop_and_go(process, times, rest=0.1):
+    """Stops a program by a signal, and has it go on, so often: what it waits for at a socket is interrupted by that. One that ends ends it."""
+    for _ in range(times):
+        time.sleep(rest)
+        process.send_signal(signal.SIGSTOP)
+        while process.poll() is None and pathlib.Path(f"/proc/{process.pid}/stat").read_text().rpartition(")")[2].split()[0] != "T":
+            time.sleep(0.01)
+        process.send_signal(signal.SIGCONT)
+    time.sleep(rest)
 
 
 # ---- clients
@@ -327,6 +347,60 @@ def deaf(folder):
         same("a deaf client is given up", 28 < time.monotonic() - begin < 120, True)
 
 
+def stopped(folder):
+    """A server that is stopped and goes on, while it reads and while it writes: no connection is lost by that."""
+    path, found = office(folder), [b"", b""]
+    with server(path, 1) as (port, process), connected(port) as it, contextlib.suppress(OSError):
+        stream = post(1) * 2
+        for begin in range(0, len(stream), 50):
+            stop_and_go(process, 2)
+            it.sendall(stream[begin : begin + 50])
+        stop_and_go(process, 2)
+        it.shutdown(socket.SHUT_WR)
+        found[0] = b"".join(iter(lambda: it.recv(65536), b""))
+    same("stopped while it reads", found[0], answer(200, "OK", DONE) * 2)
+    make_large(path)
+    text = run("export", "--store", path, "--lang", "de")[1]
+    with server(path, 1) as (port, process), connected(port) as it, contextlib.suppress(OSError):
+        it.sendall(get("/v1/export/de") * 20)
+        stop_and_go(process, 20)
+        it.shutdown(socket.SHUT_WR)
+        found[1] = b"".join(iter(lambda: it.recv(65536), b""))
+    same("stopped while it writes", found[1] == export_answer(text) * 20, True)
+
+
+def stopped_and_silent(folder):
+    """A client that says nothing more for a minute, and a server that is stopped meanwhile: the minute isn't begun anew."""
+    path = office(folder)
+    with server(path, 2, ends=(1, "", "serve fault 1\n")) as (port, process):
+        begin = time.monotonic()
+        with connected(port) as quiet:
+            quiet.sendall(post(1)[:150])
+            stop_and_go(process, 5, rest=9)
+            same("behind a silent client of a stopped server", told(port, post(1)), answer(200, "OK", DONE))
+            same("a minute is waited, by a stopped server too", 55 < time.monotonic() - begin < 75, True)
+
+
+def disk_failed(folder):
+    """A disk that takes no more: from there on each answer says so, and at the end the server does, by a line and by its status."""
+    path = office(folder)
+    kilobytes = max(it.stat().st_size for it in path.parent.iterdir()) // 1024 + 400
+    before = ["bash", "-c", f'trap "" XFSZ; ulimit -f {kilobytes}; exec "$@"', "-"]
+    with server(path, 1, ends=(3, "", "disk fault\n"), before=before) as (port, _):
+        client, found = http.client.HTTPConnection(HOST, port, timeout=SECONDS), []
+        for n in range(1, 41):
+            body = json.dumps({"act": "comment", "id": "Hello", "lang": "de", "lines": [f"{n}" * 400] * 20, "seen": n})
+            client.request("POST", f"/v1/requests/{number(n)}", body.encode(), {"X-Office-Caller": "root"})
+            reply = client.getresponse()
+            found.append((reply.status, reply.read().decode()[:16]))
+        client.close()
+    taken = sum(status == 200 for status, _ in found)
+    same("some requests are taken, and then none", found[taken:], [(507, '{"error":"disk"}')] * (40 - taken))
+    same("on a disk that takes no more", 0 < taken < 40, True)
+    line = json.dumps({"act": "comment", "caller": "root", "id": "Hello", "lang": "de", "lines": [], "number": number(41), "seen": taken + 1})
+    same("the office is whole behind it", run("deliver", "--store", path, given=line + "\n")[1][:4], "200 ")
+
+
 def no_descriptors(folder):
     """Connections that can't be taken, since the program may have no further file open: each is told, a second behind the one before."""
     path = office(folder)
@@ -368,6 +442,9 @@ REPLIES = (
     '404 {"refusal":"no-language","rule":1}\n'
 )
 NONE = "none\n" * len(LIST)
+# What a terminal or a reader of logs takes for more than a letter, though JSON lets it stand in a string: U+007F and the second row of controls, marks
+# of direction (UAX 9, explicit and implicit ones), line and paragraph separators.
+UNSEEN = [*range(0x7F, 0xA0), 0x061C, 0x200E, 0x200F, *range(0x2028, 0x202F), *range(0x2066, 0x206A)]
 
 
 def listed(folder, requests):
@@ -417,10 +494,13 @@ def sends_through_a_restart(folder):
 
 
 class Fake:
-    """A server that answers each connection by the next of these bytes, whole, and then closes; it counts messages."""
+    """A server that answers each connection by the next of these bytes, whole, and then closes; it counts messages. It reads none before it may."""
 
-    def __init__(self, *answers):
+    def __init__(self, *answers, may_read=True):
         self.answers = list(answers)
+        self.may_read = threading.Event()
+        if may_read:
+            self.may_read.set()
         self.messages = []
         self.listener = socket.create_server((HOST, 0))
         self.port = self.listener.getsockname()[1]
@@ -431,6 +511,7 @@ class Fake:
         for it in self.answers:
             connection, _ = self.listener.accept()
             connection.settimeout(SECONDS)
+            self.may_read.wait(SECONDS)
             with connection, connection.makefile("rb") as reader:
                 head = b"".join(iter(reader.readline, b"\r\n"))
                 length = next(int(line[16:]) for line in head.split(b"\r\n") if line.startswith(b"Content-Length: "))
@@ -455,6 +536,7 @@ def sends_to_others(folder):
         "another": answer(200, "OK", '{"revision":2,"state":"\u009b2Jtranslated"}', end=True),
         "a line end": answer(200, "OK", '{"revision":2}\n', end=True),
     }
+    lost |= {f"U+{it:04X}": answer(200, "OK", f'{{"state":"{chr(it)}translated"}}', end=True) for it in UNSEEN}
     for what, it in lost.items():
         same(what, sent(file, Fake(it).port), (1, "none\n", ""))
         fake = Fake(it, whole)
@@ -469,6 +551,19 @@ def sends_to_others(folder):
     same("the message's first line", lines[0], f"POST /v1/requests/{number(1)} HTTP/1.1")
     same("its headers", {"Connection: close", "X-Office-Caller: ann", f"Content-Length: {len(HALLO)}"} <= set(lines), True)
     same("its body", body.decode(), HALLO)
+
+
+def sends_while_stopped(folder):
+    """A sender that is stopped and goes on, while it waits for its answer, and while nobody reads its message: neither is lost by that."""
+    long = {"act": "template", "caller": "root", "number": number(1), "po": "# x\n" * 4_000_000}
+    for what, it in (("an answer", LIST[0]), ("who reads", long)):
+        fake, file = Fake(answer(200, "OK", DONE, end=True), may_read=False), listed(folder, [it])
+        words = [PROGRAM, "send", "--port", str(fake.port), "--file", file, "--tries", "1"]
+        with subprocess.Popen(words, stdin=subprocess.DEVNULL, stdout=subprocess.PIPE, stderr=subprocess.PIPE) as process:
+            stop_and_go(process, 20)
+            fake.may_read.set()
+            out, faults = process.communicate(timeout=SECONDS)
+            same(f"stopped while it waits for {what}", (process.returncode, out.decode(), faults.decode()), (0, f"200 {DONE}\n", ""))
 
 
 class Slow(threading.Thread):
@@ -523,10 +618,10 @@ class Waiting(threading.Thread):
 def main():
     with tempfile.TemporaryDirectory(prefix="office-http-") as name:
         folder = pathlib.Path(name)
-        waiting = [Waiting(it, folder) for it in (silent, deaf, sends_to_slow_ones)]
-        for it in (pipelined, kept_by_curl, kept_by_python, routes, large, gone, reset, no_descriptors, refused):
+        waiting = [Waiting(it, folder) for it in (silent, stopped_and_silent, deaf, sends_to_slow_ones)]
+        for it in (pipelined, kept_by_curl, kept_by_python, routes, large, gone, reset, stopped, disk_failed, no_descriptors, refused):
             it(folder)
-        for it in (sends, sends_nothing, sends_through_a_restart, sends_to_others):
+        for it in (sends, sends_nothing, sends_through_a_restart, sends_to_others, sends_while_stopped):
             it(folder)
         for it in waiting:
             it.end()

@@ -8,6 +8,8 @@ share/man/man1/office.1 and in the completion for zsh, and nothing else; bash ha
 in the page. Wrong words have to end with status 2, and help and the version with 0. At a terminal a fault has a line behind it that says what it
 means, and nowhere else. The last line ends in 'N differences'.
 """
+import http.client
+import json
 import os
 import pathlib
 import pty
@@ -266,11 +268,12 @@ def kinds_differ(program):
     yield from (f"the page says else of kind {kind}" for kind, text in kinds.items() if f"{kind} {text.split(';')[0]}" not in page)
 
 
-def told_at_terminal(program, words):
-    """What stands on the second output where it is a terminal, line by line."""
+def told_at_terminal(program, words, meanwhile=lambda: None):
+    """What stands on the second output where it is a terminal, line by line; what is done meanwhile is done once the program runs."""
     ours, theirs = pty.openpty()
     with subprocess.Popen([program, *words], stdin=subprocess.DEVNULL, stdout=subprocess.DEVNULL, stderr=theirs) as process:
         os.close(theirs)
+        meanwhile()
         found = b""
         try:
             while piece := os.read(ours, 4096):
@@ -298,6 +301,27 @@ def sentences_differ(program):
                 yield f"{words} tell {told} at a terminal, of {fault}"
 
 
+def disk_fault_differs(program):
+    """A disk that takes no more than 400 kB behind the office: `serve` tells it, and at a terminal what it means."""
+    with tempfile.TemporaryDirectory() as name:
+        store, port = pathlib.Path(name) / "office.db", looks.free_port()
+        run(program, ["init", "--store", str(store), "--manager", "root"])
+        limit = f'trap "" XFSZ; ulimit -f {store.stat().st_size // 1024 + 400}; exec "$@"'
+        words = ["-c", limit, "-", str(program), "serve", "--store", str(store), "--port", str(port), "--connections", "2"]
+
+        def post():
+            looks.asked(port, "/v1/stats/de")
+            body = json.dumps({"act": "template", "po": "".join(f'msgid "{n}"\nmsgstr ""\n\n' for n in range(20_000))})
+            client = http.client.HTTPConnection(looks.HOST, port, timeout=60)
+            client.request("POST", f"/v1/requests/{looks.number(1)}", body.encode(), {"X-Office-Caller": "root"})
+            client.getresponse().read()
+            client.close()
+
+        told = told_at_terminal("bash", words, post)
+        if len(told) != 2 or told[0] != "disk fault" or not all(it in told[1] for it in ("disk failed", "Open the office again")):
+            yield f"serve tells {told} at a terminal, of a disk fault"
+
+
 def man_page_named(program):
     """Plain `office` says where more stands."""
     if "man office" not in run(program, [])[2] + run(program, ["--help"])[1]:
@@ -315,10 +339,10 @@ def main(words):
     program = pathlib.Path(words[0] if words else PROGRAM).resolve()
     commands, own = words_of(program)
     wrong = [*page_differs(commands, own), *bash_differs(commands, own), *zsh_differs(commands, own)]
-    wrong += [*page_warnings(), *kinds_differ(program), *man_page_named(program), *sentences_differ(program), *status_differs(program)]
+    wrong += [*page_warnings(), *kinds_differ(program), *man_page_named(program), *sentences_differ(program), *disk_fault_differs(program), *status_differs(program)]
     for it in wrong:
         print(it)
-    print(f"{len(commands)} subcommands, {len(WORDS) + len(TOLD)} runs: {len(wrong)} differences")
+    print(f"{len(commands)} subcommands, {len(WORDS) + len(TOLD) + 1} runs: {len(wrong)} differences")
     return 1 if wrong else 0
 
 

@@ -13,8 +13,9 @@
 //!
 //! Letters of a script: `q` the request is lost, `a` the answer is lost, `w` the answer comes whole, `e` the message itself comes back as the
 //! body of a reply, with `|` for CR LF; and answers that are no reply: `c` is cut by a byte, `m` has one more, `s` has another status, `x`
-//! gives two lengths, `t` is coded, `n` gives no length, `b` is no text of HTTP, `r` and `p` have a control character in the body. `d` gives
-//! its length twice, and `l` in small letters: they are replies. Behind the script all is lost.
+//! gives two lengths, `t` is coded, `n` gives no length, `b` is no text of HTTP, `r` and `p` have a control character in the body, `o` a mark
+//! that turns the direction of writing, `u` a line end of Unicode. `d` gives its length twice, and `l` in small letters: they are replies.
+//! Behind the script all is lost.
 mod scripted;
 mod stage;
 mod texts;

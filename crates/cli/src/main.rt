@@ -4,6 +4,7 @@
 //! - `files`, `work`: offices in files, and what is done to the office in one
 //! - `serve`, `send`: `office serve` and `office send`
 //! - `faults`, `sentences`: the second output, where faults are told by numbers, and what the numbers mean
+//! - `stack`: the stack that the deepest line takes, taken before anything is read
 #![tactic(auto)]
 
 mod faults;
@@ -11,6 +12,7 @@ mod files;
 mod send;
 mod sentences;
 mod serve;
+mod stack;
 mod subcommands;
 mod words;
 mod work;
@@ -23,6 +25,7 @@ use file_commands::tell_store_fault;
 use files::in_file;
 use office::Desk;
 use send::send_file;
+use stack::take_stack;
 use std::env::Args;
 use std::io::{self, BufWriter, ErrorKind, Stdout};
 use std::process::ExitCode;
@@ -39,6 +42,9 @@ fn main(rt: HostRuntime) -> ExitCode {
 }
 
 fn run(rt: &HostRuntime) -> io::Result<u8> {
+    if let Err(fault) = take_stack(rt.alloc()) {
+        return error_status(rt, &Error::from(fault));
+    }
     match std::env::args(rt) {
         Ok(words) => words_status(rt, words),
         Err(error) if error.kind() == ErrorKind::InvalidData => {
@@ -79,6 +85,9 @@ fn asked_status(rt: &HostRuntime, asked: &Asked<'_>) -> io::Result<u8> {
 
 /// The exit status where all was done.
 const DONE: u8 = 0;
+
+/// The exit status of a server whose office a failure of the disk stopped: from there on it answered that alone.
+const STOPPED: u8 = 3;
 
 fn error_status(rt: &HostRuntime, error: &Error) -> io::Result<u8> {
     error.print(rt)?;

@@ -1,7 +1,7 @@
 //! What the faults mean that the program tells by numbers.
 
 /// What a line that tells a fault begins with, up to ` at N`, and what the fault means.
-const SENTENCES: [(&str, &str); 31] = [
+const SENTENCES: [(&str, &str); 32] = [
     ("store fault 1", "There was no memory to open the office."),
     (
         "store fault 2",
@@ -34,6 +34,10 @@ const SENTENCES: [(&str, &str); 31] = [
     (
         "serve fault 4",
         "The disk failed under a text whose beginning was sent. Open the office again, on a good disk.",
+    ),
+    (
+        "disk fault",
+        "The disk failed, and from then on nothing was taken. Open the office again, on a good disk.",
     ),
     (
         "file fault",

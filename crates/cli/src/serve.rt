@@ -3,7 +3,7 @@ ghost use Rattle.std.specs.Prelude.{◌≡◌, false};
 
 use crate::faults::Faults;
 use crate::words::Serve;
-use crate::{DONE, store_fault};
+use crate::{DONE, STOPPED, store_fault};
 use commands::FAILED;
 use file_commands::{Closed, Unopened, close_desk, open_desk};
 use office::Desk;
@@ -24,13 +24,32 @@ pub(crate) fn serve_opened<S: Alter + Drop>(
     match open_desk(rt.alloc(), connection) {
         Ok(mut desk) => {
             let status = serve_port(rt, &mut desk, options.port, options.connections);
-            close_desk(desk, status)
+            told_stopped(rt, close_desk(desk, status))
         }
         Err(Unopened { fault, connection }) => Closed {
             status: store_fault(rt, fault),
             stopped: false,
             connection,
         },
+    }
+}
+
+/// Tells that a failure of the disk stopped the office, where one did, and has the exit status tell it too.
+fn told_stopped<S: Alter>(rt: &HostRuntime, closed: Closed<S>) -> Closed<S> {
+    let Closed {
+        status,
+        stopped,
+        connection,
+    } = closed;
+    if stopped {
+        // Where it can't be told, the status tells it.
+        let mut faults = Faults::new(rt);
+        let _ = writeln!(faults, "disk fault");
+    }
+    Closed {
+        status: if stopped { STOPPED } else { status },
+        stopped,
+        connection,
     }
 }
 

@@ -11,7 +11,7 @@ use Rattle.httparse.specs.Grammar.{ResponseHead, ReadsResponse, print_response}
 use Rattle.httparse.specs.Spans.{header_bytes, name_and_value, IsResponseAt, IsResponseOf}
 use Rattle.po_text.specs.Texts.{Text}
 use Rattle.request_book.specs.Replies.{Reply}
-use Rattle.client.specs.Answers.{Line, is_length, is_other, lines_say, says_length, is_reply_status, has_control, IsReplyBehind, IsReplyIn}
+use Rattle.client.specs.Answers.{Line, is_length, is_other, lines_say, says_length, is_reply_status, has_unseen, IsReplyBehind, IsReplyIn}
 
 said_otherwise : (digits : Text) (lines : List Line) → list_any (is_other digits) lines ≡ true → false ≡ lines_say digits lines
 said_otherwise digits lines e = rw e (ends (list_any is_length lines)) where
@@ -32,7 +32,7 @@ other_line buf digits headers i d lt e =
 -- ---- what stands behind a head
 
 pub is_behind : (answer body : Text) (headers : List HeaderSpan) (spans : ResponseSpans) (h : ResponseHead) → IsResponseAt answer headers spans h → is_reply_status spans.code ≡ true →
-    says_length (length body) (map (header_bytes answer) (take spans.headers headers)) ≡ true → body ≡ drop spans.len answer → IsUtf8 body → has_control body ≡ false →
+    says_length (length body) (map (header_bytes answer) (take spans.headers headers)) ≡ true → body ≡ drop spans.len answer → IsUtf8 body → has_unseen body ≡ false →
     IsReplyBehind h (record { status = spans.code; body = body }) × (body ≡ drop spans.len answer)
 is_behind answer body headers spans h at status says same text plain = (
   record {
@@ -57,8 +57,8 @@ other_length answer headers spans says h at reply same is =
 pub other_text : (answer : Text) (spans : ResponseSpans) → (IsUtf8 (drop spans.len answer) → ⊥) → (h : ResponseHead) (reply : Reply) → reply.body ≡ drop spans.len answer → ¬ IsReplyBehind h reply
 other_text answer spans none h reply same is = none (subst IsUtf8 same is.text)
 
-pub other_letters : (answer : Text) (spans : ResponseSpans) → has_control (drop spans.len answer) ≡ true → (h : ResponseHead) (reply : Reply) → reply.body ≡ drop spans.len answer → ¬ IsReplyBehind h reply
-other_letters answer spans some h reply same is = let wrong : true ≡ false = sym some ∙ (ap has_control (sym same) ∙ is.plain) in cc
+pub other_letters : (answer : Text) (spans : ResponseSpans) → has_unseen (drop spans.len answer) ≡ true → (h : ResponseHead) (reply : Reply) → reply.body ≡ drop spans.len answer → ¬ IsReplyBehind h reply
+other_letters answer spans some h reply same is = let wrong : true ≡ false = sym some ∙ (ap has_unseen (sym same) ∙ is.plain) in cc
 
 -- ---- a whole answer
 

@@ -1,9 +1,10 @@
 -- An answer of HTTP that is a reply: one whole response (RFC 9112), with the status of a reply, whose header says that its body has the length
--- that it has, and whose body has no control character: the JSON of a reply has none. Anything else says nothing of the request. This project's
--- own rule.
+-- that it has, and whose body has no character that a terminal takes for more than a letter: the JSON of a reply has none. Anything else says
+-- nothing of the request. This project's own rule.
 use Rattle.std.specs.Prelude.{◌≡◌, ◌≤◌, ◌&&◌, ◌||◌, ◌==◌, not, ℕ, Bool, true, false, List, [], ◌∷◌, length, map, codes, decimal, IsUtf8}
 use Rattle.std.specs.List.{list_any}
 use Rattle.std.specs.Char.{to_ascii_lowercase, is_control}
+use Rattle.std.specs.Int.{is_in_range}
 use Rattle.std.specs.Str.{chars}
 use Rattle.httparse.specs.Grammar.{ResponseHead, ReadsResponse, status_code}
 use Rattle.httparse.specs.Spans.{name_and_value}
@@ -37,9 +38,13 @@ says_length n lines = lines_say (decimal n) lines
 
 -- ---- bodies
 
--- a character that a terminal may take for an order: U+0000 to U+001F, U+007F to U+009F
-abbrev pub has_control : Text → Bool
-has_control text = list_any is_control (chars text)
+-- a character that a terminal or a reader of logs takes for more than a letter: a control character (U+0000 to U+001F, U+007F to U+009F), a mark
+-- that turns the direction of writing, or a line end of Unicode
+abbrev pub is_unseen : ℕ → Bool
+is_unseen c = is_control c || (c == 0x61C || (is_in_range 0x200E 0x200F c || (is_in_range 0x2028 0x202E c || is_in_range 0x2066 0x2069 c)))
+
+abbrev pub has_unseen : Text → Bool
+has_unseen text = list_any is_unseen (chars text)
 
 -- ---- replies
 
@@ -52,7 +57,7 @@ pub record IsReplyBehind (head : ResponseHead) (reply : Reply) : Type 0 where
   pub is_one : is_reply_status (status_code head) ≡ true
   pub length : says_length (length reply.body) (map name_and_value head.fields) ≡ true
   pub text : IsUtf8 reply.body
-  pub plain : has_control reply.body ≡ false
+  pub plain : has_unseen reply.body ≡ false
 
 -- a head of at most 32 lines, and the reply's body behind it
 pub record IsReplyIn (answer : List ℕ) (reply : Reply) : Type 0 where

@@ -4,7 +4,7 @@ ghost use Rattle.std.specs.Prelude.{◌≡◌, Ok, None, length, map, drop, All,
 ghost use Rattle.httparse.specs.Grammar.{ResponseHead};
 ghost use Rattle.httparse.specs.Spans.{IsHeaderWithin, IsResponseWithin, IsResponseAt, header_bytes};
 ghost use Rattle.request_book.specs.Replies.{Reply as ReplyValue};
-ghost use Rattle.client.specs.Answers.{IsReplyIn, IsReplyBehind, same_letters, is_other as gives_other, says_length as length_said, is_reply_status as is_status, has_control};
+ghost use Rattle.client.specs.Answers.{IsReplyIn, IsReplyBehind, same_letters, is_other as gives_other, says_length as length_said, is_reply_status as is_status, is_unseen, has_unseen};
 
 use httparse::Status;
 use httparse::spans::{EMPTY_HEADER_SPAN, HeaderSpan, ResponseSpans, parse_response};
@@ -15,7 +15,7 @@ use std::alloc::Global;
 use units::Memory;
 
 /// The reply that an answer is; none where it isn't one whole response of HTTP with a reply's status, 200, 403, 404, 409 or 422, or where its
-/// body has a control character, which no reply has.
+/// body has what a terminal takes for more than a letter, which no reply has.
 pub(crate) fn reply_in(alloc: Global, answer: &[u8]) -> Result<Option<Reply>, Memory>
     ensures reply { IfOk result (λ found. IfSome found (λ reply. IsReplyIn answer.now reply)) }
     ensures none { result ≡ Ok None → (reply : ReplyValue) → ¬ IsReplyIn answer.now reply }
@@ -58,22 +58,34 @@ fn reply_behind<'a>(
         return None;
     }
     match str::from_utf8(body) {
-        Ok(text) if has_control(text) => None,
+        Ok(text) if has_unseen(text) => None,
         Ok(text) => Some((head.code, text)),
         Err(_) => None,
     }
 }
 
-/// Whether a text has a control character.
-fn has_control(text: &str) -> bool
-    ensures { result ≡ has_control text.now }
+/// Whether a text has a character that a terminal takes for more than a letter.
+fn has_unseen(text: &str) -> bool
+    ensures { result ≡ has_unseen text.now }
 {
     for c in text.chars() {
-        if c.is_control() {
+        if is_unseen(c) {
             return true;
         }
     }
     false
+}
+
+/// Whether a terminal takes a character for more than a letter: a control character, a mark that turns the direction of writing, or a line
+/// end of Unicode.
+fn is_unseen(c: char) -> bool
+    ensures { result ≡ is_unseen c }
+{
+    c.is_control()
+        || matches!(
+            c,
+            '\u{61c}' | '\u{200e}'..='\u{200f}' | '\u{2028}'..='\u{202e}' | '\u{2066}'..='\u{2069}'
+        )
 }
 
 /// Whether an office answers a request with this status.

@@ -1,7 +1,8 @@
 //! What deliveries leave and what they are answered: the definitions, the laws over them, and the values that they
 //! speak of.
 //!
-//! - `values`: what an act reads (`ActContext`) and comes to (`Outcome`, `Change`, `DomainChange`), and a `Language`
+//! - `values`: what an act reads (`ActContext`) and comes to (`Outcome`, `UnitOutcome` with what it writes, `Change`,
+//!   `DomainChange`), and a `Language`
 //! - `tally`: how many units of a language are in each state (`Tally`)
 //! - `laws`: what an act leaves alone, which requests may change places, what an export depends on, how a run goes on
 //!
@@ -31,4 +32,4 @@ pub use laws::{
     equal_exports, run_goes_on, unit_act_leaves_the_rest,
 };
 pub use tally::Tally;
-pub use values::{ActContext, Change, DomainChange, Language, Outcome};
+pub use values::{ActContext, Change, DomainChange, Language, Outcome, UnitOutcome, UnitWrite};

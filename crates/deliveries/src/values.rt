@@ -10,7 +10,8 @@ use plural_expr::PluralForms;
 use po_text::{Catalogue, Entry};
 use request_book::Reply;
 use template_update::Plan;
-use units::{Lang, Name, Policy, Role, UnitView};
+use units::{Lang, Name, Policy, Role, Suggestion, UnitView, VoteValue};
+use uuid::Uuid;
 
 /// A language: its header entry, and the plural rule of the header.
 #[derive(Drop)]
@@ -34,6 +35,26 @@ pub struct ActContext {
 #[derive(Drop)]
 pub struct Outcome {
     pub view: Option<UnitView>,
+    pub reply: Reply,
+}
+
+/// What an act writes of its unit, which is there.
+#[derive(Drop)]
+pub enum UnitWrite {
+    /// The unit is that of this view, with its suggestions and the votes on them.
+    Whole(UnitView),
+    /// The unit is that of this view, but for its suggestions, which stay.
+    Row(UnitView),
+    /// The unit stays, and this suggestion, on which nobody has voted, is its last.
+    Suggested(Suggestion),
+    /// The unit stays, and on its suggestion of this number the voter has this vote, or none; the votes on it then sum up to this.
+    Voted(Uuid, Name, Option<VoteValue>, i64),
+}
+
+/// What an act on a unit comes to: what is written, unless the act is refused, and the reply.
+#[derive(Drop)]
+pub struct UnitOutcome {
+    pub write: Option<UnitWrite>,
     pub reply: Reply,
 }
 

@@ -1,17 +1,12 @@
 -- What was read, decided and committed is what the delivery of a new number leaves, and keeps the rules.
 use Rattle.std.proofs.Common.{◌≡◌, ◌∙◌, sym, ap, subst, Option, Some, None, IsTrue, Result, Ok, Err, refl}
-use Rattle.std.specs.Prelude.{is_none, option_map, [], ◌∷◌, IfOk, IfSome, OnOk}
-use Rattle.std.specs.Option.{option_map_or}
+use Rattle.std.specs.Prelude.{is_none, option_map, option_and_then, [], ◌∷◌, IfOk, IfSome, OnOk}
 use Rattle.std.specs.FinMap as maps
 use Rattle.po_text.specs.Texts.{Text}
 use Rattle.po_text.specs.declared.entry.Entry.{Entry}
 use Rattle.units.specs.Office.{Office, project_in}
-use Rattle.units.specs.Project.{Project, entry_of, role_of}
+use Rattle.units.specs.Project.{Project, role_of, view_of}
 use Rattle.units.specs.Rules.{rule_at}
-use Rattle.units.specs.declared.unit.Policy.{Policy}
-use Rattle.units.specs.declared.unit.Refusal.{Refusal}
-use Rattle.units.specs.declared.unit.Role.{Role}
-use Rattle.units.specs.declared.unit.Unit.{Unit}
 use Rattle.units.specs.declared.unit.Key.{Key}
 use Rattle.units.specs.declared.unit.UnitAct.{UnitAct}
 use Rattle.units.specs.declared.unit.UnitView.{UnitView}
@@ -21,14 +16,13 @@ use Rattle.request_book.specs.declared.book.Record.{Record}
 use Rattle.request_book.specs.Replies.{Reply}
 use Rattle.request_book.specs.Acts.{IsRequest, content_text}
 use Rattle.request_book.specs.Book.{OfficeWithBook, Recorded, with_record}
-use Rattle.plural_expr.specs.Values.{Rule}
 use Rattle.replies.specs.Bodies.{Stepped}
-use Rattle.review.specs.declared.decision.Decision.TheVariants.{Done, Refused}
-use Rattle.review.specs.UnitStep.{unit_step, unit_after, values_of, refusals, first_refusal}
 use Rattle.deliveries.specs.declared.values.Outcome.{Outcome}
+use Rattle.deliveries.specs.declared.values.UnitOutcome.{UnitOutcome}
+use Rattle.deliveries.specs.declared.values.UnitWrite.{UnitWrite}
 use Rattle.deliveries.specs.declared.values.ActContext.{ActContext}
-use Rattle.deliveries.specs.UnitAccess.{found_of, with_view_in}
-use Rattle.deliveries.specs.UnitOutcomes.{outcome_of, outcome_of_decision}
+use Rattle.deliveries.specs.UnitAccess.{found_of, view_written, written_at, with_write_in, IsWriteOver, IsPossibleWrite}
+use Rattle.deliveries.specs.UnitOutcomes.{outcome_of, view_found, IsOutcomeBy}
 use Rattle.deliveries.specs.OfficeChanges.{changed_by}
 use Rattle.deliveries.specs.OfficeRules.{KeepsRules}
 use Rattle.deliveries.specs.Step.{step}
@@ -38,6 +32,7 @@ use Rattle.deliveries.proofs.retries.Delivered.{first_time, IsDelivery}
 use Rattle.deliveries.proofs.rules.KeptRules.{kept_rules}
 use Rattle.outcomes.specs.declared.outcome.OfficeOutcome.{OfficeOutcome}
 use Rattle.outcomes.specs.Settled.{IsSettled}
+use Rattle.office.specs.UnitReads.{found_for, Decides}
 
 -- ---- a new number
 
@@ -59,65 +54,68 @@ handed_on (Err e) reply now Left delivered is left leads = tt
 
 -- ---- an act on a unit
 
+module _ (project : Project) (lang : Text) (key : Key) (caller : Text) where
+  abbrev found : Entry → ActContext
+  found header = record { rule = rule_at project lang; policy = project.policy; role = role_of project caller; view = view_of project (lang, key) }
+
+  -- the view that was found is that of the unit
+  view_there : (view : UnitView) → view_found (found_of project lang key caller) ≡ Some view → view_of project (lang, key) ≡ Some view
+  view_there view = by (maps.get project.headers lang)
+    where
+      by : (o : Option Entry) → view_found (option_map found o) ≡ Some view → view_of project (lang, key) ≡ Some view
+      by None e = let never : ◌≡◌ {A = Option UnitView} None (Some view) = e in cc
+      by (Some header) e = e
+
+  abbrev There : UnitWrite → Type 0
+  There w = (view : UnitView) × (view_found (found_of project lang key caller) ≡ Some view) × IsWriteOver view w
+
+  -- what an act writes is of the unit that is there
+  pub act_possible : (whole : Outcome) (outcome : UnitOutcome) → IsOutcomeBy (view_found (found_of project lang key caller)) whole outcome → IsPossibleWrite project lang key outcome.write
+  act_possible whole outcome decides = by outcome.write decides.over
+    where
+      by : (o : Option UnitWrite) → IfSome o There → IsPossibleWrite project lang key o
+      by None h = tt
+      by (Some w) h = (h.0, view_there h.0 h.1, h.2)
+
+  -- what is written is the view that the act makes
+  act_written : (whole : Outcome) (outcome : UnitOutcome) → IsOutcomeBy (view_found (found_of project lang key caller)) whole outcome → written_at project lang key outcome.write ≡ whole.view
+  act_written whole outcome decides = by outcome.write decides.over ∙ decides.view
+    where
+      by : (o : Option UnitWrite) → IfSome o There → written_at project lang key o ≡ option_and_then (λ w. option_map (view_written w) (view_found (found_of project lang key caller))) o
+      by None h = refl
+      by (Some w) h = ap (option_map (view_written w)) (view_there h.0 h.1 ∙ sym h.1)
+
+  pub act_decided : (whole : Outcome) (outcome : UnitOutcome) → IsOutcomeBy (view_found (found_of project lang key caller)) whole outcome →
+      ◌≡◌ {A = Outcome} (record { view = written_at project lang key outcome.write; reply = outcome.reply }) whole
+  act_decided whole outcome decides = λ i. record { view = act_written whole outcome decides i; reply = decides.reply i }
+
 -- what was found, decided and committed is the step with its record
-pub unit_act_delivered : (old mid new : OfficeWithBook) (request : Request) (domain lang : Text) (key : Key) (act : UnitAct) (found : Option ActContext) (view : Option UnitView) (reply : Reply) (content : Text) (row : Record) →
-    request.act ≡ OnUnit domain lang key act → mid ≡ old → found ≡ found_of (project_in old.office domain) lang key request.caller →
-    record { view = view; reply = reply } ≡ outcome_of found request.caller request.number act →
-    content ≡ content_text request → row ≡ record { number = request.number; content = content; reply = reply } →
-    new ≡ record { office = with_view_in mid.office domain lang key view; book = with_record mid.book row } →
-    ◌≡◌ {A = OfficeWithBook × Reply} (new, reply) (first_delivered old request)
-unit_act_delivered old mid new request domain lang key act found view reply content row is same answer decides text made commits =
-    recorded_unit_act old mid new request domain lang key act found view reply reply content is same answer decides refl text
-    (commits ∙ ap (λ (r : Record). record { office = with_view_in mid.office domain lang key view; book = with_record mid.book r }) made)
+pub unit_act_delivered : (old mid new : OfficeWithBook) (request : Request) (domain lang : Text) (key : Key) (act : UnitAct) (outcome : UnitOutcome) (content : Text) (row : Record) →
+    request.act ≡ OnUnit domain lang key act → mid ≡ old → Decides (found_for old.office domain lang key request) request act outcome →
+    content ≡ content_text request → row ≡ record { number = request.number; content = content; reply = outcome.reply } →
+    new ≡ record { office = with_write_in mid.office domain lang key outcome.write; book = with_record mid.book row } →
+    ◌≡◌ {A = OfficeWithBook × Reply} (new, outcome.reply) (first_delivered old request)
+unit_act_delivered old mid new request domain lang key act outcome content row is same decides text made commits =
+    recorded_unit_act old old new request domain lang key act (found_for old.office domain lang key request) (written_at (project_in old.office domain) lang key outcome.write) outcome.reply outcome.reply content
+    is refl refl (act_decided (project_in old.office domain) lang key request.caller (outcome_of (found_for old.office domain lang key request) request.caller request.number act) outcome decides) refl text
+    (commits ∙ (λ i. record { office = with_write_in (same i).office domain lang key outcome.write; book = with_record (same i).book (made i) }))
 
 -- and keeps the rules
-pub unit_act_keeps : (old mid : OfficeWithBook) (request : Request) (domain lang : Text) (key : Key) (act : UnitAct) (found : Option ActContext) (view : Option UnitView) (reply : Reply) (content : Text) (row : Record) →
-    request.act ≡ OnUnit domain lang key act → mid ≡ old → found ≡ found_of (project_in old.office domain) lang key request.caller →
-    record { view = view; reply = reply } ≡ outcome_of found request.caller request.number act →
-    content ≡ content_text request → row ≡ record { number = request.number; content = content; reply = reply } →
+pub unit_act_keeps : (old mid : OfficeWithBook) (request : Request) (domain lang : Text) (key : Key) (act : UnitAct) (outcome : UnitOutcome) (content : Text) (row : Record) →
+    request.act ≡ OnUnit domain lang key act → mid ≡ old → Decides (found_for old.office domain lang key request) request act outcome →
+    content ≡ content_text request → row ≡ record { number = request.number; content = content; reply = outcome.reply } →
     IsRequest request → IsTrue (is_none (maps.get old.book request.number)) → KeepsRules old →
-    KeepsRules (record { office = with_view_in mid.office domain lang key view; book = with_record mid.book row })
-unit_act_keeps old mid request domain lang key act found view reply content row is same answer decides text made given fresh start =
-    subst KeepsRules (sym (ap (λ (p : OfficeWithBook × Reply). p.0) (unit_act_delivered old mid _ request domain lang key act found view reply content row is same answer decides text made refl)))
+    KeepsRules (record { office = with_write_in mid.office domain lang key outcome.write; book = with_record mid.book row })
+unit_act_keeps old mid request domain lang key act outcome content row is same decides text made given fresh start =
+    subst KeepsRules (sym (ap (λ (p : OfficeWithBook × Reply). p.0) (unit_act_delivered old mid _ request domain lang key act outcome content row is same decides text made refl)))
     (first_keeps old request given fresh start)
 
--- the entry of a view that an act makes is that of the view before it
-step_shows : (entry : Option Entry) (view : UnitView) → view.source ≡ entry → (policy : Policy) (rule : Rule) (role : Role) (caller number : Text) (act : UnitAct) →
-    IfSome (outcome_of_decision (unit_step policy rule role caller number view act)).view (λ v. v.source ≡ entry)
-unfolding unit_step
-step_shows entry view is policy rule role caller number act = by (first_refusal (refusals policy rule role caller number view act))
-  where
-    by : (o : Option Refusal) → IfSome (outcome_of_decision (option_map_or Refused o (Done (record view { unit = unit_after policy rule caller number view act.action })
-        (values_of policy caller number view (unit_after policy rule caller number view act.action) act.action)))).view (λ v. v.source ≡ entry)
-    by None = is
-    by (Some refusal) = tt
-
-module _ (project : Project) (lang : Text) (key : Key) (caller number : Text) (act : UnitAct) where
-  abbrev seen : Unit → UnitView
-  seen unit = record { unit = unit; source = entry_of project.template key }
-
-  abbrev found_at : Option Unit → ActContext
-  found_at o = record { rule = rule_at project lang; policy = project.policy; role = role_of project caller; view = option_map seen o }
-
-  abbrev Shows : Option ActContext → Type 0
-  Shows found = IfSome (outcome_of found caller number act).view (λ v. v.source ≡ entry_of project.template key)
-
-  unit_shows : (o : Option Unit) → Shows (Some (found_at o))
-  unit_shows None = tt
-  unit_shows (Some unit) = step_shows (entry_of project.template key) (seen unit) refl project.policy (rule_at project lang) (role_of project caller) caller number act
-
-  found_shows : (o : Option Entry) → Shows (option_map (λ header. found_at (maps.get project.units (lang, key))) o)
-  found_shows None = tt
-  found_shows (Some header) = unit_shows (maps.get project.units (lang, key))
-
--- a view that an act makes is shown with the template's entry of its key
-pub unit_act_shows : (old mid : OfficeWithBook) (request : Request) (domain lang : Text) (key : Key) (act : UnitAct) (view : Option UnitView) (reply : Reply) → mid ≡ old →
-    record { view = view; reply = reply } ≡ outcome_of (found_of (project_in old.office domain) lang key request.caller) request.caller request.number act →
-    IfSome view (λ v. v.source ≡ entry_of (project_in mid.office domain).template key)
-unit_act_shows old mid request domain lang key act view reply same decides =
-    subst (λ (m : OfficeWithBook). IfSome view (λ v. v.source ≡ entry_of (project_in m.office domain).template key)) (sym same)
-    (subst (λ (o : Option UnitView). IfSome o (λ v. v.source ≡ entry_of (project_in old.office domain).template key)) (sym (ap (λ (o : Outcome). o.view) decides))
-    (found_shows (project_in old.office domain) lang key request.caller request.number act (maps.get (project_in old.office domain).headers lang)))
+-- and what is written is of the unit that is there
+pub unit_act_possible : (old mid : OfficeWithBook) (request : Request) (domain lang : Text) (key : Key) (act : UnitAct) (outcome : UnitOutcome) → mid ≡ old →
+    Decides (found_for old.office domain lang key request) request act outcome → IsPossibleWrite (project_in mid.office domain) lang key outcome.write
+unit_act_possible old mid request domain lang key act outcome same decides =
+    subst (λ (m : OfficeWithBook). IsPossibleWrite (project_in m.office domain) lang key outcome.write) (sym same)
+    (act_possible (project_in old.office domain) lang key request.caller (outcome_of (found_for old.office domain lang key request) request.caller request.number act) outcome decides)
 
 -- ---- an act on the office
 

@@ -1,4 +1,5 @@
 pub mod Committed
+pub mod UnitReads
 pub mod RoleAsked
 pub mod Stopped
 pub mod Ran

@@ -5,3 +5,4 @@ pub mod Faults
 pub mod Exports
 pub mod Exchanges
 pub mod Writers
+pub mod UnitReads

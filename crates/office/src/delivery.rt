@@ -1,33 +1,38 @@
 //! One delivery over any tables: a look into the book, and for a new number the decision and its commit.
-ghost use Rattle.std.specs.Prelude.{◌≡◌, if◌then◌else◌, false, IfOk, IfSome, OnOk, OnErr, IsTrue, is_none, option_map};
+ghost use Rattle.std.specs.Prelude.{◌≡◌, if◌then◌else◌, true, false, Some, IfOk, IfSome, OnOk, OnErr, IsTrue, is_none, option_map};
 ghost use Rattle.std.specs.FinMap as maps;
 ghost use Rattle.po_text.specs.Texts.{text_eq};
 ghost use Rattle.replies.specs.Bodies.{number_used};
 ghost use Rattle.units.specs.Office.{project_in};
-ghost use Rattle.units.specs.Project.{entry_of};
 ghost use Rattle.request_book.specs.Acts.{IsRequest, content_text};
 ghost use Rattle.request_book.specs.Book.{with_record};
 ghost use Rattle.request_book.specs.Clash.{is_unit_act};
 ghost use Rattle.request_book.specs.declared.act.Act.TheVariants.{OnUnit};
+ghost use Rattle.review.specs.UnitStep.{is_vote, named_by};
+ghost use Rattle.review.specs.Parts.{is_suggest};
 ghost use Rattle.deliveries.specs.Deliveries.{reply_from, first_delivered};
 ghost use Rattle.deliveries.specs.Step.{step};
-ghost use Rattle.deliveries.specs.UnitAccess.{found_of, with_view_in};
-ghost use Rattle.deliveries.specs.UnitOutcomes.{outcome_of};
+ghost use Rattle.deliveries.specs.UnitAccess.{without_suggestions, with_write_in, IsPossibleWrite};
 ghost use Rattle.deliveries.specs.OfficeChanges.{changed_by, IsPossibleChange};
 ghost use Rattle.deliveries.specs.OfficeRules.{KeepsRules};
+ghost use Rattle.office.specs.UnitReads.{found_for, Decides};
 ghost use Rattle.outcomes.specs.Settled.{IsSettled};
 ghost use Rattle.request_book.specs.Contents.{IsContent};
 ghost use Rattle.tables.specs.Stops.{Nothing};
 ghost use Rattle.tables.specs.Kept.{IsKept};
 ghost use Rattle.tables.specs.declared.faults.Lost.TheVariants.{Disk};
 
-use deliveries::{Change, Outcome};
-use outcomes::{OfficeOutcome, office_outcome, unit_outcome, used};
+use deliveries::{ActContext, Change, UnitOutcome, UnitWrite};
+use outcomes::{
+    OfficeOutcome, office_outcome, row_outcome, suggested_outcome, used, voted_outcome,
+    whole_outcome,
+};
 use po_text::{Duplicate, Text};
 use request_book::{Act, Class, Record, Reply, Request, classify};
 use std::alloc::{AllocError, Global};
 use tables::{Lost, Tables};
-use units::{Key, Lang, Name, Refusal, Role, UnitAct, UnitView};
+use units::{Key, Lang, Name, Refusal, Role, UnitAct, UnitAction};
+use uuid::Uuid;
 
 /// The reply to a request with this content, by what is recorded under its number, if anything is.
 fn reply_by(
@@ -79,7 +84,129 @@ fn record_with(request: &Request, content: Text, reply: &Reply) -> Option<Record
     }
 }
 
-/// What an act on a unit comes to, by what the tables hold of it.
+/// What a suggestion comes to, by what was found without the unit's suggestions: these are read without the votes on them.
+fn decide_suggestion<T: Tables>(
+    alloc: Global,
+    tables: &mut T,
+    request: &Request,
+    domain: &Name,
+    lang: &Lang,
+    key: &Key,
+    act: &UnitAct,
+    found: Option<ActContext>,
+) -> Result<UnitOutcome, Lost>
+    requires suggest { is_suggest act.now.action ≡ true }
+    requires found { T.is_honest tables.old → found ≡ without_suggestions (found_for (T.means tables.old).office domain.now lang.now key.now request.now) }
+    ensures answer { T.is_honest tables.new → IfOk result (Decides (found_for (T.means tables.old).office domain.now lang.now key.now request.now) request.now act.now) }
+    ensures same { T.is_honest tables.new → T.is_whole tables.new → T.means tables.new ≡ T.means tables.old }
+    ensures kept { IsKept T.is_honest T.is_whole T.means T.may_leave T.is_stopped tables.old tables.new result Disk Nothing }
+{
+    let suggestions = tables.suggestions_of(domain, lang, key)?;
+    let outcome = suggested_outcome(alloc, found, suggestions, request, act);
+    Ok(outcome?)
+}
+
+/// What a vote comes to, by what was found without the unit's suggestions: the one that it is on is read with the votes on it. None
+/// where the suggestion is accepted by the vote.
+fn decide_vote<T: Tables>(
+    alloc: Global,
+    tables: &mut T,
+    request: &Request,
+    domain: &Name,
+    lang: &Lang,
+    key: &Key,
+    act: &UnitAct,
+    named: &Uuid,
+    found: Option<ActContext>,
+) -> Result<Option<UnitOutcome>, Lost>
+    requires vote { is_vote act.now.action ≡ true }
+    requires named { named_by act.now.action ≡ Some named.now }
+    requires found { T.is_honest tables.old → found ≡ without_suggestions (found_for (T.means tables.old).office domain.now lang.now key.now request.now) }
+    ensures answer { T.is_honest tables.new → IfOk result (λ outcome. IfSome outcome (Decides (found_for (T.means tables.old).office domain.now lang.now key.now request.now) request.now act.now)) }
+    ensures same { T.is_honest tables.new → T.is_whole tables.new → T.means tables.new ≡ T.means tables.old }
+    ensures kept { IsKept T.is_honest T.is_whole T.means T.may_leave T.is_stopped tables.old tables.new result Disk Nothing }
+{
+    let suggestion = tables.suggestion_of(domain, lang, key, named)?;
+    let outcome = voted_outcome(alloc, found, suggestion, request, act);
+    Ok(outcome?)
+}
+
+/// What an act comes to that needs the whole unit.
+fn decide_whole<T: Tables>(
+    alloc: Global,
+    tables: &mut T,
+    request: &Request,
+    domain: &Name,
+    lang: &Lang,
+    key: &Key,
+    act: &UnitAct,
+) -> Result<UnitOutcome, Lost>
+    ensures answer { T.is_honest tables.new → IfOk result (Decides (found_for (T.means tables.old).office domain.now lang.now key.now request.now) request.now act.now) }
+    ensures same { T.is_honest tables.new → T.is_whole tables.new → T.means tables.new ≡ T.means tables.old }
+    ensures kept { IsKept T.is_honest T.is_whole T.means T.may_leave T.is_stopped tables.old tables.new result Disk Nothing }
+{
+    let found = tables.view_of(domain, lang, key, &request.caller)?;
+    let outcome = whole_outcome(alloc, found, request, act);
+    Ok(outcome?)
+}
+
+/// What a vote comes to: only where its suggestion is accepted by it, the whole unit is read.
+fn decide_vote_or_acceptance<T: Tables>(
+    alloc: Global,
+    tables: &mut T,
+    request: &Request,
+    domain: &Name,
+    lang: &Lang,
+    key: &Key,
+    act: &UnitAct,
+    named: &Uuid,
+    found: Option<ActContext>,
+) -> Result<UnitOutcome, Lost>
+    requires vote { is_vote act.now.action ≡ true }
+    requires named { named_by act.now.action ≡ Some named.now }
+    requires found { T.is_honest tables.old → found ≡ without_suggestions (found_for (T.means tables.old).office domain.now lang.now key.now request.now) }
+    ensures answer { T.is_honest tables.new → IfOk result (Decides (found_for (T.means tables.old).office domain.now lang.now key.now request.now) request.now act.now) }
+    ensures same { T.is_honest tables.new → T.is_whole tables.new → T.means tables.new ≡ T.means tables.old }
+    ensures kept { IsKept T.is_honest T.is_whole T.means T.may_leave T.is_stopped tables.old tables.new result Disk Nothing }
+{
+    match decide_vote(alloc, tables, request, domain, lang, key, act, named, found)? {
+        Some(outcome) => Ok(outcome),
+        None => decide_whole(alloc, tables, request, domain, lang, key, act),
+    }
+}
+
+/// What an act comes to that can't be decided without suggestions of its unit: what it needs of them is read.
+fn decide_with_suggestions<T: Tables>(
+    alloc: Global,
+    tables: &mut T,
+    request: &Request,
+    domain: &Name,
+    lang: &Lang,
+    key: &Key,
+    act: &UnitAct,
+    found: Option<ActContext>,
+) -> Result<UnitOutcome, Lost>
+    requires found { T.is_honest tables.old → found ≡ without_suggestions (found_for (T.means tables.old).office domain.now lang.now key.now request.now) }
+    ensures answer { T.is_honest tables.new → IfOk result (Decides (found_for (T.means tables.old).office domain.now lang.now key.now request.now) request.now act.now) }
+    ensures same { T.is_honest tables.new → T.is_whole tables.new → T.means tables.new ≡ T.means tables.old }
+    ensures kept { IsKept T.is_honest T.is_whole T.means T.may_leave T.is_stopped tables.old tables.new result Disk Nothing }
+{
+    match &act.action {
+        UnitAction::Suggest(_) => {
+            decide_suggestion(alloc, tables, request, domain, lang, key, act, found)
+        }
+        UnitAction::Vote(named, _) => {
+            decide_vote_or_acceptance(alloc, tables, request, domain, lang, key, act, named, found)
+        }
+        _ => {
+            drop(found);
+            decide_whole(alloc, tables, request, domain, lang, key, act)
+        }
+    }
+}
+
+/// What an act on a unit comes to, by what the tables hold of it. The unit is read without its suggestions first: who is refused for
+/// any other reason, and who acts on the unit's own values, costs no reading of them.
 fn read_and_decide<T: Tables>(
     alloc: Global,
     tables: &mut T,
@@ -88,44 +215,47 @@ fn read_and_decide<T: Tables>(
     lang: &Lang,
     key: &Key,
     act: &UnitAct,
-) -> Result<Outcome, Lost>
-    ensures answer { T.is_honest tables.new → IfOk result (λ outcome. outcome
-        ≡ outcome_of (found_of (project_in (T.means tables.old).office domain.now) lang.now key.now request.now.caller) request.now.caller request.now.number act.now) }
+) -> Result<UnitOutcome, Lost>
+    ensures answer { T.is_honest tables.new → IfOk result (Decides (found_for (T.means tables.old).office domain.now lang.now key.now request.now) request.now act.now) }
     ensures same { T.is_honest tables.new → T.is_whole tables.new → T.means tables.new ≡ T.means tables.old }
     ensures kept { IsKept T.is_honest T.is_whole T.means T.may_leave T.is_stopped tables.old tables.new result Disk Nothing }
 {
-    let found = tables.view_of(domain, lang, key, &request.caller)?;
-    let outcome = unit_outcome(alloc, found, request, act);
-    Ok(outcome?)
+    let found = tables.unit_of(domain, lang, key, &request.caller)?;
+    match row_outcome(alloc, &found, request, act)? {
+        Some(outcome) => {
+            drop(found);
+            Ok(outcome)
+        }
+        None => decide_with_suggestions(alloc, tables, request, domain, lang, key, act, found),
+    }
 }
 
-/// Commits an act on a unit, and hands on its reply, which is made: nothing here takes memory.
+/// Commits an act on a unit, and hands on its reply, which is made before: what is committed is answered.
 fn commit_unit_act<T: Tables>(
     tables: &mut T,
     row: Record,
     domain: &Name,
     lang: &Lang,
     key: &Key,
-    view: Option<UnitView>,
+    write: Option<UnitWrite>,
     reply: Reply,
 ) -> Result<Reply, Lost>
     requires new { T.is_honest tables.old → IsTrue (is_none (maps.get (T.means tables.old).book row.number)) }
     requires content { IsContent row.content }
-    requires entry { T.is_honest tables.old → IfSome view (λ v. v.source ≡ entry_of (project_in (T.means tables.old).office domain.now).template key.now) }
-    requires rules { T.is_honest tables.old → KeepsRules (record { office = with_view_in (T.means tables.old).office domain.now lang.now key.now view; book = with_record (T.means tables.old).book row }) }
+    requires possible { T.is_honest tables.old → IsPossibleWrite (project_in (T.means tables.old).office domain.now) lang.now key.now write }
+    requires rules { T.is_honest tables.old → KeepsRules (record { office = with_write_in (T.means tables.old).office domain.now lang.now key.now write; book = with_record (T.means tables.old).book row }) }
     ensures handed_on { IfOk result (λ r. r ≡ reply) }
     ensures done { T.is_honest tables.new → OnOk result
-        (T.means tables.new ≡ record { office = with_view_in (T.means tables.old).office domain.now lang.now key.now view; book = with_record (T.means tables.old).book row }) }
+        (T.means tables.new ≡ record { office = with_write_in (T.means tables.old).office domain.now lang.now key.now write; book = with_record (T.means tables.old).book row }) }
     ensures same { T.is_honest tables.new → T.is_whole tables.new → OnErr result (T.means tables.new ≡ T.means tables.old) }
     ensures kept { IsKept T.is_honest T.is_whole T.means T.may_leave T.is_stopped tables.old tables.new result Disk
-        (λ m. m ≡ record { office = with_view_in (T.means tables.old).office domain.now lang.now key.now view; book = with_record (T.means tables.old).book row }) }
+        (λ m. m ≡ record { office = with_write_in (T.means tables.old).office domain.now lang.now key.now write; book = with_record (T.means tables.old).book row }) }
 {
-    tables.commit_unit(row, domain, lang, key, view)?;
+    tables.commit_unit(row, domain, lang, key, write)?;
     Ok(reply)
 }
 
-/// Decides and commits an act on a unit whose number is new. Reply and record are made before the commit: nothing after it takes
-/// memory.
+/// Decides and commits an act on a unit whose number is new. Reply and record are made before the commit: nothing after it fails.
 fn deliver_unit_act<T: Tables>(
     alloc: Global,
     tables: &mut T,
@@ -146,16 +276,18 @@ fn deliver_unit_act<T: Tables>(
     ensures kept { IsKept T.is_honest T.is_whole T.means T.may_leave T.is_stopped tables.old tables.new result Disk
         (λ m. m ≡ (first_delivered (T.means tables.old) request.now).0) }
 {
-    let Outcome { view, reply } = read_and_decide(alloc, tables, request, domain, lang, key, act)?;
+    let UnitOutcome { write, reply } = read_and_decide(
+        alloc, tables, request, domain, lang, key, act,
+    )?;
     let row = match record_with(request, content, &reply) {
         Some(row) => row,
         None => {
-            drop(view);
+            drop(write);
             drop(reply);
             return Err(Lost::Memory);
         }
     };
-    commit_unit_act(tables, row, domain, lang, key, view, reply)
+    commit_unit_act(tables, row, domain, lang, key, write, reply)
 }
 
 /// What an act on the office comes to, over the office that is read for it.
@@ -195,7 +327,7 @@ fn ask_role_and_decide<T: Tables>(
     read_office_and_decide(alloc, tables, request)
 }
 
-/// Commits an act on the office, and hands on its reply, which is made: nothing here takes memory.
+/// Commits an act on the office, and hands on its reply, which is made before: what is committed is answered.
 fn commit_office_act<T: Tables>(
     tables: &mut T,
     row: Record,
@@ -217,8 +349,7 @@ fn commit_office_act<T: Tables>(
     Ok(reply)
 }
 
-/// Decides and commits an act on the office whose number is new. Reply and record are made before the commit: nothing after it
-/// takes memory.
+/// Decides and commits an act on the office whose number is new. Reply and record are made before the commit: nothing after it fails.
 fn deliver_office_act<T: Tables>(
     alloc: Global,
     tables: &mut T,

@@ -95,10 +95,10 @@ fn counts_of<T: Tables>(
 
 impl<T: Tables> Desk<T> {
     /// A domain's unit as callers see it, as compact JSON (RFC 8259): its key, forms, comment and suggestions, its state, and what the checks
-    /// find in its forms. The tables mean what they meant.
+    /// find in its forms. The tables mean what they meant, unless a failure has shut them.
     ///
-    /// `NoLanguage` where the domain or its language isn't there, and `NoUnit` where the language is there without the unit; `Memory` where a growth
-    /// was refused, and `Disk` where the disk failed, after which the desk answers `Disk` until the tables are opened again.
+    /// `NoLanguage` only where the domain or its language isn't there, and `NoUnit` only where the language is there without the unit; `Memory`, as
+    /// where a growth was refused, and `Disk`, as where the disk failed, after which the desk answers `Disk` until the tables are opened again.
     pub fn unit(&mut self, domain: &Name, lang: &Lang, key: &Key) -> Result<String, QueryFault>
         ensures ok { T.is_honest self.new → IfOk result
             (λ text. unit_text_at (project_in (T.means self.old).office domain.now) lang.now key.now ≡ Some (string_bytes text)) }
@@ -108,17 +108,17 @@ impl<T: Tables> Desk<T> {
         // What isn't there is told by tables that aren't shut.
         ensures open_still { T.is_honest self.new → (result ≡ Err NoLanguage) ⊎ (result ≡ Err NoUnit) → T.is_whole self.new }
         ensures same { T.is_honest self.new → T.is_whole self.new → T.means self.new ≡ T.means self.old }
-        // Nothing is written, and only a failed disk answers `Disk`.
+        // Nothing is written, and the tables are stopped just where `Disk` is answered.
         ensures kept { IsKept T.is_honest T.is_whole T.means T.may_leave T.is_stopped self.old self.new result Disk Nothing }
     {
         unit_of(self.alloc, &mut self.tables, domain, lang, key)
     }
 
     /// The counts of a domain's language as compact JSON (RFC 8259): how many of its units callers see in each state, how many are obsolete, and how
-    /// many suggestions there are. The tables mean what they meant.
+    /// many suggestions there are. The tables mean what they meant, unless a failure has shut them.
     ///
-    /// `NoLanguage` where the domain or its language isn't there; `Memory` where a growth was refused, and `Disk` where the disk failed, after which
-    /// the desk answers `Disk` until the tables are opened again.
+    /// `NoLanguage` only where the domain or its language isn't there; `Memory`, as where a growth was refused, and `Disk`, as where the disk failed,
+    /// after which the desk answers `Disk` until the tables are opened again.
     pub fn stats(&mut self, domain: &Name, lang: &Lang) -> Result<String, QueryFault>
         ensures ok { T.is_honest self.new → IfOk result
             (λ text. counts_text_at (project_in (T.means self.old).office domain.now) lang.now ≡ Some (string_bytes text)) }
@@ -127,7 +127,7 @@ impl<T: Tables> Desk<T> {
         // What isn't there is told by tables that aren't shut.
         ensures open_still { T.is_honest self.new → result ≡ Err NoLanguage → T.is_whole self.new }
         ensures same { T.is_honest self.new → T.is_whole self.new → T.means self.new ≡ T.means self.old }
-        // Nothing is written, and only a failed disk answers `Disk`.
+        // Nothing is written, and the tables are stopped just where `Disk` is answered.
         ensures kept { IsKept T.is_honest T.is_whole T.means T.may_leave T.is_stopped self.old self.new result Disk Nothing }
     {
         counts_of(self.alloc, &mut self.tables, domain, lang)

@@ -1,23 +1,24 @@
 -- What is found for a unit act, from the header of its language.
-use Rattle.std.proofs.Common.{◌≡◌, Option, Some, None, sym, ap, ◌∙◌}
+use Rattle.std.proofs.Common.{◌≡◌, Option, Some, None, refl, sym, ap, ◌∙◌}
 use Rattle.std.specs.Prelude.{option_map}
 use Rattle.std.specs.FinMap as maps
 use Rattle.po_text.specs.Texts.{Text}
 use Rattle.po_text.specs.declared.entry.Entry.{Entry}
 use Rattle.plural_expr.specs.Trees as trees
 use Rattle.plural_expr.specs.Values.{Rule}
-use Rattle.units.specs.Project.{Project, role_of, view_of}
+use Rattle.units.specs.Project.{Project, role_of}
 use Rattle.units.specs.Rules.{rule_at, rule_in, by_result}
-use Rattle.units.specs.declared.unit.Key.{Key}
 use Rattle.units.specs.declared.unit.Role.{Role}
 use Rattle.units.specs.declared.unit.UnitView.{UnitView}
-use Rattle.deliveries.specs.UnitAccess.{found_of}
+use Rattle.review.specs.Parts.{bare}
+use Rattle.deliveries.specs.UnitAccess.{without_suggestions}
 use Rattle.deliveries.specs.declared.values.ActContext.{ActContext}
 use Rattle.deliveries.specs.declared.values.Language.{Language}
+use Rattle.office_maps.specs.Found.{found_with}
 
-abbrev found_by : Project → Text → Key → Text → Option Entry → Option ActContext
-found_by project lang key name header =
-    option_map (λ h. record { rule = rule_at project lang; policy = project.policy; role = role_of project name; view = view_of project (lang, key) }) header
+abbrev found_by : Project → Text → Text → Option UnitView → Option Entry → Option ActContext
+found_by project lang name view header =
+    option_map (λ h. record { rule = rule_at project lang; policy = project.policy; role = role_of project name; view = view }) header
 
 -- a language's rule is the one of its header
 pub rule_there : (project : Project) (lang : Text) (language : Language) → Some language.header ≡ maps.get project.headers lang → language.rule ≡ rule_at project lang
@@ -26,12 +27,20 @@ rule_there project lang language e =
     sym (ap (λ header. by_result (λ fault. record { count = 1; tree = trees.number 0 }) (λ rule. rule) (rule_in header)) (sym e)
     ∙ ap (by_result (λ fault. record { count = 1; tree = trees.number 0 }) (λ rule. rule)) language.ruled)
 
-pub found_there : (project : Project) (lang : Text) (key : Key) (name : Text) (language : Language) → Some language.header ≡ maps.get project.headers lang →
-    (rule : Rule) (role : Role) (view : Option UnitView) → rule ≡ language.rule → role ≡ role_of project name → view ≡ view_of project (lang, key) →
-    ◌≡◌ {A = Option ActContext} (Some (record { rule = rule; policy = project.policy; role = role; view = view })) (found_of project lang key name)
-found_there project lang key name language e rule role view rule_is role_is view_is =
-    (λ i. Some (record { rule = (rule_is ∙ rule_there project lang language e) i; policy = project.policy; role = role_is i; view = view_is i }))
-    ∙ ap (found_by project lang key name) e
+pub found_there : (project : Project) (lang name : Text) (view : Option UnitView) (language : Language) → Some language.header ≡ maps.get project.headers lang →
+    (rule : Rule) (role : Role) → rule ≡ language.rule → role ≡ role_of project name →
+    ◌≡◌ {A = Option ActContext} (Some (record { rule = rule; policy = project.policy; role = role; view = view })) (found_with project lang name view)
+found_there project lang name view language e rule role rule_is role_is =
+    (λ i. Some (record { rule = (rule_is ∙ rule_there project lang language e) i; policy = project.policy; role = role_is i; view = view }))
+    ∙ ap (found_by project lang name view) e
 
-pub nothing_found : (project : Project) (lang : Text) (key : Key) (name : Text) → None ≡ maps.get project.headers lang → None ≡ found_of project lang key name
-nothing_found project lang key name e = ap (found_by project lang key name) e
+pub nothing_found : (project : Project) (lang name : Text) (view : Option UnitView) → None ≡ maps.get project.headers lang → None ≡ found_with project lang name view
+nothing_found project lang name view e = ap (found_by project lang name view) e
+
+-- what is found with the unit's view, and with the view without its suggestions
+pub bare_found : (project : Project) (lang name : Text) (view : Option UnitView) → found_with project lang name (option_map bare view) ≡ without_suggestions (found_with project lang name view)
+bare_found project lang name view = by (maps.get project.headers lang)
+  where
+    by : (o : Option Entry) → found_by project lang name (option_map bare view) o ≡ without_suggestions (found_by project lang name view o)
+    by None = refl
+    by (Some header) = refl

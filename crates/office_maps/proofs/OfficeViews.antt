@@ -8,14 +8,13 @@ use Rattle.units.specs.Project.{Place as OfficePlace, place_cmp, role_in, role_o
 use Rattle.units.specs.declared.unit.Role.{Role}
 use Rattle.units.specs.declared.unit.Role.TheVariants.{Guest}
 use Rattle.units.specs.declared.unit.Unit.{Unit}
-use Rattle.units.specs.declared.unit.Key.{Key}
 use Rattle.units.specs.declared.unit.UnitView.{UnitView}
 use Rattle.units.specs.Orders.{text_total, place_total}
 use Rattle.plural_expr.specs.Values.{Rule}
 use Rattle.deliveries.specs.declared.values.ActContext.{ActContext}
-use Rattle.deliveries.specs.UnitAccess.{found_of}
 use Rattle.office_maps.specs.declared.project_maps.ProjectMaps.{ProjectMaps}
 use Rattle.deliveries.specs.declared.values.Language.{Language}
+use Rattle.office_maps.specs.Found.{found_with}
 use Rattle.office_maps.specs.OfficeIn.{lent_project, place_of}
 use Rattle.office_maps.specs.Rows.{team_in}
 use Rattle.office_maps.proofs.Views.{get-viewed}
@@ -41,12 +40,11 @@ pub view_at : (t : ProjectMaps) (place : OfficePlace) (found : Option Unit) → 
     → option_map (λ unit. record { unit = unit; source = entry_of t.domain.now.template.catalogue place.1 }) found ≡ view_of (lent_project t) place
 view_at t place found e = ap (option_map (λ unit. record { unit = unit; source = entry_of t.domain.now.template.catalogue place.1 })) (e ∙ sym (unit_at t place))
 
--- a unit put in
 -- what is found where the language is there, and where it isn't
-pub found_there : (t : ProjectMaps) (lang : Text) (key : Key) (name : Text) (language : Language) → Some language ≡ get_by (λ k. text_cmp lang (string_bytes k)) t.domain.now.languages.rows
-    → (rule : Rule) (role : Role) (view : Option UnitView) → rule ≡ language.rule → role ≡ role_of (lent_project t) name → view ≡ view_of (lent_project t) (lang, key)
-    → ◌≡◌ {A = Option ActContext} (Some (record { rule = rule; policy = t.policy; role = role; view = view })) (found_of (lent_project t) lang key name)
-found_there t lang key name language e = lemmas.found_there (lent_project t) lang key name language (ap (option_map (λ l. l.header)) e ∙ sym (header_at t lang))
+pub found_there : (t : ProjectMaps) (lang name : Text) (view : Option UnitView) (language : Language) → Some language ≡ get_by (λ k. text_cmp lang (string_bytes k)) t.domain.now.languages.rows
+    → (rule : Rule) (role : Role) → rule ≡ language.rule → role ≡ role_of (lent_project t) name
+    → ◌≡◌ {A = Option ActContext} (Some (record { rule = rule; policy = t.policy; role = role; view = view })) (found_with (lent_project t) lang name view)
+found_there t lang name view language e = lemmas.found_there (lent_project t) lang name view language (ap (option_map (λ l. l.header)) e ∙ sym (header_at t lang))
 
-pub nothing_found : (t : ProjectMaps) (lang : Text) (key : Key) (name : Text) → None ≡ get_by (λ k. text_cmp lang (string_bytes k)) t.domain.now.languages.rows → None ≡ found_of (lent_project t) lang key name
-nothing_found t lang key name e = lemmas.nothing_found (lent_project t) lang key name (ap (option_map (λ l. l.header)) e ∙ sym (header_at t lang))
+pub nothing_found : (t : ProjectMaps) (lang name : Text) (view : Option UnitView) → None ≡ get_by (λ k. text_cmp lang (string_bytes k)) t.domain.now.languages.rows → None ≡ found_with (lent_project t) lang name view
+nothing_found t lang name view e = lemmas.nothing_found (lent_project t) lang name view (ap (option_map (λ l. l.header)) e ∙ sym (header_at t lang))

@@ -6,3 +6,4 @@ pub mod Flat
 pub mod Teams
 pub mod Policies
 pub mod Counted
+pub mod ByParts

@@ -231,9 +231,9 @@ refusals_by_act policy rule caller number view action =
     ∷ (nat_lt revision_limit (unit_after policy rule caller number view action).revision, PastLimit)
     ∷ []
 
--- the refusals in their order, each with the test under which it applies
-unfoldable pub refusals : Policy → Rule → Role → Text → Text → UnitView → UnitAct → List (Bool × Refusal)
-refusals policy rule role caller number view act =
+-- the first refusals, which every act has, each with the test under which it applies; none looks at a suggestion
+abbrev pub early_refusals : Policy → Rule → Role → UnitView → UnitAct → List (Bool × Refusal)
+early_refusals policy rule role view act =
     let unit = view.unit in
     let action = act.action in
     (unit.obsolete, NoUnit)
@@ -242,7 +242,12 @@ refusals policy rule role caller number view act =
     ∷ (not (act.seen == unit.revision), IsStale)
     ∷ (edits action && is_approved unit.state && is_below role Reviewer, IsApproved)
     ∷ (option_map_or (λ forms. not (length forms == forms_needed rule unit.plural)) (forms_of action) false, PluralCount)
-    ∷ refusals_by_act policy rule caller number view action
+    ∷ []
+
+-- the refusals in their order
+unfoldable pub refusals : Policy → Rule → Role → Text → Text → UnitView → UnitAct → List (Bool × Refusal)
+refusals policy rule role caller number view act =
+    early_refusals policy rule role view act ++ refusals_by_act policy rule caller number view act.action
 
 -- the first that applies
 abbrev pub first_refusal : List (Bool × Refusal) → Option Refusal

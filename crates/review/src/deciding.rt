@@ -3,7 +3,7 @@ ghost use Rattle.std.specs.Prelude.{◌≡◌, IfOk, List, ℕ};
 ghost use Rattle.review.specs.UnitStep as spec;
 
 use crate::decision::Decision;
-use crate::refusing::first_refusal;
+use crate::refusing::early_refusal;
 use crate::reviewing::{approve, send_back};
 use crate::suggesting::{dismiss, suggest};
 use crate::translating::{accept, comment, translate};
@@ -54,7 +54,7 @@ pub fn decide(
 ) -> Result<Decision, Memory>
     ensures { IfOk result (λ d. d ≡ spec.unit_step policy.now rule.now role caller.now number view.now act.now) }
 {
-    match first_refusal(policy, rule, role, view, act) {
+    match early_refusal(policy, rule, role, view, act) {
         Some(refusal) => Ok(Decision::Refused(refusal)),
         None => decide_by_act(alloc, view, rule, policy, caller, number, &act.action),
     }

@@ -1,8 +1,11 @@
 //! The refusals that every act has, in their order.
-ghost use Rattle.std.specs.Prelude.{◌≡◌, ◌==◌, not, List, ℕ, MatchOption, false, length};
+ghost use Rattle.std.specs.Prelude.{◌≡◌, ◌==◌, not, List, ℕ, IfSome, false, length};
 ghost use Rattle.std.specs.Option.{option_copied, option_map_or};
 ghost use Rattle.units.specs.Units.{forms_needed};
+ghost use Rattle.units.specs.declared.unit.Suggestion.{Suggestion as SuggestionValue};
+ghost use Rattle.review.specs.Parts.{with_these};
 ghost use Rattle.review.specs.UnitStep as spec;
+ghost use Rattle.review.specs.declared.decision.Decision.TheVariants.{Refused};
 
 use plural_expr::PluralForms;
 use po_text::Forms;
@@ -74,19 +77,14 @@ fn has_wrong_count(rule: &PluralForms, view: &UnitView, action: &UnitAction) -> 
 }
 
 /// The first refusal that applies, of those that every act has.
-#[tactic(auto, unfolding(crate::specs::UnitStep::refusals))]
-pub(crate) fn first_refusal(
+fn first_refusal(
     policy: &Policy,
     rule: &PluralForms,
     role: Role,
     view: &UnitView,
     act: &UnitAct,
 ) -> Option<Refusal>
-    ensures { (caller number : List ℕ) →
-        let wanted = spec.first_refusal (spec.refusals policy.now rule.now role caller number view.now act.now) in
-        MatchOption result
-        (wanted ≡ spec.first_refusal (spec.refusals_by_act policy.now rule.now caller number view.now act.now.action))
-        (λ refusal. wanted ≡ Some refusal) }
+    ensures { result ≡ spec.first_refusal (spec.early_refusals policy.now rule.now role view.now act.now) }
 {
     let unit = &view.unit;
     if unit.obsolete {
@@ -108,4 +106,20 @@ pub(crate) fn first_refusal(
         return Some(Refusal::PluralCount);
     }
     None
+}
+
+/// The first refusal that applies, of those that every act has. None of them looks at a suggestion: the act is refused
+/// by it whatever is suggested for the unit.
+pub fn early_refusal(
+    policy: &Policy,
+    rule: &PluralForms,
+    role: Role,
+    view: &UnitView,
+    act: &UnitAct,
+) -> Option<Refusal>
+    ensures first { result ≡ spec.first_refusal (spec.early_refusals policy.now rule.now role view.now act.now) }
+    ensures refuses { IfSome result (λ refusal. (caller number : List ℕ) (suggestions : List SuggestionValue) →
+        spec.unit_step policy.now rule.now role caller number (with_these suggestions view.now) act.now ≡ Refused refusal) }
+{
+    first_refusal(policy, rule, role, view, act)
 }

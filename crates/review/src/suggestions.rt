@@ -14,7 +14,7 @@ use units::{Name, Suggestion, Unit, VoteValue, Votes};
 use uuid::Uuid;
 
 /// The suggestion with a number.
-pub(crate) fn find_suggestion(unit: &Unit, number: Uuid) -> Option<&Suggestion>
+pub fn find_suggestion(unit: &Unit, number: Uuid) -> Option<&Suggestion>
     ensures { option_copied result ≡ suggestion_of number unit.now }
 {
     unit.suggestions
@@ -120,7 +120,9 @@ fn voted(
 }
 
 /// The unit's suggestions, with the caller's vote on the one with this number.
-pub(crate) fn voted_suggestions(
+///
+/// `AllocError` where a growth was refused.
+pub fn voted_suggestions(
     alloc: Global,
     unit: &Unit,
     number: Uuid,

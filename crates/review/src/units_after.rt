@@ -84,11 +84,10 @@ fn put_together(
     }
 }
 
-/// The unit with these suggestions.
-pub(crate) fn with_suggestions(
-    unit: &Unit,
-    suggestions: Items<Suggestion>,
-) -> Result<Unit, AllocError>
+/// A copy of the unit with these suggestions.
+///
+/// `AllocError` where a growth was refused.
+pub fn with_suggestions(unit: &Unit, suggestions: Items<Suggestion>) -> Result<Unit, AllocError>
     ensures { IfOk result (λ u. u ≡ record unit.now { suggestions = suggestions }) }
 {
     let remarks = match remarks_of(unit) {

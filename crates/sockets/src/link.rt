@@ -3,11 +3,12 @@ ghost use Rattle.std.specs.Prelude.{◌≡◌, ◌≤◌, ◌∷◌, [], length,
 ghost use Rattle.client.specs.Talks.{said_behind};
 ghost use Rattle.sockets.specs.Links.{answer_limit};
 
+use crate::waiting::{TimeLimit, read_in_time, write_in_time};
 use client::{Link, LinkFault};
 use std::io::{Read, Write};
 use std::net::{Ipv4Addr, Net, OpenStream, SocketAddr, SocketAddrV4, TcpStream};
 use std::thread;
-use std::time::{Clock, Duration, Instant};
+use std::time::{Clock, Duration};
 
 const ROOM: usize = 16_384;
 
@@ -39,9 +40,11 @@ impl<R: Net + Clock> Link for SocketLink<'_, R> {
         ensures lost { OnErr result (None ≡ said_behind None (record { message = message.now; answer = None } ∷ [])) }
         ensures within { OnOk result (length answer.new.items ≤ answer_limit) }
     {
-        let limit = TimeLimit::new(self.host)?;
+        let Ok(limit) = TimeLimit::new(self.host, Duration::from_secs(EXCHANGE)) else {
+            return Err(LinkFault::NoAnswer);
+        };
         let address = SocketAddr::V4(SocketAddrV4::new(Ipv4Addr::LOCALHOST, self.port));
-        match TcpStream::connect_timeout(self.host, &address, limit.left()?) {
+        match TcpStream::connect_timeout(self.host, &address, Duration::from_secs(WAIT)) {
             Ok(mut stream) => talk(&mut stream, &limit, message, answer),
             Err(_) => Err(LinkFault::NoAnswer),
         }
@@ -49,35 +52,6 @@ impl<R: Net + Clock> Link for SocketLink<'_, R> {
 
     fn pause(&mut self, time: Duration) {
         thread::sleep(self.host, time);
-    }
-}
-
-/// The time that an exchange may take.
-#[derive(Drop)]
-struct TimeLimit<'a, C: Clock> {
-    clock: &'a C,
-    start: Instant,
-}
-
-impl<'a, C: Clock> TimeLimit<'a, C> {
-    /// The time from now on.
-    fn new(clock: &'a C) -> Result<TimeLimit<'a, C>, LinkFault> {
-        match Instant::now(clock) {
-            Ok(start) => Ok(TimeLimit { clock, start }),
-            Err(_) => Err(LinkFault::NoAnswer),
-        }
-    }
-
-    /// How long may be waited now; no answer came where the time is over.
-    fn left(&self) -> Result<Duration, LinkFault> {
-        let Ok(elapsed) = self.start.elapsed(self.clock) else {
-            return Err(LinkFault::NoAnswer);
-        };
-        let left = Duration::from_secs(EXCHANGE).saturating_sub(elapsed);
-        if left.is_zero() {
-            return Err(LinkFault::NoAnswer);
-        }
-        Ok(left.min(Duration::from_secs(WAIT)))
     }
 }
 
@@ -121,11 +95,10 @@ fn send_some<S: Write + OpenStream, C: Clock>(
 ) -> Result<usize, LinkFault>
     ensures most { IfOk result (λ count. count ≤ length bytes.now) }
 {
-    let left = Some(limit.left()?);
-    if stream.set_write_timeout(left).is_err() {
+    let Ok(wait) = limit.part(WAIT) else {
         return Err(LinkFault::NoAnswer);
-    }
-    match stream.write(bytes) {
+    };
+    match write_in_time(stream, &wait, bytes) {
         Ok(count) if count > 0 => Ok(count),
         _ => Err(LinkFault::NoAnswer),
     }
@@ -160,11 +133,10 @@ fn read_some<S: Read + OpenStream, C: Clock>(
     ensures most { IfOk result (λ count. count ≤ length room.old) }
     ensures room { length room.new ≡ length room.old }
 {
-    let left = Some(limit.left()?);
-    if stream.set_read_timeout(left).is_err() {
+    let Ok(wait) = limit.part(WAIT) else {
         return Err(LinkFault::NoAnswer);
-    }
-    match stream.read(room) {
+    };
+    match read_in_time(stream, &wait, room) {
         Ok(count) => Ok(count),
         Err(_) => Err(LinkFault::NoAnswer),
     }

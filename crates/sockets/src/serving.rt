@@ -3,12 +3,13 @@ ghost use Rattle.std.specs.Prelude.{◌≡◌, true, IfOk, IfErr};
 ghost use Rattle.http_api.specs.declared.faults.ServeFault.TheVariants.{Disk};
 ghost use Rattle.sockets.specs.Connections.{ServedSome};
 
+use crate::waiting::{TimeLimit, read_in_time, write_in_time};
 use commands::{Input, Output};
 use http_api::{ServeFault, Served, serve};
 use office::Desk;
 use std::alloc::Global;
-use std::io::{self, BufWriter, Read};
-use std::net::{OpenListener, Shutdown, TcpStream};
+use std::io::{self, BufWriter, Read, Write};
+use std::net::{OpenListener, OpenStream, Shutdown, TcpStream};
 use std::thread;
 use std::time::{Clock, Duration};
 use tables::Tables;
@@ -51,7 +52,7 @@ pub fn serve_next<T: Tables, C: Clock, L: OpenListener<Stream = TcpStream>>(
     ensures stopped { T.is_stopped desk.old ≡ true → T.is_stopped desk.new ≡ true }
 {
     match listener.accept() {
-        Ok((stream, _peer)) => serve_stream(alloc, desk, &stream),
+        Ok((stream, _peer)) => serve_stream(alloc, clock, desk, &stream),
         Err(_) => {
             thread::sleep(clock, Duration::from_secs(REST));
             Err(ServeFault::Read)
@@ -60,8 +61,9 @@ pub fn serve_next<T: Tables, C: Clock, L: OpenListener<Stream = TcpStream>>(
 }
 
 /// Serves a connection to its end.
-fn serve_stream<T: Tables>(
+fn serve_stream<T: Tables, C: Clock>(
     alloc: Global,
+    clock: &C,
     desk: &mut Desk<T>,
     stream: &TcpStream,
 ) -> Result<Served, ServeFault>
@@ -74,44 +76,95 @@ fn serve_stream<T: Tables>(
 {
     // Each answer is handed on when it is whole, so nothing is gained by waiting for more.
     let _ = stream.set_nodelay(true);
-    if limit_waiting(stream).is_err() {
-        return Err(ServeFault::Read);
-    }
-    match BufWriter::new(alloc, stream) {
+    match BufWriter::new(alloc, Patient { stream, clock }) {
         Ok(buffer) => {
+            let mut messages = Input::new(Patient { stream, clock });
             let mut answers = Output::new(buffer);
-            let served = serve(alloc, desk, &mut Input::new(stream), &mut answers);
+            let served = serve(alloc, desk, &mut messages, &mut answers);
             if let Err(ServeFault::Write) = served {
                 // What is held back of the answers isn't waited for.
                 let _ = stream.shutdown(Shutdown::Both);
             }
             drop(answers);
-            take_leave(stream);
+            take_leave(stream, clock);
             served
         }
         Err(_) => Err(ServeFault::Memory),
     }
 }
 
-/// Has each read and each write fail that waits too long.
-fn limit_waiting(stream: &TcpStream) -> io::Result<()> {
-    stream.set_read_timeout(Some(Duration::from_secs(WAIT)))?;
-    stream.set_write_timeout(Some(Duration::from_secs(WRITE_WAIT)))
+/// A side of a connection, whose waits have a limit.
+#[derive(Drop)]
+struct Side<'a>(&'a TcpStream);
+
+impl Read for Side<'_> {
+    fn read(&mut self, room: &mut [u8]) -> io::Result<usize> {
+        self.0.read(room)
+    }
+}
+
+impl Write for Side<'_> {
+    fn write(&mut self, bytes: &[u8]) -> io::Result<usize> {
+        self.0.write(bytes)
+    }
+
+    fn flush(&mut self) -> io::Result<()> {
+        self.0.flush()
+    }
+}
+
+impl OpenStream for Side<'_> {
+    fn set_read_timeout(&self, wait: Option<Duration>) -> io::Result<()> {
+        self.0.set_read_timeout(wait)
+    }
+
+    fn set_write_timeout(&self, wait: Option<Duration>) -> io::Result<()> {
+        self.0.set_write_timeout(wait)
+    }
+}
+
+/// A connection each of whose reads and writes fails that waits too long, and none that a signal interrupts.
+#[derive(Drop)]
+struct Patient<'a, C: Clock> {
+    stream: &'a TcpStream,
+    clock: &'a C,
+}
+
+impl<C: Clock> Read for Patient<'_, C> {
+    fn read(&mut self, room: &mut [u8]) -> io::Result<usize> {
+        let limit = TimeLimit::new(self.clock, Duration::from_secs(WAIT))?;
+        read_in_time(&mut Side(self.stream), &limit, room)
+    }
+}
+
+impl<C: Clock> Write for Patient<'_, C> {
+    fn write(&mut self, bytes: &[u8]) -> io::Result<usize> {
+        let limit = TimeLimit::new(self.clock, Duration::from_secs(WRITE_WAIT))?;
+        write_in_time(&mut Side(self.stream), &limit, bytes)
+    }
+
+    fn flush(&mut self) -> io::Result<()> {
+        Side(self.stream).flush()
+    }
 }
 
 /// Lets the client read its last answer: a connection that is closed while bytes are unread takes the answer away from it (RFC 9112,
 /// 9.6). What still comes is thrown away, up to the client's end, a second of silence, or a bound.
-fn take_leave(stream: &TcpStream) {
-    let wait = Duration::from_secs(LAST_WAIT);
-    if stream.shutdown(Shutdown::Write).is_err() || stream.set_read_timeout(Some(wait)).is_err() {
+fn take_leave<C: Clock>(stream: &TcpStream, clock: &C) {
+    if stream.shutdown(Shutdown::Write).is_err() {
         return;
     }
     let mut room = [0u8; ROOM];
-    let mut rest = stream;
     for _reads in 0..LAST_READS {
-        match rest.read(&mut room) {
+        match read_rest(stream, clock, &mut room) {
             Ok(count) if count > 0 => {}
             _ => return,
         }
     }
+}
+
+/// Reads once of what a client still sends.
+fn read_rest<C: Clock>(stream: &TcpStream, clock: &C, room: &mut [u8]) -> io::Result<usize> {
+    let limit = TimeLimit::new(clock, Duration::from_secs(LAST_WAIT))?;
+    read_in_time(&mut Side(stream), &limit, room)
 }

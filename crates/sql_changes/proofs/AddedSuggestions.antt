@@ -13,7 +13,7 @@ use Rattle.sql_schema.specs.Keys.{first_text, first_texts}
 use Rattle.sql_meaning.specs.Written.{PutsRows, PutsSuggestions, WritesUnit}
 use Rattle.sql_meaning.proofs.Suggestions.{AreFree}
 use Rattle.sql_meaning.proofs.UnitsWritten.{IsWritable}
-use Rattle.sql_meaning.proofs.WrittenRows.{AreNumbers, HaveOwnNumbers}
+use Rattle.sql_meaning.proofs.WrittenRows.{HaveOwnNumbers}
 use Rattle.sql_changes.specs.UnitWrites.{AddsSuggestions, WritesNumberedUnit}
 use Rattle.sql_schema.proofs.Layouts.{names_differ}
 use Rattle.sql_schema.specs.Layouts.{NamedRows}
@@ -25,9 +25,6 @@ adds_put lang key place (s ∷ more) old new (mid, (after, added, votes), rest) 
 
 pub unit_written : (lang : Text) (unit : Unit) (old new : NamedRows) → WritesNumberedUnit lang unit old new → WritesUnit lang unit old new
 unit_written lang unit old new (mid, put, (cleared, clear, adds)) = (mid, put, (cleared, clear, adds_put lang (key_text unit.key) 0 unit.suggestions cleared new adds.0))
-
-pub unit_numbers : (lang : Text) (unit : Unit) (old new : NamedRows) → WritesNumberedUnit lang unit old new → AreNumbers unit.suggestions
-unit_numbers lang unit old new (mid, put, (cleared, clear, adds)) = adds.1
 
 -- ---- their numbers
 

@@ -1,8 +1,7 @@
 -- What commits on tables by domains make of the office with its book: of each domain that is there what they make of an office of it alone.
 use Rattle.std.specs.Prelude.{⊤}
-use Rattle.std.proofs.Common.{◌≡◌, ◌≢◌, List, Bool, true, false, Some, inl, refl, sym, ap, subst, ◌∙◌, codes}
+use Rattle.std.proofs.Common.{◌≡◌, ◌≢◌, List, Bool, true, false, Option, Some, None, inl, refl, sym, ap, subst, ◌∙◌, codes}
 use Rattle.std.specs.Prelude.{IsTrue}
-use Rattle.std.specs.FinMap as maps
 use Rattle.sqlite.specs.Effect.{Database}
 use Rattle.sqlite.specs.Order.{Row}
 use Rattle.sql_laws.specs.RowMaps.{IsPut}
@@ -21,13 +20,13 @@ use Rattle.request_book.specs.declared.book.Record.{Record}
 use Rattle.deliveries.specs.MainAlone.{main_alone}
 use Rattle.deliveries.specs.OfficeChanges.{IsPossibleIn, changed_project, changed}
 use Rattle.deliveries.specs.OfficeRules.{KeepsRules}
-use Rattle.deliveries.specs.UnitAccess.{with_view, with_view_in}
+use Rattle.deliveries.specs.UnitAccess.{with_view, written_at, IsPossibleWrite, with_write_in}
 use Rattle.deliveries.specs.declared.values.Change.TheVariants.{InDomain}
 use Rattle.deliveries.specs.declared.values.DomainChange.{DomainChange}
 use Rattle.deliveries.specs.declared.values.DomainChange.TheVariants.{NewLanguage, NewTemplate}
+use Rattle.deliveries.specs.declared.values.UnitWrite.{UnitWrite}
 use Rattle.deliveries.proofs.domains.InDomains.{nothing_put}
 use Rattle.deliveries.proofs.domains.MainAlone.{policy-main}
-use Rattle.sql_columns.specs.Written.{ArePrevious}
 use Rattle.sql_schema.specs.Inside.{AreOfficeTablesOf, Then}
 use Rattle.sql_schema.specs.Keys.{first_text}
 use Rattle.sql_schema.specs.Layouts.{by_domain, NamedRows, rows_named}
@@ -44,13 +43,14 @@ use Rattle.sql_meaning.proofs.OfficeOfDomains.{not_same_domain, AreOf, are_of, d
 use Rattle.sql_meaning.proofs.OneDomainRules.{rules_of_one, rules_of_put}
 use Rattle.sql_changes.specs.Commits.{PutsNumberedRecord, WritesRecordAndUnit, MakesRole, MakesPolicy, MakesDomainChange, PutsRecordAlone, MakesThere, MakesIn}
 use Rattle.sql_changes.specs.OnDomains.{OnDomainsWhere, OnEach, OnDomainElse}
+use Rattle.sql_changes.specs.UnitWrites.{ArePreviousIn}
 use Rattle.sql_changes.proofs.DomainWrites.{domain_elsewhere, its_made, others_made}
 use Rattle.sql_changes.proofs.LanguageCommits.{commits_language}
 use Rattle.sql_changes.proofs.PolicyCommits.{commits_policy}
 use Rattle.sql_changes.proofs.StayingUnits.{PlansFollow}
 use Rattle.sql_changes.proofs.RoleCommits.{commits_role}
 use Rattle.sql_changes.proofs.TemplateCommits.{commits_template}
-use Rattle.sql_changes.proofs.UnitCommits.{commits_view}
+use Rattle.sql_changes.proofs.UnitCommits.{commits_write}
 use Rattle.sql_changes.proofs.Units.{has_next}
 
 -- ---- what the domains keep of the rules
@@ -71,6 +71,11 @@ module _ (db : Database) (ready : AreOfficeTablesOf by_domain db) (kept : KeepsR
       by : (there : Bool) → is_domain (rows_named db) domain ≡ there → HaveNextIn (seen_in domain (rows_named db))
       by true there = λ r in_rows approved. has_next (seen_in domain (rows_named db)) (domain_rows db ready domain) (rules_seen domain there) r in_rows
       by false missing = λ r in_rows approved. absurd (no_unit_seen (rows_named db) held domain missing r in_rows)
+
+-- a unit's view, if there is one, leaves the team and the policy
+with_view_same : (project : Project) (lang : Text) (key : Key) (view : Option UnitView) → ((with_view project lang key view).team ≡ project.team) × ((with_view project lang key view).policy ≡ project.policy)
+with_view_same project lang key None = (refl, refl)
+with_view_same project lang key (Some view) = (refl, refl)
 
 -- a template's plans follow the units that are there
 abbrev pub Follows : Project → DomainChange → Type 0
@@ -195,17 +200,22 @@ module _ (old : Database) (row : Record) (ready : AreOfficeTablesOf by_domain ol
             (one_leaves (next (project_seen domain before)) team policy
             (sees ruled (its_made domain Makes (PutsRecordAlone row) (seen_in domain before) (seen_in domain behind) ((made.on (λ d. tt)).0 domain))))
 
-      pub view_leaves : KeepsRules (meaning_by_domain before) → (domain lang : Text) (key : Key) (view : UnitView) → HasStrings key → ArePrevious view.unit.previous
-          → MakesIn domain row (WritesRecordAndUnit row lang view.unit) old after → AllowsOffice old row (with_view_in office domain lang key (Some view)) → Leaves (with_view_in office domain lang key (Some view))
-      view_leaves kept domain lang key view strings previous = by (is_domain before domain) refl
+      -- what is written of a unit that is there
+      pub write_leaves : KeepsRules (meaning_by_domain before) → (domain lang : Text) (key : Key) (write : UnitWrite) → HasStrings key → ArePreviousIn write
+          → IsPossibleWrite (project_in office domain) lang key (Some write) → MakesIn domain row (WritesRecordAndUnit row lang key write) old after
+          → AllowsOffice old row (with_write_in office domain lang key (Some write)) → Leaves (with_write_in office domain lang key (Some write))
+      write_leaves kept domain lang key write strings previous possible = by (is_domain before domain) refl
         where
-          by : (there : Bool) → is_domain before domain ≡ there → MakesThere there domain row (WritesRecordAndUnit row lang view.unit) old after
-              → AllowsOffice old row (with_view_in office domain lang key (Some view)) → Leaves (with_view_in office domain lang key (Some view))
+          by : (there : Bool) → is_domain before domain ≡ there → MakesThere there domain row (WritesRecordAndUnit row lang key write) old after
+              → AllowsOffice old row (with_write_in office domain lang key (Some write)) → Leaves (with_write_in office domain lang key (Some write))
           by true there made rules =
-              there_leaves domain (WritesRecordAndUnit row lang view.unit) there made kept (λ p. with_view p lang key (Some view)) refl refl
-              (λ ruled its. commits_view (seen_in domain before) (seen_in domain behind) row lang key view (domain_rows old ready domain) numbered ruled strings previous its) rules
+              let its = subst (λ (p : Project). IsPossibleWrite p lang key (Some write)) (project_there old ready kept domain there) possible in
+              let same = with_view_same (project_seen domain before) lang key (written_at (project_seen domain before) lang key (Some write)) in
+              there_leaves domain (WritesRecordAndUnit row lang key write) there made kept (λ p. with_view p lang key (written_at p lang key (Some write))) same.0 same.1
+              (λ ruled written. commits_write (seen_in domain before) (seen_in domain behind) row lang key write (domain_rows old ready domain) numbered ruled strings previous its written) rules
           by false missing made rules =
-              subst Leaves (sym (nothing_put office domain (with_view (project_in office domain) lang key (Some view)) (sym (has_domain_of_rows before domain) ∙ missing))) (record_leaves made)
+              subst Leaves (sym (nothing_put office domain (with_view (project_in office domain) lang key (written_at (project_in office domain) lang key (Some write))) (sym (has_domain_of_rows before domain) ∙ missing)))
+              (record_leaves made)
 
       -- a domain's change, where its plans follow the units that are there
       pub domain_change_leaves : KeepsRules (meaning_by_domain before) → (domain : Text) (change : DomainChange) → IsTrue (has_domain office domain) → Follows (project_in office domain) change

@@ -33,7 +33,7 @@ use Rattle.sql_meaning.specs.RowChanges.{AddsIn, TakesIn, ClearsIn, HaveNextIn, 
 use Rattle.sql_meaning.proofs.DomainAdds.{suggestion_unseen}
 use Rattle.sql_meaning.proofs.DomainClears.{others_stay_seen}
 use Rattle.sql_meaning.proofs.DomainOfficeRows.{on_suggestion}
-use Rattle.sql_meaning.proofs.DomainSteps.{all_unseen, record_seen, member_seen, members_taken_seen, policy_seen, language_seen_put, entry_seen_put, template_emptied_seen, one_entry_taken_seen, unit_seen_put, unit_cleared_seen, suggestion_added_seen, vote_seen_put, units_renewed_seen}
+use Rattle.sql_meaning.proofs.DomainSteps.{all_unseen, record_seen, member_seen, members_taken_seen, policy_seen, language_seen_put, entry_seen_put, template_emptied_seen, one_entry_taken_seen, unit_seen_put, unit_cleared_seen, suggestion_added_seen, vote_seen_put, vote_taken_seen, votes_left_seen, units_renewed_seen}
 use Rattle.sql_meaning.proofs.RowsByName.{puts_in}
 use Rattle.sql_changes.specs.Commits.{PutsNumberedRecord, PutsRecordAlone}
 use Rattle.sql_changes.specs.OnDomains.{OnDomainsWhere, OnEach, MakesIf, OnDomainElse, OnDomain, SparesDomains, SparesElsewhere, IsElsewhere}
@@ -186,6 +186,16 @@ next_of_all old next row there approved =
     let domain = text_at 1 row in
     next domain (unit_seen row) (to_view (has_text 1 domain) unit_seen (rows_named old (codes "d_unit")) row there (is_text 1 domain row refl)) approved
 
+-- a vote on a suggestion of a domain is in no other, since no other suggestion has its number
+in_no_other : (old : Database) → AreOfficeTablesOf by_domain old → (domain : Text) (s : Row) → Has (rows_named old (codes "d_suggestion")) s → text_at 2 s ≡ domain → (vote : Row) → first_text vote ≡ first_text s
+    → (d : Text) → d ≢ domain → is_vote_in d (rows_named old (codes "d_suggestion")) vote ≡ false
+in_no_other old ready domain s there own vote same d differ = false_from_ne_true _ (λ e.
+    let x = some_has (λ x. has_text 1 (first_text vote) x && has_text 2 d x) (rows_named old (codes "d_suggestion")) e in
+    let parts = and_parts (has_text 1 (first_text vote) x.0) (has_text 2 d x.0) x.2 in
+    let number : first_text x.0 ≡ first_text s = texts_are_one (first_text x.0) (first_text vote) parts.0 ∙ same in
+    let one = one_d_number old ready.schema ready.sound (ready.tables (codes "d_suggestion") refl) x.0 s x.1 there number in
+    differ (sym (texts_are_one (text_at 2 x.0) d parts.1) ∙ (ap (text_at 2) one ∙ own)))
+
 module _ {old new : Database} where
   -- ---- what no domain sees: a sum or a tally
 
@@ -271,21 +281,24 @@ module _ {old new : Database} where
         on_one_domain domain (AddsIn (codes "suggestion") first_text (HoldsValues (Words number ∷ Words lang ∷ Words key ∷ Int place ∷ Words suggester ∷ Words forms ∷ []))) (suggestion_added_seen domain ready it)
         (suggestion_unseen _ old new domain it (ap (text_at 2) it.puts.is_row.1) (on_suggestion old ready)) (λ name apart. it.puts.others name apart.suggestions)
 
-    -- a vote on a suggestion of the domain; no other suggestion has its number
+    -- a vote on a suggestion of the domain, which no other domain sees
     pub vote_on_domain : {IsRow : Row → Type 0} (put : PutsRow (codes "d_vote") first_texts IsRow old new) (s : Row) → Has (rows_named old (codes "d_suggestion")) s → text_at 2 s ≡ domain
         → first_text put.row ≡ first_text s → OnDomain domain (PutsIn (codes "vote") first_texts IsRow) old new
     vote_on_domain {IsRow} it s there own same =
         let put : PutsIn (codes "d_vote") first_texts IsRow (rows_named old) (rows_named new) = record { row = it.row; is_row = it.is_row; put = it.put; others = it.others } in
         on_one_domain domain (PutsIn (codes "vote") first_texts IsRow) (vote_seen_put domain it s there own same)
-        (λ d differ. votes_stay_seen IsRow (rows_named old) (rows_named new) put d (not_in d differ)) (λ name apart. it.others name apart.votes)
-      where
-        not_in : (d : Text) → d ≢ domain → is_vote_in d (rows_named old (codes "d_suggestion")) it.row ≡ false
-        not_in d differ = false_from_ne_true _ (λ e.
-            let x = some_has (λ x. has_text 1 (first_text it.row) x && has_text 2 d x) (rows_named old (codes "d_suggestion")) e in
-            let parts = and_parts (has_text 1 (first_text it.row) x.0) (has_text 2 d x.0) x.2 in
-            let number : first_text x.0 ≡ first_text s = texts_are_one (first_text x.0) (first_text it.row) parts.0 ∙ same in
-            let one = one_d_number old ready.schema ready.sound (ready.tables (codes "d_suggestion") refl) x.0 s x.1 there number in
-            differ (sym (texts_are_one (text_at 2 x.0) d parts.1) ∙ (ap (text_at 2) one ∙ own)))
+        (λ d differ. votes_stay_seen IsRow (rows_named old) (rows_named new) put d (in_no_other old ready domain s there own it.row same d differ)) (λ name apart. it.others name apart.votes)
+
+    -- and so where a vote on the suggestion goes
+    pub vote_taken_on_domain : {number voter : Text} → TakesRows (codes "d_vote") (λ row. has_text 1 number row && has_text 2 voter row) old new → (s : Row) → Has (rows_named old (codes "d_suggestion")) s
+        → text_at 2 s ≡ domain → first_text s ≡ number → OnDomain domain (TakesIn (codes "vote") (λ row. has_text 1 number row && has_text 2 voter row)) old new
+    vote_taken_on_domain {number} {voter} it s there own is =
+        on_one_domain domain (TakesIn (codes "vote") (λ row. has_text 1 number row && has_text 2 voter row)) (vote_taken_seen domain it)
+        (λ d differ. votes_left_seen d it (λ v passes. false_from_ne_true _ (λ e.
+        let named = texts_are_one (first_text v) number (and_parts (has_text 1 number v) (has_text 2 voter v) e).0 ∙ sym is in
+        let out = in_no_other old ready domain s there own v named d differ in
+        cc)))
+        (λ name apart. it.others name apart.votes)
 
   -- ---- no unit stays approved, where 64 bits hold each next revision
 

@@ -15,16 +15,12 @@ use Rattle.sqlite_rules.specs.Lists.{Has}
 use Rattle.sql_laws.specs.RowMaps.{OneEach, IsFound}
 use Rattle.sql_laws.proofs.RowMaps.{get-is}
 use Rattle.po_text.specs.declared.entry.Entry.{Entry}
-use Rattle.units.specs.KeyTexts.{HasStrings}
 use Rattle.units.specs.Projects.{IsTemplateEntry}
-use Rattle.units.specs.Units.{key_of}
 use Rattle.template_update.proofs.Found.{equal}
-use Rattle.sql_schema.specs.Inside.{PutsIn}
 use Rattle.sql_schema.specs.Keys.{row_number}
 use Rattle.sql_schema.specs.Layouts.{NamedRows}
 use Rattle.sql_meaning.specs.Values.{integer_at}
 use Rattle.sql_meaning.specs.Meaning.{entry_of_row, template_in}
-use Rattle.sql_meaning.specs.RowChanges.{TakesIn}
 use Rattle.sql_meaning.specs.RowKeys.{AreOfficeRows}
 use Rattle.sql_changes.specs.Commits.{entry_row, PutsEntry}
 use Rattle.sql_changes.specs.EntryWrites.{PutsOthers, AreThere, stays_at, WritesEntries, IsRowOf, HaveRows, HoldsEntries}

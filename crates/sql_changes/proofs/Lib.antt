@@ -6,6 +6,8 @@ pub mod States
 pub mod Units
 pub mod PolicyCommits
 pub mod AddedSuggestions
+pub mod LastSuggestions
+pub mod VotesWritten
 pub mod UnitCommits
 pub mod PlannedUnits
 pub mod PlansCover

@@ -1,5 +1,5 @@
 -- What the commit of a template of `main` makes of the office with its book.
-use Rattle.std.proofs.Common.{◌≡◌, ◌≢◌, inl, inr, suc, List, [], ◌∷◌, true, All, sym, ap, subst, ◌∙◌, arith, codes, refl}
+use Rattle.std.proofs.Common.{◌≡◌, ◌≢◌, inl, inr, suc, List, [], ◌∷◌, All, sym, ap, subst, ◌∙◌, arith, codes, refl}
 use Rattle.std.specs.List.{flat_map}
 use Rattle.std.specs.FinMap as maps
 use Rattle.sqlite.specs.Order.{Row}
@@ -18,7 +18,7 @@ use Rattle.office_rules.proofs.MainAlone.{project_keeps}
 use Rattle.sql_changes.specs.Commits.{PutsNumberedRecord, WritesTemplate, MakesTemplate}
 use Rattle.sql_changes.specs.EntryWrites.{HoldsEntries}
 use Rattle.sql_changes.specs.UnitWrites.{LeavesRows, WritesPlansBack}
-use Rattle.sql_changes.proofs.Changed.{Spares, units_same, commits_change}
+use Rattle.sql_changes.proofs.Changed.{units_same, commits_change}
 use Rattle.sql_changes.proofs.PlannedUnits.{HasUnits, from_last, changing, plans_from_last}
 use Rattle.sql_changes.proofs.PlansCover.{all_covered}
 use Rattle.sql_changes.proofs.StayingUnits.{PlansFollow, thinned}

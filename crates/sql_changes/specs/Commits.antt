@@ -1,33 +1,32 @@
 -- What a commit of a change of an office makes of the rows that a domain sees, by the names of their tables: its request's record, whose number is 16 bytes, and the rows that the change
 -- writes.
-use Rattle.std.specs.Prelude.{◌≡◌, ℕ, ◌+◌, ℤ, pos, Bool, true, false, List, [], ◌∷◌, Option, Some, None, unwrap_or, codes}
+use Rattle.std.specs.Prelude.{◌≡◌, ℤ, pos, Bool, true, false, List, [], ◌∷◌, Option, Some, None, unwrap_or, codes}
 use Rattle.sqlite.specs.declared.types.Value.TheVariants.{Null, Int, Text as Words}
 use Rattle.sqlite.specs.Order.{Row}
 use Rattle.po_text.specs.declared.entry.Entry.{Entry}
 use Rattle.po_text.specs.Strings.{is_forms}
 use Rattle.po_text.specs.Texts.{Text}
-use Rattle.units.specs.KeyTexts.{HasStrings}
 use Rattle.units.specs.Rules.{plural_field}
-use Rattle.units.specs.Units.{key_of, key_text}
 use Rattle.units.specs.declared.unit.Policy.{Policy}
 use Rattle.units.specs.declared.unit.Role.{Role}
+use Rattle.units.specs.declared.unit.Key.{Key}
 use Rattle.units.specs.declared.unit.Unit.{Unit}
 use Rattle.template_update.specs.declared.plans.Plan.{Plan}
 use Rattle.deliveries.specs.ProjectActs.{LanguagePlan}
 use Rattle.deliveries.specs.declared.values.DomainChange.{DomainChange}
 use Rattle.deliveries.specs.declared.values.DomainChange.TheVariants.{NewLanguage, NewTemplate}
 use Rattle.deliveries.specs.declared.values.Language.{Language}
+use Rattle.deliveries.specs.declared.values.UnitWrite.{UnitWrite}
 use Rattle.request_book.specs.Acts.{IsNumber}
 use Rattle.request_book.specs.declared.book.Record.{Record}
 use Rattle.sql_columns.specs.Numbers.{role_number, flag_number}
-use Rattle.sql_columns.specs.Written.{ArePrevious, texts_text, header_text}
+use Rattle.sql_columns.specs.Written.{ArePrevious, header_text}
 use Rattle.sql_schema.specs.Inside.{PutsIn, HoldsValues, Then}
 use Rattle.sql_schema.specs.Keys.{first_text, row_number, has_text}
-use Rattle.sql_schema.specs.Rows.{text_or_null}
 use Rattle.sql_meaning.specs.Cells.{record_cells}
 pub use Rattle.sql_changes.specs.EntryWrites.{entry_row, PutsEntry, PutsEntries}
 use Rattle.sql_changes.specs.EntryWrites.{HoldsEntries}
-use Rattle.sql_changes.specs.UnitWrites.{LeavesRows, WritesNumberedUnit, WritesUnits, WritesPlansBack}
+use Rattle.sql_changes.specs.UnitWrites.{LeavesRows, WritesOfUnit, WritesUnits, WritesPlansBack}
 use Rattle.sqlite.specs.Effect.{Database}
 use Rattle.sql_schema.specs.Layouts.{NamedRows, rows_named}
 use Rattle.sql_schema.specs.Views.{AreSameByName}
@@ -72,8 +71,8 @@ MakesPolicy row policy = Then (PutsNumberedRecord row) (WritesPolicy policy)
 
 -- ---- a unit
 
-unfoldable pub WritesRecordAndUnit : Record → Text → Unit → NamedRows → NamedRows → Type 0
-WritesRecordAndUnit row lang unit = Then (PutsNumberedRecord row) (WritesNumberedUnit lang unit)
+unfoldable pub WritesRecordAndUnit : Record → Text → Key → UnitWrite → NamedRows → NamedRows → Type 0
+WritesRecordAndUnit row lang key write = Then (PutsNumberedRecord row) (WritesOfUnit lang key write)
 
 -- ---- a language
 

@@ -6,7 +6,7 @@
 //! - Proof `DomainWrites`: what each statement by domains makes of what each domain sees
 //! - Proofs `RoleCommits`, `PolicyCommits`, `LanguageCommits`, `TemplateCommits`, `UnitCommits`: what each commit makes of
 //!   an office of one domain; `DomainCommits`: of the whole office
-//! - Proofs `Team`, `Policy`, `Template`, `Units`, `PlannedUnits`, `AddedSuggestions`, `States`: what becomes of each
-//!   table; `Changed`: the tables that stay
+//! - Proofs `Team`, `Policy`, `Template`, `Units`, `PlannedUnits`, `AddedSuggestions`, `LastSuggestions`, `VotesWritten`,
+//!   `States`: what becomes of each table; `Changed`: the tables that stay
 //! - Proofs `EntriesWritten`, `StayingUnits`, `PlansCover`: a template whose entries and units that stay aren't written
 #![tactic(auto)]

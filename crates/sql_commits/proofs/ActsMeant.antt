@@ -5,20 +5,20 @@ use Rattle.po_text.specs.Texts.{Text}
 use Rattle.units.specs.KeyTexts.{HasStrings}
 use Rattle.units.specs.Office.{Office, project_in}
 use Rattle.units.specs.declared.unit.Key.{Key}
-use Rattle.units.specs.declared.unit.UnitView.{UnitView}
 use Rattle.request_book.specs.declared.book.Record.{Record}
 use Rattle.deliveries.specs.OfficeChanges.{changed_by, IsPossibleChange}
 use Rattle.deliveries.specs.OfficeRules.{KeepsRules}
-use Rattle.deliveries.specs.UnitAccess.{with_view_in}
+use Rattle.deliveries.specs.UnitAccess.{with_write_in, IsPossibleWrite}
 use Rattle.deliveries.specs.declared.values.Change.{Change}
 use Rattle.deliveries.specs.declared.values.Change.TheVariants.{OneRole, NewPolicy, NewDomain, InDomain}
+use Rattle.deliveries.specs.declared.values.UnitWrite.{UnitWrite}
 use Rattle.deliveries.proofs.domains.InDomains.{with_project-same}
-use Rattle.sql_columns.specs.Written.{ArePrevious}
 use Rattle.sql_schema.specs.Inside.{AreOfficeTablesOf}
 use Rattle.sql_schema.specs.Layouts.{by_domain, rows_named}
 use Rattle.sql_meaning.specs.Domains.{HoldsOwnDomains, office_of_rows, meaning_by_domain}
 use Rattle.sql_meaning.specs.Meaning.{AreNumbered}
-use Rattle.sql_changes.proofs.DomainCommits.{LeavesOffice, AllowsOffice, follows, record_leaves, role_leaves, policy_leaves, view_leaves, domain_change_leaves, new_domain_leaves}
+use Rattle.sql_changes.specs.UnitWrites.{ArePreviousIn}
+use Rattle.sql_changes.proofs.DomainCommits.{LeavesOffice, AllowsOffice, follows, record_leaves, role_leaves, policy_leaves, write_leaves, domain_change_leaves, new_domain_leaves}
 use Rattle.sql_commits.specs.Acts.{MakesAct, MakesChange}
 
 module _ (old after : Database) (row : Record) (ready : AreOfficeTablesOf by_domain old) (tables : AreOfficeTablesOf by_domain after) (held : HoldsOwnDomains (rows_named old))
@@ -26,11 +26,12 @@ module _ (old after : Database) (row : Record) (ready : AreOfficeTablesOf by_dom
   abbrev office : Office
   office = office_of_rows (rows_named old)
 
-  pub act_means : (domain lang : Text) (key : Key) (view : Option UnitView) → HasStrings key → IfSome view (λ v. ArePrevious v.unit.previous)
-      → AllowsOffice old row (with_view_in (office_of_rows (rows_named old)) domain lang key view) → MakesAct row domain lang view old after
-      → LeavesOffice old after row (with_view_in (office_of_rows (rows_named old)) domain lang key view)
-  act_means domain lang key None strings previous rules made = subst (LeavesOffice old after row) (sym (with_project-same office domain)) (record_leaves old row ready numbered after made)
-  act_means domain lang key (Some view) strings previous rules made = view_leaves old row ready numbered after tables kept domain lang key view strings previous made rules
+  pub act_means : (domain lang : Text) (key : Key) (write : Option UnitWrite) → HasStrings key → IfSome write ArePreviousIn
+      → IsPossibleWrite (project_in (office_of_rows (rows_named old)) domain) lang key write
+      → AllowsOffice old row (with_write_in (office_of_rows (rows_named old)) domain lang key write) → MakesAct row domain lang key write old after
+      → LeavesOffice old after row (with_write_in (office_of_rows (rows_named old)) domain lang key write)
+  act_means domain lang key None strings previous possible rules made = subst (LeavesOffice old after row) (sym (with_project-same office domain)) (record_leaves old row ready numbered after made)
+  act_means domain lang key (Some write) strings previous possible rules made = write_leaves old row ready numbered after tables kept domain lang key write strings previous possible made rules
 
   -- no unit goes where a template comes, since the change is possible
   pub change_means : (change : Option Change) → IsPossibleChange (office_of_rows (rows_named old)) change → AllowsOffice old row (changed_by (office_of_rows (rows_named old)) change)

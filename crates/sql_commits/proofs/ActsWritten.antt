@@ -1,21 +1,22 @@
 -- What is written for an act behind its request's record.
 use Rattle.std.specs.Prelude.{⊤}
-use Rattle.std.proofs.Common.{◌≡◌, Bool, true, false, ap, sym, subst, codes}
+use Rattle.std.proofs.Common.{◌≡◌, Bool, true, false, ap, subst, codes}
 use Rattle.std.specs.List.{list_any}
 use Rattle.sqlite.specs.Effect.{Database}
 use Rattle.po_text.specs.Texts.{Text}
-use Rattle.units.specs.declared.unit.Unit.{Unit}
+use Rattle.units.specs.declared.unit.Key.{Key}
 use Rattle.request_book.specs.declared.book.Record.{Record}
 use Rattle.deliveries.specs.declared.values.Change.{Change}
 use Rattle.deliveries.specs.declared.values.Change.TheVariants.{OneRole, NewPolicy, NewDomain, InDomain}
 use Rattle.deliveries.specs.declared.values.DomainChange.{DomainChange}
 use Rattle.deliveries.specs.declared.values.DomainChange.TheVariants.{NewLanguage, NewTemplate}
+use Rattle.deliveries.specs.declared.values.UnitWrite.{UnitWrite}
 use Rattle.sql_columns.specs.Numbers.{role_number}
 use Rattle.sql_schema.specs.Keys.{has_text}
 use Rattle.sql_schema.specs.Layouts.{NamedRows, rows_named}
 use Rattle.sql_meaning.specs.Domains.{is_domain}
 use Rattle.sql_meaning.specs.RowChanges.{HaveNextIn}
-use Rattle.sql_changes.specs.UnitWrites.{WritesNumberedUnit}
+use Rattle.sql_changes.specs.UnitWrites.{WritesOfUnit}
 use Rattle.sql_changes.specs.Commits.{PutsNumberedRecord, WritesRole, MakesRole, WritesPolicy, MakesPolicy, WritesRecordAndUnit, MakesLanguage, MakesTemplate, MakesThere, MakesIn, MakesDomainChange}
 use Rattle.sql_changes.specs.OnDomains.{OnEach}
 use Rattle.sql_changes.proofs.DomainWrites.{seen, domain_elsewhere, domains_then, on_each_then, record_then_domain, spares_last, domains_where}
@@ -24,9 +25,9 @@ use Rattle.sql_commits.specs.Changes.{WritesDomainChange, WritesThere, WritesIn,
 use Rattle.sql_commits.proofs.PolicyTurns.{next_behind_record}
 
 module _ (row : Record) where
-  writes_record_and_unit : (lang : Text) (unit : Unit) (old mid new : NamedRows) → PutsNumberedRecord row old mid → WritesNumberedUnit lang unit mid new → WritesRecordAndUnit row lang unit old new
+  writes_record_and_unit : (lang : Text) (key : Key) (write : UnitWrite) (old mid new : NamedRows) → PutsNumberedRecord row old mid → WritesOfUnit lang key write mid new → WritesRecordAndUnit row lang key write old new
   unfolding WritesRecordAndUnit
-  writes_record_and_unit lang unit old mid new recorded written = (mid, recorded, written)
+  writes_record_and_unit lang key write old mid new recorded written = (mid, recorded, written)
 
   makes_domain_change : (change : DomainChange) (old mid new : NamedRows) → PutsNumberedRecord row old mid → WritesDomainChange change mid new → MakesDomainChange row change old new
   unfolding MakesLanguage MakesTemplate
@@ -47,8 +48,8 @@ module _ (row : Record) (old mid new : Database) (recorded : OnEach (PutsNumbere
       by true written = record_then_domain domain row Writes Makes both recorded written
       by false same = spares_last (λ rows. ⊤) (λ d. PutsNumberedRecord row) recorded same
 
-  pub writes_unit : (domain lang : Text) (unit : Unit) → WritesIn domain (WritesNumberedUnit lang unit) mid new → MakesIn domain row (WritesRecordAndUnit row lang unit) old new
-  writes_unit domain lang unit = makes_in domain (WritesNumberedUnit lang unit) (WritesRecordAndUnit row lang unit) (writes_record_and_unit row lang unit)
+  pub writes_unit : (domain lang : Text) (key : Key) (write : UnitWrite) → WritesIn domain (WritesOfUnit lang key write) mid new → MakesIn domain row (WritesRecordAndUnit row lang key write) old new
+  writes_unit domain lang key write = makes_in domain (WritesOfUnit lang key write) (WritesRecordAndUnit row lang key write) (writes_record_and_unit row lang key write)
 
   pub makes_change : (change : Change) → WritesChange change mid new → MakesOneChange row change old new
   makes_change (OneRole name role) written =

@@ -1,7 +1,6 @@
 -- Which entries of a template stay, by the rows that show it, and what is left when all others are taken out.
 use Rattle.std.proofs.Common.{◌≡◌, ◌≢◌, ◌⊎◌, inl, inr, ℕ, zero, suc, ◌+◌, ◌<◌, pos, negsuc, List, [], ◌∷◌, ◌++◌, length, take, get_or, replicate, Bool, true, false, not, ◌&&◌, ◌||◌, Some, refl, sym, ap, subst, ◌∙◌, arith, codes, map}
 use Rattle.std.specs.Prelude.{slice_get, set}
-use Rattle.std.specs.List.{list_any}
 use Rattle.std.proofs.lemmas.Bool.{and_parts, and_from}
 use Rattle.std.proofs.lemmas.List.{take_more, length-take, length-set, length-replicate, set_past, get_or_past}
 use Rattle.std.proofs.lemmas.Option.{slice_get_within}

@@ -1,8 +1,7 @@
--- Sums and tallies behind writes one after the other: of a unit's view, of plans' tallies, of a policy, and behind a request's record.
+-- Sums and tallies behind writes one after the other: of what an act writes of a unit, of plans' tallies, of a policy, and behind a request's record.
 use Rattle.std.specs.Prelude.{⊤}
-use Rattle.std.proofs.Common.{◌≡◌, ℕ, ◌+◌, ◌<◌, ℤ, pos, ◌+ℤ◌, List, [], ◌∷◌, ◌++◌, length, take, get_or, map, Bool, true, false, Option, Some, None, Result, Ok, Err, option_map, codes, refl, sym, ap, subst, ◌∙◌, arith}
-use Rattle.std.proofs.lemmas.List.{take_more, length-map}
-use Rattle.std.specs.FinMap as maps
+use Rattle.std.proofs.Common.{◌≡◌, ℕ, ◌+◌, ◌<◌, ℤ, pos, ◌+ℤ◌, List, [], ◌∷◌, ◌++◌, length, take, get_or, Bool, true, false, Option, Some, Result, Ok, Err, codes, refl, sym, ap, subst, ◌∙◌, arith}
+use Rattle.std.proofs.lemmas.List.{take_more}
 use Rattle.sqlite.specs.declared.types.Value.TheVariants.{Text as Words}
 use Rattle.sqlite.specs.Order.{Row, column}
 use Rattle.sqlite.specs.Effect.{Database}
@@ -10,16 +9,17 @@ use Rattle.sqlite.specs.State.{State, HasCleanDisk}
 use Rattle.sqlite_sql.specs.Ops.{fits_i64}
 use Rattle.sqlite_rules.specs.Edit.{id_in}
 use Rattle.sqlite_rules.specs.Lists.{Has}
-use Rattle.po_text.specs.declared.entry.Entry.{Entry}
 use Rattle.po_text.specs.Texts.{Text}
-use Rattle.units.specs.KeyTexts.{HasStrings}
-use Rattle.units.specs.Project.{Project, entry_of}
-use Rattle.units.specs.Units.{key_text}
+use Rattle.units.specs.Project.{Project}
 use Rattle.units.specs.declared.unit.Key.{Key}
 use Rattle.units.specs.declared.unit.Policy.{Policy}
 use Rattle.units.specs.declared.unit.Suggestion.{Suggestion}
 use Rattle.units.specs.declared.unit.UnitView.{UnitView}
+use Rattle.units.specs.declared.votes.VoteValue.{VoteValue}
+use Rattle.deliveries.specs.UnitAccess.{view_written as with_written}
 use Rattle.deliveries.specs.declared.tally.Tally.{Tally}
+use Rattle.deliveries.specs.declared.values.UnitWrite.{UnitWrite}
+use Rattle.deliveries.specs.declared.values.UnitWrite.TheVariants.{Whole, Row as OwnRow, Suggested, Voted}
 use Rattle.deliveries.specs.declared.values.Change.{Change}
 use Rattle.deliveries.specs.declared.values.Change.TheVariants.{OneRole, NewPolicy, NewDomain, InDomain}
 use Rattle.deliveries.specs.declared.values.DomainChange.{DomainChange}
@@ -28,22 +28,16 @@ use Rattle.tables.specs.Tallies.{counted, moved}
 use Rattle.sql_schema.specs.Inside.{AreOfficeTablesOf, IsSteadyOver, IsInsideOf, IsReadOf, OnRows, PutsRow, HoldsValues}
 use Rattle.sql_schema.specs.Keys.{first_text}
 use Rattle.sql_schema.specs.Layouts.{by_domain, NamedRows, rows_named, SparesOthers}
-use Rattle.sql_schema.specs.Views.{seen_in}
-use Rattle.sql_schema.proofs.DomainViews.{unit_found_seen}
 use Rattle.sql_schema.proofs.Layouts.{names_differ}
 use Rattle.sql_statements.specs.Added.{AddsRow}
-use Rattle.sql_statements.specs.DomainAnswers.{ShowsTally, ShowsDomainUnit, ShowsDomainSuggestions}
+use Rattle.sql_statements.specs.DomainAnswers.{ShowsTally}
 use Rattle.sql_statements.specs.DomainRenewed.{is_approved_in_domain, UnapprovesDomainUnits, UnapprovesTallies}
-use Rattle.sql_statements.proofs.SeenAnswers.{suggestions_shown_seen}
 use Rattle.sql_meaning.specs.Domains.{is_domain}
-use Rattle.sql_meaning.specs.Shown.{shown_tally, shown_unit, shown_suggestion}
-use Rattle.sql_meaning.proofs.DomainOfficeRows.{domain_rows}
-use Rattle.sql_meaning.proofs.OfficeQueries.{suggestions_found}
-use Rattle.sql_meaning.proofs.Units.{finds_unit}
-use Rattle.sql_figures.specs.KeptTallies.{Counts, counted_at}
+use Rattle.sql_meaning.specs.Shown.{shown_tally}
+use Rattle.sql_figures.specs.KeptTallies.{Counts}
 use Rattle.sql_figures.specs.Figures.{with_tally, with_tallies, moved_at, HaveRoom, FiguresFollowWhere, FiguresFollow, FiguresStay}
-use Rattle.sql_figures.proofs.FigureSteps.{stay_first, stay_last, stay_both, stay_where, follow_both, follow_tally, follow_moved, follow_turned, nothing_moves, stay_beside, units_turned, record_beside, policy_beside, record_alone, record_leaves_domain}
-use Rattle.sql_commits.specs.Figures.{PutsTally, AddsWithSum, PutsSum, project_at, IsSourceIn, counted_before, CountsThere, FollowsUnit, FollowsView, FollowsIf, FollowsIn, FollowsDomainChange, turned_unless, FollowsPolicy, FollowsOneChange}
+use Rattle.sql_figures.proofs.FigureSteps.{nothing_follows, stay_first, stay_last, stay_both, stay_where, follow_both, follow_tally, follow_moved, follow_turned, stay_beside, units_turned, record_beside, policy_beside, record_alone, record_leaves_domain}
+use Rattle.sql_commits.specs.Figures.{PutsTally, AddsWithSum, PutsSum, project_at, counted_before, FollowsView, FollowsOwnRow, FollowsSuggestionAt, FollowsOneMore, FollowsVoteAt, FollowsWriteIn, FollowsWrite, FollowsIf, FollowsIn, FollowsDomainChange, turned_unless, FollowsPolicy, FollowsOneChange}
 
 module _ (a b : State) where
   -- a query, with what it answers
@@ -62,6 +56,18 @@ module _ (a b : State) where
   write_joined (Ok x) P Q R joined one two = record { made = λ clean. joined (one.made clean) (two.made clean); ready = one.ready; stays = one.stays; kept = one.kept; survives = one.survives }
   write_joined (Err e) P Q R joined one two = record { made = λ clean. tt; ready = λ clean. tt; stays = λ clean. tt; kept = one.kept; survives = one.survives }
 
+  -- what a query answers, told in other words by what the tables are
+  pub read_told : {A B E F : Type 0} (x : A) (y : B) (IsAnswer : Database → A → Type 0) (IsTold : Database → B → Type 0) → IsSteadyOver by_domain a
+      → (AreOfficeTablesOf by_domain a.now → IsAnswer a.now x → IsTold a.now y) → IsReadOf {E = E} by_domain a b (Ok x) IsAnswer → IsReadOf {E = F} by_domain a b (Ok y) IsTold
+  read_told x y IsAnswer IsTold steady tells it = record {
+    answer = λ clean. tells (steady.ready (omega (arith, clean, it.survives.clean)) ((it.kept clean).was_open (it.stays clean).is_open)) (it.answer clean);
+    same = it.same;
+    ready = it.ready;
+    stays = it.stays;
+    kept = it.kept;
+    survives = it.survives;
+  }
+
   -- what a query answers, over tables that obey their schema
   pub read_over : {A E : Type 0} (x : A) (IsAnswer : Database → A → Type 0) → IsSteadyOver by_domain a → IsReadOf {E = E} by_domain a b (Ok x) IsAnswer → HasCleanDisk b → AreOfficeTablesOf by_domain a.now × IsAnswer a.now x
   read_over x IsAnswer steady it clean = (steady.ready (omega (arith, clean, it.survives.clean)) ((it.kept clean).was_open (it.stays clean).is_open), it.answer clean)
@@ -69,39 +75,6 @@ module _ (a b : State) where
 -- a table's other rows
 pub put_others : {old new : Database} {K : Type 0} {key : Row → K} {IsRow : Row → Type 0} {name : List ℕ} → PutsRow name key IsRow old new → OnRows (SparesOthers name) old new
 put_others it = it.others
-
--- ---- a unit of a domain that gets a view
-
--- what rows show of a unit that is looked up, and of its suggestions, is the unit
-pub unit_looked_up : (db : Database) → AreOfficeTablesOf by_domain db → (domain lang : Text) (key : Key) (found : Option Row) (rows : List Row) → HasStrings key
-    → ShowsDomainUnit domain lang (key_text key) db found → ShowsDomainSuggestions domain lang (key_text key) db rows
-    → maps.get (project_at domain db).units (lang, key) ≡ option_map (shown_unit key (map (shown_suggestion (seen_in domain (rows_named db))) rows)) found
-unit_looked_up db ready domain lang key found rows strings unit suggestions =
-    let tables = seen_in domain (rows_named db) in
-    let office = domain_rows db ready domain in
-    let seen = suggestions_shown_seen domain lang (key_text key) db rows suggestions in
-    finds_unit tables lang key found office.keyed.one_unit strings (unit_found_seen domain lang (key_text key) db found unit (tables (codes "unit")) refl)
-    ∙ ap (λ ss. option_map (shown_unit key ss) found) (suggestions_found tables office lang (key_text key) rows seen.0 seen.1)
-
--- what it counts
-pub unit_counted : (db : Database) → AreOfficeTablesOf by_domain db → (domain lang : Text) (view : UnitView) (found : Option Row) (row : Row) (rows : List Row) (tally : Tally) → HasStrings view.unit.key → found ≡ Some row
-    → ShowsDomainUnit domain lang (key_text view.unit.key) db found × ShowsDomainSuggestions domain lang (key_text view.unit.key) db rows
-    → (IsSourceIn (project_at domain db) view → (ss : List Suggestion) → length ss ≡ length rows → tally ≡ counted (project_at domain db).template (shown_unit view.unit.key ss row)) → CountsThere domain lang view db tally
-unit_counted db ready domain lang view found row rows tally strings is_found shown counts source =
-    let tables = seen_in domain (rows_named db) in
-    let ss = map (shown_suggestion tables) rows in
-    counts source ss (length-map rows (shown_suggestion tables))
-    ∙ ap (counted_at (project_at domain db).template) (sym (unit_looked_up db ready domain lang view.unit.key found rows strings shown.0 shown.1 ∙ ap (option_map (shown_unit view.unit.key ss)) is_found))
-
--- where there is none
-pub none_counted_there : (db : Database) → AreOfficeTablesOf by_domain db → (domain lang : Text) (view : UnitView) (found : Option Row) (rows : List Row) (tally : Tally) → HasStrings view.unit.key → found ≡ None
-    → ShowsDomainUnit domain lang (key_text view.unit.key) db found × ShowsDomainSuggestions domain lang (key_text view.unit.key) db rows
-    → tally ≡ counted_at (project_at domain db).template None → CountsThere domain lang view db tally
-none_counted_there db ready domain lang view found rows tally strings is_found shown is_none source =
-    let tables = seen_in domain (rows_named db) in
-    let ss = map (shown_suggestion tables) rows in
-    is_none
-    ∙ ap (counted_at (project_at domain db).template) (sym (unit_looked_up db ready domain lang view.unit.key found rows strings shown.0 shown.1 ∙ ap (option_map (shown_unit view.unit.key ss)) is_found))
 
 -- its language's tally is looked up, and put moved
 pub moves_row : (given code domain lang : Text) (found : Option Row) (row : Row) (tally after was is : Tally) (old mid new : Database) → given ≡ domain → code ≡ lang → found ≡ Some row → tally ≡ shown_tally row
@@ -111,28 +84,34 @@ moves_row given code domain lang found row tally after was is old mid new is_giv
     (subst (λ (db : Database). PutsTally domain lang (moved (shown_tally row) was is) db new) seen.0
     (subst (λ (t : Tally). PutsTally domain lang t mid new) (is_after ∙ ap (λ (t : Tally). moved t was is) is_tally) put))
 
--- what its new view counts, by its template's entry
-abbrev pub CountsView : UnitView → Tally → Type 0
-CountsView view tally = (template : List Entry) → view.source ≡ entry_of template view.unit.key → tally ≡ counted template view.unit
+-- ---- and what is written behind
 
-pub moves_nothing : (domain lang : Text) (view : UnitView) (was is : Tally) (old new : Database) → was ≡ is → CountsView view is → (new ≡ old) × CountsThere domain lang view old was → FollowsView domain lang view old new
-moves_nothing domain lang view was is old new same now before source =
-    let project = project_at domain old in
-    subst (FiguresFollow (moved_at domain lang (counted_before project lang view) (counted project.template view.unit)) old) (sym before.0)
-    (nothing_moves old domain lang (counted_before project lang view) (counted project.template view.unit) (sym (before.1 source) ∙ same ∙ now project.template source))
+-- what stays behind a query
+pub same_stays : (old mid new : Database) → mid ≡ old → FiguresStay mid new → FiguresStay old new
+same_stays old mid new same stays = subst (λ (db : Database). FiguresStay db new) same stays
 
-pub moves_view : (domain lang : Text) (view : UnitView) (was is : Tally) (old mid new : Database) → CountsView view is → (mid ≡ old) × CountsThere domain lang view old was
-    → FiguresFollow (moved_at domain lang was is) mid new → FollowsView domain lang view old new
-moves_view domain lang view was is old mid new now before follows source =
-    let first = before.1 source in
-    let second = now (project_at domain old).template source in
-    subst (λ (x : Tally × Tally). FiguresFollow (moved_at domain lang x.0 x.1) old new) (λ i. (first i, second i)) (subst (λ (db : Database). FiguresFollow (moved_at domain lang was is) db new) before.0 follows)
+-- where nothing is written of a vote
+pub vote_nowhere_follows : (domain lang : Text) (key : Key) (number voter : Text) (value : Option VoteValue) (sum : ℤ) (old mid : Database) → mid ≡ old → FollowsVoteAt domain lang key number voter value sum old mid
+vote_nowhere_follows domain lang key number voter value sum old mid same there is over = subst (FiguresStay old) (sym same) (nothing_follows old)
 
--- and the unit is written
-pub view_written : (domain lang : Text) (view : UnitView) (old mid new : Database) → FollowsView domain lang view old mid → FiguresStay mid new → FollowsView domain lang view old new
-view_written domain lang view old mid new moved stays source =
-    let project = project_at domain old in
-    stay_last (λ counts. ⊤) (moved_at domain lang (counted_before project lang view) (counted project.template view.unit)) (moved source) stays
+module _ (domain lang : Text) (old mid new : Database) (stays : FiguresStay mid new) where
+  -- the unit of a view
+  pub view_written : (view : UnitView) → FollowsView domain lang view old mid → FollowsView domain lang view old new
+  view_written view moved source =
+      let project = project_at domain old in
+      stay_last (λ counts. ⊤) (moved_at domain lang (counted_before project lang view) (counted project.template view.unit)) (moved source) stays
+
+  -- its row
+  pub row_written : (view : UnitView) → FollowsOwnRow domain lang view old mid → FollowsOwnRow domain lang view old new
+  row_written view moved key there is own source =
+      let project = project_at domain old in
+      stay_last (λ counts. ⊤) (moved_at domain lang (counted project.template there.unit) (counted project.template (with_written (OwnRow view) there).unit)) (moved key there is own source) stays
+
+  -- a suggestion more
+  pub suggestion_written : (key : Key) (s : Suggestion) → FollowsOneMore domain lang key old mid → FollowsSuggestionAt domain lang key s old new
+  suggestion_written key s moved there is =
+      let project = project_at domain old in
+      stay_last (λ counts. ⊤) (moved_at domain lang (counted project.template there.unit) (counted project.template (with_written (Suggested s) there).unit)) (moved s there is) stays
 
 -- ---- a suggestion that is added, with its sum
 
@@ -185,19 +164,28 @@ module _ (old mid new : Database) (others : SparesOthers (codes "record") (rows_
   stays = stay_beside (codes "record") record_beside others
 
   -- what follows in a domain that is there, and elsewhere nothing
-  in_domain : (domain : Text) (Behind Whole : Database → Database → Type 0) → (Behind mid new → Whole old new) → FollowsIn domain Behind mid new → FollowsIn domain Whole old new
-  in_domain domain Behind Whole tells follows =
+  in_domain : (domain : Text) (Behind All : Database → Database → Type 0) → (Behind mid new → All old new) → FollowsIn domain Behind mid new → FollowsIn domain All old new
+  in_domain domain Behind All tells follows =
       by (is_domain (rows_named old) domain) (subst (λ (b : Bool). FollowsIf b Behind mid new) (record_leaves_domain domain (rows_named old) (rows_named mid) others) follows)
     where
-      by : (b : Bool) → FollowsIf b Behind mid new → FollowsIf b Whole old new
+      by : (b : Bool) → FollowsIf b Behind mid new → FollowsIf b All old new
       by true it = tells it
       by false it = stay_both stays it
 
-  pub view_behind : (domain lang : Text) (view : UnitView) → FollowsIn domain (FollowsView domain lang view) mid new → FollowsIn domain (FollowsView domain lang view) old new
-  view_behind domain lang view = in_domain domain (FollowsView domain lang view) (FollowsView domain lang view) (λ follows.
+  write_in_behind : (domain : Text) (project : Project) (lang : Text) (key : Key) (write : UnitWrite) → FollowsWriteIn domain project lang key write mid new → FollowsWriteIn domain project lang key write old new
+  write_in_behind domain project lang key (Whole view) follows =
+      λ source. stay_first (λ counts. ⊤) (moved_at domain lang (counted_before project lang view) (counted project.template view.unit)) stays (follows source)
+  write_in_behind domain project lang key (OwnRow view) follows =
+      λ there is own source. stay_first (λ counts. ⊤) (moved_at domain lang (counted project.template there.unit) (counted project.template (with_written (OwnRow view) there).unit)) stays (follows there is own source)
+  write_in_behind domain project lang key (Suggested s) follows =
+      λ there is. stay_first (λ counts. ⊤) (moved_at domain lang (counted project.template there.unit) (counted project.template (with_written (Suggested s) there).unit)) stays (follows there is)
+  write_in_behind domain project lang key (Voted number voter value sum) follows = λ there is over. stay_both stays (follows there is over)
+
+  pub write_behind : (domain lang : Text) (key : Key) (write : UnitWrite) → FollowsIn domain (FollowsWrite domain lang key write) mid new → FollowsIn domain (FollowsWrite domain lang key write) old new
+  write_behind domain lang key write = in_domain domain (FollowsWrite domain lang key write) (FollowsWrite domain lang key write) (λ follows.
       let project = record_alone domain (rows_named old) (rows_named mid) others in
-      let own : FollowsUnit domain (project_at domain old) lang view mid new = subst (λ (p : Project). FollowsUnit domain p lang view mid new) project follows in
-      λ source. stay_first (λ counts. ⊤) (moved_at domain lang (counted_before (project_at domain old) lang view) (counted (project_at domain old).template view.unit)) stays (own source))
+      let own : FollowsWriteIn domain (project_at domain old) lang key write mid new = subst (λ (p : Project). FollowsWriteIn domain p lang key write mid new) project follows in
+      write_in_behind domain (project_at domain old) lang key write own)
 
   domain_change_behind : (domain : Text) (change : DomainChange) → FollowsDomainChange domain change mid new → FollowsDomainChange domain change old new
   domain_change_behind domain (NewLanguage lang language plan tally) follows = stay_first (λ counts. ⊤) (with_tally domain lang tally) stays follows

@@ -8,5 +8,7 @@ pub mod WholeTransactions
 pub mod ActsWritten
 pub mod ActsMeant
 pub mod TalliesMoved
+pub mod LastPlaces
+pub mod VotesCast
 pub mod DomainFound
 mod EntriesShown

@@ -1,10 +1,11 @@
--- What a commit makes of the rows that each domain sees: of an act on a unit its record, and in the unit's domain, if it is there, its unit's new view, if it has
--- one; of an act on the office its record, and its change, if it has one. And how the figures beside the office's rows follow.
+-- What a commit makes of the rows that each domain sees: of an act on a unit its record, and in the unit's domain, if it is there, what its act writes of the unit, if it
+-- writes anything; of an act on the office its record, and its change, if it has one. And how the figures beside the office's rows follow.
 use Rattle.std.specs.Prelude.{Option, Some, None}
 use Rattle.sqlite.specs.Effect.{Database}
 use Rattle.po_text.specs.Texts.{Text}
-use Rattle.units.specs.declared.unit.UnitView.{UnitView}
+use Rattle.units.specs.declared.unit.Key.{Key}
 use Rattle.request_book.specs.declared.book.Record.{Record}
+use Rattle.deliveries.specs.declared.values.UnitWrite.{UnitWrite}
 use Rattle.deliveries.specs.declared.values.Change.{Change}
 use Rattle.deliveries.specs.declared.values.Change.TheVariants.{OneRole, NewPolicy, NewDomain, InDomain}
 use Rattle.sql_schema.specs.Inside.{Then}
@@ -14,9 +15,9 @@ use Rattle.sql_changes.specs.Commits.{PutsNumberedRecord, WritesRecordAndUnit, M
 use Rattle.sql_changes.specs.OnDomains.{OnDomainsWhere, OnEach}
 use Rattle.sql_commits.specs.Figures.{FollowsAct, FollowsChange}
 
-abbrev pub MakesAct : Record → Text → Text → Option UnitView → Database → Database → Type 0
-MakesAct row domain lang None = OnEach (PutsNumberedRecord row)
-MakesAct row domain lang (Some view) = MakesIn domain row (WritesRecordAndUnit row lang view.unit)
+abbrev pub MakesAct : Record → Text → Text → Key → Option UnitWrite → Database → Database → Type 0
+MakesAct row domain lang key None = OnEach (PutsNumberedRecord row)
+MakesAct row domain lang key (Some write) = MakesIn domain row (WritesRecordAndUnit row lang key write)
 
 -- of a policy where 64 bits hold the revision after that of each approved unit
 abbrev pub MakesOneChange : Record → Change → Database → Database → Type 0
@@ -32,9 +33,9 @@ MakesChange row (Some change) = MakesOneChange row change
 -- ---- what is committed
 
 -- The commit of an act on a unit.
-pub record CommitsAct (row : Record) (domain lang : Text) (view : Option UnitView) (old new : Database) : Type 0 where
-  pub makes : MakesAct row domain lang view old new
-  pub figures : FollowsAct domain lang view old new
+pub record CommitsAct (row : Record) (domain lang : Text) (key : Key) (write : Option UnitWrite) (old new : Database) : Type 0 where
+  pub makes : MakesAct row domain lang key write old new
+  pub figures : FollowsAct domain lang key write old new
 
 -- The commit of an act on the office.
 pub record CommitsChange (row : Record) (change : Option Change) (old new : Database) : Type 0 where

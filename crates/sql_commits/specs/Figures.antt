@@ -4,10 +4,16 @@ use Rattle.std.specs.FinMap as maps
 use Rattle.sqlite.specs.declared.types.Value.TheVariants.{Int, Text as Words}
 use Rattle.sqlite.specs.Effect.{Database}
 use Rattle.po_text.specs.Texts.{Text}
-use Rattle.units.specs.Project.{Project, entry_of}
+use Rattle.units.specs.Project.{Project, entry_of, view_of}
+use Rattle.units.specs.declared.unit.Key.{Key}
+use Rattle.units.specs.declared.unit.Suggestion.{Suggestion}
 use Rattle.units.specs.declared.unit.Policy.{Policy}
 use Rattle.units.specs.declared.unit.UnitView.{UnitView}
+use Rattle.units.specs.declared.votes.VoteValue.{VoteValue}
 use Rattle.deliveries.specs.declared.tally.Tally.{Tally}
+use Rattle.deliveries.specs.UnitAccess.{view_written, IsWriteOver}
+use Rattle.deliveries.specs.declared.values.UnitWrite.{UnitWrite}
+use Rattle.deliveries.specs.declared.values.UnitWrite.TheVariants.{Whole, Row, Suggested, Voted}
 use Rattle.deliveries.specs.declared.values.Change.{Change}
 use Rattle.deliveries.specs.declared.values.Change.TheVariants.{OneRole, NewPolicy, NewDomain, InDomain}
 use Rattle.deliveries.specs.declared.values.DomainChange.{DomainChange}
@@ -50,10 +56,6 @@ IsSourceIn project view = view.source ≡ entry_of project.template view.unit.ke
 abbrev pub counted_before : Project → Text → UnitView → Tally
 counted_before project lang view = counted_at project.template (maps.get project.units (lang, view.unit.key))
 
--- a count is of the unit that is there
-abbrev pub CountsThere : Text → Text → UnitView → Database → Tally → Type 0
-CountsThere domain lang view db tally = IsSourceIn (project_at domain db) view → tally ≡ counted_before (project_at domain db) lang view
-
 -- the language of a domain's project counts the unit no more as it was, and as it is
 abbrev pub FollowsUnit : Text → Project → Text → UnitView → Database → Database → Type 0
 FollowsUnit domain project lang view old new =
@@ -61,6 +63,46 @@ FollowsUnit domain project lang view old new =
 
 abbrev pub FollowsView : Text → Text → UnitView → Database → Database → Type 0
 FollowsView domain lang view old = FollowsUnit domain (project_at domain old) lang view old
+
+-- the same where the row is written alone: the unit counts as many suggestions as it did
+abbrev pub FollowsRow : Text → Project → Text → Key → UnitView → Database → Database → Type 0
+FollowsRow domain project lang key view old new =
+    (there : UnitView) → view_of project (lang, key) ≡ Some there → view.unit.key ≡ key → view.source ≡ there.source
+    → FiguresFollow (moved_at domain lang (counted project.template there.unit) (counted project.template (view_written (Row view) there).unit)) old new
+
+-- whatever key is asked for
+abbrev pub FollowsOwnRow : Text → Text → UnitView → Database → Database → Type 0
+FollowsOwnRow domain lang view old new = (key : Key) → FollowsRow domain (project_at domain old) lang key view old new
+
+-- a suggestion more on a unit that is there is one more of those that its language counts, unless the unit is obsolete
+abbrev pub FollowsSuggestion : Text → Project → Text → Key → Suggestion → Database → Database → Type 0
+FollowsSuggestion domain project lang key s old new =
+    (there : UnitView) → view_of project (lang, key) ≡ Some there
+    → FiguresFollow (moved_at domain lang (counted project.template there.unit) (counted project.template (view_written (Suggested s) there).unit)) old new
+
+abbrev pub FollowsSuggestionAt : Text → Text → Key → Suggestion → Database → Database → Type 0
+FollowsSuggestionAt domain lang key s old = FollowsSuggestion domain (project_at domain old) lang key s old
+
+-- whatever the suggestion
+abbrev pub FollowsOneMore : Text → Text → Key → Database → Database → Type 0
+FollowsOneMore domain lang key old new = (s : Suggestion) → FollowsSuggestionAt domain lang key s old new
+
+-- a vote changes the sum of its suggestion, if that is what the votes sum up to then, and no count
+abbrev pub FollowsVote : Project → Text → Key → UnitWrite → Database → Database → Type 0
+FollowsVote project lang key write old new = (there : UnitView) → view_of project (lang, key) ≡ Some there → IsWriteOver there write → FiguresStay old new
+
+abbrev pub FollowsVoteAt : Text → Text → Key → Text → Text → Option VoteValue → ℤ → Database → Database → Type 0
+FollowsVoteAt domain lang key number voter value sum old = FollowsVote (project_at domain old) lang key (Voted number voter value sum) old
+
+-- what an act writes of the unit at a key, of the domain's project
+abbrev pub FollowsWriteIn : Text → Project → Text → Key → UnitWrite → Database → Database → Type 0
+FollowsWriteIn domain project lang key (Whole view) = FollowsUnit domain project lang view
+FollowsWriteIn domain project lang key (Row view) = FollowsRow domain project lang key view
+FollowsWriteIn domain project lang key (Suggested s) = FollowsSuggestion domain project lang key s
+FollowsWriteIn domain project lang key (Voted number voter value sum) = FollowsVote project lang key (Voted number voter value sum)
+
+abbrev pub FollowsWrite : Text → Text → Key → UnitWrite → Database → Database → Type 0
+FollowsWrite domain lang key write old = FollowsWriteIn domain (project_at domain old) lang key write old
 
 -- where the domain isn't there, nothing is counted
 abbrev pub FollowsIf : Bool → (Database → Database → Type 0) → Database → Database → Type 0
@@ -70,9 +112,9 @@ FollowsIf false Follows = FiguresStay
 abbrev pub FollowsIn : Text → (Database → Database → Type 0) → Database → Database → Type 0
 FollowsIn domain Follows old new = FollowsIf (is_domain (rows_named old) domain) Follows old new
 
-abbrev pub FollowsAct : Text → Text → Option UnitView → Database → Database → Type 0
-FollowsAct domain lang None = FiguresStay
-FollowsAct domain lang (Some view) = FollowsIn domain (FollowsView domain lang view)
+abbrev pub FollowsAct : Text → Text → Key → Option UnitWrite → Database → Database → Type 0
+FollowsAct domain lang key None = FiguresStay
+FollowsAct domain lang key (Some write) = FollowsIn domain (FollowsWrite domain lang key write)
 
 -- ---- a change of the office
 

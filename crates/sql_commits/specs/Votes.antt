@@ -1,16 +1,17 @@
--- A suggestion of a domain that is added, and the votes on it. Only private clauses and proofs cite this file.
-use Rattle.std.specs.Prelude.{◌≡◌, ℕ, pos, List, [], ◌∷◌, map, codes}
+-- A suggestion of a domain that is added, and the votes on it; and one vote. Only private clauses and proofs cite this file.
+use Rattle.std.specs.Prelude.{◌≡◌, ℕ, ◌+◌, ℤ, pos, int_lt, true, List, [], ◌∷◌, map, Option, Some, None, codes}
 use Rattle.sqlite.specs.declared.types.Value.TheVariants.{Int, Text as Words}
 use Rattle.sqlite.specs.Effect.{Database}
-use Rattle.sqlite.specs.Order.{Row}
+use Rattle.sqlite.specs.Order.{Row, column}
 use Rattle.sqlite_rules.specs.Lists.{Has}
 use Rattle.po_text.specs.Texts.{Text}
 use Rattle.units.specs.declared.votes.VoteValue.{VoteValue}
 use Rattle.sql_schema.specs.Keys.{text_at, first_text, first_texts}
 use Rattle.sql_schema.specs.Layouts.{NamedRows, rows_named}
 use Rattle.sql_meaning.specs.Cells.{vote_cells}
-use Rattle.sql_schema.specs.Inside.{HoldsValues}
+use Rattle.sql_schema.specs.Inside.{HoldsValues, PutsRow}
 use Rattle.sql_meaning.specs.RowChanges.{AddsIn}
+use Rattle.sql_statements.specs.DomainVotes.{TakesVote}
 use Rattle.sql_meaning.specs.Written.{PutsRows}
 use Rattle.sql_changes.specs.OnDomains.{OnDomain}
 
@@ -28,3 +29,16 @@ abbrev pub AddsSummed : (domain number lang key : Text) → ℕ → (suggester f
 AddsSummed domain number lang key place suggester forms old new =
     OnDomain domain (AddsIn (codes "suggestion") first_text (HoldsValues (Words number ∷ Words lang ∷ Words key ∷ Int (pos place) ∷ Words suggester ∷ Words forms ∷ []))) old new
     × HasSuggestion domain number (rows_named new)
+
+-- a voter's vote on the suggestion of a number is put, or taken away
+abbrev pub PutsVoteRow : Text → Text → Option VoteValue → Database → Database → Type 0
+PutsVoteRow number voter (Some value) = PutsRow (codes "d_vote") first_texts (HoldsValues (vote_cells number (voter, value)))
+PutsVoteRow number voter None = TakesVote number voter
+
+-- each of the places that rows show is before this one
+abbrev pub ArePlacesBefore : ℕ → List Row → Type 0
+ArePlacesBefore place rows = (row : Row) → Has rows row → (at : ℤ) → column row 0 ≡ Int at → int_lt at (pos place) ≡ true
+
+-- a row shows the place before this one
+abbrev pub IsPlaceBehind : Row → ℕ → Type 0
+IsPlaceBehind row place = (at : ℕ) × (column row 0 ≡ Int (pos at)) × (place ≡ at + 1)

@@ -5,105 +5,91 @@ ghost use Rattle.sql_schema.specs.Layouts.{by_domain};
 ghost use Rattle.sql_schema.specs.Inside.{IsSteadyOver, IsInsideOf};
 ghost use Rattle.sql_schema.specs.Whole.{IsIdleOver, IsCommitOf};
 ghost use Rattle.sql_changes.specs.OnDomains.{OnDomain};
-ghost use Rattle.sql_changes.specs.UnitWrites.{WritesNumberedUnit};
+ghost use Rattle.sql_changes.specs.UnitWrites.{WritesOfUnit};
 ghost use Rattle.sql_commits.specs.Acts.{MakesAct, MakesChange, CommitsAct, CommitsChange};
 ghost use Rattle.sql_commits.specs.Changes.{WritesDomainChange, WritesIn, WritesChange};
-ghost use Rattle.sql_commits.specs.Figures.{FollowsView, FollowsIn, FollowsAct, FollowsDomainChange, FollowsOneChange, FollowsChange};
+ghost use Rattle.sql_commits.specs.Figures.{FollowsWrite, FollowsIn, FollowsAct, FollowsDomainChange, FollowsOneChange, FollowsChange};
 
 use crate::languages::write_language;
 use crate::policies::write_policy;
 use crate::records::put_record_of;
 use crate::roles::write_role;
-use crate::tallies::move_tally;
 use crate::templates::write_template;
 use crate::transactions::finish;
-use crate::unit_writes::write_unit;
-use deliveries::{Change, DomainChange};
+use crate::unit_parts::write_of_unit;
+use deliveries::{Change, DomainChange, UnitWrite};
 use request_book::Record;
 use sql_decoding::Failure;
 use sql_statements::domains::{find_domain, put_domain};
 use sqlite::{Alter, Connection, Transaction};
 use std::alloc::Global;
-use units::{Lang, Name, UnitView};
+use units::{Key, Lang, Name};
 
-/// Records a request and writes the unit's new view, if it has one and its domain is there: its row and its suggestions, in the place of
-/// those that are there, the suggestions' sums, and its language's tally.
+/// Records a request and writes what its act writes of the unit at a key, if it writes anything and the unit's domain is there: the whole of
+/// the unit in the place of what is there, its row alone, a suggestion behind its last one, or a vote on one of its suggestions. The sums of
+/// suggestions that are written or voted on go with them, and the language's tally moves.
 pub fn commit_act<S: Alter>(
     connection: &mut Connection<S>,
     alloc: Global,
     row: &Record,
     domain: &Name,
     lang: &Lang,
-    view: &Option<UnitView>,
+    key: &Key,
+    write: &Option<UnitWrite>,
 ) -> Result<(), Failure>
     requires autocommit { connection.old.in_transaction ≡ false }
     requires idle { IsIdleOver by_domain (state S.Store connection.old) }
-    ensures committed { IsCommitOf by_domain (state S.Store connection.old) (state S.Store connection.new) result (CommitsAct row.now domain.now lang.now view.now) }
+    ensures committed { IsCommitOf by_domain (state S.Store connection.old) (state S.Store connection.new) result (CommitsAct row.now domain.now lang.now key.now write.now) }
 {
     let mut tx = connection.transaction();
-    let put = put_record_and_view(&mut tx, alloc, row, domain, lang, view);
+    let put = put_record_and_write(&mut tx, alloc, row, domain, lang, key, write);
     finish(tx, put)
 }
 
-/// Writes a request's record, and the unit's new view, if it has one and its domain is there.
-fn put_record_and_view<S: Alter>(
+/// Writes a request's record, and what its act writes of a unit, if it writes anything and the unit's domain is there.
+fn put_record_and_write<S: Alter>(
     tx: &mut Transaction<'_, S>,
     alloc: Global,
     row: &Record,
     domain: &Name,
     lang: &Lang,
-    view: &Option<UnitView>,
+    key: &Key,
+    write: &Option<UnitWrite>,
 ) -> Result<(), Failure>
     requires steady { IsSteadyOver by_domain (state S.Store tx.old.conn.now) }
     ensures same_reference { tx.new.conn.ghost_name ≡ tx.old.conn.ghost_name }
-    ensures put { IsInsideOf by_domain (state S.Store tx.old.conn.now) (state S.Store tx.new.conn.now) result (MakesAct row.now domain.now lang.now view.now) }
-    ensures figures { IsInsideOf by_domain (state S.Store tx.old.conn.now) (state S.Store tx.new.conn.now) result (FollowsAct domain.now lang.now view.now) }
+    ensures put { IsInsideOf by_domain (state S.Store tx.old.conn.now) (state S.Store tx.new.conn.now) result (MakesAct row.now domain.now lang.now key.now write.now) }
+    ensures figures { IsInsideOf by_domain (state S.Store tx.old.conn.now) (state S.Store tx.new.conn.now) result (FollowsAct domain.now lang.now key.now write.now) }
 {
     put_record_of(tx, alloc, row)?;
-    match view {
-        Some(view) => write_view_in(tx, alloc, domain, lang, view),
+    match write {
+        Some(write) => write_unit_in(tx, alloc, domain, lang, key, write),
         None => Ok(()),
     }
 }
 
-/// Writes a unit's new view in a domain that is there; in another nothing.
-fn write_view_in<S: Alter>(
+/// Writes what an act writes of a unit of a domain that is there; of another nothing.
+fn write_unit_in<S: Alter>(
     tx: &mut Transaction<'_, S>,
     alloc: Global,
     domain: &Name,
     lang: &Lang,
-    view: &UnitView,
+    key: &Key,
+    write: &UnitWrite,
 ) -> Result<(), Failure>
     requires steady { IsSteadyOver by_domain (state S.Store tx.old.conn.now) }
     ensures same_reference { tx.new.conn.ghost_name ≡ tx.old.conn.ghost_name }
-    ensures put { IsInsideOf by_domain (state S.Store tx.old.conn.now) (state S.Store tx.new.conn.now) result (WritesIn domain.now (WritesNumberedUnit lang.now view.now.unit)) }
-    ensures figures { IsInsideOf by_domain (state S.Store tx.old.conn.now) (state S.Store tx.new.conn.now) result (FollowsIn domain.now (FollowsView domain.now lang.now view.now)) }
+    ensures put { IsInsideOf by_domain (state S.Store tx.old.conn.now) (state S.Store tx.new.conn.now) result (WritesIn domain.now (WritesOfUnit lang.now key.now write.now)) }
+    ensures figures { IsInsideOf by_domain (state S.Store tx.old.conn.now) (state S.Store tx.new.conn.now) result (FollowsIn domain.now (FollowsWrite domain.now lang.now key.now write.now)) }
 {
     let found = find_domain(tx, domain.as_str())?;
     match found {
         Some(row) => {
             drop(row);
-            write_view(tx, alloc, domain, lang, view)
+            write_of_unit(tx, alloc, domain, lang, key, write)
         }
         None => Ok(()),
     }
-}
-
-/// Writes a unit's new view in a domain, and moves its language's tally.
-fn write_view<S: Alter>(
-    tx: &mut Transaction<'_, S>,
-    alloc: Global,
-    domain: &Name,
-    lang: &Lang,
-    view: &UnitView,
-) -> Result<(), Failure>
-    requires steady { IsSteadyOver by_domain (state S.Store tx.old.conn.now) }
-    ensures same_reference { tx.new.conn.ghost_name ≡ tx.old.conn.ghost_name }
-    ensures put { IsInsideOf by_domain (state S.Store tx.old.conn.now) (state S.Store tx.new.conn.now) result (OnDomain domain.now (WritesNumberedUnit lang.now view.now.unit)) }
-    ensures figures { IsInsideOf by_domain (state S.Store tx.old.conn.now) (state S.Store tx.new.conn.now) result (FollowsView domain.now lang.now view.now) }
-{
-    move_tally(tx, alloc, domain, lang, view)?;
-    write_unit(tx, alloc, domain, lang, &view.unit)
 }
 
 /// Records a request and writes what its act on the office changes, if it changes anything. A change of a domain that isn't there writes

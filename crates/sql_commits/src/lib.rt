@@ -4,13 +4,13 @@
 //!
 //! - `acts`: the transactions: for acts on a unit (`commit_act`), and for acts on the office (`commit_change`)
 //! - `records`, `roles`, `policies`, `languages`, `templates`, `entries`, `changed_entries`, `unit_writes`,
-//!   `planned_units`: what is written
-//! - `tallies`: how many units of each language are in each state
+//!   `planned_units`: what is written; `unit_parts`: what an act writes of a unit
+//! - `tallies`: how many units of each language are in each state; `unit_counts`: what one unit counts
 //! - `transactions`: how a transaction ends
 //!
 //! A conversion of tables of an earlier form writes by the same functions.
 //!
-//! The spec `Acts` says what a commit makes of the tables; `Changes`, `Columns`, `Votes`,
+//! The spec `Acts` says what a commit makes of the tables; `Changes`, `Columns`, `Counted`, `Votes`,
 //! `Figures`, `Entries` and `Ends` are for inner functions.
 #![tactic(auto)]
 
@@ -25,6 +25,8 @@ mod roles;
 mod tallies;
 mod templates;
 mod transactions;
+mod unit_counts;
+mod unit_parts;
 mod unit_writes;
 
 pub use acts::{commit_act, commit_change};

@@ -1,30 +1,28 @@
 //! Tallies inside a transaction: how many units of each language are in each state.
-ghost use Rattle.std.specs.Prelude.{◌≡◌, ◌+◌, ◌-◌, pos, List, IfOk, IsTrue, length};
+ghost use Rattle.std.specs.Prelude.{◌≡◌, ◌+◌, ◌-◌, pos, IfOk, IsTrue};
 ghost use Rattle.sqlite.specs.Held.{state};
 ghost use Rattle.sqlite.specs.State.{HasCleanDisk};
 ghost use Rattle.sql_schema.specs.Layouts.{by_domain};
-ghost use Rattle.sql_schema.specs.Inside.{IsSteadyOver, IsInsideOf};
+ghost use Rattle.sql_schema.specs.Inside.{IsSteadyOver, IsInsideOf, IsReadOf};
 ghost use Rattle.sql_changes.specs.OnDomains.{SparesDomains};
-ghost use Rattle.deliveries.specs.Counting.{none_counted, one_more};
-ghost use Rattle.tables.specs.Tallies.{counted as counts_one, moved as moves};
-ghost use Rattle.units.specs.Project.{entry_of};
-ghost use Rattle.units.specs.Units.{shown_state, stored_as_shown};
-ghost use Rattle.units.specs.declared.unit.Unit.{Unit as UnitValue};
-ghost use Rattle.po_text.specs.declared.entry.Entry.{Entry as EntryValue};
-ghost use Rattle.sql_commits.specs.Figures.{PutsTally, FollowsView, CountsThere};
+ghost use Rattle.tables.specs.Tallies.{moved as moves};
+ghost use Rattle.sql_commits.specs.Counted.{ShowsValues};
+ghost use Rattle.sql_commits.specs.Figures.{PutsTally, FollowsView, FollowsOwnRow, FollowsOneMore};
 ghost use Rattle.sql_figures.specs.Figures.{with_tallies, moved_at, FiguresFollow};
 
+use crate::unit_counts::{
+    CountedValues, counted, counted_so, counted_there, one_suggestion, values_beside,
+};
 use deliveries::Tally;
-use po_text::Entry;
-use sql_decoding::{Failure, UnitNumbers, tally_in, unit_numbers};
+use sql_decoding::{Failure, tally_in, unit_numbers};
 use sql_keepable::key_fits;
-use sql_statements::domain_suggestions::domain_suggestions_of;
+use sql_statements::domain_suggestions::places_of;
 use sql_statements::domain_units::find_domain_unit;
 use sql_statements::tallies::{find_tally, put_tally};
 use sqlite::{Alter, Transaction};
 use std::alloc::Global;
 use tables::Lost;
-use units::{Lang, Name, ShownState, Unit, UnitState, UnitView, is_read_only};
+use units::{Key, Lang, Name, UnitView};
 
 /// The last count that a column holds.
 const LAST_COUNT: usize = 9_223_372_036_854_775_807;
@@ -91,8 +89,8 @@ pub fn put_tallies<S: Alter>(
     Ok(())
 }
 
-/// Moves a language's tally by what the unit that is there counts, and what its new view does. Where both count the same, nothing is
-/// written. A language that has no tally is an error: another program has written the file.
+/// Moves a language's tally by what the unit that is there counts, and what its new view does. An act doesn't change the template, so the new
+/// view's entry is the old one's. A language that has no tally is an error: another program has written the file.
 pub fn move_tally<S: Alter>(
     tx: &mut Transaction<'_, S>,
     alloc: Global,
@@ -105,8 +103,82 @@ pub fn move_tally<S: Alter>(
     ensures spares { IsInsideOf by_domain (state S.Store tx.old.conn.now) (state S.Store tx.new.conn.now) result SparesDomains }
     ensures figures { IsInsideOf by_domain (state S.Store tx.old.conn.now) (state S.Store tx.new.conn.now) result (FollowsView domain.now lang.now view.now) }
 {
-    let was = counted_there(tx, alloc, domain, lang, view)?;
+    let there = values_there(tx, alloc, domain, lang, &view.unit.key)?;
+    let was = counted_there(&view.source, &there);
     let is = counted(&view.source, &view.unit)?;
+    put_difference(tx, domain, lang, was, is)
+}
+
+/// Moves a language's tally by what the unit that is there counts, and what it does with the values of its new view and the suggestions that
+/// it has.
+pub fn move_row_tally<S: Alter>(
+    tx: &mut Transaction<'_, S>,
+    alloc: Global,
+    domain: &Name,
+    lang: &Lang,
+    view: &UnitView,
+) -> Result<(), Failure>
+    requires steady { IsSteadyOver by_domain (state S.Store tx.old.conn.now) }
+    ensures same_reference { tx.new.conn.ghost_name ≡ tx.old.conn.ghost_name }
+    ensures spares { IsInsideOf by_domain (state S.Store tx.old.conn.now) (state S.Store tx.new.conn.now) result SparesDomains }
+    ensures figures { IsInsideOf by_domain (state S.Store tx.old.conn.now) (state S.Store tx.new.conn.now) result (FollowsOwnRow domain.now lang.now view.now) }
+{
+    let there = values_there(tx, alloc, domain, lang, &view.unit.key)?;
+    match there {
+        Some(values) => {
+            let was = counted_so(&view.source, &values);
+            let is = counted_so(&view.source, &values_beside(&view.unit, values.suggestions));
+            put_difference(tx, domain, lang, was, is)
+        }
+        None => Ok(()),
+    }
+}
+
+/// Counts a suggestion more in a language's tally, unless the unit that is there is obsolete.
+pub fn count_suggestion<S: Alter>(
+    tx: &mut Transaction<'_, S>,
+    alloc: Global,
+    domain: &Name,
+    lang: &Lang,
+    key: &Key,
+) -> Result<(), Failure>
+    requires steady { IsSteadyOver by_domain (state S.Store tx.old.conn.now) }
+    ensures same_reference { tx.new.conn.ghost_name ≡ tx.old.conn.ghost_name }
+    ensures spares { IsInsideOf by_domain (state S.Store tx.old.conn.now) (state S.Store tx.new.conn.now) result SparesDomains }
+    ensures figures { IsInsideOf by_domain (state S.Store tx.old.conn.now) (state S.Store tx.new.conn.now) result (FollowsOneMore domain.now lang.now key.now) }
+{
+    key_fits(key);
+    let text = key.text(alloc)?;
+    let found = find_domain_unit(tx, domain.as_str(), lang.as_str(), text.as_str())?;
+    match found {
+        Some(row) => {
+            let numbers = unit_numbers(&row)?;
+            put_difference(
+                tx,
+                domain,
+                lang,
+                Tally::none(),
+                one_suggestion(numbers.obsolete),
+            )
+        }
+        None => Ok(()),
+    }
+}
+
+/// Moves a language's tally from what one unit counted to what another counts. Where both count the same, nothing is read or written.
+fn put_difference<S: Alter>(
+    tx: &mut Transaction<'_, S>,
+    domain: &Name,
+    lang: &Lang,
+    was: Tally,
+    is: Tally,
+) -> Result<(), Failure>
+    requires steady { IsSteadyOver by_domain (state S.Store tx.old.conn.now) }
+    requires open { HasCleanDisk (state S.Store tx.old.conn.now) → IsTrue (state S.Store tx.old.conn.now).is_open }
+    ensures same_reference { tx.new.conn.ghost_name ≡ tx.old.conn.ghost_name }
+    ensures spares { IsInsideOf by_domain (state S.Store tx.old.conn.now) (state S.Store tx.new.conn.now) result SparesDomains }
+    ensures figures { IsInsideOf by_domain (state S.Store tx.old.conn.now) (state S.Store tx.new.conn.now) result (FiguresFollow (moved_at domain.now lang.now was is)) }
+{
     if was == is {
         Ok(())
     } else {
@@ -138,92 +210,32 @@ fn put_moved<S: Alter>(
     }
 }
 
-/// What the unit that is there counts; where there is none, nothing. An act doesn't change the template, so the new view's entry is the
-/// old one's.
-fn counted_there<S: Alter>(
+/// What a tally counts of the unit of a key, if there is one. Of its suggestions the places are read, and no forms.
+fn values_there<S: Alter>(
     tx: &mut Transaction<'_, S>,
     alloc: Global,
     domain: &Name,
     lang: &Lang,
-    view: &UnitView,
-) -> Result<Tally, Failure>
+    key: &Key,
+) -> Result<Option<CountedValues>, Failure>
     requires steady { IsSteadyOver by_domain (state S.Store tx.old.conn.now) }
     ensures same_reference { tx.new.conn.ghost_name ≡ tx.old.conn.ghost_name }
-    ensures spares { IsInsideOf by_domain (state S.Store tx.old.conn.now) (state S.Store tx.new.conn.now) result (λ old new. new ≡ old) }
-    ensures counted { HasCleanDisk (state S.Store tx.new.conn.now) → IfOk result (CountsThere domain.now lang.now view.now (state S.Store tx.old.conn.now).now) }
+    ensures found { IsReadOf by_domain (state S.Store tx.old.conn.now) (state S.Store tx.new.conn.now) result (ShowsValues domain.now lang.now key.now) }
 {
-    key_fits(&view.unit.key);
-    let key = view.unit.key.text(alloc)?;
-    let found = find_domain_unit(tx, domain.as_str(), lang.as_str(), key.as_str())?;
-    let suggestions = domain_suggestions_of(tx, domain.as_str(), lang.as_str(), key.as_str())?;
+    key_fits(key);
+    let text = key.text(alloc)?;
+    let found = find_domain_unit(tx, domain.as_str(), lang.as_str(), text.as_str())?;
+    let places = places_of(tx, domain.as_str(), lang.as_str(), text.as_str())?;
     match found {
         Some(row) => {
             let numbers = unit_numbers(&row)?;
-            Ok(counted_so(&view.source, &numbers, suggestions.len()))
+            Ok(Some(CountedValues {
+                state: numbers.state,
+                obsolete: numbers.obsolete,
+                suggestions: places.len(),
+            }))
         }
-        None => Ok(Tally::none()),
-    }
-}
-
-/// What a unit counts, whose entry in the template this is.
-fn counted(source: &Option<Entry>, unit: &Unit) -> Result<Tally, Failure>
-    ensures { IfOk result (λ tally. (template : List EntryValue) → source.now ≡ entry_of template unit.now.key → tally ≡ counts_one template unit.now) }
-{
-    let mut tally = Tally::none();
-    tally.add(source.as_ref(), unit)?;
-    Ok(tally)
-}
-
-/// What a unit counts whose row shows these numbers, and that has this many suggestions.
-fn counted_so(source: &Option<Entry>, numbers: &UnitNumbers, suggestions: usize) -> Tally
-    ensures { (template : List EntryValue) (unit : UnitValue) → source.now ≡ entry_of template unit.key → unit.state ≡ numbers.now.state → unit.obsolete ≡ numbers.now.obsolete
-        → length unit.suggestions ≡ suggestions → result ≡ counts_one template unit }
-{
-    if numbers.obsolete {
-        let mut tally = Tally::none();
-        tally.obsolete = 1;
-        tally
-    } else {
-        shown_once(shown(source, numbers.state), suggestions)
-    }
-}
-
-/// What a unit counts that is shown in this state, and that has this many suggestions.
-fn shown_once(state: ShownState, suggestions: usize) -> Tally
-    ensures { result ≡ one_more state (record none_counted { suggestions = suggestions }) }
-{
-    let mut tally = Tally::none();
-    tally.suggestions = suggestions;
-    match state {
-        ShownState::Untranslated => tally.untranslated = 1,
-        ShownState::NeedsEditing => tally.needs_editing = 1,
-        ShownState::Translated => tally.translated = 1,
-        ShownState::Approved => tally.approved = 1,
-        ShownState::ReadOnly => tally.read_only = 1,
-    }
-    tally
-}
-
-/// What callers see as the state of a unit, whose entry in the template this is.
-fn shown(source: &Option<Entry>, state: UnitState) -> ShownState
-    ensures { (unit : UnitValue) → unit.state ≡ state → result ≡ shown_state source.now unit }
-{
-    if is_read_only(source) {
-        ShownState::ReadOnly
-    } else {
-        stored_shown(state)
-    }
-}
-
-/// What callers see of a stored state, where the template doesn't make the unit read-only.
-fn stored_shown(state: UnitState) -> ShownState
-    ensures { result ≡ stored_as_shown state }
-{
-    match state {
-        UnitState::Untranslated => ShownState::Untranslated,
-        UnitState::NeedsEditing => ShownState::NeedsEditing,
-        UnitState::Translated => ShownState::Translated,
-        UnitState::Approved => ShownState::Approved,
+        None => Ok(None),
     }
 }
 

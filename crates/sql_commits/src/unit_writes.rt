@@ -1,15 +1,14 @@
 //! A unit inside a transaction: its row, its suggestions, and the votes on them.
-ghost use Rattle.std.specs.Prelude.{◌≡◌, ◌<◌, ◌^◌, ◌∷◌, map, IfOk, IsTrue, codes};
+ghost use Rattle.std.specs.Prelude.{◌≡◌, ◌<◌, ◌^◌, map, IfOk, IsTrue, codes};
 ghost use Rattle.std.specs.FinMap as maps;
 ghost use Rattle.sqlite.specs.Held.{state};
 ghost use Rattle.sqlite.specs.State.{HasCleanDisk};
 ghost use Rattle.sql_schema.specs.Layouts.{by_domain};
-ghost use Rattle.sql_schema.specs.Inside.{IsSteadyOver, IsInsideOf, OnRows, PutsRow, HoldsValues};
-ghost use Rattle.sql_schema.specs.Keys.{first_texts, first_three};
+ghost use Rattle.sql_schema.specs.Inside.{IsSteadyOver, IsInsideOf, OnRows};
+ghost use Rattle.sql_schema.specs.Keys.{first_texts};
 ghost use Rattle.sql_changes.specs.OnDomains.{OnDomain};
-ghost use Rattle.sqlite.specs.declared.types.Value.TheVariants.{Text as Words};
-ghost use Rattle.sql_meaning.specs.Cells.{unit_cells, vote_cells};
-ghost use Rattle.sql_changes.specs.UnitWrites.{AddsNumberedSuggestion, AddsNumberedSuggestions, WritesNumberedUnit};
+ghost use Rattle.sql_meaning.specs.Cells.{vote_cells};
+ghost use Rattle.sql_changes.specs.UnitWrites.{AddsNumberedSuggestion, AddsNumberedSuggestions, PutsUnitRow, WritesNumberedUnit};
 ghost use Rattle.sql_commits.specs.Columns.{columns_of_unit};
 ghost use Rattle.sql_commits.specs.Votes.{AddsSummed, PutsVotesOn};
 ghost use Rattle.sql_figures.specs.Figures.{FiguresStay};
@@ -46,6 +45,23 @@ pub fn write_unit<S: Alter>(
 {
     let columns = columns_of(alloc, unit)?;
     write_columns(tx, alloc, domain.as_str(), lang.as_str(), unit, &columns)
+}
+
+/// Writes the row of a unit of a domain, in the place of the one that is there. Its suggestions stay.
+pub fn write_row<S: Alter>(
+    tx: &mut Transaction<'_, S>,
+    alloc: Global,
+    domain: &Name,
+    lang: &Lang,
+    unit: &Unit,
+) -> Result<(), Failure>
+    requires steady { IsSteadyOver by_domain (state S.Store tx.old.conn.now) }
+    ensures same_reference { tx.new.conn.ghost_name ≡ tx.old.conn.ghost_name }
+    ensures put { IsInsideOf by_domain (state S.Store tx.old.conn.now) (state S.Store tx.new.conn.now) result (OnDomain domain.now (PutsUnitRow lang.now unit.now)) }
+    ensures figures { IsInsideOf by_domain (state S.Store tx.old.conn.now) (state S.Store tx.new.conn.now) result FiguresStay }
+{
+    let columns = columns_of(alloc, unit)?;
+    put_row(tx, domain.as_str(), lang.as_str(), unit, &columns)
 }
 
 /// The columns of a unit that take memory.
@@ -106,8 +122,7 @@ fn put_row<S: Alter>(
     requires columns { columns.now ≡ columns_of_unit unit.now }
     requires steady { IsSteadyOver by_domain (state S.Store tx.old.conn.now) }
     ensures same_reference { tx.new.conn.ghost_name ≡ tx.old.conn.ghost_name }
-    ensures put { IsInsideOf by_domain (state S.Store tx.old.conn.now) (state S.Store tx.new.conn.now) result
-        (PutsRow (codes "d_unit") first_three (HoldsValues (Words domain.now ∷ unit_cells lang.now unit.now))) }
+    ensures put { IsInsideOf by_domain (state S.Store tx.old.conn.now) (state S.Store tx.new.conn.now) result (OnDomain domain.now (PutsUnitRow lang.now unit.now)) }
     ensures figures { IsInsideOf by_domain (state S.Store tx.old.conn.now) (state S.Store tx.new.conn.now) result FiguresStay }
 {
     put_domain_unit(
@@ -147,8 +162,8 @@ fn add_suggestions<S: Alter>(
     Ok(())
 }
 
-/// Adds a suggestion, whose number must be new, its sum, and the votes on it.
-fn add_suggestion<S: Alter>(
+/// Adds a suggestion, whose number must be new, at a place where none is, its sum, and the votes on it.
+pub fn add_suggestion<S: Alter>(
     tx: &mut Transaction<'_, S>,
     alloc: Global,
     domain: &str,

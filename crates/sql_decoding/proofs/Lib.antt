@@ -3,3 +3,4 @@ pub mod ColumnsTested
 pub mod ColumnsRead
 pub mod ViewsRead
 pub mod RowsSoFar
+pub mod SuggestionsRead

@@ -16,14 +16,15 @@ use Rattle.units.specs.declared.unit.Key.{Key}
 use Rattle.units.specs.declared.unit.Role.TheVariants.{Guest}
 use Rattle.units.specs.declared.unit.UnitView.{UnitView}
 use Rattle.deliveries.specs.declared.values.ActContext.{ActContext}
-use Rattle.deliveries.specs.UnitAccess.{found_of}
+use Rattle.review.specs.Parts.{bare}
+use Rattle.deliveries.specs.UnitAccess.{found_of, without_suggestions}
 use Rattle.sql_statements.specs.declared.unit_rows.SuggestionRows.{SuggestionRows}
 use Rattle.sql_statements.specs.declared.unit_rows.UnitRows.{UnitRows}
 use Rattle.sql_statements.specs.declared.unit_rows.ViewRows.{ViewRows}
 use Rattle.sql_laws.specs.RowMaps.{IsFound}
 use Rattle.sql_statements.specs.Answers.{ShowsPolicyIn}
 use Rattle.sql_schema.specs.Keys.{text_at, first_text, columns}
-use Rattle.sql_statements.specs.UnitRows.{suggestion_of, ShowsVotesOn, ShowsUnitRows, ShowsViewRows}
+use Rattle.sql_statements.specs.UnitRows.{suggestion_of, ShowsOfficeRows, ShowsVotesOn, ShowsUnitRows, ShowsUnitAlone, ShowsViewRows, ShowsViewAlone}
 use Rattle.sql_meaning.specs.Meaning.{project_of_rows, headers_in, policy_in, suggestions_in, template_in}
 use Rattle.sql_meaning.specs.Shown.{shown_header, shown_suggestion, shown_unit}
 use Rattle.sql_meaning.proofs.OfficeQueries.{policy_found, entry_found, suggestions_found, votes_found}
@@ -89,28 +90,62 @@ module _ (tables : NamedRows) (office : AreOfficeRows tables) where
           let source = entry_found tables office key rows.entry valid shows.entry in
           λ i. Some (record { unit = shown_unit key (suggestions i) unit; source = source i })
 
+  -- the same without the unit's suggestions
+  view_alone_found : (lang : Text) (key : Key) (rows : UnitRows) → HasStrings key → ShowsUnitAlone lang (key_text key) tables rows
+      → option_map bare (view_of (project_of_rows tables) (lang, key)) ≡ shown_view key rows
+  view_alone_found lang key rows valid shows =
+      let one = office.keyed.one_unit in
+      ap (λ o. option_map bare (option_map (λ unit. record { unit = unit; source = entry_of (template_in tables) key }) o)) (finds_unit tables lang key rows.unit one valid shows.unit) ∙ with_parts rows.unit
+    where
+      with_parts : (found : Option Row)
+          → option_map bare (option_map {U = UnitView} (λ unit. record { unit = unit; source = entry_of (template_in tables) key }) (option_map (shown_unit key (suggestions_in tables lang (key_text key))) found))
+          ≡ option_map (λ unit. record { unit = shown_unit key (map suggestion_shown rows.suggestions.items) unit; source = shown_source key rows.entry }) found
+      with_parts None = refl
+      with_parts (Some unit) =
+          let none = sym (ap (map suggestion_shown) shows.none) in
+          let source = entry_found tables office key rows.entry valid shows.entry in
+          λ i. Some (record { unit = shown_unit key (none i) unit; source = source i })
+
   -- ---- all of it
+
+  module _ (lang : Text) (key : Key) (name : Text) (view : Option UnitView) where
+    abbrev with_header : Entry → ActContext
+    with_header header = record {
+      rule = rule_at (project_of_rows tables) lang;
+      policy = policy_in tables;
+      role = role_of (project_of_rows tables) name;
+      view = view;
+    }
+
+    -- what is found of the office, with the view that is shown
+    found_with : (rows : ViewRows) (found : Option ActContext) → ShowsOfficeRows lang name tables rows.office → view ≡ shown_view key rows.unit → IsShownFound key rows found
+        → found ≡ option_map with_header (maps.get (headers_in tables) lang)
+    found_with rows found shows same_view is = by rows.office.language rows.office.policy shows.language shows.policy is
+      where
+        by : (language policy : Option Row) → ShowsLanguageOf lang tables language → ShowsPolicyIn tables policy → IsShownWith key rows language policy found
+            → found ≡ option_map with_header (maps.get (headers_in tables) lang)
+        by None policy shows_language shows_policy none =
+            none ∙ sym (ap (option_map with_header) (header_found lang None shows_language))
+        by (Some language) None shows_language shows_policy never = absurd never
+        by (Some language) (Some policy) shows_language shows_policy same =
+            let rule = rule_of_shown lang language shows_language in
+            let of_policy = policy_found tables office policy shows_policy in
+            let role = role_found name rows.office.role shows.role in
+            same ∙ sym (ap (option_map with_header) (header_found lang (Some language) shows_language) ∙ (λ i. Some (record { rule = rule i; policy = of_policy i; role = role i; view = same_view i })))
 
   pub all_found : (lang : Text) (key : Key) (name : Text) (rows : ViewRows) (found : Option ActContext) → HasStrings key → ShowsViewRows lang (key_text key) name tables rows
       → IsShownFound key rows found → found ≡ found_of (project_of_rows tables) lang key name
-  all_found lang key name rows found valid shows is = by rows.office.language rows.office.policy shows.office.language shows.office.policy is
-    where
-      with_header : Entry → ActContext
-      with_header header = record {
-        rule = rule_at (project_of_rows tables) lang;
-        policy = policy_in tables;
-        role = role_of (project_of_rows tables) name;
-        view = view_of (project_of_rows tables) (lang, key);
-      }
+  all_found lang key name rows found valid shows is =
+      found_with lang key name (view_of (project_of_rows tables) (lang, key)) rows found shows.office (view_found lang key rows.unit valid shows.unit) is
 
-      by : (language policy : Option Row) → ShowsLanguageOf lang tables language → ShowsPolicyIn tables policy → IsShownWith key rows language policy found
-          → found ≡ found_of (project_of_rows tables) lang key name
-      by None policy shows_language shows_policy none =
-          none ∙ sym (ap (option_map with_header) (header_found lang None shows_language))
-      by (Some language) None shows_language shows_policy never = absurd never
-      by (Some language) (Some policy) shows_language shows_policy same =
-          let rule = rule_of_shown lang language shows_language in
-          let of_policy = policy_found tables office policy shows_policy in
-          let role = role_found name rows.office.role shows.office.role in
-          let view = view_found lang key rows.unit valid shows.unit in
-          same ∙ sym (ap (option_map with_header) (header_found lang (Some language) shows_language) ∙ (λ i. Some (record { rule = rule i; policy = of_policy i; role = role i; view = view i })))
+  pub all_but_suggestions_found : (lang : Text) (key : Key) (name : Text) (rows : ViewRows) (found : Option ActContext) → HasStrings key → ShowsViewAlone lang (key_text key) name tables rows
+      → IsShownFound key rows found → found ≡ without_suggestions (found_of (project_of_rows tables) lang key name)
+  all_but_suggestions_found lang key name rows found valid shows is =
+      found_with lang key name (option_map bare (view_of (project_of_rows tables) (lang, key))) rows found shows.office (view_alone_found lang key rows.unit valid shows.unit) is
+      ∙ sym (at_each (maps.get (headers_in tables) lang))
+    where
+      at_each : (header : Option Entry)
+          → without_suggestions (option_map (with_header lang key name (view_of (project_of_rows tables) (lang, key))) header)
+          ≡ option_map (with_header lang key name (option_map bare (view_of (project_of_rows tables) (lang, key)))) header
+      at_each None = refl
+      at_each (Some header) = refl

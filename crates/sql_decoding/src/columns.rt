@@ -33,9 +33,9 @@ pub fn is_text(row: &Row, at: usize, text: &str) -> bool
     }
 }
 
-/// Whether a column is this text, or null where there is none.
+/// Whether a column that the row has is this text, or null where there is none.
 pub fn is_text_or_null<'a>(row: &Row, at: usize, text: Option<&'a str>) -> bool
-    ensures { result ≡ true → column row.now at ≡ or_null Words (option_copied text.entry) }
+    ensures { (result ≡ true) ↔ (at < length row.now × (column row.now at ≡ or_null Words (option_copied text.entry))) }
 {
     match text {
         Some(text) => is_text(row, at, text),

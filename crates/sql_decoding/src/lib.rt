@@ -5,7 +5,7 @@
 //! - `columns`, `integers`, `texts`: one column, one that is a whole number, and one that is a text
 //! - `records`: a record; `record_heads`: its number and its status alone
 //! - `units_read`: a unit with its suggestions and votes, and a template's entry
-//! - `views`: what an act on a unit needs
+//! - `views`: what an act on a unit needs, and a suggestion that is found
 //! - `tallies`: how many units of a language are in each state
 //! - `entries_read`: the entries of an export
 //! - `kept_rule`: the plural rule that was read last
@@ -38,6 +38,7 @@ pub use record_heads::{RecordHead, head_in};
 pub use records::record_in;
 pub use tallies::tally_in;
 pub use units_read::{
-    UnitNumbers, entry_in, put_vote, suggestion_with, template_entry, unit_numbers, unit_with,
+    UnitNumbers, entry_in, put_vote, suggestion_with, suggestions_without_votes, template_entry,
+    unit_numbers, unit_with,
 };
-pub use views::{found_in, header_in, policy_in, role_in};
+pub use views::{found_in, header_in, policy_in, role_in, suggestion_found};

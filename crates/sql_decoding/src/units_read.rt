@@ -155,7 +155,7 @@ pub fn suggestion_with(alloc: Global, row: &Row, votes: Votes) -> Result<Suggest
 }
 
 /// A suggestion with the votes on it.
-fn suggestion_in(alloc: Global, rows: &SuggestionRows) -> Result<Suggestion, Failure>
+pub(crate) fn suggestion_in(alloc: Global, rows: &SuggestionRows) -> Result<Suggestion, Failure>
     ensures shown { IfOk result (λ v. v ≡ suggestion_shown rows.now) }
     ensures stands { OnOk result (is_suggestion_with_votes rows.now ≡ true) }
     ensures unread { IfErr result (IsUnread (is_suggestion_with_votes rows.now)) }
@@ -188,6 +188,30 @@ fn suggestions_in(alloc: Global, rows: &[SuggestionRows]) -> Result<Items<Sugges
     let mut all = Items::new(alloc);
     for row in rows {
         push_suggestion(alloc, &mut all, row)?;
+    }
+    Ok(all)
+}
+
+/// Puts the suggestion of a row behind those before it, without the votes on it.
+fn push_without_votes(alloc: Global, all: &mut Items<Suggestion>, row: &Row) -> Result<(), Failure>
+    ensures shown { OnOk result (all.new ≡ all.old ++ with_votes maps.empty row.now ∷ []) }
+    ensures stands { OnOk result (is_suggestion row.now ≡ true) }
+    ensures unread { IfErr result (IsUnread (is_suggestion row.now)) }
+{
+    let suggestion = suggestion_with(alloc, row, Votes::new(alloc))?;
+    all.push(suggestion)?;
+    Ok(())
+}
+
+/// The suggestions of rows, without the votes on them.
+pub fn suggestions_without_votes(alloc: Global, rows: &[Row]) -> Result<Items<Suggestion>, Failure>
+    ensures shown { IfOk result (λ v. v ≡ map (with_votes maps.empty) rows.now) }
+    ensures stands { OnOk result (list_all is_suggestion rows.now ≡ true) }
+    ensures unread { IfErr result (IsUnread (list_all is_suggestion rows.now)) }
+{
+    let mut all = Items::new(alloc);
+    for row in rows {
+        push_without_votes(alloc, &mut all, row)?;
     }
     Ok(all)
 }

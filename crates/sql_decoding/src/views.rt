@@ -1,5 +1,5 @@
 //! What an act on a unit needs to know, as it is read.
-ghost use Rattle.std.specs.Prelude.{◌≡◌, ◌&&◌, true, Ok, Some, IfOk, IfErr, OnOk, map};
+ghost use Rattle.std.specs.Prelude.{◌≡◌, ◌&&◌, true, Ok, Some, IfOk, IfErr, OnOk, map, option_map};
 ghost use Rattle.std.specs.List.{list_all};
 ghost use Rattle.std.specs.Option.{option_map_or};
 ghost use Rattle.units.specs.Rules.{rule_in};
@@ -11,7 +11,7 @@ use crate::columns::{role_at, text_in};
 use crate::faults::Failure;
 use crate::integers::integer_at;
 use crate::kept_rule::{KeptRule, rule_to_keep, same_rule};
-use crate::units_read::{entry_in, unit_in};
+use crate::units_read::{entry_in, suggestion_in, unit_in};
 use deliveries::ActContext;
 use plural_expr::PluralForms;
 use po_text::Entry;
@@ -20,7 +20,7 @@ use sql_statements::unit_rows::{SuggestionRows, UnitRows, ViewRows};
 use sqlite::Row;
 use std::alloc::Global;
 use tables::Lost;
-use units::{Key, Policy, Role, UnitView};
+use units::{Key, Policy, Role, Suggestion, UnitView};
 
 /// The header of a language.
 pub fn header_in(alloc: Global, row: &Row) -> Result<Entry, Failure>
@@ -123,6 +123,21 @@ fn source_in(alloc: Global, key: &Key, row: &Option<Row>) -> Result<Option<Entry
 {
     match row {
         Some(row) => Ok(Some(entry_in(alloc, key, row)?)),
+        None => Ok(None),
+    }
+}
+
+/// The suggestion that is found, with the votes on it, if there is one.
+pub fn suggestion_found(
+    alloc: Global,
+    found: &Option<SuggestionRows>,
+) -> Result<Option<Suggestion>, Failure>
+    ensures shown { IfOk result (λ v. v ≡ option_map suggestion_shown found.now) }
+    ensures stands { OnOk result (option_map_or is_suggestion_with_votes found.now true ≡ true) }
+    ensures unread { IfErr result (IsUnread (option_map_or is_suggestion_with_votes found.now true)) }
+{
+    match found {
+        Some(rows) => Ok(Some(suggestion_in(alloc, rows)?)),
         None => Ok(None),
     }
 }

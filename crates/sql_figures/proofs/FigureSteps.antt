@@ -32,10 +32,10 @@ use Rattle.sql_meaning.specs.Domains.{project_seen, is_domain}
 use Rattle.sql_meaning.specs.Meaning.{project_of_rows}
 use Rattle.sql_meaning.specs.Shown.{shown_tally}
 use Rattle.sql_meaning.specs.Written.{PutsRows}
-use Rattle.sql_figures.specs.KeptSums.{HaveSums}
+use Rattle.sql_figures.specs.KeptSums.{votes_among, HaveSums}
 use Rattle.sql_figures.specs.KeptTallies.{Counts, AreTalliesOf}
 use Rattle.sql_figures.specs.Figures.{with_tally, moved_at, turned, HaveRoom, FiguresFollowWhere, FiguresFollow, FiguresStay}
-use Rattle.sql_figures.proofs.SumRows.{sums_still, sums_cleared, sums_added}
+use Rattle.sql_figures.proofs.SumRows.{sums_still, sums_cleared, sums_added, sums_voted}
 use Rattle.sql_figures.proofs.TallyRows.{tallies_alike, tally_put, tally_moved, nothing_moved, tallies_turned, sums_fit}
 use Rattle.sql_figures.proofs.VotesPut.{rows_beside}
 
@@ -166,6 +166,18 @@ module _ {old new : Database} where
         subst (AreTalliesOf counts)
         (sym (rows_beside (codes "d_tally") (codes "d_vote") first_texts (map (vote_cells number) (maps.entries votes)) (rows_named mid) (rows_named new) put (names_differ refl)
         ∙ (summed.others (codes "d_tally") (names_differ refl) ∙ added.puts.others (codes "d_tally") (names_differ refl)))) are;
+  }
+
+module _ {old new : Database} where
+  -- the votes on a suggestion change, and then its sum
+  pub stay_voted : (mid : Database) (number : Text) (sum : ℤ) → SparesOthers (codes "d_vote") (rows_named old) (rows_named mid)
+      → ((other : Text) → other ≢ number → votes_among (rows_named mid (codes "d_vote")) other ≡ votes_among (rows_named old (codes "d_vote")) other)
+      → sum ≡ vote_sum (votes_among (rows_named mid (codes "d_vote")) number)
+      → PutsRow (codes "d_vote_sum") first_text (HoldsValues (Words number ∷ Int sum ∷ [])) mid new → FiguresStay old new
+  stay_voted mid number sum spares others its summed = record {
+    sums = sums_voted old mid new number sum spares others its summed;
+    tallies = λ counts asked are.
+        subst (AreTalliesOf counts) (sym (summed.others (codes "d_tally") (names_differ refl) ∙ spares (codes "d_tally") (names_differ refl))) are;
   }
 
 -- ---- counts that are the same

@@ -1,6 +1,6 @@
--- Sums of votes that are what counting gives still are, where a unit's suggestions are taken away, and where a suggestion is added with its sum and the votes
--- on it.
-use Rattle.std.proofs.Common.{◌≡◌, ◌≢◌, ℤ, inl, inr, List, [], ◌∷◌, filter, map, true, codes, refl, sym, ap, subst, ◌∙◌}
+-- Sums of votes that are what counting gives still are, where a unit's suggestions are taken away, where a suggestion is added with its sum and the votes
+-- on it, and where the votes on one change with its sum.
+use Rattle.std.proofs.Common.{◌≡◌, ◌≢◌, ℤ, inl, inr, List, [], ◌∷◌, filter, map, Bool, true, false, codes, refl, sym, ap, subst, ◌∙◌}
 use Rattle.std.specs.FinMap as maps
 use Rattle.std.specs.FinMap.{entries}
 use Rattle.sqlite.specs.declared.types.Value.TheVariants.{Int, Text as Words}
@@ -17,7 +17,7 @@ use Rattle.units.specs.Units.{vote_sum}
 use Rattle.units.specs.declared.votes.VoteValue.{VoteValue}
 use Rattle.sql_schema.specs.Inside.{AreOfficeTablesOf, PutsRow, HoldsValues}
 use Rattle.sql_schema.specs.Keys.{text_at, first_text, first_texts, key_texts, has_text}
-use Rattle.sql_schema.specs.Layouts.{by_domain, NamedRows, rows_named}
+use Rattle.sql_schema.specs.Layouts.{by_domain, NamedRows, rows_named, SparesOthers}
 use Rattle.sql_schema.proofs.DomainRows.{one_d_number, one_d_vote}
 use Rattle.sql_schema.proofs.DomainViews.{is_text}
 use Rattle.sql_schema.proofs.Layouts.{names_differ}
@@ -176,3 +176,39 @@ module _ (old mid between new : Database) (number : Text) (votes : maps.FinMap t
         let kept = summed.put.kept it.0 there_still (λ e. differ (sym it.2 ∙ (e ∙ ap (text_at 1) summed.is_row.1))) in
         (it.0, subst (λ (rows : List Row). Has rows it.0) (sym sums_after) kept, it.2, it.3 ∙ ap (λ m. Int (vote_sum m)) (sym (other_votes (first_text s) differ)))
   ]
+
+-- ---- the votes on one suggestion change, and then its sum is put
+
+module _ (old mid new : Database) (number : Text) (sum : ℤ) (spares : SparesOthers (codes "d_vote") (rows_named old) (rows_named mid))
+    (others : (other : Text) → other ≢ number → votes_among (rows_named mid (codes "d_vote")) other ≡ votes_among (rows_named old (codes "d_vote")) other)
+    (its : sum ≡ vote_sum (votes_among (rows_named mid (codes "d_vote")) number))
+    (summed : PutsRow (codes "d_vote_sum") first_text (HoldsValues (Words number ∷ Int sum ∷ [])) mid new) where
+  votes_now : rows_named new (codes "d_vote") ≡ rows_named mid (codes "d_vote")
+  votes_now = summed.others (codes "d_vote") (names_differ refl)
+
+  suggestions_still : rows_named new (codes "d_suggestion") ≡ rows_named old (codes "d_suggestion")
+  suggestions_still = summed.others (codes "d_suggestion") (names_differ refl) ∙ spares (codes "d_suggestion") (names_differ refl)
+
+  abbrev HasSumNow : Text → Type 0
+  HasSumNow = HasSum (rows_named new (codes "d_vote")) (rows_named new (codes "d_vote_sum"))
+
+  sum_put : HasSumNow number
+  sum_put = (
+    summed.row,
+    summed.put.here,
+    ap (text_at 1) summed.is_row.1,
+    ap (λ (row : Row). column row 2) summed.is_row.1 ∙ ap Int its ∙ ap (λ (votes : List Row). Int (vote_sum (votes_among votes number))) (sym votes_now),
+  )
+
+  sum_stays : (other : Text) → other ≢ number → HasSum (rows_named old (codes "d_vote")) (rows_named old (codes "d_vote_sum")) other → HasSumNow other
+  sum_stays other differ (row, there, of, is) =
+      let still = subst (λ (rows : List Row). Has rows row) (sym (spares (codes "d_vote_sum") (names_differ refl))) there in
+      let kept = summed.put.kept row still (λ e. differ (sym of ∙ (e ∙ ap (text_at 1) summed.is_row.1))) in
+      (row, kept, of, is ∙ ap (λ m. Int (vote_sum m)) (sym (ap (λ (votes : List Row). votes_among votes other) votes_now ∙ others other differ)))
+
+  pub sums_voted : HaveSums (rows_named old) → HaveSums (rows_named new)
+  sums_voted have s there = by (has_text 1 number s) refl
+    where
+      by : (b : Bool) → has_text 1 number s ≡ b → HasSumNow (first_text s)
+      by true e = subst HasSumNow (sym (texts_are_one (first_text s) number e)) sum_put
+      by false e = sum_stays (first_text s) (λ is. let tied = is_text 1 number s is in cc) (have s (subst (λ (rows : List Row). Has rows s) suggestions_still there))

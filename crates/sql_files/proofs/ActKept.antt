@@ -1,16 +1,16 @@
--- The commit of an act on a unit keeps an office's file one: its record, and its unit's new view, if it has one.
+-- The commit of an act on a unit keeps an office's file one: its record, and what it writes of its unit, if it writes anything.
 use Rattle.std.proofs.Common.{◌≡◌, Bool, true, false, Option, Some, None, codes, refl, sym, subst, ◌∙◌}
 use Rattle.std.specs.Prelude.{IfSome}
 use Rattle.sqlite.specs.Effect.{Database}
 use Rattle.deliveries.specs.OfficeRules.{KeepsRules}
+use Rattle.deliveries.specs.declared.values.UnitWrite.{UnitWrite}
 use Rattle.deliveries.proofs.domains.InDomains.{equal_domains}
 use Rattle.po_text.specs.Texts.{Text}
 use Rattle.po_text.specs.Valid.{IsValid}
 use Rattle.request_book.specs.declared.book.Record.{Record}
 use Rattle.units.specs.Office.{same_domain}
 use Rattle.units.specs.Projects.{IsProject}
-use Rattle.units.specs.declared.unit.Unit.{Unit}
-use Rattle.units.specs.declared.unit.UnitView.{UnitView}
+use Rattle.units.specs.declared.unit.Key.{Key}
 use Rattle.sql_schema.specs.Inside.{AreOfficeTablesOf}
 use Rattle.sql_schema.specs.Layouts.{by_domain, rows_named, NamedRows}
 use Rattle.sql_schema.specs.Views.{seen_in, AreSameByName}
@@ -20,12 +20,11 @@ use Rattle.sql_meaning.specs.Meaning.{template_in, project_of_rows}
 use Rattle.sql_changes.specs.Commits.{PutsNumberedRecord, PutsRecordAlone, WritesRecordAndUnit, MakesThere, MakesIn}
 use Rattle.sql_changes.specs.OnDomains.{OnEach, MakesIf}
 use Rattle.sql_commits.specs.Acts.{MakesAct}
-use Rattle.sql_keepable.specs.Keepable.{IsKeepableUnit}
 use Rattle.sql_figures.specs.Figures.{HasFigures}
-use Rattle.sql_files.specs.Files.{IsKeepable, StandForAll, IsOfficeDatabase}
+use Rattle.sql_files.specs.Files.{IsKeepable, IsKeepableWrite, StandForAll, IsOfficeDatabase}
 use Rattle.sql_files.proofs.InDomains.{SeesNothing, nothing_more, nothing_same, stand_still}
 use Rattle.sql_files.proofs.RecordKept.{office_kept, form_kept, book_kept}
-use Rattle.sql_files.proofs.UnitKept.{unit_keeps}
+use Rattle.sql_files.proofs.UnitKept.{write_keeps}
 
 -- ---- a record
 
@@ -113,14 +112,14 @@ module _ (old new : Database) (row : Record) (ready : AreOfficeTablesOf by_domai
 
 -- ---- an act
 
-unit_after : (old new : NamedRows) (row : Record) (lang : Text) (unit : Unit) → WritesRecordAndUnit row lang unit old new → IsKeepable row → IsKeepableUnit lang unit
-    → StandForAll old → StandForAll new
+unit_after : (old new : NamedRows) (row : Record) (lang : Text) (key : Key) (write : UnitWrite) → WritesRecordAndUnit row lang key write old new → IsKeepable row
+    → IsKeepableWrite lang key write → StandForAll old → StandForAll new
 unfolding WritesRecordAndUnit
-unit_after old new row lang unit (mid, put, writes) keepable fits all = unit_keeps lang unit fits mid new writes (record_step old mid row put keepable all)
+unit_after old new row lang key write (mid, put, writes) keepable fits all = write_keeps lang key write fits mid new writes (record_step old mid row put keepable all)
 
-pub act_keeps : (old new : Database) (row : Record) (domain lang : Text) (view : Option UnitView) → MakesAct row domain lang view old new → AreOfficeTablesOf by_domain new
-    → IsKeepable row → IfSome view (λ v. IsKeepableUnit lang v.unit) → KeepsRules (meaning_by_domain (rows_named new)) → HasFigures (rows_named new) → IsOfficeDatabase by_domain old → IsOfficeDatabase by_domain new
-act_keeps old new row domain lang None it ready keepable fits rules figures file = record_keeps old new row it ready keepable rules figures file
-act_keeps old new row domain lang (Some view) it ready keepable fits rules figures file =
-    kept_in old new row ready keepable rules figures file domain (WritesRecordAndUnit row lang view.unit) it
-    (λ made project. unit_after (seen_in domain (rows_named old)) (seen_in domain (rows_named new)) row lang view.unit made keepable fits)
+pub act_keeps : (old new : Database) (row : Record) (domain lang : Text) (key : Key) (write : Option UnitWrite) → MakesAct row domain lang key write old new → AreOfficeTablesOf by_domain new
+    → IsKeepable row → IfSome write (IsKeepableWrite lang key) → KeepsRules (meaning_by_domain (rows_named new)) → HasFigures (rows_named new) → IsOfficeDatabase by_domain old → IsOfficeDatabase by_domain new
+act_keeps old new row domain lang key None it ready keepable fits rules figures file = record_keeps old new row it ready keepable rules figures file
+act_keeps old new row domain lang key (Some write) it ready keepable fits rules figures file =
+    kept_in old new row ready keepable rules figures file domain (WritesRecordAndUnit row lang key write) it
+    (λ made project. unit_after (seen_in domain (rows_named old)) (seen_in domain (rows_named new)) row lang key write made keepable fits)

@@ -1,6 +1,8 @@
 -- What the languages of an office count after an act, as the figures of its commit follow.
-use Rattle.std.proofs.Common.{◌≡◌, ℕ, ◌+◌, ◌-◌, List, [], ◌∷◌, ◌++◌, Bool, true, false, cond, map, option_map, Option, Some, None, is_some, append-nil, refl, sym, ap, subst, ◌∙◌, arith}
-use Rattle.std.specs.Prelude.{◌&&◌, ◌||◌, flat_map, if◌then◌else◌}
+use Rattle.std.proofs.Common.{◌≡◌, ℕ, ◌+◌, ◌-◌, List, [], ◌∷◌, ◌++◌, length, Bool, true, false, cond, map, option_map, Option, Some, None, is_some, append-nil, refl, sym, ap, subst, ◌∙◌, arith}
+use Rattle.std.specs.Prelude.{◌&&◌, ◌||◌, not, flat_map, count_by, sum_by, if◌then◌else◌}
+use Rattle.std.specs.Option.{option_map_or}
+use Rattle.std.proofs.lemmas.List.{length-map}
 use Rattle.std.proofs.lemmas.Bool.{and_parts, false_from_ne_true}
 use Rattle.std.specs.Cmp.Lexicographic.{bytes_decides}
 use Rattle.std.specs.List.{list_any, AllByRecursion, IsDistinct}
@@ -16,16 +18,22 @@ use Rattle.units.specs.Changes.{office_under}
 use Rattle.units.specs.Office.{Office, same_domain, project_in, with_project}
 use Rattle.units.specs.Offices.{IsOffice}
 use Rattle.units.specs.Orders.{place_total, place_IsAntisymmetric, text_total}
-use Rattle.units.specs.Project.{Project, place_cmp, place_eq, languages, units_of}
+use Rattle.units.specs.Project.{Project, Place, place_cmp, place_eq, entry_of, view_of, languages, units_of}
+use Rattle.units.specs.Units.{shown_state}
 use Rattle.units.specs.declared.unit.Key.{Key}
 use Rattle.units.specs.declared.unit.Policy.{Policy}
+use Rattle.units.specs.declared.unit.ShownState.{ShownState}
+use Rattle.units.specs.declared.unit.ShownState.TheVariants as shown
+use Rattle.units.specs.declared.unit.Suggestion.{Suggestion}
 use Rattle.units.specs.declared.unit.Unit.{Unit}
 use Rattle.units.specs.declared.unit.UnitView.{UnitView}
+use Rattle.units.specs.declared.votes.VoteValue.{VoteValue}
+use Rattle.review.specs.UnitStep.{with_vote}
 use Rattle.template_update.specs.declared.plans.Plan.{Plan}
 use Rattle.deliveries.specs.ProjectActs.{LanguagePlan, placed, with_language, with_template}
 use Rattle.deliveries.specs.UnitAccess.{with_view, with_view_in}
 use Rattle.deliveries.specs.Counting.{plus, none_counted}
-use Rattle.deliveries.specs.Tally.{counts_in, counts_of}
+use Rattle.deliveries.specs.Tally.{is_state, current, shown_in, counts_in, counts_of}
 use Rattle.deliveries.specs.declared.tally.Tally.{Tally}
 use Rattle.deliveries.proofs.domains.InDomains.{equal_domains, its_own_domain, project_own, project_elsewhere}
 use Rattle.deliveries.proofs.tallies.Countings.{plus_assoc, none_and}
@@ -122,6 +130,88 @@ view_counts office domain lang key view there =
     ∙ sym (ap (λ b. cond b (option_map (λ tally. moved tally was is) (counts domain lang)) (counts domain lang)) (is_meant domain lang)))
     (λ l apart. ap (λ (p : Project). counts_of p l) own ∙ other_counts project lang key view l apart)
     (λ d l apart. ap (λ (p : Project). counts_of p l) (project_elsewhere office domain d next apart))
+
+-- ---- of a unit that is there
+
+module _ (project : Project) (place : Place) (there : UnitView) where
+  abbrev viewed : Unit → UnitView
+  viewed unit = record { unit = unit; source = entry_of project.template place.1 }
+
+  pub found_unit : view_of project place ≡ Some there → maps.get project.units place ≡ Some there.unit
+  found_unit found = by (maps.get project.units place) found
+    where
+      by : (o : Option Unit) → option_map viewed o ≡ Some there → o ≡ Some there.unit
+      by None e = ap (option_map (λ (v : UnitView). v.unit)) e
+      by (Some unit) e = ap (option_map (λ (v : UnitView). v.unit)) e
+
+  pub found_entry : view_of project place ≡ Some there → there.source ≡ entry_of project.template place.1
+  found_entry found = by (maps.get project.units place) found
+    where
+      source_in : Option UnitView → Option Entry
+      source_in o = option_map_or (λ (v : UnitView). v.source) o (entry_of project.template place.1)
+
+      by : (o : Option Unit) → option_map viewed o ≡ Some there → there.source ≡ entry_of project.template place.1
+      by None e = sym (ap source_in e)
+      by (Some unit) e = sym (ap source_in e)
+
+-- a unit counts the same with as many suggestions, whatever they are
+module _ (template : List Entry) (unit : Unit) (suggestions : List Suggestion) (many : length suggestions ≡ length unit.suggestions) where
+  abbrev other : Unit
+  other = record unit { suggestions = suggestions }
+
+  pub as_many : counted template other ≡ counted template unit
+  as_many = λ i. record {
+    approved = in_state shown.Approved i;
+    needs_editing = in_state shown.NeedsEditing i;
+    obsolete = count_by (λ (u : Unit). u.obsolete) (unit ∷ []);
+    read_only = in_state shown.ReadOnly i;
+    suggestions = suggested i;
+    translated = in_state shown.Translated i;
+    untranslated = in_state shown.Untranslated i;
+  }
+    where
+      in_state : (state : ShownState) → shown_in template state (current (other ∷ [])) ≡ shown_in template state (current (unit ∷ []))
+      in_state state = by unit.obsolete
+        where
+          counts : List Unit → ℕ
+          counts units = count_by (λ (u : Unit). is_state state (shown_state (entry_of template u.key) u)) units
+
+          by : (b : Bool) → counts (cond (not b) (other ∷ []) []) ≡ counts (cond (not b) (unit ∷ []) [])
+          by true = refl
+          by false = refl
+
+      suggested : sum_by (λ (u : Unit). length u.suggestions) (current (other ∷ [])) ≡ sum_by (λ (u : Unit). length u.suggestions) (current (unit ∷ []))
+      suggested = by unit.obsolete
+        where
+          by : (b : Bool) → sum_by (λ (u : Unit). length u.suggestions) (cond (not b) (other ∷ []) []) ≡ sum_by (λ (u : Unit). length u.suggestions) (cond (not b) (unit ∷ []) [])
+          by true = refl
+          by false = ap (λ n. 0 + n) many
+
+pub vote_counts : (template : List Entry) (number voter : Text) (value : Option VoteValue) (unit : Unit) → counted template (with_vote number voter value unit) ≡ counted template unit
+vote_counts template number voter value unit = as_many template unit (with_vote number voter value unit).suggestions (length-map unit.suggestions _)
+
+-- what a unit counts is taken away, and counted again
+pub nothing_moved : (domain lang : Text) (tally : Tally) (counts : Counts) (d l : Text) → moved_at domain lang tally tally counts d l ≡ counts d l
+nothing_moved domain lang tally counts d l = by (same_domain d domain && text_eq l lang) (counts d l)
+  where
+    back : (a b : ℕ) → a + b - b ≡ a
+    back a b = omega arith
+
+    same : (before : Tally) → moved before tally tally ≡ before
+    same before = λ i. record {
+      approved = back before.approved tally.approved i;
+      needs_editing = back before.needs_editing tally.needs_editing i;
+      obsolete = back before.obsolete tally.obsolete i;
+      read_only = back before.read_only tally.read_only i;
+      suggestions = back before.suggestions tally.suggestions i;
+      translated = back before.translated tally.translated i;
+      untranslated = back before.untranslated tally.untranslated i;
+    }
+
+    by : (b : Bool) (o : Option Tally) → cond b (option_map (λ before. moved before tally tally) o) o ≡ o
+    by true None = refl
+    by true (Some before) = ap Some (same before)
+    by false o = refl
 
 -- ---- a new language
 

@@ -1,6 +1,5 @@
 -- Sums and tallies that are what counting the rows gives still are, behind the commit of an act.
 use Rattle.std.proofs.Common.{◌≡◌, ◌+◌, ◌<◌, ◌^◌, Bool, true, false, cond, Option, Some, None, option_map, codes, refl, sym, ap, subst, ◌∙◌, arith}
-use Rattle.std.specs.Prelude.{IfSome}
 use Rattle.std.specs.Cmp.{eq_by_cmp_equiv}
 use Rattle.std.specs.FinMap as maps
 use Rattle.sqlite.specs.Effect.{Database}
@@ -9,17 +8,20 @@ use Rattle.po_text.specs.Texts.{Text}
 use Rattle.units.specs.Office.{Office, project_in, with_project}
 use Rattle.units.specs.Offices.{IsOffice}
 use Rattle.units.specs.Orders.{place_total}
-use Rattle.units.specs.Project.{Project, entry_of, units_of}
+use Rattle.units.specs.Project.{Project, entry_of, view_of, units_of}
 use Rattle.units.specs.declared.unit.Key.{Key}
 use Rattle.units.specs.declared.unit.UnitView.{UnitView}
+use Rattle.review.specs.UnitStep.{with_vote}
 use Rattle.deliveries.specs.Counting.{AreWithin}
 use Rattle.deliveries.specs.Tally.{counts_in}
 use Rattle.deliveries.specs.OfficeChanges.{changed_project, changed, changed_by, IsPossible, IsPossibleChange}
-use Rattle.deliveries.specs.UnitAccess.{with_view, with_view_in}
+use Rattle.deliveries.specs.UnitAccess.{with_view, with_view_in, view_written, IsWriteOver, IsPossibleWrite, with_write_in}
 use Rattle.deliveries.specs.declared.values.Change.{Change}
 use Rattle.deliveries.specs.declared.values.Change.TheVariants.{OneRole, NewPolicy, NewDomain, InDomain}
 use Rattle.deliveries.specs.declared.values.DomainChange.{DomainChange}
 use Rattle.deliveries.specs.declared.values.DomainChange.TheVariants.{NewLanguage, NewTemplate}
+use Rattle.deliveries.specs.declared.values.UnitWrite.{UnitWrite}
+use Rattle.deliveries.specs.declared.values.UnitWrite.TheVariants.{Whole, Row, Suggested, Voted}
 use Rattle.deliveries.proofs.domains.InDomains.{nothing_put, project_own, with_project-same}
 use Rattle.deliveries.proofs.rules.DomainsKept.{any_project}
 use Rattle.office_laws.proofs.OfficeCounts.{new_domain_counts}
@@ -38,11 +40,11 @@ use Rattle.sql_figures.specs.KeptSums.{HaveSums}
 use Rattle.sql_figures.specs.KeptTallies.{Counts, AreTalliesOf, office_counts, counted_at}
 use Rattle.sql_figures.specs.Figures.{HasFigures, FiguresFollow, FiguresStay, HaveRoom, with_tally, with_tallies, moved_at}
 use Rattle.sql_figures.proofs.TallyRows.{tallies_alike}
-use Rattle.sql_commits.specs.Figures.{project_at, IsSourceIn, counted_before, FollowsView, FollowsIf, FollowsAct, FollowsDomainChange, FollowsOneChange, FollowsChange, turned_unless}
+use Rattle.sql_commits.specs.Figures.{project_at, IsSourceIn, counted_before, FollowsView, FollowsWrite, FollowsIf, FollowsAct, FollowsDomainChange, FollowsOneChange, FollowsChange, turned_unless}
 use Rattle.sql_files.specs.Files.{IsOfficeDatabase, office_of}
 use Rattle.sql_files.proofs.InDomains.{project_there}
 use Rattle.sql_files.proofs.PolicyKept.{next_revisions}
-use Rattle.sql_files.proofs.CountsFollow.{view_counts, language_counted, policy_counted, template_counted}
+use Rattle.sql_files.proofs.CountsFollow.{view_counts, found_unit, found_entry, vote_counts, nothing_moved, language_counted, policy_counted, template_counted}
 
 -- tallies of counts that are the office's
 figures_are : (db : Database) (counts : Counts) → ((d l : Text) → office_counts (office_of db) d l ≡ counts d l) → AreTalliesOf counts (rows_named db (codes "d_tally")) → HaveSums (rows_named db) → HasFigures (rows_named db)
@@ -98,18 +100,60 @@ module _ (old new : Database) (ready : AreOfficeTablesOf by_domain old) (figures
           (source ∙ ap (λ (p : Project). entry_of p.template key) seen ∙ ap (λ k. entry_of (project_at domain old).template k) (sym own_key))
           (is ∙ ap (λ k. with_view_in (office_of old) domain lang k (Some view)) (sym own_key)) follows
 
+      -- what its language counts, where a unit is there
+      unit_counts : (there : UnitView) → view_of (project_in (office_of old) domain) (lang, key) ≡ Some there → (d l : Text)
+          → office_counts (office_of new) d l
+          ≡ moved_at domain lang (counted (project_at domain old).template there.unit) (counted (project_at domain old).template view.unit) (office_counts (office_of old)) d l
+      unit_counts there found d l =
+          let project = project_in (office_of old) domain in
+          let counts = office_counts (office_of old) in
+          ap (λ (o : Office). office_counts o d l) is ∙ view_counts (office_of old) domain lang key view has d l
+          ∙ ap (λ o. moved_at domain lang (counted_at project.template o) (counted project.template view.unit) counts d l) (found_unit project (lang, key) there found)
+          ∙ ap (λ (p : Project). moved_at domain lang (counted p.template there.unit) (counted p.template view.unit) counts d l) seen
+
+    -- ---- what is written of the unit that is there
+
+    module _ (lang : Text) (key : Key) (unit_there : UnitView) (found : view_of (project_in (office_of old) domain) (lang, key) ≡ Some unit_there) (rules : IsOffice (office_of new)) where
+      seen_there : view_of (project_at domain old) (lang, key) ≡ Some unit_there
+      seen_there = subst (λ (p : Project). view_of p (lang, key) ≡ Some unit_there) seen found
+
+      abbrev counts_then : UnitView → Counts → Counts
+      counts_then view = moved_at domain lang (counted (project_at domain old).template unit_there.unit) (counted (project_at domain old).template view.unit)
+
+      write_follows : (write : UnitWrite) → IsWriteOver unit_there write → office_of new ≡ with_view_in (office_of old) domain lang key (Some (view_written write unit_there))
+          → FollowsWrite domain lang key write old new → HasFigures (rows_named new)
+      write_follows (Whole view) over is follows = at_key_follows lang key view rules is (over ∙ found_entry (project_in (office_of old) domain) (lang, key) unit_there found) follows
+      write_follows (Row view) over is follows =
+          let after = view_written (Row view) unit_there in
+          figures_follow (counts_then after) (unit_counts lang key after rules is unit_there found) (follows unit_there seen_there (own_key lang key after rules is) over)
+      write_follows (Suggested s) over is follows =
+          let after = view_written (Suggested s) unit_there in
+          figures_follow (counts_then after) (unit_counts lang key after rules is unit_there found) (follows unit_there seen_there)
+      write_follows (Voted number voter value sum) over is follows =
+          let template = (project_at domain old).template in
+          let counts = office_counts (office_of old) in
+          let was = counted template unit_there.unit in
+          let after = view_written (Voted number voter value sum) unit_there in
+          figures_stay
+          (λ d l. unit_counts lang key after rules is unit_there found d l
+          ∙ ap (λ t. moved_at domain lang was t counts d l) (vote_counts template number voter value unit_there.unit) ∙ nothing_moved domain lang was counts d l)
+          (follows unit_there seen_there over)
+
   -- nothing is put into a domain that isn't there
   nothing_there : (domain : Text) (next : Project) → is_domain (rows_named old) domain ≡ false → office_of new ≡ with_project (office_of old) domain next → FiguresStay old new → HasFigures (rows_named new)
   nothing_there domain next missing is stays = office_stays (is ∙ nothing_put (office_of old) domain next (sym (has_domain_of_rows (rows_named old) domain) ∙ missing)) stays
 
-  view_figures : (domain lang : Text) (key : Key) (view : Option UnitView) → IsOffice (office_of new) → office_of new ≡ with_view_in (office_of old) domain lang key view
-      → IfSome view (λ v. v.source ≡ entry_of (project_in (office_of old) domain).template key) → FollowsAct domain lang view old new → HasFigures (rows_named new)
-  view_figures domain lang key None rules is source stays = office_stays (is ∙ with_project-same (office_of old) domain) stays
-  view_figures domain lang key (Some view) rules is source follows = by (is_domain (rows_named old) domain) refl follows
+  write_figures : (domain lang : Text) (key : Key) (write : Option UnitWrite) → IsOffice (office_of new) → office_of new ≡ with_write_in (office_of old) domain lang key write
+      → IsPossibleWrite (project_in (office_of old) domain) lang key write → FollowsAct domain lang key write old new → HasFigures (rows_named new)
+  write_figures domain lang key None rules is possible stays = office_stays (is ∙ with_project-same (office_of old) domain) stays
+  write_figures domain lang key (Some write) rules is (unit_there, found, over) follows = by (is_domain (rows_named old) domain) refl follows
     where
-      by : (b : Bool) → is_domain (rows_named old) domain ≡ b → FollowsIf b (FollowsView domain lang view) old new → HasFigures (rows_named new)
-      by true there it = at_key_follows domain there lang key view rules is source it
-      by false missing it = nothing_there domain (with_view (project_in (office_of old) domain) lang key (Some view)) missing is it
+      left : office_of new ≡ with_view_in (office_of old) domain lang key (Some (view_written write unit_there))
+      left = is ∙ ap (λ o. with_view_in (office_of old) domain lang key (option_map (view_written write) o)) found
+
+      by : (b : Bool) → is_domain (rows_named old) domain ≡ b → FollowsIf b (FollowsWrite domain lang key write) old new → HasFigures (rows_named new)
+      by true there it = write_follows domain there lang key unit_there found rules write over left it
+      by false missing it = nothing_there domain (with_view (project_in (office_of old) domain) lang key (Some (view_written write unit_there))) missing left it
 
   -- ---- a change of the office
 
@@ -169,10 +213,10 @@ next_in_domains db file row there approved =
     next_revisions (seen_in domain (rows_named db)) (file.rows.office.each domain).units (unit_seen row)
     (to_view (has_text 1 domain) unit_seen (rows_named db (codes "d_unit")) row there (is_text 1 domain row refl)) approved
 
-pub act_figures : (old new : Database) (domain lang : Text) (key : Key) (view : Option UnitView) → IsOfficeDatabase by_domain old → IsOffice (office_of new)
-    → office_of new ≡ with_view_in (office_of old) domain lang key view → IfSome view (λ v. v.source ≡ entry_of (project_in (office_of old) domain).template key)
-    → FollowsAct domain lang view old new → HasFigures (rows_named new)
-act_figures old new domain lang key view file rules is source follows = view_figures old new file.ready file.rows.figures domain lang key view rules is source follows
+pub act_figures : (old new : Database) (domain lang : Text) (key : Key) (write : Option UnitWrite) → IsOfficeDatabase by_domain old → IsOffice (office_of new)
+    → office_of new ≡ with_write_in (office_of old) domain lang key write → IsPossibleWrite (project_in (office_of old) domain) lang key write
+    → FollowsAct domain lang key write old new → HasFigures (rows_named new)
+act_figures old new domain lang key write file rules is possible follows = write_figures old new file.ready file.rows.figures domain lang key write rules is possible follows
 
 pub change_figures : (old new : Database) (change : Option Change) → IsOfficeDatabase by_domain old → IsPossibleChange (office_of old) change
     → office_of new ≡ changed_by (office_of old) change → FollowsChange change old new → HasFigures (rows_named new)

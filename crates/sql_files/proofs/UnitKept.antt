@@ -1,4 +1,5 @@
--- A unit that is written, with its suggestions and the votes on them, leaves rows that stand for values; and so do the units of plans.
+-- A unit that is written, with its suggestions and the votes on them, leaves rows that stand for values; so does what an act writes of one, and so do the units of
+-- plans.
 use Rattle.std.proofs.Common.{◌≡◌, ◌≢◌, inl, inr, ℕ, ◌+◌, pos, List, [], ◌∷◌, map, Bool, true, false, Option, Some, None, arith, refl, sym, subst, codes}
 use Rattle.std.specs.Prelude.{IsTrue, IfSome, IsUtf8}
 use Rattle.std.specs.FinMap as maps
@@ -11,10 +12,13 @@ use Rattle.po_text.specs.Texts.{Text}
 use Rattle.request_book.specs.Acts.{IsNumber, vote_number}
 use Rattle.request_book.specs.Words.{number_text}
 use Rattle.deliveries.specs.ProjectActs.{LanguagePlan}
+use Rattle.deliveries.specs.declared.values.UnitWrite.{UnitWrite}
+use Rattle.deliveries.specs.declared.values.UnitWrite.TheVariants as writes
 use Rattle.sql_columns.specs.Numbers.{state_number, flag_number}
 use Rattle.sql_columns.specs.Written.{texts_text, previous_text}
 use Rattle.units.specs.Limits.{is_name, is_lang, is_revision}
 use Rattle.units.specs.Units.{key_text}
+use Rattle.units.specs.declared.unit.Key.{Key}
 use Rattle.units.specs.declared.unit.Suggestion.{Suggestion}
 use Rattle.units.specs.declared.unit.Unit.{Unit}
 use Rattle.units.specs.declared.votes.VoteValue.{VoteValue}
@@ -23,17 +27,18 @@ use Rattle.sql_schema.specs.Keys.{first_text, first_texts, columns}
 use Rattle.sql_schema.specs.Rows.{text_or_null}
 use Rattle.sql_meaning.specs.Cells.{unit_cells, suggestion_cells, vote_cells}
 use Rattle.sql_meaning.specs.Written.{PutsRows}
-use Rattle.sql_changes.specs.UnitWrites.{HaveNumbers, AddsSuggestions, WritesNumberedUnit, WritesUnits, WritesUnitsBack, WritesPlansBack}
+use Rattle.sql_changes.specs.OnDomains.{MakesIf}
+use Rattle.sql_changes.specs.UnitWrites.{HaveNumbers, AddsSuggestion, AddsSuggestions, WritesNumberedUnit, PutsVote, is_suggested, WritesOfUnit, WritesUnits, WritesUnitsBack, WritesPlansBack}
 use Rattle.sql_decoding.specs.RowTests.{any_text, holds_text_or_null, is_number, is_key, are_texts, are_forms, are_previous, is_state, is_flag, is_vote, natural_passes, is_unit_row, is_suggestion_row, is_vote_row}
 use Rattle.sql_decoding.proofs.ColumnsTested.{text_stands, some_stands, null_stands, integer_is, number_stands, key_stands, texts_stand, forms_stand, previous_stand, state_stands, flag_stands, vote_stands, natural_stands}
 use Rattle.template_update.specs.Marks.{unmarked}
 use Rattle.sql_keepable.specs.Keepable.{IsKeepableUnit, IsKeepableSuggestion, AreKeepableUnits, AreKeepablePlans}
-use Rattle.sql_files.specs.Files.{StandForAll}
+use Rattle.sql_files.specs.Files.{StandForAll, IsKeepableWrite}
 use Rattle.sql_files.proofs.Puts.{all_put, template_same, form_same, book_same}
 use Rattle.sql_files.proofs.RecordKept.{number_utf8}
 use Rattle.sql_schema.specs.Layouts.{NamedRows}
 use Rattle.sql_schema.proofs.Layouts.{names_differ}
-use Rattle.sql_meaning.specs.RowChanges.{ClearsIn}
+use Rattle.sql_meaning.specs.RowChanges.{TakesIn, ClearsIn}
 
 abbrev pub UnitStands : Row → Type 0
 UnitStands row = IsTrue (is_unit_row (columns (3 ∷ 4 ∷ 5 ∷ 6 ∷ 7 ∷ 8 ∷ 9 ∷ 1 ∷ 2 ∷ []) row))
@@ -149,14 +154,17 @@ votes_step number [] fits old new is it = subst StandForAll (sym is) it
 votes_step number (vote ∷ more) fits old new (mid, put, rest) it =
     votes_step number more (λ v there. fits v (inr there)) mid new rest (vote_step number vote (fits vote (inl refl)) old mid put it)
 
+suggestion_added : (lang key : Text) → IsUtf8 lang → IsUtf8 key → (place : ℕ) (s : Suggestion) → IsNumber s.number → IsKeepableSuggestion s → (old new : NamedRows)
+    → AddsSuggestion lang key place s old new → StandForAll old → StandForAll new
+suggestion_added lang key lang_text key_column place s valid fits old new (after, adds, votes) it =
+    votes_step s.number (maps.entries s.votes) fits.voters after new votes (suggestion_step lang key lang_text key_column place s valid fits old after adds.puts it)
+
 suggestions_step : (lang key : Text) → IsUtf8 lang → IsUtf8 key → (place : ℕ) (ss : List Suggestion) → HaveNumbers ss → ((s : Suggestion) → Has ss s → IsKeepableSuggestion s)
     → (old new : NamedRows) → AddsSuggestions lang key place ss old new → StandForAll old → StandForAll new
 suggestions_step lang key lang_text key_column place [] valid fits old new is it = subst StandForAll (sym is) it
-suggestions_step lang key lang_text key_column place (s ∷ more) valid fits old new (mid, (after, adds, votes), rest) it =
-    let own = fits s (inl refl) in
+suggestions_step lang key lang_text key_column place (s ∷ more) valid fits old new (mid, adds, rest) it =
     suggestions_step lang key lang_text key_column (place + 1) more (λ x there. valid x (inr there)) (λ x there. fits x (inr there)) mid new rest
-    (votes_step s.number (maps.entries s.votes) own.voters after mid votes
-    (suggestion_step lang key lang_text key_column place s (valid s (inl refl)) own old after adds.puts it))
+    (suggestion_added lang key lang_text key_column place s (valid s (inl refl)) (fits s (inl refl)) old mid adds it)
 
 cleared_step : (lang key : Text) (old new : NamedRows) → ClearsIn lang key old new → StandForAll old → StandForAll new
 cleared_step lang key old new clears it =
@@ -176,6 +184,31 @@ pub unit_keeps : (lang : Text) (unit : Unit) → IsKeepableUnit lang unit → (o
 unit_keeps lang unit fits old new (first, put, (second, clears, (adds, valid))) it =
     suggestions_step lang (key_text unit.key) fits.language.1 fits.key_column 0 unit.suggestions valid fits.suggestions second new adds
     (cleared_step lang (key_text unit.key) first second clears (unit_step lang unit fits old first put it))
+
+-- ---- what an act writes of a unit
+
+vote_taken : (test : Row → Bool) (old new : NamedRows) → TakesIn (codes "vote") test old new → StandForAll old → StandForAll new
+vote_taken test old new takes it =
+    units_step old new (λ t no_unit no_suggestion no_vote. takes.others t no_vote)
+    (λ row there. it.office.units row (subst (λ rows. Has rows row) (takes.others (codes "unit") (names_differ refl)) there))
+    (λ row there. it.office.suggestions row (subst (λ rows. Has rows row) (takes.others (codes "suggestion") (names_differ refl)) there))
+    (λ row there. it.office.votes row (takes.rows.only row there).0)
+    it
+
+vote_put : (number voter : Text) (value : Option VoteValue) → (is_name voter ≡ true) × IsUtf8 voter → (old new : NamedRows) → PutsVote number voter value old new → StandForAll old → StandForAll new
+vote_put number voter (Some value) fits old new put it = vote_step number (voter, value) fits old new put it
+vote_put number voter None fits old new takes it = vote_taken _ old new takes it
+
+vote_written : (number voter : Text) (value : Option VoteValue) → (is_name voter ≡ true) × IsUtf8 voter → (there : Bool) (old new : NamedRows)
+    → MakesIf there (PutsVote number voter value) (λ before after. after ≡ before) old new → StandForAll old → StandForAll new
+vote_written number voter value fits true old new put it = vote_put number voter value fits old new put it
+vote_written number voter value fits false old new is it = subst StandForAll (sym is) it
+
+pub write_keeps : (lang : Text) (key : Key) (write : UnitWrite) → IsKeepableWrite lang key write → (old new : NamedRows) → WritesOfUnit lang key write old new → StandForAll old → StandForAll new
+write_keeps lang key (writes.Whole view) fits old new it all = unit_keeps lang view.unit fits old new it all
+write_keeps lang key (writes.Row view) fits old new it all = unit_step lang view.unit fits old new it all
+write_keeps lang key (writes.Suggested s) fits old new (place, before, (adds, valid)) all = suggestion_added lang (key_text key) fits.0.1 fits.1 place s valid fits.2 old new adds all
+write_keeps lang key (writes.Voted number voter value sum) fits old new it all = vote_written number voter value fits (is_suggested lang (key_text key) number old) old new it.0 all
 
 -- ---- units of a plan, one after the other
 

@@ -12,18 +12,18 @@ ghost use Rattle.sql_changes.specs.Commits.{PutsNumberedRecord};
 ghost use Rattle.std.specs.Prelude.{true, ⊤, List, Option, Result, IfSome, IsUtf8};
 ghost use Rattle.sqlite.specs.Held.{Held, state};
 ghost use Rattle.sql_decoding.specs.declared.faults.Failure.{Failure};
-ghost use Rattle.units.specs.declared.unit.UnitView.{UnitView};
+ghost use Rattle.deliveries.specs.declared.values.UnitWrite.{UnitWrite};
 ghost use Rattle.sql_commits.specs.Acts.{MakesAct, CommitsAct};
 ghost use Rattle.po_text.specs.Texts.{Text};
 ghost use Rattle.units.specs.Limits.{is_name};
 ghost use Rattle.sql_schema.specs.Whole.{IsCommitOf};
 ghost use Rattle.sql_meaning.specs.Beginnings.{MakesDemo, MakesOpening};
 ghost use Rattle.sql_changes.specs.OnDomains.{OnDomainsWhere, OnEach};
-ghost use Rattle.sql_files.specs.Files.{HoldsOfficeRows, IsOfficeDatabase, IsOfficeFile, IsKeepable, IsLost, KeepsFile, LeavesFiles, MakesFiles, StandForAll};
+ghost use Rattle.sql_files.specs.Files.{HoldsOfficeRows, IsOfficeDatabase, IsOfficeFile, IsKeepable, IsKeepableWrite, IsLost, KeepsFile, LeavesFiles, MakesFiles, StandForAll};
 ghost use Rattle.sql_keepable.specs.Keepable.{IsKeepableUnit, AreKeepableUnits, AreKeepablePlans, IsKeepableLanguage, AreKeepableEntries};
 ghost use Rattle.sql_columns.specs.Written.{IsHeaderEntry};
 ghost use Rattle.units.specs.declared.unit.Unit.{Unit};
-ghost use Rattle.sql_changes.specs.UnitWrites.{WritesNumberedUnit};
+ghost use Rattle.sql_changes.specs.UnitWrites.{WritesNumberedUnit, WritesOfUnit};
 ghost use Rattle.units.specs.declared.unit.Role.{Role};
 ghost use Rattle.sqlite_catalog.specs.Listing.{IsSound};
 ghost use Rattle.sql_changes.specs.Commits.{MakesRole, MakesPolicy, MakesIn, MakesLanguage, MakesTemplate};
@@ -37,13 +37,12 @@ ghost use Rattle.po_text.specs.declared.entry.Entry.{Entry};
 ghost use Rattle.deliveries.specs.ProjectActs.{LanguagePlan};
 ghost use Rattle.sql_schema.specs.Layouts.{Form, by_domain, Layout, schema_of, NamedRows, rows_named};
 ghost use Rattle.units.specs.Offices.{IsOffice};
-ghost use Rattle.deliveries.specs.UnitAccess.{with_view_in};
+ghost use Rattle.deliveries.specs.UnitAccess.{IsPossibleWrite, with_write_in};
 ghost use Rattle.deliveries.specs.OfficeChanges.{changed_by, IsPossibleChange};
 ghost use Rattle.deliveries.specs.declared.values.Change.{Change};
 ghost use Rattle.sql_figures.specs.Figures.{HasFigures};
 ghost use Rattle.sql_commits.specs.Figures.{FollowsAct, FollowsChange};
 ghost use Rattle.units.specs.Office.{project_in};
-ghost use Rattle.units.specs.Project.{entry_of};
 ghost use Rattle.units.specs.declared.unit.Key.{Key};
 ghost use Rattle.sql_files.specs.Files.{office_of};
 
@@ -67,8 +66,8 @@ pub fn records_keep_files()
 
 /// Where what the commit of an act on a unit makes of an office's file is one, the connection keeps it, and a stop leaves one.
 pub fn commits_keep_files<S: Alter>()
-    ensures { (old new : Held S) (r : Result ⊤ Failure) (row : Record) (domain lang : Text) (view : Option UnitView) → IsCommitOf by_domain (state S.Store old) (state S.Store new) r (CommitsAct row domain lang view)
-        → MakesFiles (CommitsAct row domain lang view) (state S.Store old) → KeepsFile (state S.Store old)
+    ensures { (old new : Held S) (r : Result ⊤ Failure) (row : Record) (domain lang : Text) (key : Key) (write : Option UnitWrite) → IsCommitOf by_domain (state S.Store old) (state S.Store new) r (CommitsAct row domain lang key write)
+        → MakesFiles (CommitsAct row domain lang key write) (state S.Store old) → KeepsFile (state S.Store old)
         → KeepsFile (state S.Store new) × (LeavesFiles (state S.Store old) → LeavesFiles (state S.Store new)) }
 {}
 
@@ -77,16 +76,18 @@ pub fn openings_are_rows()
     ensures { (name : Text) → is_name name ≡ true → IsUtf8 name → (old new : Database) → MakesOpening name old new → HoldsOfficeRows by_domain (rows_named new) }
 {}
 
-/// A unit that is written, with its suggestions and the votes on them, leaves rows that stand for values.
+/// A unit that is written, with its suggestions and the votes on them, leaves rows that stand for values, and so does what an act writes of one.
 pub fn units_keep_rows()
-    ensures { (lang : Text) (unit : Unit) → IsKeepableUnit lang unit → (old new : NamedRows) → WritesNumberedUnit lang unit old new
+    ensures unit { (lang : Text) (unit : Unit) → IsKeepableUnit lang unit → (old new : NamedRows) → WritesNumberedUnit lang unit old new
+        → StandForAll old → StandForAll new }
+    ensures write { (lang : Text) (key : Key) (write : UnitWrite) → IsKeepableWrite lang key write → (old new : NamedRows) → WritesOfUnit lang key write old new
         → StandForAll old → StandForAll new }
 {}
 
 /// The commit of an act on a unit, where the rules and the figures go on to hold, keeps an office's database one.
 pub fn acts_keep_files()
-    ensures { (old new : Database) (row : Record) (domain lang : Text) (view : Option UnitView) → MakesAct row domain lang view old new → AreOfficeTablesOf by_domain new
-        → IsKeepable row → IfSome view (λ v. IsKeepableUnit lang v.unit) → KeepsRules (meaning_by_domain (rows_named new))
+    ensures { (old new : Database) (row : Record) (domain lang : Text) (key : Key) (write : Option UnitWrite) → MakesAct row domain lang key write old new → AreOfficeTablesOf by_domain new
+        → IsKeepable row → IfSome write (IsKeepableWrite lang key) → KeepsRules (meaning_by_domain (rows_named new))
         → HasFigures (rows_named new) → IsOfficeDatabase by_domain old → IsOfficeDatabase by_domain new }
 {}
 
@@ -134,12 +135,12 @@ pub fn demos_are_rows()
     ensures { (old new : Database) → MakesDemo old new → HoldsOfficeRows by_domain (rows_named new) }
 {}
 
-/// The sums and the tallies of an office's database are what counting its rows gives behind the commit of an act on a unit too, whose view has the
-/// template's entry of its key; and behind that of a change that the office allows.
+/// The sums and the tallies of an office's database are what counting its rows gives behind the commit of an act on a unit too, which writes of the unit
+/// that is there; and behind that of a change that the office allows.
 pub fn figures_follow_acts()
-    ensures unit { (old new : Database) (domain lang : Text) (key : Key) (view : Option UnitView) → IsOfficeDatabase by_domain old → IsOffice (office_of new)
-        → office_of new ≡ with_view_in (office_of old) domain lang key view → IfSome view (λ v. v.source ≡ entry_of (project_in (office_of old) domain).template key)
-        → FollowsAct domain lang view old new → HasFigures (rows_named new) }
+    ensures unit { (old new : Database) (domain lang : Text) (key : Key) (write : Option UnitWrite) → IsOfficeDatabase by_domain old → IsOffice (office_of new)
+        → office_of new ≡ with_write_in (office_of old) domain lang key write → IsPossibleWrite (project_in (office_of old) domain) lang key write
+        → FollowsAct domain lang key write old new → HasFigures (rows_named new) }
     ensures office { (old new : Database) (change : Option Change) → IsOfficeDatabase by_domain old → IsPossibleChange (office_of old) change
         → office_of new ≡ changed_by (office_of old) change → FollowsChange change old new → HasFigures (rows_named new) }
 {}

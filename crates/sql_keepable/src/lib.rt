@@ -3,7 +3,7 @@
 //!
 //! - `texts`: names, keys and records
 //! - `entries`: a language with its header, and the entries of a template
-//! - `unit_parts`: units, and the units of plans
+//! - `unit_parts`: units and suggestions, and the units of plans
 #![tactic(auto)]
 
 mod entries;
@@ -11,5 +11,5 @@ mod texts;
 mod unit_parts;
 
 pub use entries::{entries_fit, language_fits};
-pub use texts::{entry_key_fits, key_fits, name_fits, previous_fits, record_fits};
-pub use unit_parts::{plans_fit, unit_fits, units_fit};
+pub use texts::{entry_key_fits, key_fits, lang_fits, name_fits, previous_fits, record_fits};
+pub use unit_parts::{plans_fit, suggestion_fits, unit_fits, units_fit};

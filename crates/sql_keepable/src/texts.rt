@@ -73,8 +73,8 @@ pub fn name_fits(name: &Name)
     let _ = name.as_str().as_bytes();
 }
 
-/// So does a language's code.
-pub(crate) fn lang_fits(lang: &Lang)
+/// A language's code keeps the limits of one, and is UTF-8.
+pub fn lang_fits(lang: &Lang)
     ensures { IsLanguage lang.now }
 {
     let _ = lang.as_str().as_bytes();

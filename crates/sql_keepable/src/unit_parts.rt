@@ -17,8 +17,8 @@ fn voters_fit(votes: &[(Name, VoteValue)])
     }
 }
 
-/// A suggestion keeps its limits, and its texts are UTF-8.
-fn suggestion_fits(suggestion: &Suggestion)
+/// A suggestion keeps its limits, and its texts are UTF-8; so do its voters' names.
+pub fn suggestion_fits(suggestion: &Suggestion)
     ensures { IsKeepableSuggestion suggestion.now }
 {
     name_fits(&suggestion.suggester);

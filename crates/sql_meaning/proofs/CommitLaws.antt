@@ -1,34 +1,25 @@
--- What the commit of an act on a unit of `main` makes of the office with its book: its record, and the unit's new view, if it has one.
-use Rattle.std.proofs.Common.{◌≡◌, ◌≢◌, ℕ, List, cond, Some, IsSome, sym, ap, subst, ◌∙◌, codes, refl}
+-- What the commit of an act on a unit of `main` makes of the office with its book: its record, and the unit at its place, if it writes anything of it.
+use Rattle.std.proofs.Common.{◌≡◌, ◌≢◌, ℕ, List, cond, IsSome, sym, ap, subst, ◌∙◌, codes, refl}
 use Rattle.std.specs.FinMap as maps
 use Rattle.std.specs.Ordering.{is_eq, nat_cmp}
 use Rattle.std.specs.Cmp.Lexicographic.{slice_cmp}
 use Rattle.sqlite.specs.Order.{Row}
 use Rattle.sqlite_rules.specs.Lists.{Has}
-use Rattle.sql_laws.specs.RowMaps.{OneEach}
 use Rattle.po_text.specs.Texts.{Text}
-use Rattle.units.specs.KeyTexts.{HasStrings}
 use Rattle.units.specs.Project.{Project, with_unit}
 use Rattle.units.specs.declared.unit.Key.{Key}
 use Rattle.units.specs.declared.unit.Unit.{Unit}
-use Rattle.units.specs.declared.unit.UnitView.{UnitView}
 use Rattle.deliveries.specs.MainAlone.{main_alone}
-use Rattle.deliveries.specs.OfficeRules.{KeepsRules}
-use Rattle.deliveries.specs.UnitAccess.{with_view}
 use Rattle.sql_columns.specs.Readings.{number_read}
-use Rattle.sql_columns.specs.Written.{ArePrevious}
 use Rattle.request_book.specs.Acts.{IsNumber}
 use Rattle.request_book.specs.Book.{with_record}
 use Rattle.request_book.specs.declared.book.Record.{Record}
-use Rattle.sql_schema.specs.Keys.{first_text, first_texts}
-use Rattle.sql_schema.specs.Inside.{PutsIn, HoldsValues, Then}
+use Rattle.sql_schema.specs.Keys.{first_text}
+use Rattle.sql_schema.specs.Inside.{PutsIn, HoldsValues}
 use Rattle.sql_meaning.specs.Cells.{record_cells}
 use Rattle.sql_meaning.specs.Meaning.{AreNumbered, book_in, template_in, headers_in, team_in, policy_in, units_in, project_of_rows, meaning_in}
-use Rattle.sql_meaning.specs.Written.{WritesUnit}
 use Rattle.sql_meaning.proofs.Books.{book_put, numbered_still}
-use Rattle.sql_meaning.proofs.UnitsWritten.{IsWritable, KeepsOthers, writes_unit_over, keyed_same, writable_same}
-use Rattle.sql_meaning.proofs.WrittenRows.{AreNumbers}
-use Rattle.sql_meaning.proofs.WritableUnits.{stands_at_key, writable}
+use Rattle.sql_meaning.proofs.UnitsWritten.{KeepsOthers}
 use Rattle.sql_schema.specs.Layouts.{NamedRows}
 use Rattle.sql_schema.proofs.Layouts.{names_differ}
 use Rattle.sql_meaning.specs.RowKeys.{AreOfficeRows}
@@ -69,59 +60,25 @@ commits_record old after row ready numbered valid put =
     let book = book_is old after row put ready numbered valid in
     ((λ i. record { office = main_alone (project i); book = book i }), numbered_still old after row valid numbered put)
 
--- ---- a record, and then a unit
+-- ---- a record, and then a unit at its place
 
-module _ (old mid after : NamedRows) (lang : Text) (unit : Unit) (row : Record) (recorded : PutsIn (codes "record") first_text (HoldsValues (record_cells row)) old mid)
-    (written : WritesUnit lang unit mid after) (ready : AreOfficeRows old) (fits : IsWritable old lang unit) where
-  same_suggestions : mid (codes "suggestion") ≡ old (codes "suggestion")
-  same_suggestions = recorded.others (codes "suggestion") (names_differ refl)
-
-  -- the unit is written over the new record as it would be over the old ones
-  over_record : (units_in after ≡ maps.insert (units_in mid) (lang, unit.key) unit) × KeepsOthers mid after
-  over_record =
-      writes_unit_over mid after lang unit (keyed_same old mid same_suggestions (recorded.others (codes "vote") (names_differ refl)) ready.keyed.suggested)
-      (subst (OneEach first_texts) (sym (recorded.others (codes "unit") (names_differ refl))) ready.keyed.one_unit)
-      (writable_same old mid same_suggestions lang unit fits) written
-
-  same_records : after (codes "record") ≡ mid (codes "record")
-  same_records = over_record.1.records
-
-  project_with : project_of_rows after ≡ with_unit (project_of_rows old) (lang, unit.key) unit
+module _ (old mid after : NamedRows) (lang : Text) (key : Key) (unit : Unit) (row : Record) (recorded : PutsIn (codes "record") first_text (HoldsValues (record_cells row)) old mid)
+    (units : units_in after ≡ maps.insert (units_in mid) (lang, key) unit) (keeps : KeepsOthers mid after) where
+  project_with : project_of_rows after ≡ with_unit (project_of_rows old) (lang, key) unit
   project_with =
-      let it = over_record in
-      let template : template_in after ≡ template_in mid = ap (λ (rows : List Row). template_in (λ name. rows)) it.1.template in
-      let headers : headers_in after ≡ headers_in mid = ap (λ (rows : List Row). headers_in (λ name. rows)) it.1.languages in
-      let team : team_in after ≡ team_in mid = ap (λ (rows : List Row). team_in (λ name. rows)) it.1.team in
-      let policy : policy_in after ≡ policy_in mid = ap (λ (rows : List Row). policy_in (λ name. rows)) it.1.policy in
-      let units : units_in after ≡ maps.insert (units_in mid) (lang, unit.key) unit = it.0 in
-      let over : project_of_rows after ≡ with_unit (project_of_rows mid) (lang, unit.key) unit =
+      let template : template_in after ≡ template_in mid = ap (λ (rows : List Row). template_in (λ name. rows)) keeps.template in
+      let headers : headers_in after ≡ headers_in mid = ap (λ (rows : List Row). headers_in (λ name. rows)) keeps.languages in
+      let team : team_in after ≡ team_in mid = ap (λ (rows : List Row). team_in (λ name. rows)) keeps.team in
+      let policy : policy_in after ≡ policy_in mid = ap (λ (rows : List Row). policy_in (λ name. rows)) keeps.policy in
+      let over : project_of_rows after ≡ with_unit (project_of_rows mid) (lang, key) unit =
       λ i. record { template = template i; headers = headers i; units = units i; team = team i; policy = policy i } in
-      over ∙ ap (λ (p : Project). with_unit p (lang, unit.key) unit) (same_project old mid row recorded)
+      over ∙ ap (λ (p : Project). with_unit p (lang, key) unit) (same_project old mid row recorded)
 
-  book_with : AreNumbered old → IsNumber row.number → book_in after ≡ with_record (book_in old) row
-  book_with numbered valid = ap (λ (rows : List Row). book_in (λ name. rows)) same_records ∙ book_is old mid row recorded ready numbered valid
-
-  numbered_after : AreNumbered old → IsNumber row.number → AreNumbered after
-  numbered_after numbered valid =
-      subst (λ (rows : List Row). (r : Row) → Has rows r → IsSome (number_read (first_text r))) (sym same_records) (numbered_still old mid row valid numbered recorded)
-
--- ---- a record, and a unit at its place
-
-pub commits_writable : (old after : NamedRows) (lang : Text) (key : Key) (view : UnitView) (row : Record) → AreOfficeRows old → AreNumbered old → IsNumber row.number
-    → view.unit.key ≡ key → IsWritable old lang view.unit
-    → Then (PutsIn (codes "record") first_text (HoldsValues (record_cells row))) (WritesUnit lang view.unit) old after
-    → (meaning_in after ≡ record { office = main_alone (with_view (project_of_rows old) lang key (Some view)); book = with_record (book_in old) row }) × AreNumbered after
-commits_writable old after lang key view row ready numbered valid at fits (mid, recorded, written) =
-    let project = project_with old mid after lang view.unit row recorded written ready fits
-    ∙ ap (λ (k : Key). with_unit (project_of_rows old) (lang, k) view.unit) at in
-    let book = book_with old mid after lang view.unit row recorded written ready fits numbered valid in
-    ((λ i. record { office = main_alone (project i); book = book i }), numbered_after old mid after lang view.unit row recorded written ready fits numbered valid)
-
-pub commits_unit : (old after : NamedRows) (lang : Text) (key : Key) (view : UnitView) (row : Record) → AreOfficeRows old → AreNumbered old → IsNumber row.number
-    → KeepsRules (record { office = main_alone (with_view (project_of_rows old) lang key (Some view)); book = with_record (book_in old) row })
-    → HasStrings key → ArePrevious view.unit.previous → AreNumbers view.unit.suggestions
-    → Then (PutsIn (codes "record") first_text (HoldsValues (record_cells row))) (WritesUnit lang view.unit) old after
-    → (meaning_in after ≡ record { office = main_alone (with_view (project_of_rows old) lang key (Some view)); book = with_record (book_in old) row }) × AreNumbered after
-commits_unit old after lang key view row ready numbered valid rules strings previous numbers made =
-    commits_writable old after lang key view row ready numbered valid (stands_at_key old lang key view row ready rules)
-    (writable old lang key view row ready rules strings previous numbers) made
+  pub commits_unit : AreOfficeRows old → AreNumbered old → IsNumber row.number
+      → (meaning_in after ≡ record { office = main_alone (with_unit (project_of_rows old) (lang, key) unit); book = with_record (book_in old) row }) × AreNumbered after
+  commits_unit ready numbered valid =
+      let book = ap (λ (rows : List Row). book_in (λ name. rows)) keeps.records ∙ book_is old mid row recorded ready numbered valid in
+      let project = project_with in (
+        (λ i. record { office = main_alone (project i); book = book i }),
+        subst (λ (rows : List Row). (r : Row) → Has rows r → IsSome (number_read (first_text r))) (sym keeps.records) (numbered_still old mid row valid numbered recorded),
+      )

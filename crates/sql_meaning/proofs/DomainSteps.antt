@@ -1,5 +1,5 @@
 -- What statements on the tables by domains make of the rows that a domain sees, in the words of those on tables without a column for a domain.
-use Rattle.std.proofs.Common.{◌≡◌, ◌≢◌, ◌⊎◌, ℤ, pos, [], ◌∷◌, ◌&&◌, Bool, true, codes, refl, sym, ap, subst, ◌∙◌}
+use Rattle.std.proofs.Common.{◌≡◌, ◌≢◌, ◌⊎◌, ℤ, pos, List, [], ◌∷◌, ◌&&◌, Bool, true, false, codes, refl, sym, ap, subst, ◌∙◌}
 use Rattle.std.proofs.lemmas.Bool.{and_from}
 use Rattle.std.specs.Ordering.{nat_cmp, is_eq}
 use Rattle.std.specs.Cmp.Lexicographic.{slice_cmp}
@@ -9,22 +9,23 @@ use Rattle.sqlite.specs.Order.{Row}
 use Rattle.sqlite.specs.Effect.{Database}
 use Rattle.sqlite_rules.specs.Lists.{Has}
 use Rattle.sqlite_rules.proofs.ListLemmas.{some_from}
+use Rattle.sql_laws.specs.ApartRows.{IsRemoved}
 use Rattle.sql_laws.proofs.RowMaps.{text_ties_itself}
 use Rattle.po_text.specs.Texts.{Text}
 use Rattle.sql_schema.specs.Inside.{AreOfficeTablesOf, PutsRow, PutsIn, HoldsValues}
 use Rattle.sql_schema.specs.Keys.{text_at, key_texts, first_text, first_texts, first_three, row_number, domain_place, has_text}
 use Rattle.sql_schema.specs.Layouts.{by_domain, NamedRows, rows_named, SparesOthers}
-use Rattle.sql_schema.specs.Views.{viewed, entry_seen, language_seen, unit_seen, suggestion_seen, is_vote_in, vote_seen, seen_in}
+use Rattle.sql_schema.specs.Views.{viewed, entry_seen, language_seen, unit_seen, suggestion_seen, is_vote_in, vote_seen, seen_in, AreSame, AreSameByName}
 use Rattle.sql_schema.proofs.DomainViews.{is_text, unit_put_seen}
 use Rattle.sql_schema.proofs.Layouts.{names_differ}
-use Rattle.sql_schema.proofs.Views.{from_view}
+use Rattle.sql_schema.proofs.Views.{from_view, removed_seen, none_removed}
 use Rattle.sql_statements.specs.Added.{AddsRow}
 use Rattle.sql_statements.specs.DomainCleared.{ClearsDomainUnit}
 use Rattle.sql_statements.specs.DomainRenewed.{HaveNextRevisionsInDomains, UnapprovesDomainUnits}
 use Rattle.sql_statements.specs.Renewed.{is_approved_row, unapproved_row}
 use Rattle.sql_statements.specs.DomainEntries.{is_entry_of}
 use Rattle.sql_statements.specs.Taken.{TakesRows}
-use Rattle.sql_statements.proofs.SeenChanges.{by_seen_name, other_than_templates, nothing_seen, language_put_seen, entry_put_seen, entries_taken_seen, entry_taken_seen, vote_put_seen, units_unapproved_seen}
+use Rattle.sql_statements.proofs.SeenChanges.{by_seen_name, same_by_name, other_than_templates, other_than_votes, nothing_seen, language_put_seen, entry_put_seen, entries_taken_seen, entry_taken_seen, vote_put_seen, units_unapproved_seen}
 use Rattle.sql_meaning.specs.RowChanges.{AddsIn, TakesIn, ClearsIn, RenewsIn}
 use Rattle.sql_meaning.proofs.DomainAdds.{suggestion_put_seen}
 use Rattle.sql_meaning.proofs.DomainClears.{cleared_seen}
@@ -187,6 +188,25 @@ module _ (domain : Text) {old new : Database} where
           some_from (λ x. has_text 1 (first_text it.row) x && has_text 2 domain x) (rows_named old (codes "d_suggestion")) s there
           (and_from (has_text 1 (first_text it.row) s) (has_text 2 domain s)
           (subst (λ t. is_eq (slice_cmp nat_cmp (first_text s) t) ≡ true) (sym same) (text_ties_itself (first_text s))) (is_text 2 domain s own))
+
+  -- votes go, of which its domain sees those that were there, and another domain none
+  suggestions_stay : {test : Row → Bool} → TakesRows (codes "d_vote") test old new → rows_named new (codes "d_suggestion") ≡ rows_named old (codes "d_suggestion")
+  suggestions_stay it = it.others (codes "d_suggestion") (names_differ refl)
+
+  pub vote_taken_seen : {test : Row → Bool} → TakesRows (codes "d_vote") test old new → TakesIn (codes "vote") test (sees domain old) (sees domain new)
+  vote_taken_seen {test} it = record {
+    rows = subst (λ (suggestions : List Row). IsRemoved test (sees domain old (codes "vote")) (viewed (is_vote_in domain suggestions) vote_seen (rows_named new (codes "d_vote")))) (sym (suggestions_stay it))
+        (removed_seen (is_vote_in domain (rows_named old (codes "d_suggestion"))) vote_seen test test (rows_named old (codes "d_vote")) (rows_named new (codes "d_vote")) (λ v passes. refl) it.rows);
+    others = other_than_votes (rows_named old) (rows_named new) it.others domain;
+  }
+
+  pub votes_left_seen : {test : Row → Bool} → TakesRows (codes "d_vote") test old new → ((v : Row) → is_vote_in domain (rows_named old (codes "d_suggestion")) v ≡ true → test v ≡ false)
+      → AreSameByName (sees domain old) (sees domain new)
+  votes_left_seen {test} it stays =
+      same_by_name (codes "vote") (sees domain old) (sees domain new)
+      (subst (λ (suggestions : List Row). AreSame (sees domain old (codes "vote")) (viewed (is_vote_in domain suggestions) vote_seen (rows_named new (codes "d_vote")))) (sym (suggestions_stay it))
+      (none_removed (is_vote_in domain (rows_named old (codes "d_suggestion"))) vote_seen test (rows_named old (codes "d_vote")) (rows_named new (codes "d_vote")) stays it.rows))
+      (other_than_votes (rows_named old) (rows_named new) it.others domain)
 
   -- no unit stays approved
   pub units_renewed_seen : HaveNextRevisionsInDomains old → UnapprovesDomainUnits old new → RenewsIn (codes "unit") is_approved_row unapproved_row (sees domain old) (sees domain new)

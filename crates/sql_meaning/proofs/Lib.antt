@@ -7,6 +7,7 @@ pub mod Books
 pub mod Units
 pub mod Team
 pub mod MapEntries
+pub mod OneVote
 pub mod RowsInTurn
 pub mod StoredKeys
 pub mod OfficeRows
@@ -15,6 +16,7 @@ pub mod UnitValues
 pub mod WrittenRows
 pub mod Suggestions
 pub mod UnitsWritten
+pub mod UnitsKept
 pub mod Rowids
 pub mod UniqueKeys
 pub mod ShownMaps
@@ -22,12 +24,12 @@ pub mod RowsInOrder
 pub mod MapValues
 pub mod ShownVotes
 pub mod ShownSuggestions
+pub mod PlacesShown
 pub mod ShownEntries
 pub mod ShownPolicy
 pub mod OfficeQueries
 pub mod RowsPut
 pub mod Openings
-pub mod WritableUnits
 pub mod CommitLaws
 pub mod SameRows
 pub mod OneDomainRules

@@ -1,17 +1,18 @@
 -- The finite map that rows stand for, known by its entries, and two such maps of the same rows.
-use Rattle.std.proofs.Common.{◌≡◌, inl, inr, List, [], ◌∷◌, Bool, true, false, cond, Option, Some, None, refl, sym, ap, subst, ◌∙◌}
+use Rattle.std.proofs.Common.{◌≡◌, ◌⊎◌, inl, inr, List, [], ◌∷◌, Bool, true, false, not, cond, Option, Some, None, refl, sym, ap, subst, ◌∙◌}
 use Rattle.std.specs.Prelude.{T}
 use Rattle.std.proofs.lemmas.Bool.{and_parts}
 use Rattle.std.specs.declared.cmp.Ordering.{Ordering}
 use Rattle.std.specs.declared.cmp.Ordering.TheVariants.{Less, Equal, Greater}
 use Rattle.std.specs.Ordering.{is_eq, is_lt, eq_by_cmp, ordering_reverse}
 use Rattle.std.specs.Cmp.{Equal-is, IsTotalOrder, tied_itself, eq_by_cmp_equiv}
-use Rattle.std.specs.FinMap.{FinMap, IsAntisymmetric, find, is_sorted, entries, entries_sorted, get, get-entries, get-insert, insert, same_map}
+use Rattle.std.specs.FinMap.{FinMap, IsAntisymmetric, find, is_sorted, entries, entries_sorted, get, get-entries, get-insert, get-remove, get-retain_keys, insert, remove, retain_keys, same_map}
 use Rattle.std.specs.FinMap.Entries.{below_all}
 use Rattle.sqlite.specs.Order.{Row}
 use Rattle.sqlite_rules.specs.Lists.{Has}
+use Rattle.sql_laws.specs.ApartRows.{IsRemoved}
 use Rattle.sql_laws.specs.RowMaps.{OneEach, IsFound, IsPut, map_of}
-use Rattle.sql_laws.proofs.RowMaps.{get-found, get-is, one_each_put}
+use Rattle.sql_laws.proofs.RowMaps.{get-found, get-is, one_each_put, map_of-kept}
 
 pub true_of : (b : Bool) → T b → b ≡ true
 true_of true h = refl
@@ -112,3 +113,43 @@ module _ {K X : Type 0} (R : K → K → Ordering) (total : IsTotalOrder R) (sam
         | true ↦ λ e. (row, put.here, sym (same q (key row) ((Equal-is _).0 e)), refl)
         | false ↦ λ e. other q (λ is. let one = (eq_by_cmp_equiv total).refl (key row) in let two = subst (λ k. eq_by_cmp R k (key row) ≡ false) is e in cc) _ (get-found R total same key before old q)
       ] refl
+
+  -- the rows stay, and the values of all but those of one key
+  pub map_of-changed : (before after : Row → X) (rows : List Row) (row : Row) → OneEach key rows → Has rows row → ((x : Row) → Has rows x → (key x ≡ key row → ⊥) → after x ≡ before x)
+      → map_of R key after rows ≡ insert (map_of R key before rows) (key row) (after row)
+  map_of-changed before after rows row one there agree =
+      map_of-put_agreeing before after rows rows row one (record { only = only; here = there; kept = λ x in_x differ. in_x }) agree
+    where
+      only : (x : Row) → Has rows x → (x ≡ row) ⊎ (Has rows x × (key x ≡ key row → ⊥))
+      only x in_x = elim (eq_by_cmp R (key x) (key row)) as (λ b. eq_by_cmp R (key x) (key row) ≡ b → (x ≡ row) ⊎ (Has rows x × (key x ≡ key row → ⊥))) [
+        | true ↦ λ e. inl (one x row in_x there (same (key x) (key row) ((Equal-is _).0 e)))
+        | false ↦ λ e. inr (in_x, λ is. let tied = (eq_by_cmp_equiv total).refl (key row) in let apart = subst (λ k. eq_by_cmp R k (key row) ≡ false) is e in cc)
+      ] refl
+
+  -- ---- the rows of one key go
+
+  all_but : (m : FinMap R X) (k : K) → retain_keys m (λ q. not (eq_by_cmp R q k)) ≡ remove m k
+  all_but m k = same_map total same _ _ (λ q.
+      get-retain_keys m (λ x. not (eq_by_cmp R x k)) q (λ x e. ap (λ z. not (eq_by_cmp R z k)) (sym (same q x e))) ∙ turned (eq_by_cmp R q k) (get m q) ∙ sym (get-remove total m k q))
+    where
+      turned : (b : Bool) (o : Option X) → cond (not b) o None ≡ cond b None o
+      turned true o = refl
+      turned false o = refl
+
+  pub map_of-removed : (value : Row → X) (old new : List Row) (k : K) → OneEach key old → IsRemoved (λ r. eq_by_cmp R (key r) k) old new → map_of R key value new ≡ remove (map_of R key value old) k
+  map_of-removed value old new k one removed =
+      map_of-kept R total same key value (λ q. not (eq_by_cmp R q k)) old new one (record {
+        only = λ x there. let was = removed.only x there in (was.0, ap not was.1);
+        kept = λ x there other. removed.kept x there (not_true _ other);
+      })
+      ∙ all_but (map_of R key value old) k
+    where
+      not_true : (b : Bool) → not b ≡ true → b ≡ false
+      not_true true e = absurd cc
+      not_true false e = refl
+
+  -- an entry has the key of a row
+  pub row_of_entry : (value : Row → X) (rows : List Row) (e : K × X) → Has (entries (map_of R key value rows)) e → (r : Row) × Has rows r × (key r ≡ e.0)
+  row_of_entry value rows e there =
+      let found = subst (IsFound key value rows e.0) (get_entry R total (map_of R key value rows) e there) (get-found R total same key value rows e.0) in
+      (found.0, found.1, found.2)

@@ -1,5 +1,5 @@
 -- What the queries find among the rows of an office, by the names of their tables.
-use Rattle.std.proofs.Common.{◌≡◌, List, [], ◌∷◌, map, filter, Option, Some, option_map, codes}
+use Rattle.std.proofs.Common.{◌≡◌, List, [], ◌∷◌, map, filter, length, Option, Some, option_map, codes}
 use Rattle.sqlite.specs.Order.{Row}
 use Rattle.std.specs.List.Sorted.{IsPermutation}
 use Rattle.sql_laws.specs.RowMaps.{IsFound}
@@ -18,6 +18,7 @@ use Rattle.sql_meaning.proofs.ShownPolicy.{finds_policy}
 use Rattle.sql_meaning.proofs.ShownEntries.{finds_entry}
 use Rattle.sql_meaning.proofs.ShownSuggestions.{finds_suggestions}
 use Rattle.sql_meaning.proofs.ShownVotes.{finds_votes}
+use Rattle.sql_meaning.proofs.PlacesShown.{places_counted}
 use Rattle.sql_schema.specs.Layouts.{NamedRows}
 use Rattle.sql_meaning.specs.RowKeys.{AreOfficeRows}
 
@@ -33,6 +34,11 @@ module _ (tables : NamedRows) (office : AreOfficeRows tables) where
       → suggestions_in tables lang key ≡ map (shown_suggestion tables) rows
   suggestions_found lang key rows listed up =
       finds_suggestions tables lang key rows office.suggestions_once office.typed.suggestion_places (one_place_each tables office.keyed.suggested lang key) listed up
+
+  pub places_found : (lang key : Text) (rows : List Row) → IsPermutation (map (columns (4 ∷ [])) (filter (is_on_unit lang key) (tables (codes "suggestion")))) rows → IsInOrder 0 rows
+      → length (suggestions_in tables lang key) ≡ length rows
+  places_found lang key rows listed up =
+      places_counted tables lang key rows office.suggestions_once office.typed.suggestion_places (one_place_each tables office.keyed.suggested lang key) listed up
 
   pub votes_found : (number : Text) (rows : List Row) → IsPermutation (map (columns (2 ∷ 3 ∷ [])) (filter (has_text 1 number) (tables (codes "vote")))) rows → votes_in tables number ≡ shown_votes rows
   votes_found number rows = finds_votes tables number rows office.keyed.suggested.one_vote

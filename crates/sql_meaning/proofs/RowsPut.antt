@@ -13,8 +13,7 @@ use Rattle.sql_laws.proofs.RowMaps.{map_of-put, one_each_put}
 use Rattle.po_text.specs.declared.entry.Entry.{Entry}
 use Rattle.po_text.specs.Texts.{Text, text_cmp}
 use Rattle.units.specs.KeyTexts.{HasStrings}
-use Rattle.units.specs.Project.{place_cmp}
-use Rattle.units.specs.Orders.{text_total, text_IsAntisymmetric, place_total, place_IsAntisymmetric}
+use Rattle.units.specs.Orders.{text_total, text_IsAntisymmetric}
 use Rattle.units.specs.Units.{key_text}
 use Rattle.units.specs.Openings.{plain_entry, closed_policy}
 use Rattle.units.specs.declared.unit.Role.{Role}
@@ -22,16 +21,13 @@ use Rattle.units.specs.declared.unit.Role.TheVariants.{Guest, Translator, Review
 use Rattle.units.specs.declared.unit.Unit.{Unit}
 use Rattle.sql_columns.specs.Numbers.{role_number}
 use Rattle.sql_columns.specs.Written.{ArePrevious, IsHeaderEntry, header_text}
-use Rattle.sql_columns.proofs.Keys.{parts_of_text}
 use Rattle.sql_columns.proofs.Readers.{header_found}
 use Rattle.sql_schema.specs.Keys.{text_at, first_text, first_texts, row_number, has_text, is_on_unit}
 use Rattle.sql_schema.specs.Inside.{PutsIn, HoldsValues}
 use Rattle.sql_meaning.specs.Cells.{unit_cells}
 use Rattle.sql_meaning.specs.Values.{integer_at, role_at, texts_at, vote_at}
-use Rattle.sql_meaning.specs.Meaning.{number_at, team_in, policy_of, policy_in, entry_of_row, template_in, header_of_row, headers_in, place_of_row, unit_of_row, units_in, suggestions_in}
-use Rattle.sql_meaning.proofs.MapEntries.{map_of-put_agreeing}
-use Rattle.sql_meaning.proofs.Units.{by_place}
-use Rattle.sql_meaning.proofs.UnitValues.{unit_read_back}
+use Rattle.sql_meaning.specs.Meaning.{number_at, team_in, policy_of, policy_in, entry_of_row, template_in, header_of_row, headers_in, units_in, suggestions_in}
+use Rattle.sql_meaning.proofs.UnitsKept.{unit_placed}
 use Rattle.sql_schema.proofs.Layouts.{names_differ}
 use Rattle.sql_schema.specs.Layouts.{NamedRows}
 
@@ -131,22 +127,6 @@ module _ (old new : NamedRows) (lang : Text) (unit : Unit) (strings : HasStrings
         votes = map_of text_cmp (text_at 2) (vote_at 3) (filter (has_text 1 (text_at 1 row)) (same_votes i));
       }) (filter (is_on_unit l k) (same_suggestions i)))
 
-  row_is : unit_of_row new made.row ≡ unit
-  row_is = unit_read_back new lang unit made.row made.is_row strings previous (suggestions_still lang (key_text unit.key) ∙ suggested)
-
-  place_is : place_of_row made.row ≡ (lang, unit.key)
-  place_is = ap place_of_row made.is_row.1 ∙ (λ i. (lang, parts_of_text unit.key strings i))
-
-  at_place : IsPut place_of_row (old (codes "unit")) (new (codes "unit")) made.row
-  at_place = record {
-    only = λ x there. elim (made.put.only x there) [ inl is ↦ inl is | inr was ↦ inr (was.0, λ e. was.1 (by_place.back x made.row tt tt e)) ];
-    here = made.put.here;
-    kept = λ x there differ. made.put.kept x there (λ e. differ (by_place.forth x made.row tt tt e));
-  }
-
   pub unit_put : units_in new ≡ maps.insert (units_in old) (lang, unit.key) unit
   unit_put =
-      map_of-put_agreeing place_cmp place_total place_IsAntisymmetric place_of_row (unit_of_row old) (unit_of_row new) (old (codes "unit")) (new (codes "unit")) made.row
-      (λ r s in_r in_s e. one r s in_r in_s (by_place.back r s tt tt e)) at_place
-      (λ x there differ. λ i. record (unit_of_row new x) { suggestions = suggestions_still (text_at 1 x) (text_at 2 x) i })
-      ∙ (λ i. maps.insert (units_in old) (place_is i) (row_is i))
+      unit_placed old new lang unit made.row strings previous one made.is_row made.put (suggestions_still lang (key_text unit.key) ∙ suggested) (λ l k differ. suggestions_still l k)

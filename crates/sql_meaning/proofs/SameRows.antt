@@ -1,14 +1,12 @@
 -- Rows that are the same, in whatever order, stand for the same domain.
-use Rattle.std.proofs.Common.{◌≡◌, List, [], ◌∷◌, filter, Bool, sym, ap, ◌∙◌, codes}
+use Rattle.std.proofs.Common.{◌≡◌, List, filter, Bool, ap, codes}
 use Rattle.std.specs.Ordering.{int_cmp}
 use Rattle.std.specs.Cmp.{int_cmp_total}
 use Rattle.std.specs.FinMap as maps
 use Rattle.std.specs.FinMap.{int_cmp-IsAntisymmetric}
-use Rattle.std.proofs.lemmas.Bool.{and_parts}
 use Rattle.sqlite.specs.Order.{Row}
 use Rattle.sqlite_rules.proofs.ListLemmas.{has_filtered, has_kept}
-use Rattle.sql_laws.specs.RowMaps.{OneEach}
-use Rattle.sql_laws.proofs.RowMaps.{map_of-same_rows, texts_are_one}
+use Rattle.sql_laws.proofs.RowMaps.{map_of-same_rows}
 use Rattle.po_text.specs.Texts.{Text, text_cmp}
 use Rattle.units.specs.Office.{domain_of}
 use Rattle.units.specs.Project.{place_cmp}
@@ -19,6 +17,7 @@ use Rattle.sql_schema.specs.Views.{AreSame, AreSameByName}
 use Rattle.sql_meaning.specs.Values.{integer_at, vote_at}
 use Rattle.sql_meaning.specs.Meaning.{entry_of_row, template_in, header_of_row, headers_in, votes_in, suggestion_of_row, suggestions_in, place_of_row, unit_of_row, units_in, project_of_rows}
 use Rattle.sql_meaning.proofs.MapEntries.{map_of-agreeing}
+use Rattle.sql_meaning.proofs.UniqueKeys.{one_voter, one_place_each}
 use Rattle.sql_meaning.proofs.Units.{by_place}
 use Rattle.sql_meaning.specs.RowKeys.{AreKeyedRows}
 
@@ -41,30 +40,13 @@ module _ (old new : NamedRows) (keyed : AreKeyedRows old) (same : AreSameByName 
 
   -- ---- the votes on a suggestion
 
-  one_voter : (number : Text) → OneEach (text_at 2) (filter (has_text 1 number) (old (codes "vote")))
-  one_voter number r s there_r there_s e =
-      let in_r = has_filtered (has_text 1 number) (old (codes "vote")) r there_r in
-      let in_s = has_filtered (has_text 1 number) (old (codes "vote")) s there_s in
-      let first = texts_are_one (text_at 1 r) number in_r.1 ∙ sym (texts_are_one (text_at 1 s) number in_s.1) in
-      keyed.suggested.one_vote r s in_r.0 in_s.0 (λ i. first i ∷ e i ∷ [])
-
   votes_same : (number : Text) → votes_in new number ≡ votes_in old number
   votes_same number =
       let is = same_filtered (has_text 1 number) (old (codes "vote")) (new (codes "vote")) (same (codes "vote")) in
       map_of-same_rows text_cmp text_total text_IsAntisymmetric (text_at 2) (vote_at 3) (filter (has_text 1 number) (old (codes "vote"))) (filter (has_text 1 number) (new (codes "vote")))
-      (one_voter number) is.only is.kept
+      (one_voter (old (codes "vote")) number keyed.suggested.one_vote) is.only is.kept
 
   -- ---- the suggestions on a unit
-
-  one_place : (lang key : Text) → OneEach (integer_at 4) (filter (is_on_unit lang key) (old (codes "suggestion")))
-  one_place lang key r s there_r there_s e =
-      let in_r = has_filtered (is_on_unit lang key) (old (codes "suggestion")) r there_r in
-      let in_s = has_filtered (is_on_unit lang key) (old (codes "suggestion")) s there_s in
-      let unit_r = and_parts _ _ in_r.1 in
-      let unit_s = and_parts _ _ in_s.1 in
-      let langs = texts_are_one (text_at 2 r) lang unit_r.0 ∙ sym (texts_are_one (text_at 2 s) lang unit_s.0) in
-      let keys = texts_are_one (text_at 3 r) key unit_r.1 ∙ sym (texts_are_one (text_at 3 s) key unit_s.1) in
-      keyed.suggested.one_place r s in_r.0 in_s.0 langs keys e
 
   suggestion_same : (row : Row) → suggestion_of_row new row ≡ suggestion_of_row old row
   suggestion_same row = λ i. record (suggestion_of_row new row) { votes = votes_same (text_at 1 row) i }
@@ -73,7 +55,7 @@ module _ (old new : NamedRows) (keyed : AreKeyedRows old) (same : AreSameByName 
   suggestions_same lang key =
       let is = same_filtered (is_on_unit lang key) (old (codes "suggestion")) (new (codes "suggestion")) (same (codes "suggestion")) in
       ap maps.values (map_of-agreeing int_cmp int_cmp_total int_cmp-IsAntisymmetric (integer_at 4) (suggestion_of_row old) (suggestion_of_row new)
-      (filter (is_on_unit lang key) (old (codes "suggestion"))) (filter (is_on_unit lang key) (new (codes "suggestion"))) (one_place lang key) is.only is.kept (λ x there. suggestion_same x))
+      (filter (is_on_unit lang key) (old (codes "suggestion"))) (filter (is_on_unit lang key) (new (codes "suggestion"))) (one_place_each old keyed.suggested lang key) is.only is.kept (λ x there. suggestion_same x))
 
   -- ---- the units
 

@@ -31,7 +31,7 @@ use Rattle.sql_schema.specs.Layouts.{NamedRows}
 use Rattle.sql_meaning.specs.RowKeys.{HoldsIntegers}
 
 -- no row stands twice in a table, so integers that tell its rows apart come once
-each_once : (place : ℕ) (rows : List Row) → AreOnce rows → OneEach (integer_at place) rows → IsDistinct int_eq (map (integer_at place) rows)
+pub each_once : (place : ℕ) (rows : List Row) → AreOnce rows → OneEach (integer_at place) rows → IsDistinct int_eq (map (integer_at place) rows)
 unfolding IsDistinct
 each_once place [] up one = tt
 each_once place (row ∷ rows) up one = (

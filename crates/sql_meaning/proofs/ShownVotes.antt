@@ -1,11 +1,9 @@
 -- The votes that the rows of `vote` stand for: what a query by a suggestion's number finds of them.
-use Rattle.std.proofs.Common.{◌≡◌, List, [], ◌∷◌, map, filter, refl, sym, ◌∙◌, codes}
+use Rattle.std.proofs.Common.{◌≡◌, List, [], ◌∷◌, map, filter, refl, codes}
 use Rattle.std.specs.Cmp.Lexicographic.{nat_list_cmp_total}
 use Rattle.std.specs.List.Sorted.{IsPermutation}
 use Rattle.sqlite.specs.Order.{Row}
-use Rattle.sqlite_rules.proofs.ListLemmas.{has_filtered}
 use Rattle.sql_laws.specs.RowMaps.{OneEach}
-use Rattle.sql_laws.proofs.RowMaps.{texts_are_one}
 use Rattle.po_text.specs.Texts.{Text, text_cmp}
 use Rattle.sql_schema.specs.Keys.{text_at, first_texts, has_text, columns}
 use Rattle.sql_meaning.specs.Values.{vote_at}
@@ -13,16 +11,8 @@ use Rattle.sql_meaning.specs.Meaning.{votes_in}
 use Rattle.sql_meaning.specs.Shown.{shown_votes}
 use Rattle.sql_meaning.proofs.Books.{same_texts}
 use Rattle.sql_meaning.proofs.ShownMaps.{map_is, inserted_answers}
+use Rattle.sql_meaning.proofs.UniqueKeys.{one_voter}
 use Rattle.sql_schema.specs.Layouts.{NamedRows}
-use Rattle.sql_schema.proofs.Layouts.{listed}
-
--- a voter has one vote on a suggestion
-one_voter : (rows : List Row) (number : Text) → OneEach first_texts rows → OneEach (text_at 2) (filter (has_text 1 number) rows)
-one_voter rows number one r s in_r in_s e =
-    let of_r = has_filtered (has_text 1 number) rows r in_r in
-    let of_s = has_filtered (has_text 1 number) rows s in_s in
-    let numbers : text_at 1 r ≡ text_at 1 s = texts_are_one (text_at 1 r) number of_r.1 ∙ sym (texts_are_one (text_at 1 s) number of_s.1) in
-    one r s of_r.0 of_s.0 (λ i. numbers i ∷ e i ∷ [])
 
 pub finds_votes : (tables : NamedRows) (number : Text) (rows : List Row) → OneEach first_texts (tables (codes "vote"))
     → IsPermutation (map (columns (2 ∷ 3 ∷ [])) (filter (has_text 1 number) (tables (codes "vote")))) rows → votes_in tables number ≡ shown_votes rows

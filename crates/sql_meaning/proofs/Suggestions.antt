@@ -11,7 +11,6 @@ use Rattle.sqlite.specs.Order.{Row}
 use Rattle.sqlite_rules.specs.Lists.{Has}
 use Rattle.sqlite_rules.proofs.ListLemmas.{has_filtered, has_kept}
 use Rattle.sql_laws.specs.ApartRows.{IsRemoved}
-use Rattle.sql_laws.specs.RowMaps.{OneEach}
 use Rattle.sql_laws.proofs.RemovedRows.{from_mapped, to_mapped}
 use Rattle.sql_laws.proofs.RowMaps.{texts_are_one, text_ties_itself}
 use Rattle.po_text.specs.Texts.{Text, text_cmp}
@@ -27,6 +26,7 @@ use Rattle.sql_meaning.specs.Meaning.{votes_in, suggestion_of_row, suggestions_i
 use Rattle.sql_meaning.specs.Cells.{suggestion_cells, vote_cells}
 use Rattle.sql_meaning.proofs.MapEntries.{map_of-entries, map_of-agreeing}
 use Rattle.sql_meaning.proofs.RowsInTurn.{ArePut}
+use Rattle.sql_meaning.proofs.UniqueKeys.{one_voter, one_place_each}
 use Rattle.sql_meaning.proofs.UnitValues.{numbers_apart, suggestion_read_back, is_on_its_unit, vote_read_back}
 use Rattle.sql_meaning.proofs.WrittenRows.{placed, placed_has, numbered, numbered_rise, numbered_values, suggestion_rows, vote_rows, from_votes, to_votes, AreNumbers, HaveOwnNumbers, one_number}
 use Rattle.sql_schema.specs.Layouts.{NamedRows}
@@ -51,6 +51,13 @@ has_it place text row e = subst (λ t. has_text place t row ≡ true) e (text_ti
 
 on_unit : (lang key : Text) (row : Row) → is_on_unit lang key row ≡ true → (text_at 2 row ≡ lang) × (text_at 3 row ≡ key)
 on_unit lang key row e = let parts = and_parts _ _ e in (text_is 2 lang row parts.0, text_is 3 key row parts.1)
+
+-- a suggestion on another unit isn't on this one
+pub off_unit : (lang key other_lang other_key : Text) → ((other_lang ≡ lang) × (other_key ≡ key) → ⊥) → (row : Row) → is_on_unit other_lang other_key row ≡ true → is_on_unit lang key row ≡ false
+off_unit lang key other_lang other_key differ row on = false_from_ne_true (is_on_unit lang key row) (λ e.
+    let here = on_unit lang key row e in
+    let there = on_unit other_lang other_key row on in
+    differ (sym there.0 ∙ here.0, sym there.1 ∙ here.1))
 
 module _ (lang key : Text) (ss : List Suggestion) (fit : AreNumbers ss) (own : HaveOwnNumbers ss) (old cleared new : NamedRows) (were : AreKeyed old)
     (free : AreFree lang key ss old) (clear : AreCleared lang key old cleared)
@@ -105,13 +112,6 @@ module _ (lang key : Text) (ss : List Suggestion) (fit : AreNumbers ss) (own : H
 
   module _ (number : Text) (other : (s : Suggestion) → Has ss s → number ≢ number_text s.number)
       (stays : (r : Row) → Has (old (codes "suggestion")) r → is_on_unit lang key r ≡ true → number ≢ first_text r) where
-    one_voter : OneEach (text_at 2) (filter (has_text 1 number) (old (codes "vote")))
-    one_voter r s there_r there_s e =
-        let in_r = has_filtered (has_text 1 number) (old (codes "vote")) r there_r in
-        let in_s = has_filtered (has_text 1 number) (old (codes "vote")) s there_s in
-        let first = text_is 1 number r in_r.1 ∙ sym (text_is 1 number s in_s.1) in
-        were.one_vote r s in_r.0 in_s.0 (λ i. first i ∷ e i ∷ [])
-
     vote_was : (v : Row) → Has (filter (has_text 1 number) (new (codes "vote"))) v → Has (filter (has_text 1 number) (old (codes "vote"))) v
     vote_was v there =
         let f = has_filtered (has_text 1 number) (new (codes "vote")) v there in
@@ -138,7 +138,7 @@ module _ (lang key : Text) (ss : List Suggestion) (fit : AreNumbers ss) (own : H
     votes_kept : votes_in new number ≡ votes_in old number
     votes_kept =
         map_of-agreeing text_cmp text_total text_IsAntisymmetric (text_at 2) (vote_at 3) (vote_at 3) (filter (has_text 1 number) (old (codes "vote"))) (filter (has_text 1 number) (new (codes "vote")))
-        one_voter vote_was vote_stays (λ x there. refl)
+        (one_voter (old (codes "vote")) number were.one_vote) vote_was vote_stays (λ x there. refl)
 
   -- ---- the unit's suggestions
 
@@ -189,18 +189,7 @@ module _ (lang key : Text) (ss : List Suggestion) (fit : AreNumbers ss) (own : H
 
   module _ (other_lang other_key : Text) (differ : (other_lang ≡ lang) × (other_key ≡ key) → ⊥) where
     off : (x : Row) → is_on_unit other_lang other_key x ≡ true → is_on_unit lang key x ≡ false
-    off x on = false_from_ne_true (is_on_unit lang key x) (λ e.
-        let here = on_unit lang key x e in
-        let there = on_unit other_lang other_key x on in
-        differ (sym there.0 ∙ here.0, sym there.1 ∙ here.1))
-
-    one_at_place : OneEach (integer_at 4) (filter (is_on_unit other_lang other_key) (old (codes "suggestion")))
-    one_at_place r s there_r there_s e =
-        let in_r = has_filtered (is_on_unit other_lang other_key) (old (codes "suggestion")) r there_r in
-        let in_s = has_filtered (is_on_unit other_lang other_key) (old (codes "suggestion")) s there_s in
-        let on_r = on_unit other_lang other_key r in_r.1 in
-        let on_s = on_unit other_lang other_key s in_s.1 in
-        were.one_place r s in_r.0 in_s.0 (on_r.0 ∙ sym on_s.0) (on_r.1 ∙ sym on_s.1) e
+    off = off_unit lang key other_lang other_key differ
 
     suggestion_was : (x : Row) → Has (filter (is_on_unit other_lang other_key) (new (codes "suggestion"))) x → Has (filter (is_on_unit other_lang other_key) (old (codes "suggestion"))) x
     suggestion_was x there =
@@ -236,4 +225,4 @@ module _ (lang key : Text) (ss : List Suggestion) (fit : AreNumbers ss) (own : H
     suggestions_kept =
         ap maps.values (map_of-agreeing int_cmp int_cmp_total int_cmp-IsAntisymmetric (integer_at 4) (suggestion_of_row old) (suggestion_of_row new)
         (filter (is_on_unit other_lang other_key) (old (codes "suggestion"))) (filter (is_on_unit other_lang other_key) (new (codes "suggestion")))
-        one_at_place suggestion_was suggestion_stays same_suggestion)
+        (one_place_each old were other_lang other_key) suggestion_was suggestion_stays same_suggestion)

@@ -1,5 +1,5 @@
 -- What is written for a unit, a suggestion and a vote reads back as it.
-use Rattle.std.proofs.Common.{◌≡◌, ℕ, List, [], ◌∷◌, Bool, true, false, Option, Some, None, unwrap_or, refl, sym, ap, ◌∙◌}
+use Rattle.std.proofs.Common.{◌≡◌, ℕ, List, [], ◌∷◌, length, Bool, true, false, Option, Some, None, unwrap_or, refl, sym, ap, arith, ◌∙◌}
 use Rattle.std.proofs.lemmas.Bool.{and_from}
 use Rattle.sqlite.specs.declared.types.Value.TheVariants.{Int}
 use Rattle.sqlite.specs.Order.{Row}
@@ -17,10 +17,10 @@ use Rattle.units.specs.declared.votes.VoteValue.TheVariants.{For, Against}
 use Rattle.request_book.specs.Acts.{IsNumber, vote_number}
 use Rattle.request_book.specs.Words.{number_text}
 use Rattle.sql_columns.specs.Numbers.{state_number, flag_number}
-use Rattle.sql_columns.specs.Readings.{texts_read, previous_read}
+use Rattle.sql_columns.specs.Readings.{number_read, texts_read, previous_read}
 use Rattle.sql_columns.specs.Written.{ArePrevious, texts_text, previous_text}
 use Rattle.sql_columns.proofs.Keys.{parts_of_text}
-use Rattle.sql_columns.proofs.Readers.{texts_found, previous_found, number_found}
+use Rattle.sql_columns.proofs.Readers.{texts_found, previous_found, number_written, number_found}
 use Rattle.sql_schema.specs.Keys.{is_on_unit}
 use Rattle.sql_schema.specs.Inside.{HoldsValues}
 use Rattle.sql_schema.specs.Rows.{text_or_null}
@@ -57,6 +57,14 @@ previous_back p fit = ap (λ o. unwrap_or o no_previous) (previous_found (previo
 pub numbers_apart : (a b : Text) → IsNumber a → IsNumber b → number_text a ≡ number_text b → a ≡ b
 numbers_apart a b fit_a fit_b is =
     sym (ap (λ o. unwrap_or o []) (number_found (number_text a) a fit_a refl)) ∙ ap (λ o. unwrap_or o []) (number_found (number_text a) b fit_b is)
+
+-- a column that reads as a number is its text
+pub text_of_number : (column number : Text) → IsNumber number → unwrap_or (number_read column) [] ≡ number → column ≡ number_text number
+text_of_number column number fit = by (number_read column) refl
+  where
+    by : (o : Option Text) → number_read column ≡ o → unwrap_or o [] ≡ number → column ≡ number_text number
+    by (Some n) read same = number_written column number (read ∙ ap Some same)
+    by None read none = let long = fit.0 in let short : 0 ≡ length number = ap length none in absurd (omega arith)
 
 pub unit_read_back : (tables : NamedRows) (lang : Text) (unit : Unit) (row : Row) → HoldsValues (unit_cells lang unit) row → HasStrings unit.key → ArePrevious unit.previous
     → suggestions_in tables lang (key_text unit.key) ≡ unit.suggestions → unit_of_row tables row ≡ unit

@@ -1,5 +1,5 @@
 -- What the writing of a unit makes of the units that the rows stand for: the unit at its place, and every other as it was.
-use Rattle.std.proofs.Common.{◌≡◌, ◌≢◌, inl, inr, ℕ, [], ◌∷◌, refl, sym, ap, subst, ◌∙◌, codes, List}
+use Rattle.std.proofs.Common.{◌≡◌, ◌≢◌, ℕ, refl, sym, ap, subst, ◌∙◌, codes, List}
 use Rattle.std.specs.FinMap as maps
 use Rattle.sqlite.specs.Order.{Row}
 use Rattle.sqlite_rules.specs.Lists.{Has}
@@ -7,23 +7,18 @@ use Rattle.sql_laws.specs.ApartRows.{IsRemoved}
 use Rattle.sql_laws.specs.RowMaps.{OneEach, IsPut}
 use Rattle.po_text.specs.Texts.{Text}
 use Rattle.sql_columns.specs.Written.{ArePrevious}
-use Rattle.sql_columns.proofs.Keys.{parts_of_text}
 use Rattle.units.specs.KeyTexts.{HasStrings}
-use Rattle.units.specs.Project.{place_cmp}
-use Rattle.units.specs.Orders.{place_total, place_IsAntisymmetric}
 use Rattle.units.specs.Units.{key_text}
 use Rattle.units.specs.declared.unit.Unit.{Unit}
-use Rattle.sql_schema.specs.Keys.{text_at, first_text, first_texts, is_on_unit}
+use Rattle.sql_schema.specs.Keys.{first_text, first_texts, is_on_unit}
 use Rattle.sql_schema.specs.Cleared.{IsOn}
 use Rattle.sql_schema.specs.Inside.{PutsIn, HoldsValues}
 use Rattle.sql_meaning.specs.Cells.{unit_cells}
-use Rattle.sql_meaning.specs.Meaning.{place_of_row, unit_of_row, units_in, suggestions_in}
+use Rattle.sql_meaning.specs.Meaning.{units_in, suggestions_in}
 use Rattle.sql_meaning.specs.Written.{PutsSuggestions, WritesUnit}
-use Rattle.sql_meaning.proofs.MapEntries.{map_of-put_agreeing}
 use Rattle.sql_meaning.proofs.RowsInTurn.{ArePut, are_put}
 use Rattle.sql_meaning.proofs.Suggestions.{AreCleared, AreFree, suggestions_put, suggestions_kept}
-use Rattle.sql_meaning.proofs.Units.{by_place}
-use Rattle.sql_meaning.proofs.UnitValues.{unit_read_back}
+use Rattle.sql_meaning.proofs.UnitsKept.{unit_placed}
 use Rattle.sql_meaning.proofs.WrittenRows.{AreNumbers, HaveOwnNumbers, suggestions_spare, suggestions_in_turn, votes_in_turn, suggestions_distinct, votes_distinct, suggestion_rows, vote_rows}
 use Rattle.sql_schema.specs.Layouts.{NamedRows}
 use Rattle.sql_schema.proofs.Layouts.{names_differ}
@@ -46,6 +41,15 @@ pub record KeepsOthers (old new : NamedRows) : Type 0 where
   pub template : new (codes "template") ≡ old (codes "template")
   pub languages : new (codes "language") ≡ old (codes "language")
 
+pub kept_others : (old new : NamedRows) → ((t : List ℕ) → t ≢ codes "unit" → t ≢ codes "suggestion" → t ≢ codes "vote" → new t ≡ old t) → KeepsOthers old new
+kept_others old new spares = record {
+  records = spares (codes "record") (names_differ refl) (names_differ refl) (names_differ refl);
+  team = spares (codes "team") (names_differ refl) (names_differ refl) (names_differ refl);
+  policy = spares (codes "policy") (names_differ refl) (names_differ refl) (names_differ refl);
+  template = spares (codes "template") (names_differ refl) (names_differ refl) (names_differ refl);
+  languages = spares (codes "language") (names_differ refl) (names_differ refl) (names_differ refl);
+}
+
 module _ (old new : NamedRows) (lang : Text) (unit : Unit) (mid cleared : NamedRows) (put : PutsIn (codes "unit") first_texts (HoldsValues (unit_cells lang unit)) old mid)
     (clear : ClearsIn lang (key_text unit.key) mid cleared) (puts : PutsSuggestions lang (key_text unit.key) 0 unit.suggestions cleared new) where
   -- a table that is none of the three stays, and that of units from its row on
@@ -57,13 +61,7 @@ module _ (old new : NamedRows) (lang : Text) (unit : Unit) (mid cleared : NamedR
   spares t no_unit no_suggestion no_vote = clears_spares t no_suggestion no_vote ∙ put.others t no_unit
 
   pub keeps_others : KeepsOthers old new
-  keeps_others = record {
-    records = spares (codes "record") (names_differ refl) (names_differ refl) (names_differ refl);
-    team = spares (codes "team") (names_differ refl) (names_differ refl) (names_differ refl);
-    policy = spares (codes "policy") (names_differ refl) (names_differ refl) (names_differ refl);
-    template = spares (codes "template") (names_differ refl) (names_differ refl) (names_differ refl);
-    languages = spares (codes "language") (names_differ refl) (names_differ refl) (names_differ refl);
-  }
+  keeps_others = kept_others old new spares
 
   same_units : new (codes "unit") ≡ mid (codes "unit")
   same_units = clears_spares (codes "unit") (names_differ refl) (names_differ refl)
@@ -101,39 +99,10 @@ module _ (old new : NamedRows) (lang : Text) (unit : Unit) (mid cleared : NamedR
         suggestions_put lang (key_text unit.key) unit.suggestions fits.numbers fits.own old cleared new keyed fits.free are_cleared
         suggestions_are_put votes_are_put
 
-    row_is : unit_of_row new put.row ≡ unit
-    row_is = unit_read_back new lang unit put.row put.is_row fits.key fits.previous own_suggestions
-
-    place_is : place_of_row put.row ≡ (lang, unit.key)
-    place_is = ap place_of_row put.is_row.1 ∙ (λ i. (lang, parts_of_text unit.key fits.key i))
-
-    at_place : IsPut place_of_row (old (codes "unit")) (new (codes "unit")) put.row
-    at_place =
-        let it = subst (λ rows. IsPut first_texts (old (codes "unit")) rows put.row) (sym same_units) put.put in
-        record {
-          only = λ x there. elim (it.only x there) [ inl is ↦ inl is | inr was ↦ inr (was.0, λ e. was.1 (by_place.back x put.row tt tt e)) ];
-          here = it.here;
-          kept = λ x there differ. it.kept x there (λ e. differ (by_place.forth x put.row tt tt e));
-        }
-
-    one_each : OneEach place_of_row (old (codes "unit"))
-    one_each r s in_r in_s e =
-        one r s in_r in_s (by_place.back r s tt tt e)
-
-    others_agree : (x : Row) → Has (old (codes "unit")) x → (place_of_row x ≡ place_of_row put.row → ⊥) → unit_of_row new x ≡ unit_of_row old x
-    others_agree x there differ =
-        let same = suggestions_kept lang (key_text unit.key) unit.suggestions fits.numbers fits.own old cleared new keyed fits.free are_cleared
-        suggestions_are_put votes_are_put (text_at 1 x) (text_at 2 x) (λ is.
-        let row_texts : first_texts put.row ≡ lang ∷ key_text unit.key ∷ [] = ap first_texts put.is_row.1 in
-        let texts : first_texts x ≡ lang ∷ key_text unit.key ∷ [] = λ i. is.0 i ∷ is.1 i ∷ [] in
-        differ (by_place.forth x put.row tt tt (texts ∙ sym row_texts))) in
-        λ i. record (unit_of_row new x) { suggestions = same i }
-
     pub unit_put : units_in new ≡ maps.insert (units_in old) (lang, unit.key) unit
     unit_put =
-        map_of-put_agreeing place_cmp place_total place_IsAntisymmetric place_of_row (unit_of_row old) (unit_of_row new) (old (codes "unit")) (new (codes "unit")) put.row
-        one_each at_place others_agree
-        ∙ (λ i. maps.insert (units_in old) (place_is i) (row_is i))
+        unit_placed old new lang unit put.row fits.key fits.previous one put.is_row (subst (λ rows. IsPut first_texts (old (codes "unit")) rows put.row) (sym same_units) put.put) own_suggestions
+        (suggestions_kept lang (key_text unit.key) unit.suggestions fits.numbers fits.own old cleared new keyed fits.free are_cleared suggestions_are_put votes_are_put)
 
 pub writes_unit_over : (old new : NamedRows) (lang : Text) (unit : Unit) → AreKeyed old → OneEach first_texts (old (codes "unit")) → IsWritable old lang unit
     → WritesUnit lang unit old new → (units_in new ≡ maps.insert (units_in old) (lang, unit.key) unit) × KeepsOthers old new
@@ -147,22 +116,12 @@ writes_unit old new lang unit ready fits written =
 
 -- ---- other tables may differ
 
-module _ (old new : NamedRows) (suggestions : new (codes "suggestion") ≡ old (codes "suggestion")) where
-  pub keyed_same : new (codes "vote") ≡ old (codes "vote") → AreKeyed old → AreKeyed new
-  keyed_same votes it = record {
-    one_number = subst (OneEach first_text) (sym suggestions) it.one_number;
-    one_place = λ r s in_r in_s. it.one_place r s (subst (λ rows. Has rows r) suggestions in_r) (subst (λ rows. Has rows s) suggestions in_s);
-    one_vote = subst (OneEach first_texts) (sym votes) it.one_vote;
-    has_suggestion = λ v there.
-        let s = it.has_suggestion v (subst (λ rows. Has rows v) votes there) in
-        (s.0, subst (λ rows. Has rows s.0) (sym suggestions) s.1, s.2);
-  }
-
-  pub writable_same : (lang : Text) (unit : Unit) → IsWritable old lang unit → IsWritable new lang unit
-  writable_same lang unit it = record {
-    key = it.key;
-    previous = it.previous;
-    numbers = it.numbers;
-    own = it.own;
-    free = λ s there row in_row off. it.free s there row (subst (λ rows. Has rows row) suggestions in_row) off;
-  }
+pub keyed_same : (old new : NamedRows) → new (codes "suggestion") ≡ old (codes "suggestion") → new (codes "vote") ≡ old (codes "vote") → AreKeyed old → AreKeyed new
+keyed_same old new suggestions votes it = record {
+  one_number = subst (OneEach first_text) (sym suggestions) it.one_number;
+  one_place = λ r s in_r in_s. it.one_place r s (subst (λ rows. Has rows r) suggestions in_r) (subst (λ rows. Has rows s) suggestions in_s);
+  one_vote = subst (OneEach first_texts) (sym votes) it.one_vote;
+  has_suggestion = λ v there.
+      let s = it.has_suggestion v (subst (λ rows. Has rows v) votes there) in
+      (s.0, subst (λ rows. Has rows s.0) (sym suggestions) s.1, s.2);
+}

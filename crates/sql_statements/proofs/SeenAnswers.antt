@@ -1,6 +1,8 @@
 -- What look-ups by a domain show is what would be shown of the tables that it sees.
 use Rattle.std.proofs.Common.{◌≡◌, ℕ, List, [], ◌∷◌, ◌&&◌, map, filter, Bool, true, false, Option, codes, refl, sym, ap, subst, ◌∙◌}
 use Rattle.std.proofs.lemmas.Bool.{and_from}
+use Rattle.std.specs.Ordering.{nat_cmp, is_eq}
+use Rattle.std.specs.Cmp.Lexicographic.{slice_cmp}
 use Rattle.std.specs.List.Sorted.{IsPermutation}
 use Rattle.sqlite.specs.Order.{Row}
 use Rattle.sqlite.specs.Effect.{Database}
@@ -9,14 +11,14 @@ use Rattle.sqlite_rules.proofs.ListLemmas.{some_from}
 use Rattle.sql_laws.specs.RowMaps.{IsFound}
 use Rattle.sql_laws.proofs.RowMaps.{texts_are_one, text_ties_itself}
 use Rattle.sql_schema.specs.Layouts.{rows_named}
-use Rattle.sql_schema.specs.Keys.{text_at, first_text, second_text, has_text, is_on_unit, columns}
+use Rattle.sql_schema.specs.Keys.{text_at, key_texts, first_text, second_text, has_text, is_on_unit, columns}
 use Rattle.sql_schema.specs.Inside.{IsInOrder}
 use Rattle.sql_schema.specs.Views.{suggestion_seen, is_vote_in, vote_seen, seen_in}
 use Rattle.sql_schema.proofs.Queries.{filtered_same}
-use Rattle.sql_schema.proofs.Views.{found_seen}
+use Rattle.sql_schema.proofs.Views.{IsView, found_seen}
 use Rattle.sql_schema.proofs.DomainViews.{is_text, languages_viewed}
 use Rattle.sql_statements.specs.DomainCleared.{is_on_domain_unit}
-use Rattle.sql_statements.specs.DomainAnswers.{ShowsDomainEntry, ShowsDomainLanguage, ShowsDomainSuggestions, ShowsDomainVotes}
+use Rattle.sql_statements.specs.DomainAnswers.{ShowsDomainEntry, ShowsDomainLanguage, ShowsDomainSuggestions, ShowsDomainVotes, ShowsSuggestionOf}
 use Rattle.sql_statements.proofs.Seen.{mapped_seen, filtered_seen}
 use Rattle.sql_statements.proofs.SeenChanges.{entry_keys_viewed}
 
@@ -45,6 +47,41 @@ suggestions_shown_seen domain lang key db rows it =
           ∙ ap (map (columns (1 ∷ 4 ∷ 5 ∷ 6 ∷ []))) (filtered_seen (has_text 2 domain) (is_on_unit lang key) suggestion_seen all)) it.0,
       it.1,
     )
+
+-- a suggestion by its number and its unit
+suggestions_viewed : (domain : List ℕ) → IsView (has_text 2 domain) suggestion_seen (key_texts (1 ∷ 2 ∷ 3 ∷ 4 ∷ [])) (key_texts (1 ∷ 2 ∷ 3 ∷ []))
+suggestions_viewed domain = record {
+  alike = λ r s e. let same : text_at 2 r ≡ text_at 2 s = cc in ap (λ t. is_eq (slice_cmp nat_cmp t domain)) same;
+  forth = λ r s e.
+      let number : text_at 1 r ≡ text_at 1 s = cc in
+      let lang : text_at 3 r ≡ text_at 3 s = cc in
+      let key : text_at 4 r ≡ text_at 4 s = cc in
+      λ i. number i ∷ lang i ∷ key i ∷ [];
+  back = λ r s in_r in_s e.
+      let same = texts_are_one (text_at 2 r) domain in_r ∙ sym (texts_are_one (text_at 2 s) domain in_s) in
+      let number : text_at 1 r ≡ text_at 1 s = cc in
+      let lang : text_at 3 r ≡ text_at 3 s = cc in
+      let key : text_at 4 r ≡ text_at 4 s = cc in
+      λ i. number i ∷ same i ∷ lang i ∷ key i ∷ [];
+}
+
+pub suggestion_found_seen : (domain lang key number : List ℕ) (db : Database) (found : Option Row) → ShowsSuggestionOf domain lang key number db found
+    → IsFound (key_texts (1 ∷ 2 ∷ 3 ∷ [])) (columns (1 ∷ 4 ∷ 5 ∷ 6 ∷ [])) (seen_in domain (rows_named db) (codes "suggestion")) (number ∷ lang ∷ key ∷ []) found
+suggestion_found_seen domain lang key number db found it =
+    found_seen (suggestions_viewed domain) (columns (1 ∷ 5 ∷ 6 ∷ 7 ∷ [])) (columns (1 ∷ 4 ∷ 5 ∷ 6 ∷ [])) (rows_named db (codes "d_suggestion")) (number ∷ domain ∷ lang ∷ key ∷ []) (number ∷ lang ∷ key ∷ [])
+    (λ r e.
+    let of_number : text_at 1 r ≡ number = cc in
+    let name : text_at 2 r ≡ domain = cc in
+    let of_lang : text_at 3 r ≡ lang = cc in
+    let of_key : text_at 4 r ≡ key = cc in
+    (is_text 2 domain r name, λ i. of_number i ∷ of_lang i ∷ of_key i ∷ []))
+    (λ r passes e.
+    let of_number : text_at 1 r ≡ number = cc in
+    let name = texts_are_one (text_at 2 r) domain passes in
+    let of_lang : text_at 3 r ≡ lang = cc in
+    let of_key : text_at 4 r ≡ key = cc in
+    λ i. of_number i ∷ name i ∷ of_lang i ∷ of_key i ∷ [])
+    (λ r. refl) found it
 
 -- the votes on a suggestion of the domain
 module _ (domain number : List ℕ) (db : Database) (suggestion : Row) (there : Has (rows_named db (codes "d_suggestion")) suggestion) (own : has_text 2 domain suggestion ≡ true) (numbered : first_text suggestion ≡ number) where

@@ -1,5 +1,5 @@
 -- What a look at a unit of a domain shows is what a look at it would show of the tables that the domain sees.
-use Rattle.std.proofs.Common.{◌≡◌, ℕ, true, List, [], ◌∷◌, suc, zero, inl, inr, map, filter, codes, refl, sym, ap, arith}
+use Rattle.std.proofs.Common.{◌≡◌, ℕ, true, List, [], ◌∷◌, suc, zero, inl, inr, map, filter, Option, Some, None, option_map, IfSome, codes, refl, sym, ap, arith}
 use Rattle.std.specs.List.{All}
 use Rattle.std.proofs.lemmas.Bool.{and_parts}
 use Rattle.sqlite.specs.Order.{Row}
@@ -10,14 +10,15 @@ use Rattle.sql_laws.proofs.RemovedRows.{from_mapped, has_permuted}
 use Rattle.sql_schema.specs.Keys.{text_at, first_text, has_text, columns}
 use Rattle.sql_schema.specs.Layouts.{rows_named}
 use Rattle.sql_schema.specs.Views.{seen_in}
-use Rattle.sql_schema.proofs.DomainViews.{unit_found_seen}
+use Rattle.sql_schema.proofs.DomainViews.{is_text, unit_found_seen}
 use Rattle.sql_statements.specs.declared.unit_rows.SuggestionRows.{SuggestionRows}
+use Rattle.sql_statements.specs.declared.unit_rows.OfficeRows.{OfficeRows}
 use Rattle.sql_statements.specs.declared.unit_rows.ViewRows.{ViewRows}
-use Rattle.sql_statements.specs.DomainAnswers.{ShowsDomainSuggestions}
+use Rattle.sql_statements.specs.DomainAnswers.{ShowsDomainSuggestions, ShowsDomainUnit, ShowsSuggestionOf}
 use Rattle.sql_statements.specs.DomainCleared.{is_on_domain_unit}
-use Rattle.sql_statements.specs.DomainUnitRows.{ShowsDomainVotesOn, ShowsDomainViewRows}
-use Rattle.sql_statements.specs.UnitRows.{suggestion_of, ShowsVotesOn, ShowsViewRows}
-use Rattle.sql_statements.proofs.SeenAnswers.{entry_found_seen, language_found_seen, suggestions_shown_seen, votes_shown_seen}
+use Rattle.sql_statements.specs.DomainUnitRows.{ShowsDomainOfficeRows, ShowsDomainVotesOn, ShowsDomainViewRows, ShowsDomainViewAlone, ShowsOneDomainSuggestion}
+use Rattle.sql_statements.specs.UnitRows.{suggestion_of, ShowsOfficeRows, ShowsUnitOf, ShowsVotesOn, ShowsViewRows, ShowsViewAlone, ShowsOneSuggestion}
+use Rattle.sql_statements.proofs.SeenAnswers.{entry_found_seen, language_found_seen, suggestions_shown_seen, suggestion_found_seen, votes_shown_seen}
 
 module _ (domain lang key : List ℕ) (db : Database) where
   -- a suggestion that is shown is a row of the domain
@@ -39,13 +40,43 @@ module _ (domain lang key : List ℕ) (db : Database) where
   each_vote (r ∷ rows) its votes (suc k) d within =
       each_vote rows (λ x there. its x (inr there)) (λ n e low. votes (suc n) e (omega (arith, low))) k d (omega (arith, within))
 
+  office_seen : (name : List ℕ) (rows : OfficeRows) → ShowsDomainOfficeRows domain lang name db rows → ShowsOfficeRows lang name (seen_in domain (rows_named db)) rows
+  office_seen name rows it = record { language = language_found_seen domain lang db rows.language it.language; policy = it.policy; role = it.role }
+
+  unit_seen_so : (found : Option Row) → ShowsDomainUnit domain lang key db found → ShowsUnitOf lang key (seen_in domain (rows_named db)) found
+  unit_seen_so found it = unit_found_seen domain lang key db found it (seen_in domain (rows_named db) (codes "unit")) refl
+
   pub view_rows_seen : (name : List ℕ) (rows : ViewRows) → ShowsDomainViewRows domain lang key name db rows → ShowsViewRows lang key name (seen_in domain (rows_named db)) rows
   view_rows_seen name rows it = record {
-    office = record { language = language_found_seen domain lang db rows.office.language it.office.language; policy = it.office.policy; role = it.office.role };
+    office = office_seen name rows.office it.office;
     unit = record {
-      unit = unit_found_seen domain lang key db rows.unit.unit it.unit.unit (seen_in domain (rows_named db) (codes "unit")) refl;
+      unit = unit_seen_so rows.unit.unit it.unit.unit;
       entry = entry_found_seen domain key db rows.unit.entry it.unit.entry;
       suggestions = suggestions_shown_seen domain lang key db (map suggestion_of rows.unit.suggestions.items) it.unit.suggestions;
       votes = each_vote rows.unit.suggestions.items (its_row (map suggestion_of rows.unit.suggestions.items) it.unit.suggestions) it.unit.votes;
     };
   }
+
+  -- the same without the suggestions
+  pub view_alone_seen : (name : List ℕ) (rows : ViewRows) → ShowsDomainViewAlone domain lang key name db rows → ShowsViewAlone lang key name (seen_in domain (rows_named db)) rows
+  view_alone_seen name rows it = record {
+    office = office_seen name rows.office it.office;
+    unit = record {
+      unit = unit_seen_so rows.unit.unit it.unit.unit;
+      entry = entry_found_seen domain key db rows.unit.entry it.unit.entry;
+      none = it.unit.none;
+    };
+  }
+
+  -- and of one of them
+  pub one_suggestion_seen : (number : List ℕ) (found : Option SuggestionRows) → ShowsOneDomainSuggestion domain lang key number db found
+      → ShowsOneSuggestion lang key number (seen_in domain (rows_named db)) found
+  one_suggestion_seen number found it =
+      record { suggestion = suggestion_found_seen domain lang key number db (option_map suggestion_of found) it.suggestion; votes = by found it.suggestion it.votes }
+    where
+      by : (found : Option SuggestionRows) → ShowsSuggestionOf domain lang key number db (option_map suggestion_of found) → IfSome found (ShowsDomainVotesOn db)
+          → IfSome found (ShowsVotesOn (seen_in domain (rows_named db)))
+      by None shows votes = tt
+      by (Some rows) (r, there, keyed, shown) votes =
+          let name : text_at 2 r ≡ domain = cc in
+          votes_shown_seen domain (text_at 0 rows.suggestion) db r there (is_text 2 domain r name) (ap (text_at 0) shown) rows.votes.items votes

@@ -1,12 +1,12 @@
--- What the queries show of the rows, column by column: of one row by its key, or of several.
+-- What the queries show of one row by its key, column by column.
 use Rattle.std.specs.Prelude.{pos, ℕ, List, [], ◌∷◌, Option, codes}
 use Rattle.sqlite.specs.declared.types.Value.TheVariants.{Int}
 use Rattle.sqlite.specs.Order.{Row}
 use Rattle.sqlite.specs.Effect.{Database}
-use Rattle.sql_schema.specs.Keys.{first_text, first_texts, second_text, row_number, has_text, is_on_unit, columns}
+use Rattle.sql_schema.specs.Keys.{first_text, row_number, columns}
 use Rattle.sql_laws.specs.RowMaps.{IsFound}
 use Rattle.sql_schema.specs.Layouts.{NamedRows, rows_named}
-use Rattle.sql_schema.specs.Inside.{ShowsKey, ShowsAll, IsInOrder}
+use Rattle.sql_schema.specs.Inside.{ShowsKey}
 
 -- content, status, body
 abbrev pub ShowsRecord : List ℕ → Database → Option Row → Type 0

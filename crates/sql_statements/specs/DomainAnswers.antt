@@ -34,6 +34,22 @@ ShowsLanguageUnits domain lang = ShowsPart (codes "d_unit") (λ row. has_text 1 
 abbrev pub ShowsDomainSuggestions : List ℕ → List ℕ → List ℕ → Database → List Row → Type 0
 ShowsDomainSuggestions domain lang key db rows = ShowsAll (codes "d_suggestion") (is_on_domain_unit domain lang key) (columns (1 ∷ 5 ∷ 6 ∷ 7 ∷ [])) db rows × IsInOrder 1 rows
 
+-- the places of those on a unit, in order
+abbrev pub ShowsPlaces : List ℕ → List ℕ → List ℕ → Database → List Row → Type 0
+ShowsPlaces domain lang key db rows = ShowsAll (codes "d_suggestion") (is_on_domain_unit domain lang key) (columns (5 ∷ [])) db rows × IsInOrder 0 rows
+
+-- columns of the suggestion of a number, if it is on the unit
+abbrev pub ShowsOfSuggestion : List ℕ → List ℕ → List ℕ → List ℕ → List ℕ → Database → Option Row → Type 0
+ShowsOfSuggestion places domain lang key number = ShowsKey (codes "d_suggestion") (key_texts (1 ∷ 2 ∷ 3 ∷ 4 ∷ [])) (columns places) (number ∷ domain ∷ lang ∷ key ∷ [])
+
+-- number, place, suggester, forms
+abbrev pub ShowsSuggestionOf : List ℕ → List ℕ → List ℕ → List ℕ → Database → Option Row → Type 0
+ShowsSuggestionOf = ShowsOfSuggestion (1 ∷ 5 ∷ 6 ∷ 7 ∷ [])
+
+-- place
+abbrev pub ShowsPlaceOf : List ℕ → List ℕ → List ℕ → List ℕ → Database → Option Row → Type 0
+ShowsPlaceOf = ShowsOfSuggestion (5 ∷ [])
+
 -- voter, value
 abbrev pub ShowsDomainVotes : List ℕ → Database → List Row → Type 0
 ShowsDomainVotes number = ShowsAll (codes "d_vote") (has_text 1 number) (columns (2 ∷ 3 ∷ []))

@@ -1,5 +1,5 @@
--- What a look at a unit of a domain shows: the office's rows, the unit's, and the votes on each of its suggestions.
-use Rattle.std.specs.Prelude.{◌≡◌, ℕ, List, map}
+-- What a look at a unit of a domain shows: the office's rows, the unit's, and the votes on each of its suggestions, or on one of them, or none of them.
+use Rattle.std.specs.Prelude.{◌≡◌, ℕ, List, [], map, Option, option_map, IfSome}
 use Rattle.std.specs.List.{All}
 use Rattle.sqlite.specs.Order.{Row}
 use Rattle.sqlite.specs.Effect.{Database}
@@ -8,7 +8,7 @@ use Rattle.sql_statements.specs.declared.unit_rows.OfficeRows.{OfficeRows}
 use Rattle.sql_statements.specs.declared.unit_rows.UnitRows.{UnitRows}
 use Rattle.sql_statements.specs.declared.unit_rows.ViewRows.{ViewRows}
 use Rattle.sql_statements.specs.Answers.{ShowsMember, ShowsPolicy}
-use Rattle.sql_statements.specs.DomainAnswers.{ShowsDomainEntry, ShowsDomainLanguage, ShowsDomainSuggestions, ShowsDomainUnit, ShowsDomainVotes}
+use Rattle.sql_statements.specs.DomainAnswers.{ShowsDomainEntry, ShowsDomainLanguage, ShowsDomainSuggestions, ShowsDomainUnit, ShowsDomainVotes, ShowsSuggestionOf}
 use Rattle.sql_statements.specs.UnitRows.{suggestion_of}
 use Rattle.sql_schema.specs.Keys.{text_at}
 
@@ -43,3 +43,21 @@ pub record ShowsDomainUnitRows (domain lang key : List ℕ) (db : Database) (row
 pub record ShowsDomainViewRows (domain lang key name : List ℕ) (db : Database) (rows : ViewRows) : Type 0 where
   pub office : ShowsDomainOfficeRows domain lang name db rows.office
   pub unit : ShowsDomainUnitRows domain lang key db rows.unit
+
+-- ---- without the suggestions, or of them one
+
+-- the unit and its template's entry; no suggestion is asked for
+pub record ShowsDomainUnitAlone (domain lang key : List ℕ) (db : Database) (rows : UnitRows) : Type 0 where
+  pub unit : ShowsDomainUnit domain lang key db rows.unit
+  pub entry : ShowsDomainEntry domain key db rows.entry
+  pub none : rows.suggestions.items ≡ []
+
+-- with the office's rows
+pub record ShowsDomainViewAlone (domain lang key name : List ℕ) (db : Database) (rows : ViewRows) : Type 0 where
+  pub office : ShowsDomainOfficeRows domain lang name db rows.office
+  pub unit : ShowsDomainUnitAlone domain lang key db rows.unit
+
+-- the suggestion of a number on the unit, if there is one, and the votes on it
+pub record ShowsOneDomainSuggestion (domain lang key number : List ℕ) (db : Database) (found : Option SuggestionRows) : Type 0 where
+  pub suggestion : ShowsSuggestionOf domain lang key number db (option_map suggestion_of found)
+  pub votes : IfSome found (ShowsDomainVotesOn db)

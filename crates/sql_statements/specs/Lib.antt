@@ -14,3 +14,4 @@ pub mod DomainRenewed
 pub mod DomainUnitRows
 pub mod Owners
 pub mod DomainEntries
+pub mod DomainVotes

@@ -1,4 +1,8 @@
 //! The table of the suggestions of all domains.
+//!
+//! Where a suggestion is looked up by its number, `+` before its unit's columns keeps the query to the index of numbers (SQLite, "The SQLite
+//! Query Optimizer Overview"): that of units and places has more of the columns that are asked for, and would lead through all
+//! suggestions on the unit.
 ghost use Rattle.std.specs.Prelude.{◌≡◌, ◌∷◌, [], codes};
 ghost use Rattle.sqlite.specs.Held.{state};
 ghost use Rattle.sqlite.specs.declared.types.Value.TheVariants.{Int, Text};
@@ -8,7 +12,7 @@ ghost use Rattle.sql_schema.specs.Inside.{IsSteadyOver, IsInsideOf, HoldsValues,
 ghost use Rattle.sql_schema.specs.Keys.{first_text};
 ghost use Rattle.sql_statements.specs.Added.{AddsRow};
 ghost use Rattle.sql_statements.specs.DomainCleared.{ClearsDomainUnit};
-ghost use Rattle.sql_statements.specs.DomainAnswers.{ShowsDomainSuggestions};
+ghost use Rattle.sql_statements.specs.DomainAnswers.{ShowsDomainSuggestions, ShowsPlaces, ShowsSuggestionOf, ShowsPlaceOf};
 ghost use Rattle.sql_statements.specs.Tables.{ShowsSuggestionsIn};
 
 use sqlite::{Alter, Error, Row, Transaction, params};
@@ -72,6 +76,65 @@ pub fn domain_suggestions_of<'a, S: Alter>(
         "SELECT number, place, suggester, forms FROM d_suggestion WHERE domain = ?1 AND lang = ?2 AND key = ?3 ORDER BY place",
         params![domain, lang, key],
     )
+}
+
+/// The places of the suggestions on a unit of a domain, in order.
+pub fn places_of<'a, S: Alter>(
+    tx: &mut Transaction<'_, S>,
+    domain: &'a str,
+    lang: &'a str,
+    key: &'a str,
+) -> Result<Vec<Row>, Error>
+    requires steady { IsSteadyOver by_domain (state S.Store tx.old.conn.now) }
+    ensures same_reference { tx.new.conn.ghost_name ≡ tx.old.conn.ghost_name }
+    ensures found { IsReadOf by_domain (state S.Store tx.old.conn.now) (state S.Store tx.new.conn.now) result
+        (λ db rows. ShowsPlaces domain.now lang.now key.now db rows.items) }
+{
+    tx.query_all(
+        "SELECT place FROM d_suggestion WHERE domain = ?1 AND lang = ?2 AND key = ?3 ORDER BY place",
+        params![domain, lang, key],
+    )
+}
+
+/// The suggestion of a number on a unit of a domain: number, place, suggester and forms. None, where no suggestion of this number is on
+/// the unit.
+pub fn find_domain_suggestion<'a, S: Alter>(
+    tx: &mut Transaction<'_, S>,
+    domain: &'a str,
+    lang: &'a str,
+    key: &'a str,
+    number: &'a str,
+) -> Result<Option<Row>, Error>
+    requires steady { IsSteadyOver by_domain (state S.Store tx.old.conn.now) }
+    ensures same_reference { tx.new.conn.ghost_name ≡ tx.old.conn.ghost_name }
+    ensures found { IsReadOf by_domain (state S.Store tx.old.conn.now) (state S.Store tx.new.conn.now) result
+        (ShowsSuggestionOf domain.now lang.now key.now number.now) }
+{
+    let mut rows = tx.query_all(
+        "SELECT number, place, suggester, forms FROM d_suggestion WHERE number = ?1 AND +domain = ?2 AND +lang = ?3 AND +key = ?4",
+        params![number, domain, lang, key],
+    )?;
+    Ok(rows.pop())
+}
+
+/// The place of the suggestion of a number on a unit of a domain. None, where no suggestion of this number is on the unit.
+pub fn find_domain_place<'a, S: Alter>(
+    tx: &mut Transaction<'_, S>,
+    domain: &'a str,
+    lang: &'a str,
+    key: &'a str,
+    number: &'a str,
+) -> Result<Option<Row>, Error>
+    requires steady { IsSteadyOver by_domain (state S.Store tx.old.conn.now) }
+    ensures same_reference { tx.new.conn.ghost_name ≡ tx.old.conn.ghost_name }
+    ensures found { IsReadOf by_domain (state S.Store tx.old.conn.now) (state S.Store tx.new.conn.now) result
+        (ShowsPlaceOf domain.now lang.now key.now number.now) }
+{
+    let mut rows = tx.query_all(
+        "SELECT place FROM d_suggestion WHERE number = ?1 AND +domain = ?2 AND +lang = ?3 AND +key = ?4",
+        params![number, domain, lang, key],
+    )?;
+    Ok(rows.pop())
 }
 
 /// A domain's suggestions by language, key and place: each one's number, place, suggester, forms, language and key.

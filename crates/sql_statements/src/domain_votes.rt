@@ -7,12 +7,13 @@ ghost use Rattle.sql_schema.specs.Views.{seen_in};
 ghost use Rattle.sql_schema.specs.Inside.{IsSteadyOver, IsInsideOf, PutsRow, HoldsValues, IsReadOf};
 ghost use Rattle.sql_schema.specs.Keys.{first_texts};
 ghost use Rattle.sql_statements.specs.DomainAnswers.{ShowsDomainVotes};
+ghost use Rattle.sql_statements.specs.DomainVotes.{TakesVote};
 ghost use Rattle.sql_statements.specs.Tables.{ShowsVotesIn};
 
 use sqlite::{Alter, Error, Row, Transaction, params};
 
-/// Writes a vote on a suggestion: the suggestion's number, the voter, and 1 for or -1 against. The suggestion must be there, and no
-/// vote of this voter on it.
+/// Writes a vote on a suggestion, which must be there: the suggestion's number, the voter, and 1 for or -1 against; in the place of the
+/// vote of this voter on it, if there is one.
 pub fn put_domain_vote<S: Alter>(
     tx: &mut Transaction<'_, S>,
     number: &str,
@@ -25,8 +26,26 @@ pub fn put_domain_vote<S: Alter>(
         (PutsRow (codes "d_vote") first_texts (HoldsValues (Text number.now ∷ Text voter.now ∷ Int value ∷ []))) }
 {
     tx.execute(
-        "INSERT INTO d_vote (number, voter, value) VALUES (?1, ?2, ?3)",
+        "INSERT INTO d_vote (number, voter, value) VALUES (?1, ?2, ?3) ON CONFLICT (number, voter) DO UPDATE SET value = excluded.value",
         params![number, voter, value],
+    )
+    .and(Ok(()))
+}
+
+/// Takes the vote of a voter on a suggestion away, where there is one.
+pub fn take_domain_vote<'a, S: Alter>(
+    tx: &mut Transaction<'_, S>,
+    number: &'a str,
+    voter: &'a str,
+) -> Result<(), Error>
+    requires steady { IsSteadyOver by_domain (state S.Store tx.old.conn.now) }
+    ensures same_reference { tx.new.conn.ghost_name ≡ tx.old.conn.ghost_name }
+    ensures taken { IsInsideOf by_domain (state S.Store tx.old.conn.now) (state S.Store tx.new.conn.now) result
+        (TakesVote number.now voter.now) }
+{
+    tx.execute(
+        "DELETE FROM d_vote WHERE number = ?1 AND voter = ?2",
+        params![number, voter],
     )
     .and(Ok(()))
 }

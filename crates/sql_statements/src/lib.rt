@@ -12,7 +12,7 @@
 //! - `owners`: of which domain each row is
 //!
 //! Specs: `Answers`, `DomainAnswers`, `UnitRows`, `Queries`, `Tables`, `RecordTable`, `RecordsInOrder`, `WholeOffice`, `Owners` are what reads show; `Added`,
-//! `Taken`, `Renewed`, `DomainCleared` what becomes of rows. A lemma about one table's texts stands in `proofs/` under the
+//! `Taken`, `Renewed`, `DomainCleared`, `DomainVotes` what becomes of rows. A lemma about one table's texts stands in `proofs/` under the
 //! table's name (`DomainUnitPuts`, `PolicySet`, `DomainUnitReads`); what INSERT, INSERT with ON CONFLICT, DELETE and UPDATE do to
 //! any table of the office in `Additions`, `Upserts`, `Removals`, `Renewals`.
 //!

@@ -16,7 +16,7 @@ pub struct OfficeRows {
     pub role: Option<Row>,
 }
 
-/// A unit, its template's entry, and its suggestions.
+/// A unit, its template's entry, and its suggestions, where they were asked for.
 #[derive(Drop)]
 pub struct UnitRows {
     pub unit: Option<Row>,

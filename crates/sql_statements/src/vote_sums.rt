@@ -9,7 +9,7 @@ ghost use Rattle.sql_statements.specs.DomainAnswers.{ShowsSum, ShowsSums};
 
 use sqlite::{Alter, Error, Row, Transaction, params};
 
-/// Writes the sum of a suggestion, which must be there and have none.
+/// Writes the sum of a suggestion, which must be there: anew if it has none, and else in the place of the one that is there.
 pub fn put_sum<S: Alter>(tx: &mut Transaction<'_, S>, number: &str, sum: i64) -> Result<(), Error>
     requires steady { IsSteadyOver by_domain (state S.Store tx.old.conn.now) }
     ensures same_reference { tx.new.conn.ghost_name ≡ tx.old.conn.ghost_name }
@@ -17,7 +17,7 @@ pub fn put_sum<S: Alter>(tx: &mut Transaction<'_, S>, number: &str, sum: i64) ->
         (PutsRow (codes "d_vote_sum") first_text (HoldsValues (Text number.now ∷ Int sum ∷ []))) }
 {
     tx.execute(
-        "INSERT INTO d_vote_sum (number, sum) VALUES (?1, ?2)",
+        "INSERT INTO d_vote_sum (number, sum) VALUES (?1, ?2) ON CONFLICT (number) DO UPDATE SET sum = excluded.sum",
         params![number, sum],
     )
     .and(Ok(()))

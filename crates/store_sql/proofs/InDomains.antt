@@ -2,9 +2,8 @@
 use Rattle.std.proofs.Common.{◌≡◌, inl, List, [], ◌∷◌, Bool, true, false, IsTrue, refl, sym, subst, ◌∙◌, codes}
 use Rattle.sqlite.specs.Order.{Row}
 use Rattle.sqlite.specs.State.{State, HasCleanDisk}
-use Rattle.sqlite_rules.specs.Lists.{Has}
 use Rattle.po_text.specs.Texts.{Text}
-use Rattle.units.specs.Office.{has_domain, empty_domain, as_project, project_in}
+use Rattle.units.specs.Office.{project_in}
 use Rattle.units.specs.Projects.{IsProject}
 use Rattle.deliveries.proofs.domains.InDomains.{no_domain_yet}
 use Rattle.deliveries.proofs.rules.DomainsKept.{any_project}

@@ -15,11 +15,11 @@ use Rattle.tables.specs.declared.faults.Lost.TheVariants.{Disk}
 use Rattle.sql_schema.specs.Inside.{AreOfficeTablesOf}
 use Rattle.sql_schema.specs.Whole.{IsIdleOver, StaysIdle, IsLookUp, IsCommitOf}
 use Rattle.sql_meaning.specs.Meaning.{AreNumbered}
-use Rattle.sql_meaning.specs.Domains.{meaning_by_domain, TreesMean}
-use Rattle.sql_files.specs.Files.{MakesFiles}
+use Rattle.sql_meaning.specs.Domains.{meaning_by_domain, meaning_for, TreesMean}
+use Rattle.sql_files.specs.Files.{IsOfficeFile, MakesFiles}
 use Rattle.sql_files.proofs.Stops.{look_up_keeps, look_up_leaves, commit_keeps, commit_leaves}
-use Rattle.store_sql.specs.Kept.{KeepsOffice, LeavesItsOwn, LeavesOwnTrees, is_honest, is_whole, means, may_leave, is_stopped}
-use Rattle.sql_schema.specs.Layouts.{by_domain, rows_named}
+use Rattle.store_sql.specs.Kept.{KeepsOffice, LeavesItsOwn, LeavesOwnTrees, LeavesReadable, is_honest, is_whole, means, may_leave, is_stopped}
+use Rattle.sql_schema.specs.Layouts.{by_domain, schema_of, rows_named}
 use Rattle.sql_files.proofs.Listed.{database_means, database_means_only}
 
 module _ {S : Type 0} (g : store.Ghosts S) where
@@ -46,6 +46,20 @@ module _ {S : Type 0} (g : store.Ghosts S) where
   -- tables that aren't shut leave what they mean
   pub leaves_own : (tables : Held S × (Bool × Bool)) → IsSettled → KeepsOffice (state g tables.0) → LeavesItsOwn g tables
   leaves_own tables settled keeps = λ clean is_open other left. left_means tables.0 settled keeps.idle clean is_open other left
+
+  -- a store whose disk gave what was written leaves something
+  abbrev pub Survives : Type 0
+  Survives = (h : Held S) → HasCleanDisk (state g h) → ∥ ((db : Trees) × (state g h).may_leave db) ∥₁
+
+  -- an office's file means something
+  file_means : (trees : Trees) → IsOfficeFile trees → (m : OfficeWithBook) × TreesMean trees m
+  file_means trees (form, layout, it) =
+      let db : Database = record { schema = schema_of layout; trees = trees } in
+      (meaning_for form (rows_named db), database_means form db it.ready)
+
+  -- and so does whatever they leave
+  pub leaves_readable : (tables : Held S × (Bool × Bool)) → Survives → KeepsOffice (state g tables.0) → LeavesReadable g tables
+  leaves_readable tables survives keeps = λ clean. (survives tables.0 clean, λ trees left. ∣ file_means trees (keeps.leaves clean trees left) ∣₁)
 
   -- stopped tables answer Disk, and nothing is asked of them
   pub kept_stopped : {A : Type 0} (tables : Held S × (Bool × Bool)) → IsSettled → is_stopped g tables ≡ true

@@ -1,14 +1,16 @@
 //! What types keep of the values that a commit writes, for clauses: each is looked at, and nothing is done with it.
 ghost use Rattle.std.specs.Prelude.{IfSome};
-ghost use Rattle.sql_keepable.specs.Keepable.{IsKeepableUnit};
-ghost use Rattle.sql_files.specs.Files.{IsKeepable};
+ghost use Rattle.sql_files.specs.Files.{IsKeepable, IsKeepableWrite};
 ghost use Rattle.request_book.specs.Contents.{IsContent};
 ghost use Rattle.store_sql.specs.Changes.{IsKeepableChange, IsKeepableDomainChange};
 
-use deliveries::{Change, DomainChange};
+use deliveries::{Change, DomainChange, UnitWrite};
 use request_book::Record;
-use sql_keepable::{entries_fit, language_fits, name_fits, plans_fit, unit_fits, units_fit};
-use units::{Lang, UnitView};
+use sql_keepable::{
+    entries_fit, key_fits, lang_fits, language_fits, name_fits, plans_fit, suggestion_fits,
+    unit_fits, units_fit,
+};
+use units::{Key, Lang};
 
 /// The record of a request can be read back of its row.
 pub(crate) fn record_fits(row: &Record)
@@ -18,12 +20,19 @@ pub(crate) fn record_fits(row: &Record)
     sql_keepable::record_fits(row);
 }
 
-/// So can a view's unit, if there is a view.
-pub(crate) fn view_fits(lang: &Lang, view: &Option<UnitView>)
-    ensures { IfSome view.now (λ v. IsKeepableUnit lang.now v.unit) }
+/// So can what an act writes of a unit, if it writes anything.
+pub(crate) fn write_fits(lang: &Lang, key: &Key, write: &Option<UnitWrite>)
+    ensures { IfSome write.now (IsKeepableWrite lang.now key.now) }
 {
-    if let Some(view) = view {
-        unit_fits(lang, &view.unit);
+    match write {
+        None => {}
+        Some(UnitWrite::Whole(view) | UnitWrite::Row(view)) => unit_fits(lang, &view.unit),
+        Some(UnitWrite::Suggested(suggestion)) => {
+            lang_fits(lang);
+            key_fits(key);
+            suggestion_fits(suggestion);
+        }
+        Some(UnitWrite::Voted(_, voter, _, _)) => name_fits(voter),
     }
 }
 

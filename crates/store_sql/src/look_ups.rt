@@ -2,16 +2,16 @@
 ghost use Rattle.std.specs.Prelude.{◌≡◌, ⊤, false};
 ghost use Rattle.sqlite.specs.Held.{state};
 ghost use Rattle.sql_statements.specs.Answers.{ShowsMember, ShowsPolicy, ShowsRecord};
-ghost use Rattle.sql_statements.specs.DomainAnswers.{ShowsTally};
+ghost use Rattle.sql_statements.specs.DomainAnswers.{ShowsDomainSuggestions, ShowsTally};
 ghost use Rattle.sql_schema.specs.Inside.{IsSteadyOver, IsReadOf};
 ghost use Rattle.sql_statements.specs.RecordsInOrder.{ShowsPlace};
-ghost use Rattle.sql_statements.specs.DomainUnitRows.{ShowsDomainOfficeRows, ShowsDomainUnitRows, ShowsDomainViewRows, ShowsWithDomainVotes, ShowsEachWithDomainVotes};
+ghost use Rattle.sql_statements.specs.DomainUnitRows.{ShowsDomainOfficeRows, ShowsDomainUnitRows, ShowsDomainUnitAlone, ShowsDomainViewRows, ShowsDomainViewAlone, ShowsOneDomainSuggestion, ShowsWithDomainVotes, ShowsEachWithDomainVotes};
 ghost use Rattle.sql_schema.specs.Whole.{IsIdleOver, IsLookUp};
 ghost use Rattle.sql_schema.specs.Layouts.{by_domain};
 
 use sql_decoding::Failure;
 use sql_statements::domain_languages::find_domain_language;
-use sql_statements::domain_suggestions::domain_suggestions_of;
+use sql_statements::domain_suggestions::{domain_suggestions_of, find_domain_suggestion};
 use sql_statements::domain_template::find_domain_entry;
 use sql_statements::domain_units::find_domain_unit;
 use sql_statements::domain_votes::domain_votes_on;
@@ -21,6 +21,7 @@ use sql_statements::tallies::find_tally;
 use sql_statements::team::find_member;
 use sql_statements::unit_rows::{OfficeRows, SuggestionRows, UnitRows, ViewRows};
 use sqlite::{Alter, Connection, Error, Row, Transaction};
+use std::alloc::Global;
 
 /// The record of a request. None, where no record has the number.
 pub(crate) fn look_up_record<S: Alter>(
@@ -202,4 +203,101 @@ pub(crate) fn look_up_view<'a, S: Alter>(
     let office = office_part(&mut tx, domain, lang, name)?;
     let unit = unit_part(&mut tx, domain, lang, key)?;
     tx.commit().and(Ok(ViewRows { office, unit }))
+}
+
+/// The rows of a domain's unit without its suggestions, none of which is read.
+fn unit_alone<'a, S: Alter>(
+    tx: &mut Transaction<'_, S>,
+    alloc: Global,
+    domain: &'a str,
+    lang: &'a str,
+    key: &'a str,
+) -> Result<UnitRows, Error>
+    requires steady { IsSteadyOver by_domain (state S.Store tx.old.conn.now) }
+    ensures same_reference { tx.new.conn.ghost_name ≡ tx.old.conn.ghost_name }
+    ensures found { IsReadOf by_domain (state S.Store tx.old.conn.now) (state S.Store tx.new.conn.now) result
+        (ShowsDomainUnitAlone domain.now lang.now key.now) }
+{
+    let unit = find_domain_unit(tx, domain, lang, key)?;
+    let entry = find_domain_entry(tx, domain, key)?;
+    Ok(UnitRows {
+        unit,
+        entry,
+        suggestions: Vec::new(alloc),
+    })
+}
+
+/// What a caller sees of a domain's unit but for its suggestions: the office's rows, and the unit's.
+pub(crate) fn look_up_unit<'a, S: Alter>(
+    connection: &mut Connection<S>,
+    alloc: Global,
+    domain: &'a str,
+    lang: &'a str,
+    key: &'a str,
+    name: &'a str,
+) -> Result<ViewRows, Error>
+    requires autocommit { connection.old.in_transaction ≡ false }
+    requires idle { IsIdleOver by_domain (state S.Store connection.old) }
+    ensures found { IsLookUp (state S.Store connection.old) (state S.Store connection.new) result
+        (ShowsDomainViewAlone domain.now lang.now key.now name.now) }
+{
+    let mut tx = connection.transaction();
+    let office = office_part(&mut tx, domain, lang, name)?;
+    let unit = unit_alone(&mut tx, alloc, domain, lang, key)?;
+    tx.commit().and(Ok(ViewRows { office, unit }))
+}
+
+/// The suggestions on a domain's unit, in the order of their places; no vote on them is read.
+pub(crate) fn look_up_suggestions<'a, S: Alter>(
+    connection: &mut Connection<S>,
+    domain: &'a str,
+    lang: &'a str,
+    key: &'a str,
+) -> Result<Vec<Row>, Error>
+    requires autocommit { connection.old.in_transaction ≡ false }
+    requires idle { IsIdleOver by_domain (state S.Store connection.old) }
+    ensures found { IsLookUp (state S.Store connection.old) (state S.Store connection.new) result
+        (λ db rows. ShowsDomainSuggestions domain.now lang.now key.now db rows.items) }
+{
+    let mut tx = connection.transaction();
+    let found = domain_suggestions_of(&mut tx, domain, lang, key)?;
+    tx.commit().and(Ok(found))
+}
+
+/// The suggestion of a number on a domain's unit, with the votes on it. None, where it isn't there.
+fn suggestion_part<'a, S: Alter>(
+    tx: &mut Transaction<'_, S>,
+    domain: &'a str,
+    lang: &'a str,
+    key: &'a str,
+    number: &'a str,
+) -> Result<Option<SuggestionRows>, Error>
+    requires steady { IsSteadyOver by_domain (state S.Store tx.old.conn.now) }
+    ensures same_reference { tx.new.conn.ghost_name ≡ tx.old.conn.ghost_name }
+    ensures found { IsReadOf by_domain (state S.Store tx.old.conn.now) (state S.Store tx.new.conn.now) result
+        (ShowsOneDomainSuggestion domain.now lang.now key.now number.now) }
+{
+    let found = find_domain_suggestion(tx, domain, lang, key, number)?;
+    match found {
+        Some(suggestion) => Ok(Some(with_votes(tx, suggestion)?)),
+        None => Ok(None),
+    }
+}
+
+/// The suggestion of a number on a domain's unit, with the votes on it; no other suggestion or vote is read. None, where it isn't there.
+pub(crate) fn look_up_suggestion<'a, S: Alter>(
+    connection: &mut Connection<S>,
+    domain: &'a str,
+    lang: &'a str,
+    key: &'a str,
+    number: &'a str,
+) -> Result<Option<SuggestionRows>, Error>
+    requires autocommit { connection.old.in_transaction ≡ false }
+    requires idle { IsIdleOver by_domain (state S.Store connection.old) }
+    ensures found { IsLookUp (state S.Store connection.old) (state S.Store connection.new) result
+        (ShowsOneDomainSuggestion domain.now lang.now key.now number.now) }
+{
+    let mut tx = connection.transaction();
+    let found = suggestion_part(&mut tx, domain, lang, key, number)?;
+    tx.commit().and(Ok(found))
 }

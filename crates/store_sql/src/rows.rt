@@ -2,12 +2,12 @@
 //!
 //! `SqliteTables` adds the two facts that the trait's laws hand to callers, as ghost fields, and takes nothing apart: the connection, the flag and
 //! the maps change here alone, each change keeps the invariant of `Rows`, and that the two facts follow from it is shown once, in `rules`.
-ghost use Rattle.std.specs.Prelude.{◌≡◌, ◌≢◌, Bool, false, true, Ok, Err, IfOk, IfErr, IfSome, OnOk, OnErr, is_some, option_map};
+ghost use Rattle.std.specs.Prelude.{◌≡◌, ◌≢◌, Bool, false, true, Ok, Err, IfOk, IfErr, OnOk, OnErr, is_some, option_map};
 ghost use Rattle.std.specs.Coded.{coded×, coded_bool};
 ghost use Rattle.std.specs.FinMap as maps;
 ghost use Rattle.sqlite.specs.Held.{Held, held_code, state};
 ghost use Rattle.request_book.specs.Book.{row_of, with_record};
-ghost use Rattle.deliveries.specs.UnitAccess.{found_of, with_view_in};
+ghost use Rattle.deliveries.specs.UnitAccess.{found_of, without_suggestions, suggestions_at, suggestion_at, IsPossibleWrite, with_write_in};
 ghost use Rattle.deliveries.specs.OfficeChanges.{changed_by, IsPossibleChange};
 ghost use Rattle.deliveries.specs.OfficeRules.{KeepsRules};
 ghost use Rattle.request_book.specs.Contents.{IsContent};
@@ -17,7 +17,7 @@ ghost use Rattle.tables.specs.Sinks.{WasCutShort};
 ghost use Rattle.tables.specs.Entries.{entries_of};
 ghost use Rattle.deliveries.specs.Tally.{counts_of};
 ghost use Rattle.tables.specs.declared.faults.EachFault.TheVariants.{NoTables};
-ghost use Rattle.units.specs.Project.{entry_of, role_in};
+ghost use Rattle.units.specs.Project.{role_in};
 ghost use Rattle.units.specs.Office.{project_in};
 ghost use Rattle.units.specs.Offices.{IsOffice};
 ghost use Rattle.office_maps.specs.OfficeIn.{office_in};
@@ -30,21 +30,22 @@ ghost use Rattle.sql_files.specs.Files.{IsOfficeFile, IsLost, KeepsFile, LeavesF
 ghost use Rattle.sqlite.specs.Effect.{IsDatabase};
 ghost use Rattle.store_sql.specs.Adopting.{AreAdopted};
 ghost use Rattle.store_sql.specs.Faults.{RefusesIn};
-ghost use Rattle.store_sql.specs.Kept.{KeepsOffice, KeepsOwnRules, LeavesItsOwn, LeavesOwnTrees, IsAtHand, is_honest, is_whole, means, may_leave, is_stopped, is_loaded};
+ghost use Rattle.store_sql.specs.Kept.{KeepsOffice, KeepsOwnRules, LeavesItsOwn, LeavesOwnTrees, LeavesReadable, IsAtHand, is_honest, is_whole, means, may_leave, is_stopped, is_loaded};
 ghost use Rattle.store_sql.specs.Making.{AreMade, IsHandedBack};
 ghost use Rattle.store_sql.specs.RecordsBehind.{WereHanded};
 ghost use Rattle.store_sql.specs.declared.recorded.HandingFault.TheVariants.{NoTables as Unreadable};
 
 use crate::entries::hand_entries;
-use crate::keepable_values::{change_fits, record_fits, view_fits};
+use crate::keepable_values::{change_fits, record_fits, write_fits};
 use crate::making::make;
 use crate::recorded::{HandingFault, hand_records};
 use crate::records::read_record;
 use crate::tallies::read_tally;
-use crate::unit_views::{read_role, read_view};
+use crate::unit_views::{read_role, read_suggestion, read_suggestions, read_unit, read_view};
 use crate::whole_office::{forget, keep, read_office};
-use deliveries::{ActContext, Change, Tally};
+use deliveries::{ActContext, Change, Tally, UnitWrite};
 use office_maps::OfficeMaps;
+use po_text::Items;
 use request_book::Record;
 use sql_adoption::OpenFault;
 use sql_commits::{commit_act, commit_change};
@@ -56,7 +57,7 @@ use sqlite::{Alter, Connection};
 use std::alloc::Global;
 use std::marker::Model;
 use tables::{EachFault, EntrySink, Lost, Start};
-use units::{Key, Lang, Name, Role, UnitView};
+use units::{Key, Lang, Name, Role, Suggestion};
 use uuid::Uuid;
 
 /// A connection to an office's tables by domains, between transactions, and what was read of them.
@@ -173,11 +174,12 @@ impl<S: Alter> Rows<S> {
         connection
     }
 
-    /// The rules of an office with its book hold, and a stop leaves what the tables mean. (A law: what it reads says so, and is
-    /// compiled away.)
+    /// The rules of an office with its book hold, and a stop leaves what the tables mean, and always what can be read. (A law: what it
+    /// reads says so, and is compiled away.)
     pub(crate) fn rules(&self)
         ensures rules { KeepsOwnRules S.Store self.now }
         ensures settled { LeavesItsOwn S.Store self.now }
+        ensures readable { LeavesReadable S.Store self.now }
     {
         let _read = self.stopped;
     }
@@ -258,6 +260,85 @@ impl<S: Alter> Rows<S> {
             name,
             &mut self.kept_rule,
         ) {
+            Ok(found) => Ok(found),
+            Err(failure) => {
+                forget(self.alloc, &mut self.office);
+                Err(self.lost(failure))
+            }
+        }
+    }
+
+    /// The same but for the unit's suggestions, which aren't read: the view has none.
+    pub(crate) fn unit_of(
+        &mut self,
+        domain: &Name,
+        lang: &Lang,
+        key: &Key,
+        name: &Name,
+    ) -> Result<Option<ActContext>, Lost>
+        ensures answer { is_honest S.Store self.new → IfOk result (λ r. r ≡ without_suggestions (found_of (project_in (means S.Store self.old).office domain.now) lang.now key.now name.now)) }
+        ensures same { is_honest S.Store self.new → is_whole S.Store self.new → means S.Store self.new ≡ means S.Store self.old }
+        ensures kept { IsKept (is_honest S.Store) (is_whole S.Store) (means S.Store) (may_leave S.Store) (is_stopped S.Store) self.old self.new result Disk Nothing }
+    {
+        if self.stopped {
+            return Err(Lost::Disk);
+        }
+        match read_unit(
+            &mut self.connection,
+            self.alloc,
+            domain,
+            lang,
+            key,
+            name,
+            &mut self.kept_rule,
+        ) {
+            Ok(found) => Ok(found),
+            Err(failure) => {
+                forget(self.alloc, &mut self.office);
+                Err(self.lost(failure))
+            }
+        }
+    }
+
+    /// The suggestions on a unit, in their order, without the votes on them, which aren't read. None where the unit isn't there.
+    pub(crate) fn suggestions_of(
+        &mut self,
+        domain: &Name,
+        lang: &Lang,
+        key: &Key,
+    ) -> Result<Items<Suggestion>, Lost>
+        ensures answer { is_honest S.Store self.new → IfOk result (λ r. r ≡ suggestions_at (project_in (means S.Store self.old).office domain.now) lang.now key.now) }
+        ensures same { is_honest S.Store self.new → is_whole S.Store self.new → means S.Store self.new ≡ means S.Store self.old }
+        ensures kept { IsKept (is_honest S.Store) (is_whole S.Store) (means S.Store) (may_leave S.Store) (is_stopped S.Store) self.old self.new result Disk Nothing }
+    {
+        if self.stopped {
+            return Err(Lost::Disk);
+        }
+        match read_suggestions(&mut self.connection, self.alloc, domain, lang, key) {
+            Ok(found) => Ok(found),
+            Err(failure) => {
+                forget(self.alloc, &mut self.office);
+                Err(self.lost(failure))
+            }
+        }
+    }
+
+    /// The suggestion of a number on a unit, with the votes on it; nothing where the unit or the suggestion isn't there.
+    pub(crate) fn suggestion_of(
+        &mut self,
+        domain: &Name,
+        lang: &Lang,
+        key: &Key,
+        number: &Uuid,
+    ) -> Result<Option<Suggestion>, Lost>
+        ensures answer { is_honest S.Store self.new → IfOk result (λ r. r ≡ suggestion_at (project_in (means S.Store self.old).office domain.now) lang.now key.now number.now) }
+        ensures same { is_honest S.Store self.new → is_whole S.Store self.new → means S.Store self.new ≡ means S.Store self.old }
+        ensures kept { IsKept (is_honest S.Store) (is_whole S.Store) (means S.Store) (may_leave S.Store) (is_stopped S.Store) self.old self.new result Disk Nothing }
+    {
+        if self.stopped {
+            return Err(Lost::Disk);
+        }
+        match read_suggestion(&mut self.connection, self.alloc, domain, lang, key, *number) {
             Ok(found) => Ok(found),
             Err(failure) => {
                 forget(self.alloc, &mut self.office);
@@ -368,32 +449,40 @@ impl<S: Alter> Rows<S> {
         }
     }
 
-    /// Writes a request's record and its unit's new view, if it has one and the domain is there; or neither. The number must be new, the content a
-    /// request's, the view's entry the template's, and what the commit leaves must keep the rules.
+    /// Writes a request's record and what its act writes of a unit, if it writes anything and the unit is there; or neither. The number must be
+    /// new, the content a request's, what is written of the unit that is there, and what the commit leaves must keep the rules.
     pub(crate) fn commit_unit(
         &mut self,
         row: &Record,
         domain: &Name,
         lang: &Lang,
         key: &Key,
-        view: &Option<UnitView>,
+        write: &Option<UnitWrite>,
     ) -> Result<(), Lost>
         requires content { IsContent row.now.content }
-        requires entry { is_honest S.Store self.old → IfSome view.now (λ v. v.source ≡ entry_of (project_in (means S.Store self.old).office domain.now).template key.now) }
-        requires rules { is_honest S.Store self.old → KeepsRules (record { office = with_view_in (means S.Store self.old).office domain.now lang.now key.now view.now; book = with_record (means S.Store self.old).book row.now }) }
-        ensures done { is_honest S.Store self.new → OnOk result (means S.Store self.new ≡ record { office = with_view_in (means S.Store self.old).office domain.now lang.now key.now view.now; book = with_record (means S.Store self.old).book row.now }) }
+        requires possible { is_honest S.Store self.old → IsPossibleWrite (project_in (means S.Store self.old).office domain.now) lang.now key.now write.now }
+        requires rules { is_honest S.Store self.old → KeepsRules (record { office = with_write_in (means S.Store self.old).office domain.now lang.now key.now write.now; book = with_record (means S.Store self.old).book row.now }) }
+        ensures done { is_honest S.Store self.new → OnOk result (means S.Store self.new ≡ record { office = with_write_in (means S.Store self.old).office domain.now lang.now key.now write.now; book = with_record (means S.Store self.old).book row.now }) }
         ensures same { is_honest S.Store self.new → is_whole S.Store self.new → OnErr result (means S.Store self.new ≡ means S.Store self.old) }
         ensures kept { IsKept (is_honest S.Store) (is_whole S.Store) (means S.Store) (may_leave S.Store) (is_stopped S.Store) self.old self.new result Disk
-            (λ m. m ≡ record { office = with_view_in (means S.Store self.old).office domain.now lang.now key.now view.now; book = with_record (means S.Store self.old).book row.now }) }
+            (λ m. m ≡ record { office = with_write_in (means S.Store self.old).office domain.now lang.now key.now write.now; book = with_record (means S.Store self.old).book row.now }) }
     {
         if self.stopped {
             return Err(Lost::Disk);
         }
         key_fits(key);
-        view_fits(lang, view);
+        write_fits(lang, key, write);
         record_fits(row);
         forget(self.alloc, &mut self.office);
-        match commit_act(&mut self.connection, self.alloc, row, domain, lang, view) {
+        match commit_act(
+            &mut self.connection,
+            self.alloc,
+            row,
+            domain,
+            lang,
+            key,
+            write,
+        ) {
             Ok(()) => Ok(()),
             Err(failure) => Err(self.lost(failure)),
         }

@@ -7,6 +7,7 @@ pub mod NothingCounted
 pub mod Records
 pub mod Started
 mod NothingFound
+mod Written
 pub mod TotalsPut
 pub mod TallyMoves
 pub mod TallyPolicy

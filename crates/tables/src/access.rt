@@ -1,14 +1,14 @@
 //! Tables of an office with its book.
-ghost use Rattle.std.specs.Prelude.{◌≡◌, Bool, IfOk, IfSome, OnOk, OnErr, IfErr, IsTrue, option_map, is_none};
+ghost use Rattle.std.specs.Prelude.{◌≡◌, Bool, IfOk, OnOk, OnErr, IfErr, IsTrue, option_map, is_none};
 ghost use Rattle.std.specs.FinMap as maps;
 ghost use Rattle.request_book.specs.Book.{OfficeWithBook, row_of, with_record};
-ghost use Rattle.units.specs.Project.{entry_of, role_in};
+ghost use Rattle.units.specs.Project.{role_in};
 ghost use Rattle.units.specs.Office.{project_in};
-ghost use Rattle.deliveries.specs.UnitAccess.{found_of, with_view_in};
+ghost use Rattle.deliveries.specs.UnitAccess.{found_of, without_suggestions, suggestions_at, suggestion_at, with_write_in, IsPossibleWrite};
 ghost use Rattle.deliveries.specs.OfficeChanges.{changed_by, IsPossibleChange};
 ghost use Rattle.deliveries.specs.OfficeRules.{KeepsRules};
 ghost use Rattle.request_book.specs.Contents.{IsContent};
-ghost use Rattle.tables.specs.Stops.{Nothing, LeavesOnly};
+ghost use Rattle.tables.specs.Stops.{Nothing, LeavesOnly, IsReadable};
 ghost use Rattle.tables.specs.Kept.{IsKept};
 ghost use Rattle.tables.specs.Sinks.{WasCutShort};
 ghost use Rattle.tables.specs.Entries.{entries_of};
@@ -19,18 +19,19 @@ ghost use Rattle.tables.specs.declared.faults.EachFault.TheVariants.{NoTables};
 
 use crate::faults::{EachFault, Lost};
 use crate::sink::EntrySink;
-use deliveries::{ActContext, Change, Tally};
+use deliveries::{ActContext, Change, Tally, UnitWrite};
 use office_maps::OfficeMaps;
+use po_text::Items;
 use request_book::Record;
-use units::{Key, Lang, Name, Role, UnitView};
+use units::{Key, Lang, Name, Role, Suggestion};
 use uuid::Uuid;
 
 /// Tables of an office with its book.
 ///
 /// Each call says what it answers or writes, what the tables mean then, and by `IsKept` what it keeps, whatever it answers. What it
 /// answers holds while the disk returns what was written; what the tables mean then, while no failure has shut the store. An error
-/// is `Memory` where a growth was refused, and the tables run on; and `Disk` where the disk failed: then the tables are stopped, and
-/// answer `Disk` to each further call.
+/// is `Memory`, as where a growth was refused, and the tables run on; or `Disk`, as where the disk failed: then the tables are
+/// stopped, and answer `Disk` to each further call.
 pub trait Tables: Drop {
     /// So far the disk has returned what was written.
     ghost is_honest: { Self → Type 0 };
@@ -43,6 +44,15 @@ pub trait Tables: Drop {
 
     /// What an opening after a stop at this moment may find.
     ghost may_leave: { Self → OfficeWithBook → Type 0 };
+
+    /// What a stop leaves, of a file its trees.
+    ghost Left: { Type 0 };
+
+    /// Whether a stop at this moment may leave this.
+    ghost leaves: { Self → Left → Type 0 };
+
+    /// What an opening reads of what is left.
+    ghost reads: { Left → OfficeWithBook → Type 0 };
 
     /// Whether they answer `Disk` until they are opened again.
     ghost is_stopped: { Self → Bool };
@@ -79,6 +89,41 @@ pub trait Tables: Drop {
         ensures same { is_honest self.new → is_whole self.new → means self.new ≡ means self.old }
         ensures kept { IsKept is_honest is_whole means may_leave is_stopped self.old self.new result Disk Nothing };
 
+    /// The same but for the unit's suggestions, which aren't read: the view has none.
+    fn unit_of(
+        &mut self,
+        domain: &Name,
+        lang: &Lang,
+        key: &Key,
+        name: &Name,
+    ) -> Result<Option<ActContext>, Lost>
+        ensures answer { is_honest self.new → IfOk result (λ r. r ≡ without_suggestions (found_of (project_in (means self.old).office domain.now) lang.now key.now name.now)) }
+        ensures same { is_honest self.new → is_whole self.new → means self.new ≡ means self.old }
+        ensures kept { IsKept is_honest is_whole means may_leave is_stopped self.old self.new result Disk Nothing };
+
+    /// The suggestions on a unit, in their order, without the votes on them, which aren't read. None where the unit isn't there.
+    fn suggestions_of(
+        &mut self,
+        domain: &Name,
+        lang: &Lang,
+        key: &Key,
+    ) -> Result<Items<Suggestion>, Lost>
+        ensures answer { is_honest self.new → IfOk result (λ r. r ≡ suggestions_at (project_in (means self.old).office domain.now) lang.now key.now) }
+        ensures same { is_honest self.new → is_whole self.new → means self.new ≡ means self.old }
+        ensures kept { IsKept is_honest is_whole means may_leave is_stopped self.old self.new result Disk Nothing };
+
+    /// The suggestion of a number on a unit, with the votes on it; nothing where the unit or the suggestion isn't there.
+    fn suggestion_of(
+        &mut self,
+        domain: &Name,
+        lang: &Lang,
+        key: &Key,
+        number: &Uuid,
+    ) -> Result<Option<Suggestion>, Lost>
+        ensures answer { is_honest self.new → IfOk result (λ r. r ≡ suggestion_at (project_in (means self.old).office domain.now) lang.now key.now number.now) }
+        ensures same { is_honest self.new → is_whole self.new → means self.new ≡ means self.old }
+        ensures kept { IsKept is_honest is_whole means may_leave is_stopped self.old self.new result Disk Nothing };
+
     /// Reads what acts on the office need: team, policy, and each domain's template, headers and units. `office` then shows it.
     fn office_rows(&mut self) -> Result<(), Lost>
         ensures loaded { OnOk result (is_loaded self.new) }
@@ -90,24 +135,24 @@ pub trait Tables: Drop {
         requires loaded { is_loaded self.now }
         ensures { is_honest self.now → is_whole self.now → office_in result.now ≡ (means self.now).office };
 
-    /// Writes a request's record and its unit's new view, if it has one and the domain is there; or neither. The number must be new, the
-    /// content a request's, the view's entry the template's, and what the commit leaves must keep the rules.
+    /// Writes a request's record and what its act writes of a unit, if it writes anything and the unit is there; or neither. The number must be
+    /// new, the content a request's, what is written of the unit that is there, and what the commit leaves must keep the rules.
     fn commit_unit(
         &mut self,
         row: Record,
         domain: &Name,
         lang: &Lang,
         key: &Key,
-        view: Option<UnitView>,
+        write: Option<UnitWrite>,
     ) -> Result<(), Lost>
         requires new { is_honest self.old → IsTrue (is_none (maps.get (means self.old).book row.number)) }
         requires content { IsContent row.content }
-        requires entry { is_honest self.old → IfSome view (λ v. v.source ≡ entry_of (project_in (means self.old).office domain.now).template key.now) }
-        requires rules { is_honest self.old → KeepsRules (record { office = with_view_in (means self.old).office domain.now lang.now key.now view; book = with_record (means self.old).book row }) }
-        ensures done { is_honest self.new → OnOk result (means self.new ≡ record { office = with_view_in (means self.old).office domain.now lang.now key.now view; book = with_record (means self.old).book row }) }
+        requires possible { is_honest self.old → IsPossibleWrite (project_in (means self.old).office domain.now) lang.now key.now write }
+        requires rules { is_honest self.old → KeepsRules (record { office = with_write_in (means self.old).office domain.now lang.now key.now write; book = with_record (means self.old).book row }) }
+        ensures done { is_honest self.new → OnOk result (means self.new ≡ record { office = with_write_in (means self.old).office domain.now lang.now key.now write; book = with_record (means self.old).book row }) }
         ensures same { is_honest self.new → is_whole self.new → OnErr result (means self.new ≡ means self.old) }
         ensures kept { IsKept is_honest is_whole means may_leave is_stopped self.old self.new result Disk
-            (λ m. m ≡ record { office = with_view_in (means self.old).office domain.now lang.now key.now view; book = with_record (means self.old).book row }) };
+            (λ m. m ≡ record { office = with_write_in (means self.old).office domain.now lang.now key.now write; book = with_record (means self.old).book row }) };
 
     /// Writes a request's record and what its act changes, if it changes anything; or neither. The number must be new, the content a
     /// request's, the change possible, and what the commit leaves must keep the rules.
@@ -146,4 +191,8 @@ pub trait Tables: Drop {
 
     /// While no failure has shut the store, a stop leaves what the tables mean, and nothing else.
     ghost settled: { (t : Self) → is_honest t → is_whole t → LeavesOnly (may_leave t) (means t) };
+
+    /// A stop always leaves something, and whatever it leaves can be read, as what an opening may find and as nothing else; also where a
+    /// failure has shut the store.
+    ghost readable: { (t : Self) → is_honest t → IsReadable (leaves t) reads (may_leave t) };
 }

@@ -5,7 +5,8 @@ use std::fmt::Debug;
 use thiserror::Error;
 use units::Memory;
 
-/// Why a call of tables failed, and with it a delivery: nothing was recorded, and nothing changed.
+/// Why a call of tables failed, and with it a delivery. Of tables that no failure has shut nothing was recorded, and nothing changed; of
+/// others an opening may find what the call was to write.
 #[derive(Clone, Copy, Debug, Drop, PartialEq, Eq, Error)]
 pub enum Lost {
     /// A growth was refused.

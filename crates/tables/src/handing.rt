@@ -124,8 +124,7 @@ fn hand_obsolete<S: EntrySink>(
 }
 
 /// Hands the entries of a language to a sink: its header, the template's entries, each with its unit, and the obsolete units with a
-/// nonempty form. None where the language isn't there. One entry is in memory at a time; where the obsolete units begin is found
-/// first, so that memory is never wanted behind the last entry.
+/// nonempty form. None where the language isn't there. A fault leaves the sink with a beginning of them, and is never `Disk`.
 pub fn hand_entries<S: EntrySink>(
     alloc: Global,
     project: &ProjectMaps<'_>,
@@ -137,6 +136,7 @@ pub fn hand_entries<S: EntrySink>(
     let Some(language) = project.domain.languages.get(lang) else {
         return Ok(());
     };
+    // Where the obsolete units begin is found first: behind the last entry no memory is wanted.
     let Ok(first) = Place::first_of(alloc, lang) else {
         return Err(EachFault::NoTables(Lost::Memory));
     };

@@ -11,7 +11,7 @@ use crate::start::Start;
 use std::alloc::Global;
 
 /// Tables of an office with its book that stand in memory. They keep the rules of an office with its book, are never stopped, and
-/// fail only where a growth was refused.
+/// answer no error but `Memory`.
 #[derive(Drop)]
 pub struct PlainTables {
     pub(crate) maps: Maps,

@@ -8,14 +8,17 @@ use crate::domain_reads::hand_in;
 use crate::faults::{EachFault, Lost};
 use crate::plain::PlainTables;
 use crate::sink::EntrySink;
-use deliveries::{ActContext, Change, Tally};
+use deliveries::{ActContext, Change, Tally, UnitWrite};
 use office_maps::OfficeMaps;
+use po_text::Items;
 use request_book::Record;
-use units::{Key, Lang, Name, Role, UnitView};
+use units::{Key, Lang, Name, Role, Suggestion};
 use uuid::Uuid;
 
 impl Tables for PlainTables {
+    ghost use Rattle.request_book.specs.Book.{OfficeWithBook};
     ghost use Rattle.tables.specs.PlainMeaning.{meaning_of};
+    ghost use Rattle.tables.specs.Stops.{left_readable};
 
     ghost is_honest = { λ t. ⊤ };
 
@@ -25,6 +28,12 @@ impl Tables for PlainTables {
 
     ghost may_leave = { λ t m. m ≡ meaning_of t };
 
+    ghost Left = { OfficeWithBook };
+
+    ghost leaves = { λ t left. left ≡ meaning_of t };
+
+    ghost reads = { λ left m. m ≡ left };
+
     ghost is_stopped = { λ t. false };
 
     ghost is_loaded = { λ t. ⊤ };
@@ -32,6 +41,8 @@ impl Tables for PlainTables {
     ghost rules = { λ t honest whole. t.kept };
 
     ghost settled = { λ t honest whole other left. left };
+
+    ghost readable = { λ t honest. left_readable (meaning_of t) };
 
     fn stopped(&self) -> bool {
         false
@@ -55,6 +66,35 @@ impl Tables for PlainTables {
         self.maps.view_of(domain, lang, key, name)
     }
 
+    fn unit_of(
+        &mut self,
+        domain: &Name,
+        lang: &Lang,
+        key: &Key,
+        name: &Name,
+    ) -> Result<Option<ActContext>, Lost> {
+        self.maps.unit_of(self.alloc, domain, lang, key, name)
+    }
+
+    fn suggestions_of(
+        &mut self,
+        domain: &Name,
+        lang: &Lang,
+        key: &Key,
+    ) -> Result<Items<Suggestion>, Lost> {
+        self.maps.suggestions_of(self.alloc, domain, lang, key)
+    }
+
+    fn suggestion_of(
+        &mut self,
+        domain: &Name,
+        lang: &Lang,
+        key: &Key,
+        number: &Uuid,
+    ) -> Result<Option<Suggestion>, Lost> {
+        self.maps.suggestion_of(domain, lang, key, number)
+    }
+
     fn office_rows(&mut self) -> Result<(), Lost> {
         Ok(())
     }
@@ -69,9 +109,10 @@ impl Tables for PlainTables {
         domain: &Name,
         lang: &Lang,
         key: &Key,
-        view: Option<UnitView>,
+        write: Option<UnitWrite>,
     ) -> Result<(), Lost> {
-        self.maps.commit_unit(row, domain, lang, key, view)
+        self.maps
+            .commit_unit(self.alloc, row, domain, lang, key, write)
     }
 
     fn commit_office(&mut self, row: Record, change: Option<Change>) -> Result<(), Lost> {

@@ -1,7 +1,7 @@
 //! An office in ordered maps, with the records of its requests. Contracts see them as the office with its book that they stand
 //! for.
 
-ghost use Rattle.std.specs.Prelude.{◌≡◌, IfOk, OnOk, OnErr, IfErr, IsTrue, is_none, option_map};
+ghost use Rattle.std.specs.Prelude.{◌≡◌, Some, IfOk, OnOk, OnErr, IfErr, IsTrue, is_none, option_map};
 ghost use Rattle.std.specs.FinMap as maps;
 ghost use Rattle.std.specs.BTreeMap.{insert_entry};
 ghost use Rattle.po_text.specs.Texts.{text_cmp};
@@ -11,15 +11,15 @@ ghost use Rattle.units.specs.Office.{project_in, with_project};
 ghost use Rattle.office_maps.specs.OfficeIn.{office_in};
 ghost use Rattle.tables.specs.declared.faults.Lost.TheVariants.{Memory};
 
-use crate::domain_reads::found_in;
+use crate::domain_reads::{bare_found_in, found_in, suggestion_in, suggestions_in, written_in};
 use crate::faults::Lost;
-use deliveries::{ActContext, Change};
+use deliveries::{ActContext, Change, UnitWrite};
 use office_maps::{OfficeMaps, Place};
-use po_text::{Duplicate, Text};
+use po_text::{Duplicate, Items, Text};
 use request_book::{Record, Reply};
 use std::alloc::{AllocError, Global};
 use std::collections::BTreeMap;
-use units::{Key, Lang, Name, Unit, UnitView};
+use units::{Key, Lang, Name, Suggestion, Unit};
 use uuid::Uuid;
 
 /// What is kept under a request's number: the text of its content and its first reply.
@@ -65,13 +65,6 @@ fn keep(records: &mut BTreeMap<Uuid, Kept>, number: Uuid, kept: Kept) -> Result<
     Ok(())
 }
 
-/// The unit of a view.
-fn unit_of(view: UnitView) -> Unit
-    ensures { result ≡ view.unit }
-{
-    view.unit
-}
-
 /// The office, and what is kept under each number.
 #[derive(Drop)]
 pub(crate) struct Maps {
@@ -81,7 +74,7 @@ pub(crate) struct Maps {
 
 impl Maps {
     ghost use Rattle.tables.specs.MapsMeaning.{meaning, place_of};
-    ghost use Rattle.deliveries.specs.UnitAccess.{found_of, with_view_in};
+    ghost use Rattle.deliveries.specs.UnitAccess.{found_of, without_suggestions, suggestions_at, suggestion_at, with_write_in};
     ghost use Rattle.deliveries.specs.OfficeChanges.{changed, changed_by, IsPossible, IsPossibleChange};
 
     /// An office of which nothing is recorded.
@@ -119,30 +112,90 @@ impl Maps {
         Ok(found_in(&self.office, domain, lang, key, name)?)
     }
 
-    /// Writes a unit's new view, if there is one, and the request's record. What can fail comes first.
+    /// The same but for the unit's suggestions: the view has none.
+    pub(crate) fn unit_of(
+        &self,
+        alloc: Global,
+        domain: &Name,
+        lang: &Lang,
+        key: &Key,
+        name: &Name,
+    ) -> Result<Option<ActContext>, Lost>
+        ensures answer { IfOk result (λ r. r ≡ without_suggestions (found_of (project_in (meaning self.now).office domain.now) lang.now key.now name.now)) }
+        ensures memory { IfErr result (λ e. e ≡ Memory) }
+    {
+        Ok(bare_found_in(alloc, &self.office, domain, lang, key, name)?)
+    }
+
+    /// The suggestions on a unit, without the votes on them; none where the unit isn't there.
+    pub(crate) fn suggestions_of(
+        &self,
+        alloc: Global,
+        domain: &Name,
+        lang: &Lang,
+        key: &Key,
+    ) -> Result<Items<Suggestion>, Lost>
+        ensures answer { IfOk result (λ r. r ≡ suggestions_at (project_in (meaning self.now).office domain.now) lang.now key.now) }
+        ensures memory { IfErr result (λ e. e ≡ Memory) }
+    {
+        Ok(suggestions_in(alloc, &self.office, domain, lang, key)?)
+    }
+
+    /// The suggestion of a number on a unit, with the votes on it; nothing where the unit or the suggestion isn't there.
+    pub(crate) fn suggestion_of(
+        &self,
+        domain: &Name,
+        lang: &Lang,
+        key: &Key,
+        number: &Uuid,
+    ) -> Result<Option<Suggestion>, Lost>
+        ensures answer { IfOk result (λ r. r ≡ suggestion_at (project_in (meaning self.now).office domain.now) lang.now key.now number.now) }
+        ensures memory { IfErr result (λ e. e ≡ Memory) }
+    {
+        Ok(suggestion_in(&self.office, domain, lang, key, number)?)
+    }
+
+    /// Writes what an act writes of a unit, if it writes anything and the unit is there, and the request's record; or neither.
     pub(crate) fn commit_unit(
         &mut self,
+        alloc: Global,
         row: Record,
         domain: &Name,
         lang: &Lang,
         key: &Key,
-        view: Option<UnitView>,
+        write: Option<UnitWrite>,
     ) -> Result<(), Lost>
         requires new { IsTrue (is_none (maps.get (meaning self.old).book row.number)) }
         ensures ok { OnOk result (meaning self.new
-            ≡ record { office = with_view_in (meaning self.old).office domain.now lang.now key.now view; book = with_record (meaning self.old).book row }) }
+            ≡ record { office = with_write_in (meaning self.old).office domain.now lang.now key.now write; book = with_record (meaning self.old).book row }) }
         ensures err { OnErr result (meaning self.new ≡ meaning self.old) }
         ensures memory { IfErr result (λ e. e ≡ Memory) }
     {
-        match view {
-            Some(view) => match Place::of(lang, key) {
-                Ok(place) => self.commit_both(row, domain, place, unit_of(view)),
-                Err(AllocError) => {
-                    drop(row);
-                    drop(view);
-                    Err(Lost::Memory)
-                }
-            },
+        match write {
+            Some(write) => self.commit_write(alloc, row, domain, lang, key, write),
+            None => self.commit_record(row),
+        }
+    }
+
+    /// Writes this of a unit, if it is there, and a record; or neither. What can fail comes first.
+    fn commit_write(
+        &mut self,
+        alloc: Global,
+        row: Record,
+        domain: &Name,
+        lang: &Lang,
+        key: &Key,
+        write: UnitWrite,
+    ) -> Result<(), Lost>
+        requires new { IsTrue (is_none (maps.get (meaning self.old).book row.number)) }
+        ensures ok { OnOk result (meaning self.new
+            ≡ record { office = with_write_in (meaning self.old).office domain.now lang.now key.now (Some write); book = with_record (meaning self.old).book row }) }
+        ensures err { OnErr result (meaning self.new ≡ meaning self.old) }
+        ensures memory { IfErr result (λ e. e ≡ Memory) }
+    {
+        let place = Place::of(lang, key)?;
+        match written_in(alloc, &self.office, domain, lang, key, write)? {
+            Some(unit) => self.commit_both(row, domain, place, unit),
             None => self.commit_record(row),
         }
     }

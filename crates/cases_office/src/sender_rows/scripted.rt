@@ -51,6 +51,8 @@ fn change_by(letter: u8) -> (&'static str, &'static str) {
         b'b' => ("HTTP/1.1 ", ""),
         b'r' => ("revision", "revisio\r"),
         b'p' => ("revision", "revisi\u{9b}"),
+        b'o' => ("revision", "revisi\u{202e}"),
+        b'u' => ("revision", "revisi\u{2028}"),
         _ => ("HTTP", "HTTP"),
     }
 }

@@ -1,5 +1,5 @@
 -- A unit that a template's plan tells to stay as it was is the one that is there.
-use Rattle.std.proofs.Common.{◌≡◌, List, [], ◌∷◌, Bool, true, false, Some, sym, ◌∙◌, subst, map, filter}
+use Rattle.std.proofs.Common.{◌≡◌, List, [], ◌∷◌, Bool, true, false, Some, sym, ◌∙◌, subst, filter}
 use Rattle.std.specs.Prelude.{flat_map}
 use Rattle.std.specs.List.{AllByRecursion, AllZip}
 use Rattle.std.specs.Cmp.Lexicographic.{same_text}

@@ -1,9 +1,9 @@
-use Rattle.std.proofs.Common.{◌∙◌, ◌++◌, List, false, true, refl, subst}
+use Rattle.std.proofs.Common.{◌∙◌, ◌++◌, false, true, subst}
 use Rattle.std.specs.Bool.{Decides}
 use Rattle.std.specs.List.{IsDistinct}
 use Rattle.std.specs.Map.Iter.{deref_pair}
 use Rattle.std.proofs.lemmas.Map.Iter.{rest_more, rest_all}
-use Rattle.po_text.specs.Texts.{Text, text_eq}
+use Rattle.po_text.specs.Texts.{text_eq}
 use Rattle.office_rules.specs.Books.{AreSeen}
 use Rattle.office_rules.proofs.BookTests.{unit_numbers, begun, gathered_more, shared, all_own, all_seen, in_units}
 use Rattle.office_rules.proofs.book_rules.add_domain_numbers.Goals as goal

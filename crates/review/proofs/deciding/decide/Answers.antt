@@ -1,17 +1,17 @@
-use Rattle.std.proofs.Common.{◌≡◌, ◌∙◌}
+use Rattle.std.proofs.Common.{◌≡◌, ◌∙◌, sym}
 use Rattle.review.specs.UnitStep.{decision_by_act, unit_step}
-use Rattle.review.proofs.Steps.{unit_step-refused, unit_step-by_act, if_ok-follows}
+use Rattle.review.proofs.Steps.{unit_step-early, unit_step-late, if_ok-follows}
 use Rattle.review.proofs.deciding.decide.Goals as goal
 
 pub returns-in-Some : goal.returns-in-Some
 returns-in-Some c =
     let a = c.args in
-    unit_step-refused a.policy.now a.rule.now a.role a.caller.now a.number a.view.now a.act.now c.in-Some.refusal (c.in-Some.ensures a.caller.now a.number)
+    sym (unit_step-early a.policy.now a.rule.now a.role a.caller.now a.number a.view.now a.act.now c.in-Some.refusal (sym c.in-Some.ensures.first))
 
 pub returns-in-None : goal.returns-in-None
 returns-in-None c =
     let a = c.args in
-    let rest = unit_step-by_act a.policy.now a.rule.now a.role a.caller.now a.number a.view.now a.act.now (c.in-None.ensures a.caller.now a.number) in
+    let rest = unit_step-late a.policy.now a.rule.now a.role a.caller.now a.number a.view.now a.act.now (sym c.in-None.ensures.first) in
     if_ok-follows
     (λ d. d ≡ decision_by_act a.policy.now a.rule.now a.caller.now a.number a.view.now a.act.now.action)
     (λ d. d ≡ unit_step a.policy.now a.rule.now a.role a.caller.now a.number a.view.now a.act.now)

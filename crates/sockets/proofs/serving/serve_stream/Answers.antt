@@ -4,6 +4,3 @@ use Rattle.sockets.proofs.serving.serve_stream.Goals as goal
 
 pub returns-in-Err-clause-served : goal.returns-in-Err-clause-served
 returns-in-Err-clause-served g c = serves_none (g.T.Tables.is_honest c.args.desk.now) (g.T.Tables.is_whole c.args.desk.now) (g.T.Tables.is_stopped c.args.desk.now ≡ true) (g.T.Tables.means c.args.desk.now) _ tt
-
-pub returns-then-is_err-clause-served : goal.returns-then-is_err-clause-served
-returns-then-is_err-clause-served g c = serves_none (g.T.Tables.is_honest c.args.desk.now) (g.T.Tables.is_whole c.args.desk.now) (g.T.Tables.is_stopped c.args.desk.now ≡ true) (g.T.Tables.means c.args.desk.now) _ tt

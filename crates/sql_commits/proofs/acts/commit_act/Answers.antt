@@ -13,10 +13,10 @@ returns g c =
     let old = c.args.connection.now in
     let begun = c.transaction-tx.result.conn.now in
     let last = c.finish.new.tx.0 in
-    let put = c.put_record_and_view-put in
-    let Commits = CommitsAct c.args.row.now c.args.domain.now c.args.lang.now c.args.view.now in
+    let put = c.put_record_and_write-put in
+    let Commits = CommitsAct c.args.row.now c.args.domain.now c.args.lang.now c.args.key.now c.args.write.now in
     let same : last ≡ c.connection-1.given.0 = search rules in
-    let both = write_joined (state g.S.Store begun) _ put.result (MakesAct c.args.row.now c.args.domain.now c.args.lang.now c.args.view.now) (FollowsAct c.args.domain.now c.args.lang.now c.args.view.now) Commits
+    let both = write_joined (state g.S.Store begun) _ put.result (MakesAct c.args.row.now c.args.domain.now c.args.lang.now c.args.key.now c.args.write.now) (FollowsAct c.args.domain.now c.args.lang.now c.args.key.now c.args.write.now) Commits
     (λ makes follows. record { makes = makes; figures = follows }) put.ensures.put put.ensures.figures in
     record {
       committed = subst (λ h. IsCommitOf by_domain (state g.S.Store old) (state g.S.Store h) c.finish.result Commits) same

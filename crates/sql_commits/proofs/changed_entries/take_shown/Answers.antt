@@ -1,4 +1,4 @@
-use Rattle.std.proofs.Common.{◌≡◌, rules, codes}
+use Rattle.std.proofs.Common.{rules, codes}
 use Rattle.sqlite.specs.Held.{state}
 use Rattle.sql_schema.specs.Keys.{text_at, has_text}
 use Rattle.sql_meaning.specs.RowChanges.{TakesIn}

@@ -1,11 +1,14 @@
-use Rattle.std.proofs.Common.{◌∷◌, rules, codes}
+use Rattle.std.proofs.Common.{◌∷◌, rules, refl, codes}
 use Rattle.sqlite.specs.Held.{state}
 use Rattle.sqlite.specs.declared.types.Value.TheVariants.{Text as Words}
 use Rattle.sql_schema.specs.Inside.{PutsRow, HoldsValues}
 use Rattle.sql_schema.specs.Keys.{first_three}
 use Rattle.sql_meaning.specs.Cells.{unit_cells}
+use Rattle.sql_changes.specs.OnDomains.{OnDomain}
+use Rattle.sql_changes.specs.UnitWrites.{PutsUnitRow}
+use Rattle.sql_changes.proofs.DomainWrites.{unit_on_domain}
 use Rattle.sql_commits.proofs.PlannedWrites.{unit_told}
-use Rattle.sql_commits.proofs.WritesInTurn.{write_mapped}
+use Rattle.sql_commits.proofs.WritesInTurn.{write_mapped, write_over}
 use Rattle.sql_figures.specs.Figures.{FiguresStay}
 use Rattle.sql_figures.proofs.FigureSteps.{put_beside, unit_beside}
 use Rattle.sql_commits.proofs.unit_writes.put_row.Goals as goal
@@ -17,10 +20,12 @@ returns-clause-put g c =
     let domain = c.args.domain.now in
     let lang = c.args.lang.now in
     let unit = c.args.unit.now in
-    write_mapped old new c.put_domain_unit.result c.map_err.result _ _ (PutsRow (codes "d_unit") first_three (HoldsValues (Words domain ∷ unit_cells lang unit))) c.map_err.ensures.cases
+    let Puts = PutsRow (codes "d_unit") first_three (HoldsValues (Words domain ∷ unit_cells lang unit)) in
+    let put = write_mapped old new c.put_domain_unit.result c.map_err.result _ _ Puts c.map_err.ensures.cases
     (unit_told domain lang c.as_str.result.now _ c.as_str-2.result.now _ _ _ c.as_str-3.result.now c.as_str-4.result.now unit old.now new.now
     (search rules) (search rules) (search rules) (search rules) (search rules) (search rules) (search rules) (search rules))
-    c.put_domain_unit.ensures.put
+    c.put_domain_unit.ensures.put in
+    write_over old new c.map_err.result Puts (OnDomain domain (PutsUnitRow lang unit)) c.requires.steady (λ ready after made. unit_on_domain ready (λ id. refl) made) put
 
 -- units' rows are beside the figures
 pub returns-clause-figures : goal.returns-clause-figures

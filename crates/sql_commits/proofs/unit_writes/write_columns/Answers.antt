@@ -1,15 +1,12 @@
-use Rattle.std.proofs.Common.{rules, refl, ◌∷◌, codes, Ok}
+use Rattle.std.proofs.Common.{rules, Ok}
 use Rattle.sqlite.specs.Held.{state}
-use Rattle.sqlite.specs.declared.types.Value.TheVariants.{Text as Words}
-use Rattle.sql_schema.specs.Inside.{Then, PutsRow, PutsIn, HoldsValues, AreOfficeTablesOf}
-use Rattle.sql_schema.specs.Keys.{first_texts, first_three}
+use Rattle.sql_schema.specs.Inside.{Then, AreOfficeTablesOf}
 use Rattle.sql_schema.specs.Layouts.{by_domain}
 use Rattle.sql_statements.specs.DomainCleared.{ClearsDomainUnit}
-use Rattle.sql_meaning.specs.Cells.{unit_cells}
 use Rattle.sql_meaning.specs.RowChanges.{ClearsIn}
 use Rattle.sql_changes.specs.OnDomains.{OnDomain}
-use Rattle.sql_changes.specs.UnitWrites.{AddsNumberedSuggestions, WritesNumberedUnit}
-use Rattle.sql_changes.proofs.DomainWrites.{seen, on_domain_then, unit_on_domain, cleared_on_domain}
+use Rattle.sql_changes.specs.UnitWrites.{AddsNumberedSuggestions, PutsUnitRow, WritesNumberedUnit}
+use Rattle.sql_changes.proofs.DomainWrites.{seen, on_domain_then, cleared_on_domain}
 use Rattle.sql_commits.proofs.WritesInTurn.{write_then, write_told, write_over, write_ready, writes_numbered_unit}
 use Rattle.sqlite.specs.Effect.{Database}
 use Rattle.sql_decoding.specs.declared.faults.Failure.{Failure}
@@ -29,11 +26,10 @@ returns-clause-put g c =
     let lang = c.args.lang.now in
     let unit = c.args.unit.now in
     let key = c.as_str.result.now in
-    let Row = PutsIn (codes "unit") first_texts (HoldsValues (unit_cells lang unit)) in
+    let Row = PutsUnitRow lang unit in
     let All = AddsNumberedSuggestions lang c.as_str-2.result.now c.as_slice.result.now in
     let Rest = Then (ClearsIn lang key) All in
-    let row = write_over old mid (Ok c.in_ok-put_row.field-0) (PutsRow (codes "d_unit") first_three (HoldsValues (Words domain ∷ unit_cells lang unit))) (OnDomain domain Row) c.requires.steady
-    (λ ready after put. unit_on_domain ready (λ id. refl) put) c.in_ok-put_row.ensures.put in
+    let row = c.in_ok-put_row.ensures.put in
     let steady = steady_write old mid c.in_ok-put_row.field-0 (OnDomain domain Row) row in
     let cleared = write_over mid next (Ok c.in_ok-clear_domain_suggestions.field-0) (ClearsDomainUnit domain lang key) (OnDomain domain (ClearsIn lang key)) steady (λ ready after gone. cleared_on_domain ready gone)
     c.in_ok-clear_domain_suggestions.ensures.cleared in

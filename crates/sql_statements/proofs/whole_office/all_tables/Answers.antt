@@ -1,5 +1,4 @@
 use Rattle.sqlite.specs.Held.{state}
-use Rattle.sql_schema.specs.Layouts.{for_main}
 use Rattle.sql_schema.proofs.Sequences.{reads_both, read_mapped, steady_read, fails_after, read_failed_as}
 use Rattle.sql_statements.proofs.whole_office.all_tables.Goals as goal
 

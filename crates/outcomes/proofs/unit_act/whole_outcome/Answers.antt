@@ -1,0 +1,13 @@
+use Rattle.std.proofs.Common.{sym, ◌∙◌, ap, subst}
+use Rattle.deliveries.specs.declared.values.UnitOutcome.{UnitOutcome}
+use Rattle.deliveries.specs.UnitOutcomes.{outcome_of, view_found, IsOutcomeBy}
+use Rattle.outcomes.specs.UnitParts.{of_whole}
+use Rattle.outcomes.proofs.ByParts.{whole_is}
+use Rattle.outcomes.proofs.unit_act.whole_outcome.Goals as goal
+
+pub returns : goal.returns
+returns c =
+    let a = c.args in
+    let asked = a.request.now in
+    subst (λ (written : UnitOutcome). IsOutcomeBy (view_found a.found) (outcome_of a.found asked.caller asked.number a.act.now) written)
+    (sym (c.of_whole.ensures ∙ ap of_whole c.in_ok-outcome.ensures)) (whole_is asked.caller asked.number a.act.now a.found)

@@ -1,0 +1,10 @@
+use Rattle.std.proofs.Common.{Vec, Global}
+use Rattle.sqlite.specs.Order.{Row}
+use Rattle.sqlite.specs.Held.{state}
+use Rattle.sql_statements.proofs.DomainSuggestions.{reads_places}
+use Rattle.sql_statements.proofs.domain_suggestions.places_of.Goals as goal
+
+pub returns-clause-found : goal.returns-clause-found
+returns-clause-found g c =
+    reads_places c.args.domain.now c.args.lang.now c.args.key.now (Vec Row Global) (λ rows. rows.items) (state g.S.Store c.args.tx.now.conn.now) (state g.S.Store c.query_all.new.self.conn.now) c.query_all.result c.requires.steady
+    (rw (c.params-to_sql.ensures, c.params-to_sql-2.ensures, c.params-to_sql-3.ensures) at c.query_all.ensures.ok) (rw (c.params-to_sql.ensures, c.params-to_sql-2.ensures, c.params-to_sql-3.ensures) at c.query_all.ensures.err) c.query_all.ensures.survives

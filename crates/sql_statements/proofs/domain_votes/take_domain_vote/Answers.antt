@@ -1,0 +1,11 @@
+use Rattle.sqlite.specs.Held.{state}
+use Rattle.sql_schema.proofs.Steps.{said}
+use Rattle.sql_statements.proofs.DomainVotes.{takes_vote}
+use Rattle.sql_statements.proofs.domain_votes.take_domain_vote.Goals as goal
+
+pub returns-clause-taken : goal.returns-clause-taken
+returns-clause-taken g c =
+    said _ _ _ c.and.ensures (
+    takes_vote c.args.number.now c.args.voter.now (state g.S.Store c.args.tx.now.conn.now) (state g.S.Store c.execute.new.self.conn.now) c.execute.result c.requires.steady
+    (rw (c.params-to_sql.ensures, c.params-to_sql-2.ensures) at c.execute.ensures.runs) c.execute.ensures.survives
+    )
