@@ -53,7 +53,7 @@ impl Request {
     {
         let parts = parts_from_text(alloc, text)?;
         match unnumbered(parts) {
-            Some(request) => Ok(request),
+            Some(content) => Ok(content),
             None => Err(RequestFault::Malformed),
         }
     }
