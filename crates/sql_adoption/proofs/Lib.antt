@@ -1,4 +1,3 @@
-pub mod RecordRows
 pub mod WholeBook
 pub mod Looked
 pub mod Langs
