@@ -1,0 +1,18 @@
+use Rattle.std.proofs.Common.{[], arith}
+use Rattle.sqlite.specs.Held.{state}
+use Rattle.sqlite.specs.State.{HasCleanDisk}
+use Rattle.sql_streams.proofs.Answers.{hands_out}
+use Rattle.sql_statements.specs.RecordTable.{ShowsRecords}
+use Rattle.sql_walks.proofs.WalkTexts.{contents_text, contents_plain, contents_shown, contents_begun}
+use Rattle.sql_walks.proofs.contents.walk_contents.Goals as goal
+
+pub walk-requires : goal.walk-requires
+walk-requires g c = record { plain = λ clean. contents_plain (state g.S.Store c.args.connection.now) (c.requires.idle.1.ready clean (c.requires.is_open clean)) }
+
+pub returns-clause-handed : goal.returns-clause-handed
+returns-clause-handed g c clean =
+    let old = state g.S.Store c.args.connection.now in
+    let early : HasCleanDisk old = omega (arith, clean, c.walk.ensures.survives.clean) in
+    let ready = c.requires.idle.1.ready early (c.requires.is_open early) in
+    hands_out g.K.RowSink.Took g.K.RowSink.Refuses contents_text [] old (ShowsRecords old.now) (contents_shown old ready) (contents_begun old ready)
+    c.args.sink.now c.walk.new.sink c.walk.result (c.walk.ensures.all clean) (c.walk.ensures.cut clean)
