@@ -14,7 +14,7 @@ use crate::faults::{Mismatch, OpenFault};
 use crate::office_put::ReadOffice;
 use crate::statuses::Statuses;
 use office_rules::keeps_rules;
-use sql_walks::contents::walk_contents;
+use sql_statements::record_queries::walk_contents;
 use sqlite::{Alter, Connection};
 use std::alloc::Global;
 use std::collections::BTreeMap;

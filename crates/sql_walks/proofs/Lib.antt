@@ -1,3 +1,0 @@
-pub mod RowByRow
-pub mod TableWalks
-pub mod WalkTexts
