@@ -1,3 +1,4 @@
+pub mod RecordRows
 pub mod WholeBook
 pub mod Looked
 pub mod Langs
