@@ -24,7 +24,7 @@ import threading
 import time
 
 import looks
-from looks import HOST, number, same
+from looks import BIDI, CONTROLS, HOST, number, same
 from serve import TOP
 
 TOOLS = TOP / "share" / "tools"
@@ -59,9 +59,7 @@ sys.argv = sys.argv[3:]
 runpy.run_path(sys.argv[0], run_name="__main__")
 """
 
-# What no terminal and no log is to be given, and halves of surrogate pairs, which JSON may have.
-BIDI = [0x061C, 0x200E, 0x200F, *range(0x202A, 0x202F), *range(0x2066, 0x206A)]
-CONTROLS = [*range(0x20), *range(0x7F, 0xA0), 0x2028, 0x2029, *BIDI]
+# With halves of surrogate pairs, which JSON may have.
 ESCAPED = [*CONTROLS, 0xD800, 0xDFFF]
 UNSEEN = re.compile("[" + "".join(re.escape(chr(it)) for it in CONTROLS if it not in (9, 10)) + "]")
 HEADER = 'msgid ""\nmsgstr ""\n"Content-Type: text/plain; charset=UTF-8\\n"\n"Plural-Forms: nplurals=2; plural=n != 1;\\n"\n'
