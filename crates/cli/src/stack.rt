@@ -7,7 +7,7 @@ use std::alloc::{AllocError, Global};
 const LEVELS: usize = 127;
 
 /// How many bytes lie on the stack beside what the reader of a line takes: more than the calls between the program's start and it take.
-const ROOM: usize = 524_288;
+const ROOM: usize = 262_144;
 
 /// Takes as much of the stack as the deepest line does, before anything is read: where it can't grow so far, the program ends here, and not
 /// behind what it has taken in.
