@@ -12,7 +12,6 @@ ghost use Rattle.units.specs.Openings as opens;
 use crate::changes::{add_member, put_domain};
 use crate::domain_maps::DomainMaps;
 use crate::languages::Languages;
-use crate::lookups::lang_of;
 use crate::office_maps::OfficeMaps;
 use crate::template::Template;
 use crate::unit_rows::add_unit;
@@ -251,9 +250,9 @@ impl OfficeMaps {
     pub fn demo(alloc: Global) -> Result<OfficeMaps, Memory>
         ensures { IfOk result (λ office. office_in office ≡ opens.demo) }
     {
-        let lang = lang_of(alloc, "de")?;
-        let made = demo_in(alloc, &lang);
-        drop(lang);
-        Ok(made?)
+        let Some(lang) = Lang::try_new("de") else {
+            unreachable!();
+        };
+        Ok(demo_in(alloc, &lang)?)
     }
 }

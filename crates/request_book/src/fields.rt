@@ -45,11 +45,11 @@ impl FromField for PoString {
 impl FromField for Name {
     ghost of = { name_of };
 
-    fn from_field(alloc: Global, value: &Value) -> Result<Name, RequestFault> {
+    fn from_field(_alloc: Global, value: &Value) -> Result<Name, RequestFault> {
         let Some(text) = value.as_str() else {
             return Err(RequestFault::Malformed);
         };
-        match Name::try_new(alloc, text)? {
+        match Name::try_new(text) {
             Some(name) => Ok(name),
             None => Err(RequestFault::Malformed),
         }
@@ -180,7 +180,6 @@ pub(crate) fn take_flag<'v>(
 }
 
 pub(crate) fn take_lang<'v>(
-    alloc: Global,
     fields: &'v [(String, Value)],
 ) -> Result<(Lang, &'v [(String, Value)]), RequestFault>
     ensures ok { IfOk result
@@ -192,7 +191,7 @@ pub(crate) fn take_lang<'v>(
     let Some(text) = value.as_str() else {
         return Err(RequestFault::Malformed);
     };
-    match Lang::try_new(alloc, text)? {
+    match Lang::try_new(text) {
         Some(lang) => Ok((lang, rest)),
         None => Err(RequestFault::Malformed),
     }

@@ -4,10 +4,6 @@ use po_text::Duplicate;
 use std::alloc::Global;
 use units::{Name, VoteValue, Votes};
 
-fn name(alloc: Global, text: &str) -> Option<Name> {
-    Name::try_new(alloc, text).ok().flatten()
-}
-
 /// A vote, which has no value where it is taken back.
 fn vote(word: &str) -> Option<Option<VoteValue>> {
     match word {
@@ -28,7 +24,7 @@ fn vote_word(vote: Option<VoteValue>) -> &'static str {
 
 /// Shows how many votes there are, their sum, and that of `bea`.
 fn show(alloc: Global, text: &mut String, votes: &Votes) -> Option<()> {
-    let bea = vote_word(votes.get(&name(alloc, "bea")?));
+    let bea = vote_word(votes.get(&Name::try_new("bea")?));
     write!(
         text,
         "{} votes, sum {}, bea {bea}",
@@ -63,7 +59,7 @@ pub(crate) fn tell_vote(
     votes: &mut Votes,
     words: &str,
 ) -> Option<()> {
-    let voter = name(alloc, word(words, 1))?;
+    let voter = Name::try_new(word(words, 1))?;
     match vote(word(words, 2))? {
         Some(value) => votes.insert(voter, value).ok()?,
         None => votes.remove(&voter),

@@ -49,7 +49,7 @@ pub(crate) fn put_suggestion(
     forms: Forms,
     votes: Votes,
 ) -> Option<()> {
-    match Name::try_new(alloc, "ann").ok().flatten() {
+    match Name::try_new("ann") {
         Some(ann) => suggestions.push(suggestion(ann, forms, votes)).ok(),
         None => {
             drop(forms);

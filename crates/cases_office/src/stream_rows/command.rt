@@ -37,7 +37,7 @@ pub(crate) fn domain_and_lang(alloc: Global, word: Option<&str>) -> Option<(Name
     let Some(word) = word else {
         return Some((Name::main_domain(), None));
     };
-    let (domain, lang) = Place::of(word).named(alloc)?;
+    let (domain, lang) = Place::of(word).named()?;
     Some((domain, Some(lang)))
 }
 
@@ -64,7 +64,7 @@ fn deliver(
 }
 
 fn export(alloc: Global, streams: &mut Streams<'_>, office: &str, place: &[u8]) -> Option<u8> {
-    let (domain, lang) = Place::of(str::from_utf8(place).ok()?).named(alloc)?;
+    let (domain, lang) = Place::of(str::from_utf8(place).ok()?).named()?;
     let mut desk = desk_opened(alloc, office)?;
     let status = export_text(
         &mut desk,

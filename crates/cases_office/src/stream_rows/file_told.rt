@@ -20,7 +20,7 @@ pub(crate) struct Outcome {
 
 /// Makes an office in the file.
 fn init(alloc: Global, file: &[u8], streams: &mut Streams<'_>, who: &str) -> Option<(u8, Vec<u8>)> {
-    match start(alloc, who) {
+    match start(who) {
         Some(start) => in_file(alloc, file, Deed::Make(&start), streams),
         None => None,
     }

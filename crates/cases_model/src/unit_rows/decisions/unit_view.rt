@@ -38,7 +38,7 @@ fn unit_text(words: &str) -> &'static str {
 /// The voter of this number, as `v10000`.
 fn voter(alloc: Global, number: u16) -> Option<Name> {
     let name = format!(in alloc; "v{number}").ok()?;
-    Name::try_new(alloc, name.as_str()).ok().flatten()
+    Name::try_new(name.as_str())
 }
 
 /// Adds 10,000 votes against a suggestion, of the voters `v10000` to `v19999`.
