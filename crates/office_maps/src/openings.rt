@@ -45,7 +45,7 @@ fn closed_policy() -> Policy
 }
 
 /// A string of its own for a text that is one.
-pub(crate) fn string(alloc: Global, text: &str) -> Result<PoString, AllocError>
+fn string(alloc: Global, text: &str) -> Result<PoString, AllocError>
     requires { is_string text.now ≡ true }
     ensures { IfOk result (λ string. string ≡ text.now) }
 {
@@ -59,12 +59,7 @@ fn one_form(alloc: Global, text: &str) -> Result<Forms, AllocError>
     requires { is_string text.now ≡ true }
     ensures { IfOk result (λ forms. forms ≡ text.now ∷ []) }
 {
-    let mut strings = Vec::new(alloc);
-    strings.push(string(alloc, text)?)?;
-    match Forms::try_new(strings) {
-        Some(forms) => Ok(forms),
-        None => unreachable!(),
-    }
+    Forms::one(alloc, string(alloc, text)?)
 }
 
 /// An entry with a msgid and one form.
@@ -98,7 +93,7 @@ fn demo_unit(alloc: Global) -> Result<Unit, AllocError>
     ensures { IfOk result (λ unit. unit ≡ opens.demo_unit) }
 {
     let id = string(alloc, "Hello")?;
-    match one_form(alloc, "") {
+    match Forms::one(alloc, PoString::empty(alloc)) {
         Ok(forms) => Ok(Unit {
             key: Key { ctx: None, id },
             plural: None,
