@@ -1,7 +1,8 @@
 //! What a message asks: the tests that it has to pass, in their order, and its question.
-ghost use Rattle.std.specs.Prelude.{◌≡◌, ◌&&◌, Some, option_map, IfOk, IfErr, OnErr};
+ghost use Rattle.std.specs.Prelude.{◌≡◌, ◌&&◌, Some, option_map, IfOk, IfSome, IfErr, OnErr};
 ghost use Rattle.http_messages.specs.Pairs.{name_of};
 ghost use Rattle.http_messages.specs.Framing.{body_length};
+ghost use Rattle.http_messages.specs.Targets.{query_of};
 ghost use Rattle.http_messages.specs.Asked.{target_route, wants_length, is_absent, asked_of, language_in, named, unit_in_query, export, stats, question, asking_of};
 ghost use Rattle.http_messages.specs.Askings.{IsAsked, IsAsking, MayTakeMemory, route_at, language_at};
 
@@ -10,7 +11,7 @@ use crate::lines::Values;
 use crate::query::{UnitName, unit_of};
 use crate::refusal::Refusal;
 use crate::route::{Route, RouteKind, Routes};
-use crate::target::{Target, split_target};
+use crate::target::split_target;
 use std::alloc::{AllocError, Global};
 use thiserror::Error;
 use units::{Lang, Name};
@@ -79,13 +80,16 @@ impl Unread {
     }
 }
 
-/// The route of a head's target, if it has no query or may have one.
-fn target_route<'b>(routes: &Routes, head: &Head<'b>) -> Option<Route<'b>>
-    ensures { option_map route_at result ≡ target_route head.now }
+/// The route of a head's target, if it has no query or may have one, and its query.
+fn target_route<'b>(routes: &Routes, head: &Head<'b>) -> Option<(Route<'b>, Option<&'b str>)>
+    ensures route { option_map (λ found. route_at found.0) result ≡ target_route head.now }
+    ensures query { IfSome result (λ found. option_map (λ query. query.now) found.1 ≡ query_of head.now.target) }
 {
     let target = split_target(head.target());
     match routes.route_of(target.path) {
-        Some(route) if target.query.is_none() || route.kind.may_have_query() => Some(route),
+        Some(route) if target.query.is_none() || route.kind.may_have_query() => {
+            Some((route, target.query))
+        }
         _ => None,
     }
 }
@@ -140,11 +144,11 @@ fn named<'b>(unit: Option<UnitName>) -> Asked<'b>
 }
 
 /// The unit that a target's query names. Without a query no memory is taken.
-fn unit_asked<'b>(alloc: Global, target: &Target<'_>) -> Result<Asked<'b>, AllocError>
-    ensures asked { IfOk result (λ asked. IsAsked asked (unit_in_query (option_map (λ query. query.now) target.now.query))) }
-    ensures memory { OnErr result (MayTakeMemory (unit_in_query (option_map (λ query. query.now) target.now.query))) }
+fn unit_asked<'b>(alloc: Global, query: Option<&str>) -> Result<Asked<'b>, AllocError>
+    ensures asked { IfOk result (λ asked. IsAsked asked (unit_in_query (option_map (λ text. text.now) query.entry))) }
+    ensures memory { OnErr result (MayTakeMemory (unit_in_query (option_map (λ text. text.now) query.entry))) }
 {
-    let Some(query) = target.query else {
+    let Some(query) = query else {
         return Ok(Asked::Refused(Refusal::Malformed));
     };
     Ok(named(unit_of(alloc, query.as_bytes())?))
@@ -154,9 +158,11 @@ fn unit_asked<'b>(alloc: Global, target: &Target<'_>) -> Result<Asked<'b>, Alloc
 fn question<'b>(
     alloc: Global,
     route: Route<'b>,
+    query: Option<&str>,
     head: &Head<'b>,
     body: &'b [u8],
 ) -> Result<Asked<'b>, AllocError>
+    requires { option_map (λ text. text.now) query ≡ query_of head.now.target }
     ensures asked { IfOk result (λ asked. IsAsked asked (question (Some (route_at route.entry)) head.now body.now)) }
     ensures memory { OnErr result (MayTakeMemory (question (Some (route_at route.entry)) head.now body.now)) }
 {
@@ -167,7 +173,7 @@ fn question<'b>(
             body,
         })),
         RouteKind::Export => Ok(export_of(language_in(route))),
-        RouteKind::Unit => unit_asked(alloc, &split_target(head.target())),
+        RouteKind::Unit => unit_asked(alloc, query),
         RouteKind::Stats => Ok(stats_of(language_in(route))),
     }
 }
@@ -186,7 +192,7 @@ pub(crate) fn asking_of<'b>(
     ensures ends { IfErr result (λ unread. unread.ends ≡ (asking_of head.now body.now).ends) }
 {
     let ends = head.closes();
-    let Some(route) = target_route(routes, head) else {
+    let Some((route, query)) = target_route(routes, head) else {
         return Ok(Asking {
             asked: Asked::Refused(Refusal::NoRoute),
             ends,
@@ -204,7 +210,7 @@ pub(crate) fn asking_of<'b>(
             ends: true,
         });
     }
-    match question(alloc, route, head, body) {
+    match question(alloc, route, query, head, body) {
         Ok(asked) => Ok(Asking { asked, ends }),
         Err(_) => Err(Unread { ends }),
     }
