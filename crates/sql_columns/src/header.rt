@@ -182,18 +182,21 @@ fn whole_header(
     ensures memory { IfErr result (λ e. e ≡ Memory) }
 {
     match Forms::one(alloc, form) {
-        Ok(forms) => Ok(Entry {
-            translator: comments.translator,
-            extracted: comments.extracted,
-            references: comments.references,
-            flags: comments.flags,
-            previous,
-            ctx: None,
-            id: PoString::empty(alloc),
-            plural: None,
-            forms,
-            obsolete: false,
-        }),
+        Ok(forms) => {
+            let _ = forms.as_slice();
+            Ok(Entry {
+                translator: comments.translator,
+                extracted: comments.extracted,
+                references: comments.references,
+                flags: comments.flags,
+                previous,
+                ctx: None,
+                id: PoString::empty(alloc),
+                plural: None,
+                forms,
+                obsolete: false,
+            })
+        }
         Err(refused) => {
             drop(comments);
             drop(previous);
