@@ -58,7 +58,8 @@ fn unit_of<T: Tables>(
     if tables.stopped() {
         return Err(QueryFault::Disk);
     }
-    match tables.view_of(domain, lang, key, &reader())? {
+    let name = reader();
+    match tables.view_of(domain, lang, key, &name)? {
         None => Err(QueryFault::NoLanguage),
         Some(found) => {
             let text = text_of(alloc, &found);
