@@ -3,7 +3,7 @@ use crate::words::{comment, word, yes_or_no};
 use po_text::Duplicate;
 use std::alloc::Global;
 use std::fmt::Display;
-use units::{AcceptAt, Refusal, Revision};
+use units::{AcceptAt, Refusal, Revision, Role};
 
 const REFUSALS: [Refusal; 20] = [
     Refusal::NoLanguage,
