@@ -23,7 +23,7 @@ fn vote_word(vote: Option<VoteValue>) -> &'static str {
 }
 
 /// Shows how many votes there are, their sum, and that of `bea`.
-fn show(alloc: Global, text: &mut String, votes: &Votes) -> Option<()> {
+fn show(text: &mut String, votes: &Votes) -> Option<()> {
     let bea = vote_word(votes.get(&Name::try_new("bea")?));
     write!(
         text,
@@ -34,9 +34,9 @@ fn show(alloc: Global, text: &mut String, votes: &Votes) -> Option<()> {
     .ok()
 }
 
-fn show_copy(alloc: Global, text: &mut String, votes: &Votes) -> Option<()> {
+fn show_copy(text: &mut String, votes: &Votes) -> Option<()> {
     match votes.duplicate() {
-        Ok(copy) => show(alloc, text, &copy),
+        Ok(copy) => show(text, &copy),
         Err(_) => None,
     }
 }
@@ -44,8 +44,8 @@ fn show_copy(alloc: Global, text: &mut String, votes: &Votes) -> Option<()> {
 /// Tells what the votes and their copy show.
 pub(crate) fn tell_votes(alloc: Global, told: &mut String, votes: &Votes) -> Option<()> {
     let mut copied = String::new(alloc);
-    show(alloc, told, votes)?;
-    show_copy(alloc, &mut copied, votes)?;
+    show(told, votes)?;
+    show_copy(&mut copied, votes)?;
     if told.as_str() == copied.as_str() {
         return Some(());
     }

@@ -44,7 +44,6 @@ fn suggestion(ann: Name, forms: Forms, votes: Votes) -> Suggestion {
 
 /// Adds a suggestion of `ann`.
 pub(crate) fn put_suggestion(
-    alloc: Global,
     suggestions: &mut Items<Suggestion>,
     forms: Forms,
     votes: Votes,

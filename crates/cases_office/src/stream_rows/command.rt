@@ -33,7 +33,7 @@ pub(crate) fn status(
 }
 
 /// The domain and the language that a word names; the domain `main` where there is no word.
-pub(crate) fn domain_and_lang(alloc: Global, word: Option<&str>) -> Option<(Name, Option<Lang>)> {
+pub(crate) fn domain_and_lang(word: Option<&str>) -> Option<(Name, Option<Lang>)> {
     let Some(word) = word else {
         return Some((Name::main_domain(), None));
     };
@@ -47,7 +47,7 @@ fn deliver(
     office: &str,
     export: Option<&str>,
 ) -> Option<u8> {
-    let (domain, lang) = domain_and_lang(alloc, export)?;
+    let (domain, lang) = domain_and_lang(export)?;
     let mut desk = desk_opened(alloc, office)?;
     let status = deliver_lines(
         alloc,

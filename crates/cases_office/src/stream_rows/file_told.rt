@@ -33,7 +33,7 @@ fn deliver_or_export(
     streams: &mut Streams<'_>,
     words: &str,
 ) -> Option<(u8, Vec<u8>)> {
-    let (domain, lang) = domain_and_lang(alloc, word_behind(words, "export"))?;
+    let (domain, lang) = domain_and_lang(word_behind(words, "export"))?;
     if has(words, "deliver") {
         in_file(alloc, file, Deed::Deliver(&domain, lang.as_ref()), streams)
     } else {

@@ -53,7 +53,7 @@ fn put_crowd(alloc: Global, votes: &mut Votes) -> Option<()> {
 /// Adds the suggestion `Servus`.
 fn put_servus(alloc: Global, suggestions: &mut Items<Suggestion>, votes: Votes) -> Option<()> {
     let forms = forms(alloc, "Servus")?;
-    put_suggestion(alloc, suggestions, forms, votes)
+    put_suggestion(suggestions, forms, votes)
 }
 
 fn put_suggestions(alloc: Global, suggestions: &mut Items<Suggestion>, words: &str) -> Option<()> {
