@@ -12,11 +12,12 @@ use Rattle.std.proofs.lemmas.Bool.{false≢true}
 use Rattle.serde_json.specs.Read.{read}
 use Rattle.serde_json.specs.Data.{Data, string, boolean, object, Members, member, put, depth, items_depth, members_depth}
 use Rattle.po_text.specs.Texts.{Text}
+use Rattle.units.specs.Words.{role_text}
 use Rattle.units.specs.declared.votes.VoteValue.{VoteValue}
 use Rattle.units.specs.declared.votes.VoteValue.TheVariants.{Against, For}
 use Rattle.request_book.specs.declared.act.Act.{Act}
 use Rattle.request_book.specs.declared.act.Act.TheVariants.{OnUnit, SetTemplate, AddLanguage, SetRole, SetPolicy, AddDomain}
-use Rattle.request_book.specs.Words.{natural, string_items, strings, number_data, role_text, Field, with_member, members}
+use Rattle.request_book.specs.Words.{natural, string_items, strings, number_data, Field, with_member, members}
 use Rattle.request_book.specs.Acts.{action_text, fields_of, vote_data, IsNumber, IsRequest, IsRequestText, content_text}
 use Rattle.request_book.specs.declared.act.Request.{Request}
 use Rattle.request_book.proofs.CanonLemmas.{read_canon}
