@@ -18,6 +18,7 @@ mod scan;
 mod white;
 
 pub use fault::{FaultKind, PoFault};
+pub use forms::is_comment_text;
 pub use line::{Keyword, Line, Part, Token};
 pub use lines::{Lines, first_line, lex};
 pub use scan::bare_len;
