@@ -1,4 +1,4 @@
-use Rattle.std.proofs.Common.{◌≡◌, ◌<◌, length, Option, ℕ, subst, arith}
+use Rattle.std.proofs.Common.{◌≡◌, ◌<◌, ◌-◌, length, take, Option, ℕ, ◌∙◌, ap, subst, arith}
 use Rattle.std.proofs.lemmas.Bool.Decides.{nat_tests}
 use Rattle.std.proofs.lemmas.Str.{IsCharBoundary-after_ascii}
 use Rattle.memchr.specs.Find.{IsFirstByte, is_byte}
@@ -20,7 +20,8 @@ pub returns-in-Some-clause-cut : goal.returns-in-Some-clause-cut
 returns-in-Some-clause-cut c =
     let here = subst (λ t. IsFirstByte (is_byte 10) t c.memchr.result) c.as_bytes.ensures.value c.memchr.ensures in
     let found = subst (λ (o : Option ℕ). IsFirstByte (is_byte 10) c.args.text.now o) c.in-Some.is here in
-    rw (c.range.ensures.value, c.range_from.ensures.value) (lf_found c.args.text.now c.in-Some.len found)
+    let front : c.range.result.now ≡ take c.in-Some.len c.args.text.now = c.range.ensures.value ∙ ap (λ k. take k c.args.text.now) (let e : c.in-Some.len - 0 ≡ c.in-Some.len = omega arith in e) in
+    rw (front, c.range_from.ensures.value) (lf_found c.args.text.now c.in-Some.len found)
 
 pub returns-in-None-clause-cut : goal.returns-in-None-clause-cut
 returns-in-None-clause-cut c =
