@@ -238,11 +238,7 @@ impl<'a> Unfinished<'a> {
     }
 
     /// Moves the entry, which has a form, to the end of these: then there are no lines.
-    pub(crate) fn move_to(
-        &mut self,
-        alloc: Global,
-        entries: &mut Entries,
-    ) -> Result<(), AllocError>
+    pub(crate) fn move_to(&mut self, alloc: Global, entries: &mut Entries) -> Result<(), AllocError>
         requires { is_form (draft_last (draft_of self.old.message)) ≡ true }
         ensures moved { OnOk result ((entry : Entry) × IsEntry (so_far self.old) entry × (entries.new ≡ entries.old ++ entry ∷ [])) }
         ensures rest { OnOk result (IsSoFar (so_far self.new) []) }
