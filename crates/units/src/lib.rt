@@ -5,6 +5,7 @@
 //! - `votes`: the votes of a suggestion
 //! - `comment`: the lines of a comment that an act gives
 //! - `names`: names, languages, revisions and the threshold of votes
+//! - `limits`: how large the parts of an office may be
 //! - `keys`: keys in the order of their texts, borrowed from units and entries
 //! - `copies`: copies of units and of their parts
 //! - `memory`: want of memory
@@ -13,6 +14,7 @@
 mod comment;
 mod copies;
 mod keys;
+mod limits;
 mod memory;
 mod names;
 mod states;
@@ -21,6 +23,9 @@ mod votes;
 
 pub use comment::CommentLines;
 pub use keys::{KeyRef, Keyed, equal_texts};
+pub use limits::{
+    DOMAIN_LIMIT, LANGUAGE_LIMIT, SUGGESTION_LIMIT, TEAM_LIMIT, UNIT_LIMIT, VOTE_LIMIT,
+};
 pub use memory::Memory;
 pub use names::{AcceptAt, Lang, Name, Revision};
 pub use states::{all_empty, forms_needed, has_flag, is_read_only, no_previous, some_empty};
