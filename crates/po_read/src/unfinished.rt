@@ -13,7 +13,7 @@ ghost use Rattle.po_text.specs.declared.entry.Entry.{Entry};
 ghost use Rattle.po_read.specs.Views.{told};
 
 use crate::message::{Message, in_order};
-use crate::was::{add_previous, has_no_previous, previous_len, test_previous};
+use crate::previous::{add_previous, has_no_previous, previous_len, test_previous};
 use po_lex::{FaultKind, Line, Part};
 use po_text::{
     Entry, Flags, Items, Previous, STRING_LIMIT, Strings, Text, add_text, both, unescaped_len,
