@@ -108,6 +108,11 @@ def texts_of(package, names, store):
     return {path: text if is_utf8(text) else on_file(text, "msgconv", "--to-code=UTF-8", "--no-wrap", "FILE") for path, text in texts.items()}
 
 
+def names_another(text):
+    """Whether a header names another charset than UTF-8."""
+    return re.search(rb"^\"Content-Type: [^\"]*charset=(?!utf-8\b|charset\b)", text, re.IGNORECASE | re.MULTILINE)
+
+
 def rule_of(lang):
     """A plural rule for a language that gettext's own table lacks: of one form, or as most have it."""
     return "nplurals=1; plural=0;" if lang in ONE_FORM else "nplurals=2; plural=n != 1;"
@@ -122,6 +127,8 @@ def with_rule(lang, text):
 
 
 def is_utf8(text):
+    if names_another(text):
+        return False
     try:
         text.decode()
     except UnicodeDecodeError:
