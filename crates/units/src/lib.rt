@@ -22,7 +22,7 @@ mod unit;
 mod votes;
 
 pub use comment::CommentLines;
-pub use keys::{KeyRef, Keyed, equal_texts};
+pub use keys::{CONTEXT_GLUE, KeyRef, Keyed, equal_texts};
 pub use limits::{
     ACCEPT_AT_LIMIT, COMMENT_LIMIT, COMMENT_LINE_LIMIT, DOMAIN_LIMIT, LANG_LIMIT, LANGUAGE_LIMIT,
     NAME_LIMIT, REVISION_LIMIT, SUGGESTION_LIMIT, TEAM_LIMIT, UNIT_LIMIT, VOTE_LIMIT,
