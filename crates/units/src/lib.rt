@@ -2,6 +2,7 @@
 //!
 //! - `unit`: units, suggestions, roles, the policy, the acts on one unit and why one is refused
 //! - `states`: what roles may do, what units show and which forms they need
+//! - `words`: the words of roles and of the states that callers see
 //! - `votes`: the votes of a suggestion
 //! - `comment`: the lines of a comment that an act gives
 //! - `names`: names, languages, revisions and the threshold of votes
@@ -20,6 +21,7 @@ mod names;
 mod states;
 mod unit;
 mod votes;
+mod words;
 
 pub use comment::CommentLines;
 pub use keys::{CONTEXT_GLUE, KeyRef, Keyed, equal_texts};
