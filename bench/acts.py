@@ -140,7 +140,6 @@ class Acts:
         record = self.decided(lang, i, body, {"act": "translate", "forms": [form], "seen": seen})
         self.writes(record, body)
         self.step("find_domain_unit", "main", lang, key(i))
-        self.step("places_of", "main", lang, key(i))
         self.step("put_domain_unit", "main", lang, key(i), None, json.dumps([form]), 2, 0, seen + 1, "[]", "[null,null,null]")
         self.end()
 
