@@ -53,20 +53,8 @@ fn fault_of(error: &Error) -> OpenFault {
     }
 }
 
-/// How many bytes a page of a file has.
-const PAGE: u64 = 4_096;
-
-/// How many pages that were read are kept in memory at most.
-const MOST_PAGES: u64 = 12_000;
-
-/// How many more of them there is room for than the file has when it is opened.
-const MORE_PAGES: u64 = 2_000;
-
-/// How many pages are kept in memory that were read of a file of so many bytes: all of them, unless it is large. Acts all over a large office
-/// read few of them again then, and a small one takes little memory.
-fn cached_pages(length: u64) -> usize {
-    (length / PAGE + MORE_PAGES).min(MOST_PAGES) as usize
-}
+/// How many pages of a file that were read are kept in memory, of 4,096 bytes each.
+const CACHED_PAGES: usize = 12_000;
 
 const NO_MEMORY: Error = Error::SqliteFailure(ErrorCode::OutOfMemory);
 
@@ -85,24 +73,21 @@ fn files_at(rt: &HostRuntime, path: &str) -> Result<Files<File>, Error> {
     }
 }
 
-/// A seed that nobody else knows, and room for the pages of a file of so many bytes.
-fn options(rt: &HostRuntime, length: u64) -> Result<Options, Error> {
+/// A seed that nobody else knows, and room for more pages than a connection has by itself.
+fn options(rt: &HostRuntime) -> Result<Options, Error> {
     let seed = RandomState::new(rt)
         .map_err(|_| CANNOT_OPEN)?
         .hash_one(&0u8);
     Ok(Options {
-        cache_pages: cached_pages(length),
+        cache_pages: CACHED_PAGES,
         ..Options::new(seed)
     })
 }
 
-/// Opens a file of so many bytes, or makes it, as `Connection::open` does, with room for the pages that it has.
-fn open_file(
-    rt: &HostRuntime,
-    path: &str,
-    length: u64,
-) -> Result<Connection<FileStore<File>>, Error> {
-    let options = options(rt, length)?;
+/// Opens a file, or makes it, as `Connection::open` does, with more room for the pages that were read: acts all over a large office read few
+/// of them again.
+fn open_file(rt: &HostRuntime, path: &str) -> Result<Connection<FileStore<File>>, Error> {
+    let options = options(rt)?;
     let files = files_at(rt, path)?;
     match Connection::open_files(rt.alloc(), files, options) {
         Ok(mut connection) => {
@@ -116,11 +101,11 @@ fn open_file(
     }
 }
 
-/// Opens a file of so many bytes, or makes it, does work on the office in it, and closes it: it is whole by itself then, without the log beside it.
+/// Opens a file, or makes it, does work on the office in it, and closes it: it is whole by itself then, without the log beside it.
 ///
 /// Here alone stands the type of a connection to a file: each function that owns one is dear to prove.
-fn in_open_file(rt: &HostRuntime, path: &str, length: u64, work: Work<'_>) -> u8 {
-    match open_file(rt, path, length) {
+fn in_open_file(rt: &HostRuntime, path: &str, work: Work<'_>) -> u8 {
+    match open_file(rt, path) {
         Ok(connection) => {
             let Closed {
                 status,
@@ -141,11 +126,9 @@ fn in_open_file(rt: &HostRuntime, path: &str, length: u64, work: Work<'_>) -> u8
 /// Does work on the office in a file, which has to be there but where the work makes an office. Answers the exit status.
 pub(crate) fn in_file(rt: &HostRuntime, path: &str, work: Work<'_>) -> u8 {
     match found_at(rt, path) {
-        Found::File(length) => {
-            tell_opening(rt, path, length);
-            in_open_file(rt, path, length, work)
-        }
-        Found::Nothing if !work.opens() => in_open_file(rt, path, 0, work),
-        _ => store_fault(rt, OpenFault::Disk),
+        Found::File(length) => tell_opening(rt, path, length),
+        Found::Nothing if !work.opens() => {}
+        _ => return store_fault(rt, OpenFault::Disk),
     }
+    in_open_file(rt, path, work)
 }
