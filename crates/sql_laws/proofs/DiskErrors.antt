@@ -1,14 +1,14 @@
 -- What is refused blames no disk: an error that tells of the disk comes of a failure of it, whatever the statement.
 use Rattle.std.proofs.Common.{◌≡◌, ◌⊎◌, inl, inr, ℕ, ℤ, zero, suc, List, [], ◌∷◌, ◌++◌, Bool, true, false, Option, Some, None, Result, Ok, Err, IsTrue, refl, sym, ap, subst, ◌∙◌, arith}
-use Rattle.std.specs.Prelude.{MatchBool, option_map, IfErr, is_some}
-use Rattle.std.specs.Result.{result_and}
+use Rattle.std.specs.Prelude.{MatchBool, option_map, slice_get, IfErr, is_some}
+use Rattle.std.specs.Result.{IsErrAnd, result_and}
 use Rattle.sqlite.specs.Disk.{MoreFaults}
 use Rattle.sqlite.specs.Order.{Row}
 use Rattle.sqlite.specs.Tree.{Trees}
 use Rattle.sqlite.specs.Clock.{timed}
 use Rattle.sqlite.specs.Effect.{Database, RefusesQuery, RefusesSource, RefusesToRead, RefusesToAlter, IsNoText, edit_error, alter_error}
 use Rattle.sqlite.specs.Rows.{Outcome, Part, Gives, Refuses, Then, Queried, Sourced, Edited, Written, Task, Counter, CounterIn, Counts, CountsIn, Updates, Deletes, Inserts, Puts, Clears, Resolves, Meets, Upserts, Judged, Tries, TriesEach, InsertsOr, passes_over, nothing, stamped, sequence, shown, mended, rowids_for}
-use Rattle.sqlite.specs.Does.{Does, AtPlace, Tested, MakesTable, MakesSequence, MakesIndex, MakesView, Leaves, Counted, Defines, IsKeptAside, Shows, Returns, Concludes, WritesRows, OnRows, Empties, UncountsIn, HoldWithout, Drops, OnTable, Redefines, Tally}
+use Rattle.sqlite.specs.Does.{Does, AtPlace, MakesTable, MakesSequence, MakesIndex, MakesView, Leaves, Counted, Defines, IsKeptAside, Shows, Returns, Concludes, WritesRows, OnRows, Empties, UncountsIn, Drops, OnTable, Redefines, Tally}
 use Rattle.sqlite_resolve.specs.declared.compiled.Compiled.{Compiled}
 use Rattle.sqlite.specs.State.{State, HasCleanDisk, IsUnchanged, Survives, HasCause, Fails, FailsToQuery, FailsToShow, IsNotRun, IsNoStatement, IsTooLate, RunsCommand, RunsAlone, IsMisplaced, ExecutesIn, ExecutesInside, mode_of, store_error, text_of, shows_rows}
 use Rattle.sqlite.specs.Steps.{FailsToCommit}
@@ -18,7 +18,6 @@ use Rattle.sqlite.specs.declared.error.ErrorCode.TheVariants as code
 use Rattle.sqlite.specs.declared.run.Mode.{Mode}
 use Rattle.sqlite_trees.specs.declared.error.StoreError.{StoreError}
 use Rattle.sqlite_trees.specs.declared.error.StoreError.TheVariants.{OutOfMemory, Io, Corrupt, Full, Broken, Unstorable}
-use Rattle.sqlite_schema.specs.declared.schema.Among.{Among}
 use Rattle.sqlite_schema.specs.declared.schema.Constraint.TheVariants.{ForeignKey}
 use Rattle.sqlite_schema.specs.declared.schema.Schema.{Schema}
 use Rattle.sqlite_schema.specs.declared.schema.Table.{Table}
@@ -37,6 +36,8 @@ use Rattle.sqlite_rules.specs.declared.error.Refusal.TheVariants.{Violates, Mism
 use Rattle.sqlite_rules.specs.Edit.{with_rowid}
 use Rattle.sqlite_rules.specs.Cast.{cast_row}
 use Rattle.sqlite_value.specs.declared.value.Value.TheVariants.{Null}
+use Rattle.sqlite_catalog.specs.Change.{without_index, without_view}
+use Rattle.sqlite_catalog.specs.Calls.{RefusesToDropIndex}
 use Rattle.sqlite_catalog.specs.declared.error.Refusal as alter
 use Rattle.sqlite_catalog.specs.declared.error.Refusal.TheVariants as why
 use Rattle.sql_laws.specs.DiskErrors.{is_of_disk, HasFailed, BlamesTruly}
@@ -104,6 +105,9 @@ edited_mild : {W : Option Refusal → Type 0} (e : Error) → (w : Option Refusa
 edited_mild e (None, went, same) = absurd cc
 edited_mild e (Some w, went, same) = let is : e ≡ edit_error w = cc in named e (edit_error w) is (edit_mild w)
 
+tested_mild : {X : Type 0} (e : Error) → X × ◌≡◌ {A = Option Error} (Some e) (Some (SqliteFailure (code.ConstraintViolation ForeignKey))) → is_of_disk e ≡ false
+tested_mild e (broken, same) = let is : e ≡ SqliteFailure (code.ConstraintViolation ForeignKey) = cc in named e _ is refl
+
 -- ---- rows
 
 module _ (task : Task) (e : Error) where
@@ -169,7 +173,7 @@ module _ (task : Task) (e : Error) where
   inserts_or_mild : (way : Conflict) (clauses : List Upsert) (from : Source) (db : Trees) → InsertsOr task way clauses from db (Err (Some e)) → is_of_disk e ≡ false
   inserts_or_mild way clauses from db h =
       first_or_next e h (source_mild task.limit (record { schema = task.schema; trees = db }) (stamped task.table task.params) from e) (λ rows h. first_or_next e h (counter_mild db) (λ counter h.
-      first_or_next e h (tries_each_mild way clauses rows _ _) (λ done h. first_or_next e h (counts_mild _ counter _) (λ next. gives_mild e))))
+      first_or_next e h (tries_each_mild way clauses rows _ _) (λ done h. first_or_next e h (counts_mild done.0.trees counter _) (λ next. gives_mild e))))
 
   shows_mild : (what : Returning) (now : Trees) (rows : List Row) → Shows task what now rows (Err (Some e)) → is_of_disk e ≡ false
   shows_mild what now [] h = gives_mild e h
@@ -183,11 +187,8 @@ module _ (task : Task) (e : Error) where
   returns_mild w None h = gives_mild e h
   returns_mild w (Some what) h = first_or_next e h (shows_mild what w.trees w.rows) (λ rows h. first_or_next e h (counted_mild _ rows) (λ _. gives_mild e))
 
-  tested_mild : (mode : Mode) (Holds : Among → Type 0) → Tested mode Holds (Err (Some e)) → is_of_disk e ≡ false
-  tested_mild mode Holds (broken, same) = let is : e ≡ SqliteFailure (code.ConstraintViolation ForeignKey) = cc in named e _ is refl
-
   concludes_mild : (mode : Mode) (returning : Option Returning) (w : Written) → Concludes task mode returning w (Err (Some e)) → is_of_disk e ≡ false
-  concludes_mild mode returning w h = first_or_next e h (tested_mild mode _) (λ in_doubt h. first_or_next e h (returns_mild w returning) (λ rows. gives_mild e))
+  concludes_mild mode returning w h = first_or_next e h (tested_mild e) (λ in_doubt h. first_or_next e h (returns_mild w returning) (λ rows. gives_mild e))
 
   writes_rows_mild : (db : Trees) (command : Command) → WritesRows task db command (Err (Some e)) → is_of_disk e ≡ false
   writes_rows_mild db (Insert at from) h = inserts_mild from db h
@@ -208,7 +209,7 @@ module _ (task : Task) (e : Error) where
 
   drops_mild : (mode : Mode) (db : Trees) → Drops task mode db (Err (Some e)) → is_of_disk e ≡ false
   drops_mild mode db h =
-      first_or_next e h (empties_mild db) (λ emptied h. first_or_next e h (uncounts_mild emptied _) (λ now h. first_or_next e h (tested_mild mode (HoldWithout task now)) (λ in_doubt h.
+      first_or_next e h (empties_mild db) (λ emptied h. first_or_next e h (uncounts_mild emptied _) (λ now h. first_or_next e h (tested_mild e) (λ in_doubt h.
       first_or_next e h (λ never. absurd never) (λ after. gives_mild e))))
 
 -- ---- tables, indexes and views
@@ -220,6 +221,9 @@ module _ (e : Error) where
   text_mild : (text : List ℕ) (Refuses : alter.Refusal → Type 0) → IsNoText text e ⊎ RefusesToAlter Refuses e → is_of_disk e ≡ false
   text_mild text Refuses (inl h) = named e _ h.1 refl
   text_mild text Refuses (inr h) = refused_mild Refuses h
+
+  aside_mild : {X : Type 0} → X × (e ≡ SqliteFailure code.BadName) → is_of_disk e ≡ false
+  aside_mild h = named e _ h.1 refl
 
   defines_mild : {B : Type 0} {S : Option Error → Type 0} {T : Database → Type 0} {a : Database → B}
       → ((stop : Option Error) × S stop × ◌≡◌ {A = Outcome B} (Err (Some e)) (Err stop)) ⊎ ((after : Database) × T after × ◌≡◌ {A = Outcome B} (Err (Some e)) (Ok (a after)))
@@ -237,18 +241,24 @@ module _ (e : Error) where
     redefines_mild : (text : List ℕ) (command : Command) → Redefines limit mode params db text command (Err (Some e)) → is_of_disk e ≡ false
     redefines_mild text CreateTable h =
         defines_mild h (λ h. first_or_next e h (text_mild text _) (λ after h. either _ h (text_mild _ _) (gives_mild e)))
-    redefines_mild text (CreateIndex at) h = at_place_mild _ _ h (λ table h. defines_mild h (text_mild text _))
+    redefines_mild text (CreateIndex at) h = at_place_mild (λ table. Defines mode (MakesIndex text db table)) (slice_get db.schema.tables at) h (λ table h. defines_mild h (text_mild text _))
     redefines_mild text CreateView h = defines_mild h (text_mild text _)
-    redefines_mild text (DropTable at) h = at_place_mild _ _ h (λ table h. drops_mild (on_table table) e mode db.trees h)
-    redefines_mild text (DropIndex at) h = at_place_mild _ _ h (λ index h. defines_mild h (refused_mild _))
-    redefines_mild text (DropView at) h = at_place_mild _ _ h (λ view h. defines_mild h (λ h. named e _ h.1 refl))
+    redefines_mild text (DropTable at) h = at_place_mild (λ table. Drops (on_table table) mode db.trees) (slice_get db.schema.tables at) h (λ table h. drops_mild (on_table table) e mode db.trees h)
+    redefines_mild text (DropIndex at) h =
+        at_place_mild (λ index. Defines mode (Leaves (without_index db.schema index.tree) db.trees (RefusesToAlter (RefusesToDropIndex index)))) (slice_get db.schema.indexes at) h (λ index h. defines_mild h (refused_mild _))
+    redefines_mild text (DropView at) h =
+        at_place_mild (λ view. Defines mode (Leaves (without_view db.schema view.tree) db.trees (IsKeptAside view))) (slice_get db.schema.views at) h (λ view h. defines_mild h aside_mild)
     redefines_mild text _ h = refuses_mild e InvalidQuery refl h
 
     does_mild : (text : List ℕ) (returning : Option Returning) (command : Command) → Does limit mode params db text returning command (Err (Some e)) → is_of_disk e ≡ false
-    does_mild text returning (Insert at from) h = at_place_mild _ _ h (λ table h. on_rows_mild (on_table table) e mode returning (Insert at from) db.trees h)
-    does_mild text returning (InsertOr at way from clauses) h = at_place_mild _ _ h (λ table h. on_rows_mild (on_table table) e mode returning (InsertOr at way from clauses) db.trees h)
-    does_mild text returning (Update at q) h = at_place_mild _ _ h (λ table h. on_rows_mild (on_table table) e mode returning (Update at q) db.trees h)
-    does_mild text returning (Delete at q) h = at_place_mild _ _ h (λ table h. on_rows_mild (on_table table) e mode returning (Delete at q) db.trees h)
+    does_mild text returning (Insert at from) h =
+        at_place_mild (λ table. OnRows (on_table table) mode returning (Insert at from) db.trees) (slice_get db.schema.tables at) h (λ table h. on_rows_mild (on_table table) e mode returning (Insert at from) db.trees h)
+    does_mild text returning (InsertOr at way from clauses) h =
+        at_place_mild (λ table. OnRows (on_table table) mode returning (InsertOr at way from clauses) db.trees) (slice_get db.schema.tables at) h (λ table h. on_rows_mild (on_table table) e mode returning (InsertOr at way from clauses) db.trees h)
+    does_mild text returning (Update at q) h =
+        at_place_mild (λ table. OnRows (on_table table) mode returning (Update at q) db.trees) (slice_get db.schema.tables at) h (λ table h. on_rows_mild (on_table table) e mode returning (Update at q) db.trees h)
+    does_mild text returning (Delete at q) h =
+        at_place_mild (λ table. OnRows (on_table table) mode returning (Delete at q) db.trees) (slice_get db.schema.tables at) h (λ table h. on_rows_mild (on_table table) e mode returning (Delete at q) db.trees h)
     does_mild text returning command h = either (is_some returning) h (refuses_mild e InvalidQuery refl) (redefines_mild text command)
 
 -- ---- whole statements
@@ -322,13 +332,22 @@ module _ {A : Type 0} (sql : List ℕ) (params : Row) (old new : State) where
   query_blames (Ok a) fails clean = tt
   query_blames (Err e) fails clean = query_of_disk old new e sql params (fails clean)
 
-  pub execute_blames : (r : Result ℕ Error) (given : Result A Error) → (HasCleanDisk new → IsTrue old.in_transaction → ExecutesInside 0 sql params old new r) → (HasCleanDisk new → IsTrue old.in_transaction)
-      → (a : A) → given ≡ result_and r (Ok a) → BlamesTruly old new given
-  execute_blames r given runs inside a is = subst (BlamesTruly old new) (sym is) (by r runs)
+  -- and what is told on of its error
+  pub failed_query_blames : (e : Error) (given : Result A Error) → IsErrAnd given (λ d. d ≡ e) → (HasCleanDisk new → FailsToQuery sql params old new e ⊎ IsTooLate sql params old new e)
+      → BlamesTruly old new given
+  failed_query_blames e (Ok a) told fails clean = tt
+  failed_query_blames e (Err d) told fails clean = subst (λ x. is_of_disk x ≡ true → HasFailed old new) (sym told) (query_of_disk old new e sql params (fails clean))
+
+  -- outside a transaction nothing is run
+  pub execute_blames : {X : Type 0} (r : Result ℕ Error) (given : Result A Error) → (old.in_transaction ≡ false → (r ≡ Err (SqliteFailure code.TransactionState)) × X)
+      → (HasCleanDisk new → IsTrue old.in_transaction → ExecutesInside 0 sql params old new r) → (a : A) → given ≡ result_and r (Ok a) → BlamesTruly old new given
+  execute_blames {X} r given ended runs a is = subst (BlamesTruly old new) (sym is) (by r old.in_transaction refl ended runs)
     where
-      by : (r : Result ℕ Error) → (HasCleanDisk new → IsTrue old.in_transaction → ExecutesInside 0 sql params old new r) → BlamesTruly old new (result_and r (Ok a))
-      by (Ok count) runs clean = tt
-      by (Err e) runs clean = execute_of_disk old new e 0 sql params (runs clean (inside clean))
+      by : (r : Result ℕ Error) (inside : Bool) → old.in_transaction ≡ inside → (old.in_transaction ≡ false → (r ≡ Err (SqliteFailure code.TransactionState)) × X)
+          → (HasCleanDisk new → IsTrue old.in_transaction → ExecutesInside 0 sql params old new r) → BlamesTruly old new (result_and r (Ok a))
+      by (Ok count) inside was ended runs clean = tt
+      by (Err e) true was ended runs clean = execute_of_disk old new e 0 sql params (runs clean was)
+      by (Err e) false was ended runs clean = mild_then old new e (named e (SqliteFailure code.TransactionState) (let same : ◌≡◌ {A = Result ℕ Error} (Err e) (Err (SqliteFailure code.TransactionState)) = (ended was).0 in cc) refl)
 
 -- ---- one call after another
 
