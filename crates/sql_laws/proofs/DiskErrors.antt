@@ -369,3 +369,32 @@ module _ (a b c : State) where
       by : (o : Bool) → a.is_open ≡ o → HasFailed a c
       by false is = inl is
       by true is = later (before.closes (omega (arith, clean, after.clean)) is)
+
+module _ {A : Type 0} (a b c : State) where
+  -- an error that is told on as it is
+  pub told_on : {X : Type 0} (e : Error) (given : Result A Error) → IsErrAnd given (λ d. d ≡ e) → BlamesTruly {A = X} a b (Err e) → BlamesTruly a b given
+  told_on e (Ok x) told blames clean = tt
+  told_on e (Err d) told blames clean = subst (λ x. is_of_disk x ≡ true → HasFailed a b) (sym told) (blames clean)
+
+  -- a call behind one that answered
+  pub blames_behind : (P Q : Trees → Type 0) (r : Result A Error) → Survives a b P → Survives b c Q → BlamesTruly b c r → BlamesTruly a c r
+  blames_behind P Q (Ok x) before after blames clean = tt
+  blames_behind P Q (Err e) before after blames clean blamed = failed_behind a b c P Q before after clean (blames clean blamed)
+
+  -- what came behind it, as the end of a transaction, changes nothing
+  pub blames_before : (Q : Trees → Type 0) (r : Result A Error) → BlamesTruly a b r → Survives b c Q → BlamesTruly a c r
+  blames_before Q (Ok x) blames after clean = tt
+  blames_before Q (Err e) blames after clean blamed = failed_before a b c Q (blames (omega (arith, clean, after.clean)) blamed) after
+
+-- the end of a transaction
+module _ {A : Type 0} (old new : State) where
+  pub commit_blames : {U : Type 0} (r : Result U Error) (given : Result A Error) → (HasCleanDisk new → IfErr r (FailsToCommit old new)) → (a : A) → given ≡ result_and r (Ok a) → BlamesTruly old new given
+  commit_blames {U} r given fails a is = subst (BlamesTruly old new) (sym is) (by r fails)
+    where
+      by : (r : Result U Error) → (HasCleanDisk new → IfErr r (FailsToCommit old new)) → BlamesTruly old new (result_and r (Ok a))
+      by (Ok u) fails clean = tt
+      by (Err e) fails clean = commit_of_disk old new e (fails clean)
+
+  pub failed_commit_blames : (e : Error) (given : Result A Error) → IsErrAnd given (λ d. d ≡ e) → (HasCleanDisk new → FailsToCommit old new e) → BlamesTruly old new given
+  failed_commit_blames e (Ok x) told fails clean = tt
+  failed_commit_blames e (Err d) told fails clean = subst (λ x. is_of_disk x ≡ true → HasFailed old new) (sym told) (commit_of_disk old new e (fails clean))
