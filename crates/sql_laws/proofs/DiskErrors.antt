@@ -372,19 +372,19 @@ module _ (a b c : State) where
 
 module _ {A : Type 0} (a b c : State) where
   -- an error that is told on as it is
-  pub told_on : {X : Type 0} (e : Error) (given : Result A Error) → IsErrAnd given (λ d. d ≡ e) → BlamesTruly {A = X} a b (Err e) → BlamesTruly a b given
+  pub told_on : (e : Error) (given : Result A Error) → IsErrAnd given (λ d. d ≡ e) → (HasCleanDisk b → is_of_disk e ≡ true → HasFailed a b) → BlamesTruly a b given
   told_on e (Ok x) told blames clean = tt
   told_on e (Err d) told blames clean = subst (λ x. is_of_disk x ≡ true → HasFailed a b) (sym told) (blames clean)
 
   -- a call behind one that answered
   pub blames_behind : (P Q : Trees → Type 0) (r : Result A Error) → Survives a b P → Survives b c Q → BlamesTruly b c r → BlamesTruly a c r
   blames_behind P Q (Ok x) before after blames clean = tt
-  blames_behind P Q (Err e) before after blames clean blamed = failed_behind a b c P Q before after clean (blames clean blamed)
+  blames_behind P Q (Err e) before after blames clean = λ blamed. failed_behind a b c P Q before after clean (blames clean blamed)
 
   -- what came behind it, as the end of a transaction, changes nothing
   pub blames_before : (Q : Trees → Type 0) (r : Result A Error) → BlamesTruly a b r → Survives b c Q → BlamesTruly a c r
   blames_before Q (Ok x) blames after clean = tt
-  blames_before Q (Err e) blames after clean blamed = failed_before a b c Q (blames (omega (arith, clean, after.clean)) blamed) after
+  blames_before Q (Err e) blames after clean = λ blamed. failed_before a b c Q (blames (omega (arith, clean, after.clean)) blamed) after
 
 -- the end of a transaction
 module _ {A : Type 0} (old new : State) where
