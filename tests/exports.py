@@ -29,21 +29,21 @@ MESSAGES = 300
 PLURALS = "Content-Type: text/plain; charset=UTF-8\\nPlural-Forms: nplurals=2; plural=n != 1;\\n"
 
 
-def catalogue(lang, messages, text):
+def catalogue(lang, text, messages=MESSAGES):
     entries = "".join(f'\nmsgid "Message {n}"\nmsgstr "{text} {n} in {lang}"\n' for n in range(messages))
     return f'msgid ""\nmsgstr "{PLURALS}"\n' + entries
 
 
 class Office:
-    """An office in a file, and the program that has it."""
+    """An office in a file, whose languages say these texts, and the program that has it."""
 
-    def __init__(self, program, path, text="Text", counts=None):
-        self.program, self.path, counts = program, path, counts or dict.fromkeys(LANGUAGES, MESSAGES)
-        template = "".join(f'msgid "Message {n}"\nmsgstr ""\n\n' for n in range(max(counts.values())))
+    def __init__(self, program, path, texts):
+        self.program, self.path = program, path
+        template = "".join(f'msgid "Message {n}"\nmsgstr ""\n\n' for n in range(MESSAGES))
         acts = [{"act": "template", "po": template}]
-        acts += [{"act": "language", "lang": lang, "po": catalogue(lang, count, text)} for lang, count in counts.items()]
+        acts += [{"act": "language", "lang": lang, "po": catalogue(lang, text)} for lang, text in texts.items()]
         acts += [{"act": "domain", "name": "manual"}, {"act": "template", "domain": "manual", "po": template}]
-        acts += [{"act": "language", "domain": "manual", "lang": lang, "po": catalogue(lang, 3, "Manual")} for lang in ("de", "eo")]
+        acts += [{"act": "language", "domain": "manual", "lang": lang, "po": catalogue(lang, "Manual", 3)} for lang in ("de", "eo")]
         lines = "".join(json.dumps({**it, "caller": "root", "number": number(n)}) + "\n" for n, it in enumerate(acts))
         same("init", looks.run(program, "init", "--store", path, "--manager", "root"), (0, "ready\n", ""))
         status, replies, _ = looks.run(program, "deliver", "--store", path, given=lines)
@@ -125,13 +125,13 @@ def taken_places(office, place, texts, lines):
 
 def full_disk(program, place):
     """The third language is too long for the disk: it is told, nothing of it stays, and those that fit are whole."""
-    counts = {"de": 20, "fr": 30, "cs": 4000, "nl": 40}
-    office = Office(program, place / "long.db", counts=counts)
-    wanted = {it: office.alone(it) for it in counts}
+    said = {"de": "Text", "fr": "Texte", "cs": 500 * "Long ", "nl": "Tekst"}
+    office = Office(program, place / "long.db", said)
+    wanted = {it: office.alone(it) for it in said}
     small, found = place / "small", place / "found"
     small.mkdir()
     script = f'mount -t tmpfs -o size=128k none "{small}" && {{ "$@"; status=$?; cp -r "{small}/." "{found}"; exit $status; }}'
-    words = ["unshare", "-Urm", "sh", "-c", script, "sh", program, *office.words(small, counts)]
+    words = ["unshare", "-Urm", "sh", "-c", script, "sh", program, *office.words(small, said)]
     done = looks.run(words[0], *words[1:])
     lines = [wanted["de"][1], wanted["fr"][1], "cs export fault 2\n", wanted["nl"][1]]
     same("a disk that is full at the third", done, (1, "", "".join(lines)))
@@ -189,7 +189,7 @@ def main():
     program = given.program.resolve()
     with tempfile.TemporaryDirectory() as name:
         place = pathlib.Path(name)
-        office = Office(program, place / "office.db")
+        office = Office(program, place / "office.db", dict.fromkeys(LANGUAGES, "Text"))
         single = {it: office.alone(it) for it in LANGUAGES}
         texts, lines = {it: text for it, (text, _) in single.items()}, {it: line for it, (_, line) in single.items()}
         equal_to_single(office, place, texts, lines)
@@ -197,7 +197,7 @@ def main():
         taken_places(office, place, texts, lines)
         full_disk(program, place)
         by_one_opening(office, place)
-        killed(office, Office(program, place / "other.db", "Other"), place, given.kills)
+        killed(office, Office(program, place / "other.db", dict.fromkeys(LANGUAGES, "Other")), place, given.kills)
     return looks.told()
 
 
