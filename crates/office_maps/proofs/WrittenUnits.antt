@@ -1,5 +1,5 @@
 -- What a write leaves of the unit at a key, from the unit that is there.
-use Rattle.std.proofs.Common.{◌≡◌, Option, Some, None, option_map, refl, ap, ◌∙◌}
+use Rattle.std.proofs.Common.{◌≡◌, Option, Some, option_map, ap}
 use Rattle.std.specs.FinMap as maps
 use Rattle.po_text.specs.Texts.{Text}
 use Rattle.units.specs.Project.{Project, entry_of}

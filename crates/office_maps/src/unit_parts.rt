@@ -3,6 +3,7 @@
 ghost use Rattle.std.specs.Prelude.{◌≡◌, ◌∷◌, ◌++◌, [], IfOk, Option, map};
 ghost use Rattle.po_text.specs.declared.entry.Entry.{Entry as EntryValue};
 ghost use Rattle.units.specs.Units.{suggestion_of};
+ghost use Rattle.review.specs.UnitStep.{with_vote};
 ghost use Rattle.review.specs.Parts.{without_votes};
 ghost use Rattle.deliveries.specs.UnitAccess.{view_written};
 
@@ -10,7 +11,7 @@ use deliveries::UnitWrite;
 use po_text::{Duplicate, Items};
 use review::{find_suggestion, voted_suggestions, with_suggestions};
 use std::alloc::{AllocError, Global};
-use units::{Suggestion, Unit, UnitView, Votes};
+use units::{Name, Suggestion, Unit, UnitView, VoteValue, Votes};
 use uuid::Uuid;
 
 /// A copy of a suggestion without the votes on it.
@@ -67,17 +68,36 @@ fn with_one_more(unit: &Unit, suggestion: Suggestion) -> Result<Unit, AllocError
     with_suggestions(unit, suggestions)
 }
 
+/// A copy of a view's unit, with the suggestions that are on the unit there.
+fn with_its_suggestions(view: UnitView, there: &Unit) -> Result<Unit, AllocError>
+    ensures { IfOk result (λ u. u ≡ record view.unit { suggestions = there.now.suggestions }) }
+{
+    let suggestions = there.suggestions.duplicate()?;
+    with_suggestions(&view.unit, suggestions)
+}
+
+/// A copy of a unit with a voter's vote on its suggestion of a number.
+fn voted_on(
+    alloc: Global,
+    unit: &Unit,
+    number: Uuid,
+    voter: Name,
+    value: Option<VoteValue>,
+) -> Result<Unit, AllocError>
+    ensures { IfOk result (λ u. u ≡ with_vote number voter value unit.now) }
+{
+    let suggestions = voted_suggestions(alloc, unit, number, &voter, value)?;
+    with_suggestions(unit, suggestions)
+}
+
 /// What a write leaves of a unit.
 pub(crate) fn unit_written(alloc: Global, unit: &Unit, write: UnitWrite) -> Result<Unit, AllocError>
     ensures { IfOk result (λ u. (source : Option EntryValue) → u ≡ (view_written write (record { unit = unit.now; source = source })).unit) }
 {
     match write {
         UnitWrite::Whole(view) => Ok(unit_of(view)),
-        UnitWrite::Row(view) => with_suggestions(&view.unit, unit.suggestions.duplicate()?),
+        UnitWrite::Row(view) => with_its_suggestions(view, unit),
         UnitWrite::Suggested(suggestion) => with_one_more(unit, suggestion),
-        UnitWrite::Voted(number, voter, value, _) => {
-            let suggestions = voted_suggestions(alloc, unit, number, &voter, value)?;
-            with_suggestions(unit, suggestions)
-        }
+        UnitWrite::Voted(number, voter, value, _) => voted_on(alloc, unit, number, voter, value),
     }
 }

@@ -1,7 +1,6 @@
-use Rattle.std.proofs.Common.{List, Option, sym, ap, ◌∙◌}
+use Rattle.std.proofs.Common.{Option, sym, ap, ◌∙◌}
 use Rattle.std.proofs.lemmas.Result.{IfOk-weaker}
 use Rattle.po_text.specs.declared.entry.Entry.{Entry}
-use Rattle.units.specs.declared.unit.Suggestion.{Suggestion}
 use Rattle.units.specs.declared.unit.Unit.{Unit}
 use Rattle.deliveries.specs.declared.values.UnitWrite.{UnitWrite}
 use Rattle.deliveries.specs.UnitAccess.{view_written}
@@ -13,18 +12,13 @@ left_of unit source write = (view_written write (record { unit = unit; source = 
 pub returns-in-Whole : goal.returns-in-Whole
 returns-in-Whole c = λ source. c.unit_of.ensures ∙ ap (left_of c.args.unit.now source) (sym c.in-Whole.is)
 
-pub returns-in_ok-duplicate-in-Row : goal.returns-in_ok-duplicate-in-Row
-returns-in_ok-duplicate-in-Row c =
-    IfOk-weaker c.with_suggestions.result _ _
-    (λ u is. λ source. is ∙ ap (λ (suggestions : List Suggestion). record c.in-Row.view.unit { suggestions = suggestions }) c.in_ok-duplicate-in-Row.ensures ∙ ap (left_of c.args.unit.now source) (sym c.in-Row.is))
-    c.with_suggestions.ensures
+pub returns-in-Row : goal.returns-in-Row
+returns-in-Row c =
+    IfOk-weaker c.with_its_suggestions.result _ _ (λ u is. λ source. is ∙ ap (left_of c.args.unit.now source) (sym c.in-Row.is)) c.with_its_suggestions.ensures
 
 pub returns-in-Suggested : goal.returns-in-Suggested
 returns-in-Suggested c =
     IfOk-weaker c.with_one_more.result _ _ (λ u is. λ source. is ∙ ap (left_of c.args.unit.now source) (sym c.in-Suggested.is)) c.with_one_more.ensures
 
-pub returns-in_ok-suggestions-in-Voted : goal.returns-in_ok-suggestions-in-Voted
-returns-in_ok-suggestions-in-Voted c =
-    IfOk-weaker c.with_suggestions-in-Voted.result _ _
-    (λ u is. λ source. is ∙ ap (λ (suggestions : List Suggestion). record c.args.unit.now { suggestions = suggestions }) c.in_ok-suggestions-in-Voted.ensures ∙ ap (left_of c.args.unit.now source) (sym c.in-Voted.is))
-    c.with_suggestions-in-Voted.ensures
+pub returns-in-Voted : goal.returns-in-Voted
+returns-in-Voted c = IfOk-weaker c.voted_on.result _ _ (λ u is. λ source. is ∙ ap (left_of c.args.unit.now source) (sym c.in-Voted.is)) c.voted_on.ensures

@@ -7,7 +7,7 @@ use Rattle.std.proofs.lemmas.Bool.{not-false}
 use Rattle.std.proofs.lemmas.Map.Iter.{rest_more}
 use Rattle.units.specs.Project.{place_cmp, entry_of}
 use Rattle.office_maps.specs.LanguageUnits.{taken}
-use Rattle.office_maps.specs.OfficeIn.{lent_project, place_of}
+use Rattle.office_maps.specs.OfficeIn.{place_of}
 use Rattle.deliveries.specs.declared.tally.Tally.{Tally}
 use Rattle.deliveries.specs.Tally.{counts_in}
 use Rattle.deliveries.specs.Counting.{plus}

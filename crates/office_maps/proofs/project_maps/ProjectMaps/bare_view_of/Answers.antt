@@ -1,7 +1,6 @@
 use Rattle.std.proofs.Common.{◌≡◌, Option, subst, ap, ◌∙◌}
 use Rattle.std.specs.Prelude.{IfOk}
 use Rattle.units.specs.Project.{view_of}
-use Rattle.units.specs.declared.unit.UnitView.{UnitView}
 use Rattle.deliveries.specs.declared.values.ActContext.{ActContext}
 use Rattle.office_maps.specs.Found.{found_with}
 use Rattle.office_maps.specs.OfficeIn.{lent_project}
