@@ -3,11 +3,9 @@
 use crate::work::{Work, done, told_closed};
 use crate::{STOPPED, store_fault};
 use file_commands::Closed;
-use sqlite::{Connection, Error, ErrorCode, File, FileStore, Files, Options, Unknown};
-use sqlite_std_file::OpenError;
+use sqlite::{Connection, Error, ErrorCode};
 use std::fs;
-use std::hash::{BuildHasher, RandomState};
-use std::io::{ErrorKind, IsTerminal};
+use std::io::IsTerminal;
 use std::rt::HostRuntime;
 use store_sql::OpenFault;
 
@@ -53,77 +51,11 @@ fn fault_of(error: &Error) -> OpenFault {
     }
 }
 
-/// How many bytes a page of a file has.
-const PAGE: u64 = 4_096;
-
-/// How many pages of a file that were read are kept in memory, at least: those that a connection keeps by itself.
-const FEWEST_PAGES: usize = 2_000;
-
-/// How many pages of a file that were read are kept in memory, at most. Room for them is taken when the file is opened.
-const MOST_PAGES: usize = 12_000;
-
-const NO_MEMORY: Error = Error::SqliteFailure(ErrorCode::OutOfMemory);
-
-const CANNOT_OPEN: Error = Error::SqliteFailure(ErrorCode::CannotOpen);
-
-/// The files at a path, as `Connection::open` finds them.
-fn files_at(rt: &HostRuntime, path: &str) -> Result<Files<File>, Error> {
-    if path == ":memory:" || path.starts_with("file:") {
-        return Err(CANNOT_OPEN);
-    }
-    match sqlite_std_file::open(rt, path, Unknown) {
-        Ok(files) => Ok(files),
-        Err(OpenError::OutOfMemory) => Err(NO_MEMORY),
-        Err(OpenError::Io(error)) if error.kind() == ErrorKind::OutOfMemory => Err(NO_MEMORY),
-        Err(_) => Err(CANNOT_OPEN),
-    }
-}
-
-/// How many pages are kept of a file of so many bytes: all that it has, within the two bounds.
-fn cached_pages(length: u64) -> usize {
-    match usize::try_from(length / PAGE) {
-        Ok(pages) => pages.clamp(FEWEST_PAGES, MOST_PAGES),
-        Err(_) => MOST_PAGES,
-    }
-}
-
-/// A seed that nobody else knows, and room for the pages of a file of so many bytes.
-fn options(rt: &HostRuntime, length: u64) -> Result<Options, Error> {
-    let seed = RandomState::new(rt)
-        .map_err(|_| CANNOT_OPEN)?
-        .hash_one(&0u8);
-    Ok(Options {
-        cache_pages: cached_pages(length),
-        ..Options::new(seed)
-    })
-}
-
-/// Opens a file of so many bytes, or makes it, as `Connection::open` does, with room for the pages of a large office: acts all over it read few
-/// of them again.
-fn open_file(
-    rt: &HostRuntime,
-    path: &str,
-    length: u64,
-) -> Result<Connection<FileStore<File>>, Error> {
-    let options = options(rt, length)?;
-    let files = files_at(rt, path)?;
-    match Connection::open_files(rt.alloc(), files, options) {
-        Ok(mut connection) => {
-            connection.set_clock(rt);
-            Ok(connection)
-        }
-        Err((error, left)) => {
-            drop(left);
-            Err(error)
-        }
-    }
-}
-
 /// Opens a file, or makes it, does work on the office in it, and closes it: it is whole by itself then, without the log beside it.
 ///
 /// Here alone stands the type of a connection to a file: each function that owns one is dear to prove.
-fn in_open_file(rt: &HostRuntime, path: &str, length: u64, work: Work<'_>) -> u8 {
-    match open_file(rt, path, length) {
+fn in_open_file(rt: &HostRuntime, path: &str, work: Work<'_>) -> u8 {
+    match Connection::open(rt, path) {
         Ok(connection) => {
             let Closed {
                 status,
@@ -143,11 +75,10 @@ fn in_open_file(rt: &HostRuntime, path: &str, length: u64, work: Work<'_>) -> u8
 
 /// Does work on the office in a file, which has to be there but where the work makes an office. Answers the exit status.
 pub(crate) fn in_file(rt: &HostRuntime, path: &str, work: Work<'_>) -> u8 {
-    let length = match found_at(rt, path) {
-        Found::File(length) => length,
-        Found::Nothing if !work.opens() => 0,
+    match found_at(rt, path) {
+        Found::File(length) => tell_opening(rt, path, length),
+        Found::Nothing if !work.opens() => {}
         _ => return store_fault(rt, OpenFault::Disk),
-    };
-    tell_opening(rt, path, length);
-    in_open_file(rt, path, length, work)
+    }
+    in_open_file(rt, path, work)
 }
