@@ -8,14 +8,14 @@ ghost use Rattle.po_lex.specs.Views.{part_view};
 ghost use Rattle.po_text.specs.Strings.{is_string_byte};
 ghost use Rattle.po_text.specs.Entries.{is_header_key};
 ghost use Rattle.po_read.specs.Faults.{part_fault, form_fault, numbered_fault, when, is_id};
-ghost use Rattle.po_read.specs.Drafts.{draft_of, draft_last, draft_header, draft_end, draft_key, draft_with, counted, with_keyword, with_more, whole_of, part_text, part_more, IsDigitKey, IsDigitPart};
+ghost use Rattle.po_read.specs.Drafts.{draft_of, draft_last, draft_header, draft_end, draft_with, counted, with_keyword, with_more, whole_of, part_text, part_more, IsDigitKey, IsDigitPart};
 ghost use Rattle.po_read.specs.Views.{told};
 ghost use Rattle.po_lex.specs.declared.fault.FaultKind.TheVariants as kinds;
 ghost use Rattle.po_lex.specs.declared.line.Keyword.TheVariants.{Msgid, MsgidPlural, Msgstr, MsgstrAt};
 ghost use Rattle.po_text.specs.Texts.{Text};
 
 use po_lex::{FaultKind, Keyword, Part};
-use po_text::{EntryKey, Forms, PoString, Strings, is_header_key};
+use po_text::{Forms, PoString, Strings, is_header_key};
 use std::alloc::{AllocError, Global};
 use std::mem::replace;
 
@@ -192,6 +192,7 @@ impl Message {
     }
 
     fn add_id(&mut self, text: PoString)
+        requires { part_fault (draft_last (draft_of self.old)) (draft_header (draft_of self.old)) (begins Msgid text) ≡ None }
         ensures { draft_of self.new ≡ with_keyword (draft_of self.old) Msgid text }
     {
         let new = match replace(self, Message::Nothing) {
@@ -203,15 +204,13 @@ impl Message {
                 ctx: Some(ctx),
                 id: text,
             },
-            other => {
-                drop(other);
-                Message::Context(text)
-            }
+            _ => unreachable!(),
         };
         self.set(new);
     }
 
     fn add_plural(&mut self, text: PoString)
+        requires { part_fault (draft_last (draft_of self.old)) (draft_header (draft_of self.old)) (begins MsgidPlural text) ≡ None }
         ensures { draft_of self.new ≡ with_keyword (draft_of self.old) MsgidPlural text }
     {
         let new = match replace(self, Message::Nothing) {
@@ -220,15 +219,13 @@ impl Message {
                 id,
                 plural: text,
             },
-            other => {
-                drop(other);
-                Message::Context(text)
-            }
+            _ => unreachable!(),
         };
         self.set(new);
     }
 
     fn add_form(&mut self, text: PoString)
+        requires { form_fault (draft_last (draft_of self.old)) ≡ None }
         ensures { draft_of self.new ≡ with_keyword (draft_of self.old) Msgstr text }
     {
         let new = match replace(self, Message::Nothing) {
@@ -237,10 +234,7 @@ impl Message {
                 id,
                 form: text,
             },
-            other => {
-                drop(other);
-                Message::Context(text)
-            }
+            _ => unreachable!(),
         };
         self.set(new);
     }
@@ -275,19 +269,6 @@ impl Message {
             other => other,
         };
         self.set(new);
-    }
-
-    /// The key of the strings, where there is a form.
-    pub(crate) fn key(&self, alloc: Global) -> Result<EntryKey, AllocError>
-        requires { is_form (draft_last (draft_of self.now)) ≡ true }
-        ensures ctx { IfOk result (λ key. key.ctx ≡ (draft_key (draft_of self.now)).0) }
-        ensures id { IfOk result (λ key. key.id ≡ (draft_key (draft_of self.now)).1) }
-    {
-        match self {
-            Message::Counted { ctx, id, .. } => EntryKey::of(alloc, ctx, id),
-            Message::Single { ctx, id, .. } => EntryKey::of(alloc, ctx, id),
-            _ => unreachable!(),
-        }
     }
 
     /// Adds the string of this piece at the last one's end.

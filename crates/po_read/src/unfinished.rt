@@ -12,6 +12,7 @@ ghost use Rattle.po_read.specs.Drafts.{draft_of, draft_last, draft_header, draft
 ghost use Rattle.po_text.specs.declared.entry.Entry.{Entry};
 ghost use Rattle.po_read.specs.Views.{told};
 
+use crate::entries::Entries;
 use crate::message::{Message, in_order};
 use crate::was::{add_previous, has_no_previous, previous_len, test_previous};
 use po_lex::{FaultKind, Line, Part};
@@ -240,16 +241,15 @@ impl<'a> Unfinished<'a> {
     pub(crate) fn move_to(
         &mut self,
         alloc: Global,
-        entries: &mut Vec<Entry>,
+        entries: &mut Entries,
     ) -> Result<(), AllocError>
         requires { is_form (draft_last (draft_of self.old.message)) ≡ true }
-        ensures moved { OnOk result ((entry : Entry) × IsEntry (so_far self.old) entry × (entries.new.items ≡ entries.old.items ++ entry ∷ [])) }
+        ensures moved { OnOk result ((entry : Entry) × IsEntry (so_far self.old) entry × (entries.new ≡ entries.old ++ entry ∷ [])) }
         ensures rest { OnOk result (IsSoFar (so_far self.new) []) }
     {
         let message = replace(&mut self.message, Message::Nothing);
         let (flags, strings) = both(self.flags.to_items(alloc), message.into_strings(alloc))?;
-        entries.push(self.take_rest(alloc, flags, strings))?;
-        Ok(())
+        entries.push(alloc, self.take_rest(alloc, flags, strings))
     }
 
     /// Takes the entry out, with these flags and strings, where its own strings were taken.

@@ -54,7 +54,7 @@ impl PoString {
     }
 
     /// No text. It takes no memory.
-    fn empty(alloc: Global) -> PoString
+    pub fn empty(alloc: Global) -> PoString
         ensures { result ≡ [] }
     {
         PoString {

@@ -6,7 +6,6 @@ ghost use Rattle.sql_laws.specs.DiskErrors.{BlamesTruly};
 ghost use Rattle.sql_schema.specs.Layouts.{Form};
 ghost use Rattle.sql_schema.specs.Inside.{IsSteadyOver, IsInsideOf, PutsRow, HoldsValues, IsReadOf};
 ghost use Rattle.sql_schema.specs.Keys.{first_text};
-ghost use Rattle.sql_statements.specs.RecordTable.{ShowsRecords};
 ghost use Rattle.sql_statements.specs.Answers.{ShowsRecord};
 ghost use Rattle.sql_statements.specs.RecordsInOrder.{ShowsPlace};
 
@@ -31,20 +30,6 @@ pub fn put_record<S: Alter>(
         params![number, content, status, body],
     )
     .and(Ok(()))
-}
-
-/// The records by number: each one's content, its reply's status and body, and its number. It wants the transaction open and leaves it
-/// open.
-pub fn all_records<S: Alter>(tx: &mut Transaction<'_, S>) -> Result<Vec<Row>, Error>
-    ensures same_reference { tx.new.conn.ghost_name ≡ tx.old.conn.ghost_name }
-    ensures found { (form : Form) → IsSteadyOver form (state S.Store tx.old.conn.now) → IsReadOf form (state S.Store tx.old.conn.now) (state S.Store tx.new.conn.now) result
-        (λ db rows. ShowsRecords db rows.items) }
-    ensures disk { BlamesTruly (state S.Store tx.old.conn.now) (state S.Store tx.new.conn.now) result }
-{
-    tx.query_all(
-        "SELECT content, status, body, number FROM record ORDER BY number",
-        &[],
-    )
 }
 
 /// The record of a request: its content's canonical text, and its reply's status and body. None, where no record has the number.

@@ -67,7 +67,7 @@ abbrev pub domain_limit : ℕ
 domain_limit = 8
 
 abbrev pub language_limit : ℕ
-language_limit = 32
+language_limit = 256
 
 abbrev pub team_limit : ℕ
 team_limit = 1000

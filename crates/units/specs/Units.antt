@@ -79,12 +79,12 @@ state_eq NeedsEditing s = is_needs_editing s
 state_eq Translated s = is_translated s
 state_eq Approved s = is_approved s
 
-abbrev pub has_flag : Text → Entry → Bool
-has_flag flag entry = list_any (text_eq flag) entry.flags
+abbrev pub has_flag : List Text → Text → Bool
+has_flag flags flag = list_any (text_eq flag) flags
 
 -- the template's entry has the flag `read-only`
 abbrev pub is_read_only : Option Entry → Bool
-is_read_only source = option_map_or (has_flag (codes "read-only")) source false
+is_read_only source = option_map_or (λ entry. has_flag entry.flags (codes "read-only")) source false
 
 abbrev pub stored_as_shown : UnitState → ShownState
 stored_as_shown Untranslated = shown.Untranslated
