@@ -5,7 +5,7 @@ Refused acts: a stranger's act on the office and a stranger's translation, each 
 an office of many units. Counts: a question for those of a language there, and of one that isn't there, behind a
 translation each. Votes: a look at a unit of 99 suggestions with 9,999 votes each, the opening of its file, and what
 writes one row of it or two: a vote on one of them, a translation, a comment, and the one suggestion more that there may
-be. Role: a stranger's refused translation of a unit with 100 suggestions of eight long forms.
+be; and the dismissal of one, which writes the whole unit. Role: a stranger's refused translation of a unit with 100 suggestions of eight long forms.
 Placeholders: a translation of a message of 16,383 directives into one with the same directives in another order.
 First act: a translation behind an opening, beside the next ones, in the office of many units. Each the best of
 several, of one program or of two in turn, the second in the second column, say that of the commit before; and what is
@@ -246,7 +246,7 @@ def of_many_votes(program, path):
 
 
 def of_few_rows(program, path):
-    """The seconds of the best of several votes, each on another suggestion, which have to be counted, of translations and comments; of one suggestion."""
+    """The seconds of the best of several votes, each on another suggestion, which have to be counted, of translations and comments; of one suggestion, and of its dismissal."""
     with contextlib.closing(sqlite3.connect(path)) as db:
         own = [it for (it,) in db.execute("SELECT number FROM d_suggestion LIMIT ?", (ROUNDS,))]
     requests, votes, translations, comments = Requests(LATER), [], [], []
@@ -264,7 +264,9 @@ def of_few_rows(program, path):
         line = requests.line("suggest", "ann", seen=2 * ROUNDS + 1, forms=["Hallo"], **unit)
         wanted = '200 {"revision":%d,"state":"%s","suggestion":"%s","votes":1}' % (2 * ROUNDS + 1, state, number(requests.count))
         suggestion = desk.ask(line, wanted)
-    return [min(votes), min(translations), min(comments), suggestion]
+        line = requests.line("dismiss", "ann", seen=2 * ROUNDS + 1, suggestion=number(requests.count), **unit)
+        dismissal = desk.ask(line, '200 {"revision":%d,"state":"%s"}' % (2 * ROUNDS + 1, state))
+    return [min(votes), min(translations), min(comments), suggestion, dismissal]
 
 
 def of_long_suggestions(program, path):
@@ -322,13 +324,14 @@ def main():
     tell("a language's counts", counts, 0.01)
     tell("those of a language that isn't there", no_counts, 0.01)
     print("a unit of %d suggestions with %d votes each" % (SUGGESTIONS, VOTES))
-    look, opening, vote, translation, comment, suggestion = beside(many_votes, of_many_votes)
+    look, opening, vote, translation, comment, suggestion, dismissal = beside(many_votes, of_many_votes)
     tell("a look", look, 0.6)
     tell("the opening", opening)
     tell("a vote", vote, 0.02)
     tell("a translation", translation, 0.02)
     tell("a comment", comment, 0.02)
     tell("a suggestion", suggestion, 0.02)
+    tell("its dismissal", dismissal)
     print("a unit of %d suggestions of %d forms of %d letters" % (LONG_SUGGESTIONS, FORMS, LETTERS))
     (refused,) = beside(long_suggestions, of_long_suggestions)
     tell("a stranger's refused translation", refused, 0.02)

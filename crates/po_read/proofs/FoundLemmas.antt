@@ -88,7 +88,7 @@ other_found es lasts others ctx id i e h last there apart = by (contains entry_k
               let here : i ≡ at.i = cc in
               let one : e ≡ at.e = same_place es i at.i e at.e there at.there here in
               absurd (false≢true (sym apart ∙ ap (with_key ctx id) one ∙ at.passes))
-            )
+              )
           | inr some ↦ ap (λ (k : Key). contains entry_key_cmp others (key_at_hand k.0 k.1)) (sym is) ∙ some.1
         ]
 
@@ -190,7 +190,7 @@ found_behind es new other lasts lasts' others others' before key h updated last 
               let here : before ≡ i = cc in
               let one : other ≡ e = same_place es before i other e there at here in
               ap (λ (x : Entry). contains entry_key_cmp others' (key_at_hand x.ctx x.id)) (sym one) ∙ key_in
-            )
+              )
           | inr some ↦ grown (key_at_hand e.ctx e.id) some.1
         ]
 

@@ -9,7 +9,7 @@ use Rattle.po_text.specs.Entries.{previous_strings, is_header_key}
 use Rattle.po_text.specs.Texts.{Text, is_empty}
 use Rattle.po_lex.specs.declared.line.Keyword.TheVariants.{Msgid}
 use Rattle.po_text.specs.Header.{has_charset}
-use Rattle.po_read.specs.Spells.{translator_text, extracted_text, reference_text, flag_items}
+use Rattle.po_read.specs.Spells.{translator_text, extracted_text, reference_text, flag_items, limits}
 use Rattle.po_text.specs.Flags.{add_once, with_fuzzy_first}
 use Rattle.po_read.specs.Faults.{Lines, strings_in, previous_in, last_keyword, has_mark, is_long, when, part_fault, previous_fault, or_else, begins_entry}
 use Rattle.po_read.specs.Plain.{entry_of}
@@ -60,7 +60,7 @@ text_here s (previous obsolete (continues text)) = if goes_on_here s (previous o
 text_here s _ = None
 
 abbrev pub length_fault : SoFar → Line → Option FaultKind
-length_fault s line = when (is_long 262144 (text_here s line)) kinds.Limit
+length_fault s line = when (is_long limits.string (text_here s line)) kinds.Limit
 
 abbrev pub order_fault_here : SoFar → Line → Option FaultKind
 order_fault_here s (message obsolete part) = if marked s (not obsolete) then Some kinds.Order else part_fault (draft_last s.draft) (draft_header s.draft) part
@@ -147,7 +147,7 @@ abbrev pub count_here : Reader → ℕ
 count_here r = count_in r.entries
 
 abbrev pub entries_here : Reader → Line → Option FaultKind
-entries_here r (message obsolete (begins Msgid text)) = when (nat_le 50000 (count_here r)) kinds.Limit
+entries_here r (message obsolete (begins Msgid text)) = when (nat_le limits.entries (count_here r)) kinds.Limit
 entries_here r _ = None
 
 abbrev pub has_form_here : Reader → Bool

@@ -77,7 +77,7 @@ impl<'a> Reader<'a> {
         Ok(())
     }
 
-    /// The tests of a line before the entry ends that it follows: fault 9 for its string, and those of a string that has ended.
+    /// The tests of a line before the entry ends that it follows: `Limit` for its string, and those of a string that has ended.
     fn test_front(&self, line: &Line<'a>) -> Result<(), FaultKind>
         ensures { Tells result (front_fault self.now (line_view line.now)) }
     {
@@ -99,7 +99,7 @@ impl<'a> Reader<'a> {
         Ok(())
     }
 
-    /// The tests of a line in its entry: fault 5 or 6 if it can't follow, fault 9 for one more entry than there may be.
+    /// The tests of a line in its entry: `Order` or `Forms` if it can't follow, `Limit` for one more entry than there may be.
     fn test_entry(&self, line: &Line<'a>) -> Result<(), FaultKind>
         ensures { told result ≡ or_else (order_fault_here (so_far self.now.current) (line_view line.now)) (entries_here self.now (line_view line.now)) }
     {
@@ -131,7 +131,7 @@ impl<'a> Reader<'a> {
         Ok(())
     }
 
-    /// The tests of a string that has ended, and with it the entry or not: fault 5 or 7 for a msgid, 8 for the header's string.
+    /// The tests of a string that has ended, and with it the entry or not: `Order` or `Duplicate` for a msgid, `Charset` for the header's string.
     fn test_ended(&self, ends: bool) -> Result<(), FaultKind>
         ensures { Tells result (ended_here self.now ends) }
     {
@@ -142,7 +142,7 @@ impl<'a> Reader<'a> {
         }
     }
 
-    /// Fault 5 if this is the header's key and not that of the first entry, or that of an obsolete one; fault 7 if it was there before.
+    /// `Order` if this is the header's key and not that of the first entry, or that of an obsolete one; `Duplicate` if it was there before.
     fn test_key(&self, ctx: &Option<PoString>, id: &PoString) -> Result<(), FaultKind>
         ensures { Tells result (key_fault_here self.now ctx.now id.now) }
     {
@@ -180,7 +180,7 @@ impl<'a> Reader<'a> {
         self.entries.has(self.alloc, ctx, id)
     }
 
-    /// Fault 8 if this is the header, with another charset.
+    /// `Charset` if this is the header, with another charset.
     fn test_header(
         &self,
         ctx: &Option<PoString>,
@@ -203,7 +203,7 @@ impl<'a> Reader<'a> {
         self.is_first() && is_header_key(ctx, id) && !has_charset(form.as_str())
     }
 
-    /// Fault 9 if the line begins one more entry than there may be.
+    /// `Limit` if the line begins one more entry than there may be.
     fn test_entries(&self, line: &Line<'a>) -> Result<(), FaultKind>
         ensures { told result ≡ entries_here self.now (line_view line.now) }
     {

@@ -127,7 +127,12 @@ fn write_keyword<W: ByteSink>(w: &mut W, keyword: Keyword) -> Result<(), SinkFau
         Keyword::Msgstr => send(w, b"msgstr \""),
         Keyword::MsgstrAt(number) => {
             let digit = b'0' + number;
-            send(w, &[b'm', b's', b'g', b's', b't', b'r', b'[', digit, b']', b' ', b'"'])
+            send(
+                w,
+                &[
+                    b'm', b's', b'g', b's', b't', b'r', b'[', digit, b']', b' ', b'"',
+                ],
+            )
         }
     }
 }

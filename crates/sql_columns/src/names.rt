@@ -16,7 +16,7 @@ use crate::fault::RowFault;
 use po_text::{PoString, Text};
 use request_book::bytes_fit;
 use std::alloc::{AllocError, Global};
-use units::{Key, Lang, Name};
+use units::{CONTEXT_GLUE, Key, Lang, Name};
 use uuid::Uuid;
 
 /// The name that a column stands for: the column itself, where it is a name. (A name is written as itself.)
@@ -94,7 +94,7 @@ fn key_of_parts(alloc: Global, column: &str) -> Result<Key, RowFault>
     ensures fits { IfOk result HasStrings }
     ensures malformed { result ≡ Err Malformed → ¬ HasStrings (key_parts column.now) }
 {
-    match column.split_once('\u{4}') {
+    match column.split_once(CONTEXT_GLUE) {
         Some((ctx, id)) => Ok(Key {
             ctx: Some(string_from(alloc, ctx)?),
             id: string_from(alloc, id)?,

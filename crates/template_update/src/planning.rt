@@ -9,7 +9,7 @@ ghost use Rattle.units.specs.Project.{entry_of};
 ghost use Rattle.template_update.specs.Units.{new_unit};
 ghost use Rattle.template_update.specs.Updates.{added, plan_of};
 ghost use Rattle.template_update.specs.Moves.{updated_within};
-ghost use Rattle.template_update.specs.Steps.{AreUpdated, HaveUpdates};
+ghost use Rattle.template_update.specs.PlannedUnits.{AreUpdated, HaveUpdates};
 ghost use Rattle.template_update.specs.Views.{IsIndexOf};
 
 use crate::index::KeyIndex;

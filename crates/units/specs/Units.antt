@@ -24,9 +24,13 @@ use Rattle.po_text.specs.Texts.{Text, text_cmp, text_eq, is_empty}
 
 -- ---- keys
 
--- the msgid, or the context, U+0004 and the msgid
+-- U+0004, which parts a key's context from its msgid
+abbrev pub context_glue : ℕ
+context_glue = 4
+
+-- the msgid, or the context, that and the msgid
 abbrev pub key_text : Key → Text
-key_text key = option_map_or (λ ctx. ctx ++ 4 ∷ key.id) key.ctx key.id
+key_text key = option_map_or (λ ctx. ctx ++ context_glue ∷ key.id) key.ctx key.id
 
 -- by key text; at equal texts, which the keys of an office never have, by context and msgid
 abbrev pub key_cmp : Key → Key → Ordering

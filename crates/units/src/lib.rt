@@ -24,9 +24,10 @@ mod votes;
 mod words;
 
 pub use comment::CommentLines;
-pub use keys::{KeyRef, Keyed, equal_texts};
+pub use keys::{CONTEXT_GLUE, KeyRef, Keyed, equal_texts};
 pub use limits::{
-    DOMAIN_LIMIT, LANGUAGE_LIMIT, SUGGESTION_LIMIT, TEAM_LIMIT, UNIT_LIMIT, VOTE_LIMIT,
+    ACCEPT_AT_LIMIT, COMMENT_LIMIT, COMMENT_LINE_LIMIT, DOMAIN_LIMIT, LANG_LIMIT, LANGUAGE_LIMIT,
+    NAME_LIMIT, REVISION_LIMIT, SUGGESTION_LIMIT, TEAM_LIMIT, UNIT_LIMIT, VOTE_LIMIT,
 };
 pub use memory::Memory;
 pub use names::{AcceptAt, Lang, Name, Revision};

@@ -1,5 +1,23 @@
 //! How large the parts of an office may be. (This project's own rules.) Clauses have the same numbers by their names in `specs/Limits`.
 
+/// How many bytes a name has at most.
+pub const NAME_LIMIT: usize = 32;
+
+/// How many bytes a language's code has at most.
+pub const LANG_LIMIT: usize = 16;
+
+/// The last revision.
+pub const REVISION_LIMIT: u64 = 9_000_000_000_000_000;
+
+/// The greatest sum of votes at which a suggestion may be accepted by itself.
+pub const ACCEPT_AT_LIMIT: u8 = 100;
+
+/// How many lines a comment has at most that an act gives.
+pub const COMMENT_LIMIT: usize = 20;
+
+/// How many bytes such a line has at most.
+pub const COMMENT_LINE_LIMIT: usize = 1000;
+
 /// How many domains an office has at most, `main` among them.
 pub const DOMAIN_LIMIT: usize = 8;
 

@@ -6,6 +6,7 @@ ghost use Rattle.std.specs.Cmp.{partial_equiv_from_equiv};
 ghost use Rattle.std.specs.Cmp.Lexicographic.{pointwise, nat_list_eq_equiv};
 ghost use Rattle.units.specs.Limits as limits;
 
+use crate::limits::{ACCEPT_AT_LIMIT, LANG_LIMIT, NAME_LIMIT, REVISION_LIMIT};
 use arrayvec::ArrayString;
 use po_text::Duplicate;
 use std::alloc::AllocError;
@@ -178,7 +179,7 @@ impl Revision {
     pub fn try_new(number: u64) -> Option<Revision>
         ensures { result ≡ (if limits.is_revision number then Some number else None) }
     {
-        if 1 <= number && number <= 9_000_000_000_000_000 {
+        if 1 <= number && number <= REVISION_LIMIT {
             Some(Revision { number })
         } else {
             None
@@ -224,7 +225,7 @@ impl AcceptAt {
     pub fn try_new(sum: u8) -> Option<AcceptAt>
         ensures { result ≡ (if limits.is_accept_at sum then Some sum else None) }
     {
-        if sum == 0 || (2 <= sum && sum <= 100) {
+        if sum == 0 || (2 <= sum && sum <= ACCEPT_AT_LIMIT) {
             Some(AcceptAt { sum })
         } else {
             None
@@ -243,7 +244,7 @@ impl AcceptAt {
 fn is_name(text: &str) -> bool
     ensures { result ≡ limits.is_name text.now }
 {
-    starts_small(text.as_bytes()) && text.len() <= 32 && are_name_bytes(text.as_bytes())
+    starts_small(text.as_bytes()) && text.len() <= NAME_LIMIT && are_name_bytes(text.as_bytes())
 }
 
 fn starts_small(bytes: &[u8]) -> bool
@@ -284,7 +285,7 @@ fn is_lang(text: &str) -> bool
 {
     starts_with_letter(text.as_bytes())
         && 2 <= text.len()
-        && text.len() <= 16
+        && text.len() <= LANG_LIMIT
         && are_lang_bytes(text.as_bytes())
 }
 

@@ -5,7 +5,7 @@ use Rattle.po_text.proofs.pieces.push_unescaped.Goals as goal
 
 pub loop-front-preserved-in_ok-push-in-Some-split_letter : goal.loop-front-preserved-in_ok-push-in-Some-split_letter
 loop-front-preserved-in_ok-push-in-Some-split_letter c =
-    record { utf8 = search rules; same = pushed_letter _ _ _ c.loop-front.rest.now c.in-Some.front.now c.in-Some.behind.now c.in-Some-split_letter.more.now _ c.in-Some-split_letter.character c.in_ok-push_str.ensures.bytes (c.in_ok-push-in-Some-split_letter.ensures.bytes ∙ ap (λ t. string_bytes c.push_str-in-Some.new.self ++ t) (c.in_ok-push-in-Some-split_letter.ensures.ascii c.in-Some-split_letter.ensures.ascii)) c.in-Some.ensures.cut c.in-Some-split_letter.ensures.value c.loop-front.invariant.same }
+    record { utf8 = search rules; same = pushed_letter _ _ _ c.loop-front.rest.now c.in-Some.front.now c.in-Some.behind.now c.in-Some-split_letter.more.now _ c.in-Some-split_letter.character c.in_ok-push_str.ensures.bytes (c.in_ok-push-in-Some-split_letter.ensures.bytes ∙ ap (λ t. string_bytes c.push_str.new.self ++ t) (c.in_ok-push-in-Some-split_letter.ensures.ascii c.in-Some-split_letter.ensures.ascii)) c.in-Some.ensures.cut c.in-Some-split_letter.ensures.value c.loop-front.invariant.same }
 
 pub loop-front-preserved : goal.loop-front-preserved
 loop-front-preserved c =

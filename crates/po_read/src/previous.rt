@@ -5,7 +5,7 @@ ghost use Rattle.std.specs.List.{list_all};
 ghost use Rattle.po_lex.specs.Escapes.{unescaped};
 ghost use Rattle.po_lex.specs.Views.{part_view};
 ghost use Rattle.po_text.specs.Entries.{previous_strings};
-ghost use Rattle.po_text.specs.Strings.{is_string_byte};
+ghost use Rattle.po_text.specs.Strings.{string_limit, is_string_byte};
 ghost use Rattle.po_read.specs.Faults.{last_keyword, previous_fault};
 ghost use Rattle.po_read.specs.Drafts.{previous_end, previous_more, previous_keyword, previous_with, part_text, part_more};
 ghost use Rattle.po_read.specs.Views.{told};
@@ -25,7 +25,7 @@ pub(crate) fn has_no_previous(previous: &Previous) -> bool
 /// How many bytes the last string has.
 pub(crate) fn previous_len(previous: &Previous) -> usize
     ensures value { result ≡ length (previous_end previous.now) }
-    ensures fits { result ≤ 262144 }
+    ensures fits { result ≤ string_limit }
 {
     if let Some(plural) = &previous.plural {
         plural.as_str().len()
@@ -59,7 +59,7 @@ pub(crate) fn add_previous(
     previous: &mut Previous,
     part: Part<'_>,
 ) -> Result<(), AllocError>
-    requires short { length (part_text (previous_end previous.old) (part_view part)) ≤ 262144 }
+    requires short { length (part_text (previous_end previous.old) (part_view part)) ≤ string_limit }
     requires bytes { list_all is_string_byte (part_more (part_view part)) ≡ true }
     ensures { OnOk result (previous.new ≡ previous_with previous.old (part_view part.entry)) }
 {
@@ -85,7 +85,7 @@ fn add_keyword(previous: &mut Previous, keyword: Keyword, text: PoString)
 
 /// Adds the string of this piece at the last one's end.
 fn add_more(alloc: Global, previous: &mut Previous, raw: &str) -> Result<(), AllocError>
-    requires short { length (previous_end previous.old) + length (unescaped raw.now) ≤ 262144 }
+    requires short { length (previous_end previous.old) + length (unescaped raw.now) ≤ string_limit }
     requires bytes { list_all is_string_byte (unescaped raw.now) ≡ true }
     ensures { OnOk result (previous.new ≡ previous_more previous.old (unescaped raw.now)) }
 {
