@@ -64,21 +64,21 @@ abbrev with_key : Option Text → Text → Entry → Bool
 with_key ctx id e = same_key (key_of e) (ctx, id)
 
 not_there : (b : Bool) → (b ≡ true → ⊥) → false ≡ b
-not_there true no = absurd (no refl)
+not_there true never = absurd (never refl)
 not_there false _ = refl
 
 pub none_found : (es : List Entry) (lasts : BTreeMap ℕ ℕ) (others : BTreeSet EntryKey) (ctx : Option Text) (id : Text) → AreFound es lasts others → get nat_cmp lasts (key_hash ctx id) ≡ None → false ≡ has_key ctx id es
-none_found es lasts others ctx id h none = not_there (has_key ctx id es) no
+none_found es lasts others ctx id h none = not_there (has_key ctx id es) never
   where
     hashed : (e : Entry) → key_of e ≡ (ctx, id) → get nat_cmp lasts (key_hash e.ctx e.id) ≡ None
     hashed e is = ap (λ (k : Key). get nat_cmp lasts (key_hash k.0 k.1)) is ∙ none
 
-    no : has_key ctx id es ≡ true → ⊥
-    no found =
+    never : has_key ctx id es ≡ true → ⊥
+    never found =
         let at = any_place (with_key ctx id) es found in
         let is = hashed at.e (key_same (key_of at.e) (ctx, id) at.passes) in
         elim (h.each at.i at.e at.there) [
-          | inl some ↦ (let no : None ≡ Some at.i = sym is ∙ some in cc)
+          | inl some ↦ (let differs : None ≡ Some at.i = sym is ∙ some in cc)
           | inr some ↦ false≢true (ap is_some (sym is) ∙ some.0)
         ]
 
@@ -168,7 +168,7 @@ new_hash es new lasts lasts' others h updated none =
     (λ i e there is.
     let gone : get nat_cmp lasts (key_hash e.ctx e.id) ≡ None = ap (get nat_cmp lasts) (sym is) ∙ none in
     elim (h.each i e there) [
-      | inl some ↦ (let no : None ≡ Some i = sym gone ∙ some in cc)
+      | inl some ↦ (let differs : None ≡ Some i = sym gone ∙ some in cc)
       | inr some ↦ some.1
     ])
     h.keys
