@@ -1,7 +1,6 @@
 use Rattle.std.proofs.Common.{◌≡◌, Ok, rules, ap, ◌∙◌}
 use Rattle.sqlite.specs.Effect.{Database}
 use Rattle.sqlite.specs.Held.{state}
-use Rattle.sql_decoding.specs.declared.faults.Failure.{Failure}
 use Rattle.sql_decoding.specs.declared.units_read.UnitNumbers.{UnitNumbers}
 use Rattle.sql_schema.proofs.Sequences.{reads_both}
 use Rattle.sql_statements.specs.DomainAnswers.{ShowsDomainUnit, ShowsPlaces}
