@@ -1,9 +1,10 @@
 //! Offices in files.
+ghost use Rattle.std.specs.Prelude.{◌≡◌, false, IfOk};
 
 use crate::work::{Work, done, told_closed};
 use crate::{STOPPED, store_fault};
 use file_commands::Closed;
-use sqlite::{Connection, Error, ErrorCode, File, FileStore, Files, Options, Unknown};
+use sqlite::{Connection, Error, ErrorCode, File, FileStore, Options, Unknown};
 use sqlite_std_file::OpenError;
 use std::fs;
 use std::hash::{BuildHasher, RandomState};
@@ -57,34 +58,28 @@ fn fault_of(error: &Error) -> OpenFault {
 const PAGE: u64 = 4_096;
 
 /// How many pages of a file that were read are kept in memory, at least: those that a connection keeps by itself.
-const FEWEST_PAGES: usize = 2_000;
+const FEWEST_PAGES: u64 = 2_000;
 
 /// How many pages of a file that were read are kept in memory, at most. Room for them is taken when the file is opened.
-const MOST_PAGES: usize = 12_000;
-
-const NO_MEMORY: Error = Error::SqliteFailure(ErrorCode::OutOfMemory);
+const MOST_PAGES: u64 = 12_000;
 
 const CANNOT_OPEN: Error = Error::SqliteFailure(ErrorCode::CannotOpen);
 
-/// The files at a path, as `Connection::open` finds them.
-fn files_at(rt: &HostRuntime, path: &str) -> Result<Files<File>, Error> {
-    if path == ":memory:" || path.starts_with("file:") {
-        return Err(CANNOT_OPEN);
-    }
-    match sqlite_std_file::open(rt, path, Unknown) {
-        Ok(files) => Ok(files),
-        Err(OpenError::OutOfMemory) => Err(NO_MEMORY),
-        Err(OpenError::Io(error)) if error.kind() == ErrorKind::OutOfMemory => Err(NO_MEMORY),
-        Err(_) => Err(CANNOT_OPEN),
+/// What a refused opening of the files at a path is told as.
+fn refused(error: &OpenError) -> Error {
+    match error {
+        OpenError::OutOfMemory => Error::SqliteFailure(ErrorCode::OutOfMemory),
+        OpenError::Io(error) if error.kind() == ErrorKind::OutOfMemory => {
+            Error::SqliteFailure(ErrorCode::OutOfMemory)
+        }
+        _ => CANNOT_OPEN,
     }
 }
 
 /// How many pages are kept of a file of so many bytes: all that it has, within the two bounds.
 fn cached_pages(length: u64) -> usize {
-    match usize::try_from(length / PAGE) {
-        Ok(pages) => pages.clamp(FEWEST_PAGES, MOST_PAGES),
-        Err(_) => MOST_PAGES,
-    }
+    let pages = (length / PAGE).max(FEWEST_PAGES).min(MOST_PAGES);
+    usize::try_from(pages).unwrap_or(usize::MAX)
 }
 
 /// A seed that nobody else knows, and room for the pages of a file of so many bytes.
@@ -104,18 +99,25 @@ fn open_file(
     rt: &HostRuntime,
     path: &str,
     length: u64,
-) -> Result<Connection<FileStore<File>>, Error> {
+) -> Result<Connection<FileStore<File>>, Error>
+    ensures between { IfOk result (λ c. c.in_transaction ≡ false) }
+{
+    if path == ":memory:" || path.starts_with("file:") {
+        return Err(CANNOT_OPEN);
+    }
     let options = options(rt, length)?;
-    let files = files_at(rt, path)?;
-    match Connection::open_files(rt.alloc(), files, options) {
-        Ok(mut connection) => {
-            connection.set_clock(rt);
-            Ok(connection)
-        }
-        Err((error, left)) => {
-            drop(left);
-            Err(error)
-        }
+    match sqlite_std_file::open(rt, path, Unknown) {
+        Ok(files) => match Connection::open_files(rt.alloc(), files, options) {
+            Ok(mut connection) => {
+                connection.set_clock(rt);
+                Ok(connection)
+            }
+            Err((error, left)) => {
+                drop(left);
+                Err(error)
+            }
+        },
+        Err(error) => Err(refused(&error)),
     }
 }
 
