@@ -176,7 +176,7 @@ def killed(office, other, place, kills):
         same(f"kill {turn}: the files", sorted(found), sorted(texts[0]))
         wrong = [it for it in found if found[it] not in (texts[0][it], texts[1][it])]
         same(f"kill {turn}: files that are neither as they were nor whole", wrong, [])
-    look(cut > kills // 10, f"only {cut} of {kills} kills met a folder that was written in part")
+    look(cut >= kills // 10, f"only {cut} of {kills} kills met a folder that was written in part")
     same("behind the kills", office.into(folder, LANGUAGES)[0], 0)
     same("what is there then", files_of(folder), texts[0])
 
