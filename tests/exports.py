@@ -158,8 +158,14 @@ def by_one_opening(office, place):
         has(f"{lang}: what is opened", its[0], f"/{lang}.po.new")
 
 
+def placed(path, before, process):
+    """Waits until another file is in this place, or the program has ended."""
+    while path.stat().st_ino == before and process.poll() is None:
+        time.sleep(0.0005)
+
+
 def killed(office, other, place, kills):
-    """A program that is killed leaves each file as it was, or whole. Two offices write over one another's files."""
+    """A program that is killed, at any time or behind a file, leaves each file as it was, or whole. Two offices write over one another's."""
     folder, texts = place / "killed", [filed({it: one.alone(it)[0] for it in LANGUAGES}) for one in (office, other)]
     same("before the kills", office.into(folder, LANGUAGES)[0], 0)
     started = time.monotonic()
@@ -168,8 +174,13 @@ def killed(office, other, place, kills):
     for turn in range(kills):
         one, at = ((other, 1), (office, 0))[turn % 2]
         words = [str(it) for it in (one.program, *one.words(folder, LANGUAGES))]
+        behind = folder / f"{random.choice(LANGUAGES)}.po"
+        before = behind.stat().st_ino
         with subprocess.Popen(words, stdin=subprocess.DEVNULL, stdout=subprocess.DEVNULL, stderr=subprocess.DEVNULL) as process:
-            time.sleep(random.uniform(0, whole))
+            if turn % 4 < 2:
+                placed(behind, before, process)
+            else:
+                time.sleep(random.uniform(0, whole))
             process.send_signal(signal.SIGKILL)
         found = {name: text for name, text in files_of(folder).items() if not name.endswith(".new")}
         cut += 0 < sum(found[it] == texts[at][it] for it in found) < len(LANGUAGES)
