@@ -3,11 +3,9 @@
 use crate::work::{Work, done, told_closed};
 use crate::{STOPPED, store_fault};
 use file_commands::Closed;
-use sqlite::{Connection, Error, ErrorCode, File, FileStore, Files, Options, Unknown};
-use sqlite_std_file::OpenError;
+use sqlite::{Connection, Error, ErrorCode};
 use std::fs;
-use std::hash::{BuildHasher, RandomState};
-use std::io::{ErrorKind, IsTerminal};
+use std::io::IsTerminal;
 use std::rt::HostRuntime;
 use store_sql::OpenFault;
 
@@ -53,59 +51,11 @@ fn fault_of(error: &Error) -> OpenFault {
     }
 }
 
-/// How many pages of a file that were read are kept in memory, of 4,096 bytes each.
-const CACHED_PAGES: usize = 12_000;
-
-const NO_MEMORY: Error = Error::SqliteFailure(ErrorCode::OutOfMemory);
-
-const CANNOT_OPEN: Error = Error::SqliteFailure(ErrorCode::CannotOpen);
-
-/// The files at a path, as `Connection::open` finds them.
-fn files_at(rt: &HostRuntime, path: &str) -> Result<Files<File>, Error> {
-    if path == ":memory:" || path.starts_with("file:") {
-        return Err(CANNOT_OPEN);
-    }
-    match sqlite_std_file::open(rt, path, Unknown) {
-        Ok(files) => Ok(files),
-        Err(OpenError::OutOfMemory) => Err(NO_MEMORY),
-        Err(OpenError::Io(error)) if error.kind() == ErrorKind::OutOfMemory => Err(NO_MEMORY),
-        Err(_) => Err(CANNOT_OPEN),
-    }
-}
-
-/// A seed that nobody else knows, and room for more pages than a connection has by itself.
-fn options(rt: &HostRuntime) -> Result<Options, Error> {
-    let seed = RandomState::new(rt)
-        .map_err(|_| CANNOT_OPEN)?
-        .hash_one(&0u8);
-    Ok(Options {
-        cache_pages: CACHED_PAGES,
-        ..Options::new(seed)
-    })
-}
-
-/// Opens a file, or makes it, as `Connection::open` does, with more room for the pages that were read: acts all over a large office read few
-/// of them again.
-fn open_file(rt: &HostRuntime, path: &str) -> Result<Connection<FileStore<File>>, Error> {
-    let options = options(rt)?;
-    let files = files_at(rt, path)?;
-    match Connection::open_files(rt.alloc(), files, options) {
-        Ok(mut connection) => {
-            connection.set_clock(rt);
-            Ok(connection)
-        }
-        Err((error, left)) => {
-            drop(left);
-            Err(error)
-        }
-    }
-}
-
 /// Opens a file, or makes it, does work on the office in it, and closes it: it is whole by itself then, without the log beside it.
 ///
 /// Here alone stands the type of a connection to a file: each function that owns one is dear to prove.
 fn in_open_file(rt: &HostRuntime, path: &str, work: Work<'_>) -> u8 {
-    match open_file(rt, path) {
+    match Connection::open(rt, path) {
         Ok(connection) => {
             let Closed {
                 status,
