@@ -153,9 +153,9 @@ def by_one_opening(office, place):
     same("openings of the office's file", len(opened), 1)
     for lang in LANGUAGES:
         its = [it for it in calls if f"/{lang}.po" in it]
-        kinds = [re.search(r"\b(open|fsync|rename)", it)[1] for it in its]
+        kinds = re.findall(r"\b(open|fsync|rename)\w*\(", "\n".join(its))
         same(f"{lang}: the calls on its file", kinds, ["open", "fsync", "rename"])
-        has(f"{lang}: what is opened", its[0], f"/{lang}.po.new")
+        has(f"{lang}: what is opened", "".join(its[:1]), f"/{lang}.po.new")
 
 
 def placed(path, before, process):
