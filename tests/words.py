@@ -28,6 +28,9 @@ LARGE = 16 << 20
 BASH = TOP / "share" / "bash-completion" / "completions" / "office"
 ZSH = TOP / "share" / "zsh" / "site-functions" / "_office"
 NUMBER = "0197f6a4-5d2e-7c31-8e2a-4b7f0c9d1e55"
+# What zsh completes these values to, and the options that may be there several times.
+PATHS = {"FILE": "_files", "FOLDER": "_files -/"}
+SEVERAL = {("export", "--lang")}
 # Words, and the status that they end with.
 WORDS = [
     (["--help"], 0),
@@ -50,6 +53,14 @@ WORDS = [
     (["export", "--store", "/nowhere/office.db", "--domain", "Docs", "--lang", "de"], 2),
     (["export", "--store", "/nowhere/office.db", "--domain", "", "--lang", "de"], 2),
     (["export", "--store", "/nowhere/office.db", "--domain", "--lang", "de"], 2),
+    (["export", "--store", "/nowhere/office.db", "--lang", "de", "--lang", "fr"], 2),
+    (["export", "--store", "/nowhere/office.db", "--lang", "de", "--lang", "de"], 2),
+    (["export", "--store", "/nowhere/office.db", "--into", "/nowhere/po"], 2),
+    (["export", "--store", "/nowhere/office.db", "--lang", "de", "--into"], 2),
+    (["export", "--store", "/nowhere/office.db", "--lang", "de", "--into", ""], 2),
+    (["export", "--store", "/nowhere/office.db", "--lang", "de", "--lang", "d", "--into", "/nowhere/po"], 2),
+    (["export", "--store", "/nowhere/office.db", "--lang", "de", "--into", "/nowhere/po", "--into", "/nowhere/po"], 2),
+    (["export", "--store", "/nowhere/office.db", "--lang", "de", "--lang", "fr", "--into", "/nowhere/po"], 1),
     (["records", "--help"], 0),
     (["records"], 2),
     (["records", "--after", NUMBER], 2),
@@ -127,11 +138,12 @@ WORDS = [
     (["deliver", "--export", "xx"], 1),
 ]
 # Words, the line of a fault that they tell, and what the line behind it has to name at a terminal. The files `{made}`, `{empty}` and `{twice}` are
-# an office's, an empty one, and one of requests two of which have one number.
+# an office's, an empty one, and one of requests two of which have one number; `{po}` is a folder that isn't there.
 TOLD = [
     (["export", "--store", "/nowhere/office.db", "--lang", "de"], "store fault 2", ["in use by another program", "isn't there", "no database"]),
     (["init", "--store", "{made}", "--manager", "root"], "store: exists", ["an office already"]),
     (["export", "--store", "{empty}", "--lang", "de"], "store fault 3", ["no office's"]),
+    (["export", "--store", "{made}", "--lang", "de", "--into", "{po}"], "de export fault 1", ["no such domain or language"]),
     (["records", "--store", "{made}", "--after", NUMBER], "records fault 1", ["No record", "that number"]),
     (["deliver", "--export", "xx"], "export fault 1", ["no such domain or language"]),
     (["deliver", "--demo", "--export", "de", "--domain", "docs"], "export fault 1", ["no such domain or language"]),
@@ -238,7 +250,7 @@ def zsh_differs(commands, own):
     text = ZSH.read_text().replace("\\:", ":")
     lines = [it.strip().rstrip("\\").strip() for it in text.split("\n")]
     wanted = {quoted(f"{name}:{about}") for name, about in commands.items()}
-    for parts in own.values():
+    for command, parts in own.items():
         for option, about in parts["Options"].items():
             about = re.sub(r" \[default: .*\]$", "", about)
             short, _, rest = option.partition(", ")
@@ -247,7 +259,8 @@ def zsh_differs(commands, own):
             if rest:
                 wanted.add(f"'({short} {name})'{{{short},{name}}}'[{about}]'")
             else:
-                wanted.add(quoted(f"{name}[{about}]" + (f":{value}:" if value else "") + ("_files" if value == "FILE" else "")))
+                again = "*" if (command, name) in SEVERAL else ""
+                wanted.add(quoted(f"{again}{name}[{about}]" + (f":{value}:" if value else "") + PATHS.get(value, "")))
         for name, about in parts.get("Arguments", {}).items():
             place = "*" if name.endswith("...") else str(1 + list(parts["Arguments"]).index(name))
             wanted.add(quoted(f"{place}:{page_name(name)} ({about[0].lower()}{about[1:]}):"))
@@ -294,7 +307,7 @@ def told_at_terminal(program, words, meanwhile=lambda: None):
 
 def sentences_differ(program):
     with tempfile.TemporaryDirectory() as name:
-        files = {it: str(pathlib.Path(name) / it) for it in ("made", "empty", "twice")}
+        files = {it: str(pathlib.Path(name) / it) for it in ("made", "empty", "twice", "po")}
         run(program, ["init", "--store", files["made"], "--manager", "root"])
         pathlib.Path(files["empty"]).touch()
         line = '{"act":"team","caller":"root","name":"ann","number":"00000000-0000-4000-8000-000000000001","role":"translator"}\n'
