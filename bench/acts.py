@@ -249,7 +249,7 @@ def in_turn(peer, place, template, acts):
 
 LISTS = [
     ("translations, %d units" % KEYS, KEYS, ("de",), few),
-    ("translations, %d units" % (len(LANGUAGES) * ENTRIES), ENTRIES, LANGUAGES, everywhere),
+    ("translations, %s units" % format(len(LANGUAGES) * ENTRIES, ","), ENTRIES, LANGUAGES, everywhere),
     ("suggestions and votes, %d units" % KEYS, KEYS, ("de",), voted),
 ]
 
@@ -266,12 +266,13 @@ def main():
                 made(PROGRAM, template, office(entries, languages))
             listed(acts)
             (ours, used), (theirs, of_theirs) = in_turn(peer, place, template, acts)
-            told.append("%s: %s a second, %.2f of these" % (name, format(round(ACTS / ours, -2), ",.0f"), theirs / ours))
+            told.append("%s: %s a second, %.2f of these, %.2f by processor" % (name, format(round(ACTS / ours, -2), ",.0f"), theirs / ours, of_theirs / used))
             for who, seconds, of_processor in (("the office", ours, used), ("SQLite's C API", theirs, of_theirs)):
                 each = (name, who, ACTS / seconds, seconds / ACTS * 1e6, of_processor / ACTS * 1e6)
                 print("%-34s %-15s %8.0f a second %8.1f microseconds %8.1f of processor" % each)
             print("%-34s ours for each of SQLite's %.2f, by processor %.2f" % ("", theirs / ours, of_theirs / used), flush=True)
-    print("| `acts.py` | acts on a file beside their statements by SQLite %s's C API (WAL, FULL) | %s |" % (sqlite3.sqlite_version, "; ".join(told)))
+    where = " in /dev/shm" if str(FOLDER).startswith("/dev/shm") else ""
+    print("| `acts.py` | acts on a file%s beside their statements by SQLite %s's C API (WAL, FULL) | %s |" % (where, sqlite3.sqlite_version, "; ".join(told)))
 
 
 if __name__ == "__main__":
