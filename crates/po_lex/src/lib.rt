@@ -7,6 +7,9 @@
 //! - `scan`: bytes that stand as they are between quotes
 //! - `white`: spaces and tabs at the ends of a text
 //! - `fault`: why a text spells no catalogue
+//!
+//! Specs: `Lines` (the form of a line, or its fault), `Escapes` (the strings that quoted pieces stand for), `Reading`
+//! (a value or a fault's kind, and what is white), `Views` (what tokens stand for), `Kinds` (the numbers of the kinds).
 #![tactic(auto)]
 
 mod fault;

@@ -6,6 +6,9 @@
 //! - `message`: its message lines so far
 //! - `previous`: its previous strings so far
 //! - `laws`: a text spells at most one catalogue, and has a fault exactly where it spells none
+//!
+//! Specs: `Spells` (which catalogue a text spells), `Faults` (its first fault), `Plain` (a plain slow reader, which
+//! laws tie to what a text spells), `Views` (what is answered); inner functions have `SoFar`, `Drafts` and `Found`.
 #![tactic(auto)]
 
 mod entries;

@@ -11,6 +11,10 @@
 //! - `valid`: whether entries are a valid catalogue
 //! - `catalogue`: a valid catalogue
 //! - `duplicate`: copies, while there is memory
+//!
+//! Specs: `Valid` (valid catalogues), `Entries` (an entry's key and strings), `Keys` (the order of keys), `Strings`
+//! (which texts are strings, which lists forms), `Flags`, `Header` (a header's fields, and its charset), `Texts`; inner
+//! functions have `Checked`.
 #![tactic(auto)]
 
 mod catalogue;

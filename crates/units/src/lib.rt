@@ -10,6 +10,12 @@
 //! - `keys`: keys in the order of their texts, borrowed from units and entries
 //! - `copies`: copies of units and of their parts
 //! - `memory`: want of memory
+//!
+//! Specs: `Limits` (names, languages, revisions, thresholds, and how large the parts of an office may be), `Units`,
+//! `Project` (a domain with team and policy), `Office` (all domains), `Projects` and `Offices` (the rules that these
+//! keep), `Changes` (of the team, the policy and the domains), `Openings` (what a desk may open with), `Rules` (a
+//! language's plural rule), `Ballots` (votes), `Orders` and `KeyTexts` (of texts, keys and places), `Words` (of roles
+//! and states), `Numbers` (of refusals); for proofs `Coding`.
 #![tactic(auto)]
 
 mod comment;
