@@ -1,5 +1,5 @@
 -- The string of a piece, cut at a backslash.
-use Rattle.std.proofs.Common.{◌≡◌, ◌≢◌, ℕ, ◌+◌, List, [], ◌∷◌, ◌++◌, Bool, true, false, cond, length, take, drop, get_or, refl, sym, ◌∙◌, ap, eq-eqb, Some, None, Result, Ok, Err, option_map, unwrap_or, ◌==◌, suc, arith, append_assoc, subst, ◌≤◌, ◌<◌, Option}
+use Rattle.std.proofs.Common.{◌≡◌, ◌≢◌, ℕ, ◌+◌, List, [], ◌∷◌, ◌++◌, Bool, true, false, cond, length, take, drop, get_or, refl, sym, ◌∙◌, ap, eq-eqb, Some, None, Result, Ok, Err, option_map, unwrap_or, ◌==◌, suc, arith, append_assoc, ◌≤◌, ◌<◌}
 use Rattle.std.specs.List.{slice_get}
 use Rattle.std.specs.Result.{is_ok, OnOk}
 use Rattle.std.proofs.lemmas.Bool.{ne_eqb, eqb-true}

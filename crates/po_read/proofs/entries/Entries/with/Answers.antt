@@ -1,4 +1,4 @@
-use Rattle.std.proofs.Common.{◌≡◌, sym, refl, ◌∙◌, ap, Some, length, arith}
+use Rattle.std.proofs.Common.{◌≡◌, sym, refl, ◌∙◌, Some, length, arith}
 use Rattle.std.specs.BTreeMap.{get}
 use Rattle.std.specs.List.{slice_get}
 use Rattle.std.specs.Ordering.{nat_cmp}
