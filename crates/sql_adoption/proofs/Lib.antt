@@ -1,3 +1,4 @@
+pub mod RecordRows
 pub mod WholeBook
 pub mod Looked
 pub mod Langs
@@ -25,3 +26,7 @@ pub mod TalliesTold
 pub mod SumsTold
 pub mod FiguresTold
 pub mod FiguresKept
+pub mod RecordParents
+pub mod OwnNumbers
+pub mod Recorded
+pub mod KeptRecords

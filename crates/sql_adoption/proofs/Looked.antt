@@ -37,6 +37,10 @@ module _ (old new : State) {A B E F : Type 0} where
     survives = it.survives;
   }
 
+  -- what follows from what is answered
+  pub looked_weaker : (r : Result A E) (P Q : Database → A → Type 0) → ((db : Database) (x : A) → P db x → Q db x) → IsLookUp old new r P → IsLookUp old new r Q
+  looked_weaker r P Q less it = record { answer = λ clean. if_ok r (less old.now) (it.answer clean); same = it.same; is_open = it.is_open; ended = it.ended; survives = it.survives }
+
   -- what is answered off what was handed out meanwhile
   pub walked_on : (x : A) (s : Result B F) (P : Database → A → Type 0) (Q : Database → B → Type 0) → IsLookUp {E = E} old new (Ok x) P
       → (HasCleanDisk new → HasCleanDisk old → IsTrue old.is_open → IfOk s (Q old.now)) → IsLookUp old new s Q

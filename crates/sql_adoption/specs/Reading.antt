@@ -32,6 +32,7 @@ use Rattle.sql_decoding.specs.RowTests.{is_domain_row, AreOfficeRows}
 use Rattle.sql_decoding.specs.declared.faults.Failure.{Failure}
 use Rattle.sql_streams.specs.declared.walking.WalkFault.{WalkFault}
 use Rattle.sql_streams.specs.declared.walking.WalkFault.TheVariants.{NoRows, NoSink}
+use Rattle.office_rules.specs.Books.{HasStatuses}
 use Rattle.office_rules.specs.Given.{AreAll, AreAllDomains, AreAllLangs, AreStatusesOf}
 use Rattle.sql_adoption.specs.declared.faults.OpenFault.{OpenFault}
 use Rattle.sql_adoption.specs.declared.faults.OpenFault.TheVariants.{Memory, Disk, Foreign, Exists}
@@ -178,6 +179,23 @@ pub record AreStatusesIn (db : Database) (statuses : BTreeMap Text ℕ) : Type 0
   pub stand : StandForBook (rows_named db)
   pub numbered : AreNumbered (rows_named db)
   pub contents : AreContents (rows_named db)
+
+-- all records are some's, and their replies have statuses that replies may have
+pub record KeepsRecords (db : Database) : Type 0 where
+  pub stand : StandForBook (rows_named db)
+  pub numbered : AreNumbered (rows_named db)
+  pub contents : AreContents (rows_named db)
+  pub statuses : HasStatuses (book_in (rows_named db))
+
+-- what is true of records that are refused so
+abbrev pub RefusesRecords : Database → OpenFault → Type 0
+RefusesRecords db (Foreign UnreadRow) = ¬ StandForBook (rows_named db)
+RefusesRecords db (Foreign BrokenRules) = ¬ HasStatuses (book_in (rows_named db))
+RefusesRecords db (Foreign OtherFigures) = ⊥
+RefusesRecords db (Foreign OtherForm) = ⊥
+RefusesRecords db (Foreign OtherTables) = ⊥
+RefusesRecords db Exists = ⊥
+RefusesRecords db _ = ⊤
 
 -- an office keeps the rules with the book of the rows
 pub record KeepsBook (office : Office) (db : Database) : Type 0 where
