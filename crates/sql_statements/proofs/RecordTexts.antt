@@ -29,7 +29,7 @@ module _ {form : Form} (s : State) (ready : IsReadyFor form s) where
   records_plain = table_plain records_text record_table record_placed (2 ∷ 3 ∷ 4 ∷ 1 ∷ []) (1 ∷ []) (3 ∷ []) _ records_are (λ tree r s. refl) s ready
 
   pub records_shown : (rows : List Row) → Shown records_text [] s s rows → ShowsRecords s.now rows
-  records_shown rows h = table_shown records_text record_table record_placed (2 ∷ 3 ∷ 4 ∷ 1 ∷ []) (1 ∷ []) (3 ∷ []) _ records_are (λ tree r s. refl) s s rows ready h
+  records_shown = table_shown records_text record_table record_placed (2 ∷ 3 ∷ 4 ∷ 1 ∷ []) (1 ∷ []) (3 ∷ []) _ records_are (λ tree r s. refl) s ready
 
   pub records_begun : (rows : List Row) → Begins records_text [] s rows → (tail : List Row) × ShowsRecords s.now (rows ++ tail)
-  records_begun rows h = table_begun records_text record_table record_placed (2 ∷ 3 ∷ 4 ∷ 1 ∷ []) (1 ∷ []) (3 ∷ []) _ records_are (λ tree r s. refl) s rows ready h
+  records_begun = table_begun records_text record_table record_placed (2 ∷ 3 ∷ 4 ∷ 1 ∷ []) (1 ∷ []) (3 ∷ []) _ records_are (λ tree r s. refl) s ready

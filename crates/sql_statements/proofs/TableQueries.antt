@@ -131,14 +131,18 @@ module _ {form : Form} (text : List ℕ) (table : Table) (is_placed : (layout : 
         in_order = in_order tree [] places by order [] (alike tree) (overlay s.now.trees []) rows answer;
       }
 
-  pub table_shown : (old new : State) (rows : List Row) → IsReadyFor form old → Shown text [] old new rows → ShowsTable table.name places order old.now rows
-  table_shown old new rows ready h =
+  shows_table : (old new : State) (rows : List Row) → IsReadyFor form old → Shown text [] old new rows → ShowsTable table.name places order old.now rows
+  shows_table old new rows ready h =
       let asks = means ready.schema.0 in
       answer_shows old ready rows ((reads_as text [] old new (schema_of ready.schema.0) ready.schema.1 _ asks.command asks.plain asks.own_tables rows h).answer Null)
 
+  -- of a walk
+  pub table_shown : (s : State) → IsReadyFor form s → (rows : List Row) → Shown text [] s s rows → ShowsTable table.name places order s.now rows
+  table_shown s ready rows h = shows_table s s rows ready h
+
   -- what rows that begin an answer are a part of
-  pub table_begun : (s : State) (rows : List Row) → IsReadyFor form s → Begins text [] s rows → (tail : List Row) × ShowsTable table.name places order s.now (rows ++ tail)
-  table_begun s rows ready h =
+  pub table_begun : (s : State) → IsReadyFor form s → (rows : List Row) → Begins text [] s rows → (tail : List Row) × ShowsTable table.name places order s.now (rows ++ tail)
+  table_begun s ready rows h =
       let asks = means ready.schema.0 in
       let read = begins_as text [] s s (schema_of ready.schema.0) ready.schema.1 _ asks.command asks.plain asks.own_tables rows h in
       (read.1.0, answer_shows s ready (rows ++ read.1.0) (read.1.1 Null))
@@ -148,4 +152,4 @@ module _ {form : Form} (text : List ℕ) (table : Table) (is_placed : (layout : 
 
   pub reads_table : ReadsAllOf form text [] (ShowsTable table.name places order)
   reads_table A rows_of old new r =
-      queries_inside text [] old new (λ layout. (means layout).plain) rows_of (λ db a. ShowsTable table.name places order db (rows_of a)) (λ a ready h. table_shown old new (rows_of a) ready h) r
+      queries_inside text [] old new (λ layout. (means layout).plain) rows_of (λ db a. ShowsTable table.name places order db (rows_of a)) (λ a ready h. shows_table old new (rows_of a) ready h) r
