@@ -1,6 +1,6 @@
 -- What the readers of rows that are to be adopted answer. Only inner clauses and proofs cite this file.
 use Rattle.std.specs.Prelude.{◌≡◌, ◌⊎◌, ◌↔◌, ⊤, ℕ, Bool, true, false, List, [], ◌∷◌, map, Contains, Option, Some, IsTrue, codes}
-use Rattle.std.specs.List.{list_any, list_all}
+use Rattle.std.specs.List.{list_any}
 use Rattle.std.specs.BTreeMap.{BTreeMap}
 use Rattle.std.specs.FinMap as maps
 use Rattle.sqlite.specs.declared.error.Error.{Error}
@@ -25,7 +25,6 @@ use Rattle.sql_schema.specs.Views.{seen_in}
 use Rattle.sql_meaning.specs.Meaning.{team_in, policy_in, book_in, AreNumbered}
 use Rattle.sql_meaning.specs.Domains.{domain_of_rows, office_of_rows, is_domain, meaning_for}
 use Rattle.sql_statements.specs.Tables.{ShowsTableIn}
-use Rattle.sql_statements.specs.declared.owners.Owners.{Owners}
 use Rattle.sql_statements.specs.declared.whole_office.WholeOffice.{WholeOffice}
 use Rattle.sql_meaning.specs.OfficeShown.{project_shown, with_shown}
 use Rattle.sql_decoding.specs.RowTests.{is_domain_row, AreOfficeRows}
@@ -63,18 +62,16 @@ abbrev pub IsOfWalk : WalkFault Failure → OpenFault → Type 0
 IsOfWalk (NoRows error) fault = IsOfStatement error fault
 IsOfWalk (NoSink failure) fault = fault ≡ unread failure.lost
 
+-- why one was that tests rows: by its query, or by what was told of a row
+abbrev pub IsOfTest : WalkFault OpenFault → OpenFault → Type 0
+IsOfTest (NoRows error) fault = IsOfStatement error fault
+IsOfTest (NoSink refusal) fault = fault ≡ refusal
+
 -- ---- the form
 
 -- rows that show one column show these names
 abbrev pub is_shown_among : List Row → Row → Bool
 is_shown_among domains row = list_any (λ d. text_eq (text_at 0 d) (text_at 0 row)) domains
-
--- each row's domain is shown as one that there is
-pub record ShowOwnDomains (owners : Owners) : Type 0 where
-  pub template : list_all (is_shown_among owners.domains.items) owners.template.items ≡ true
-  pub languages : list_all (is_shown_among owners.domains.items) owners.languages.items ≡ true
-  pub units : list_all (is_shown_among owners.domains.items) owners.units.items ≡ true
-  pub suggestions : list_all (is_shown_among owners.domains.items) owners.suggestions.items ≡ true
 
 -- what the policy's row shows
 abbrev pub ShowsForm : Form → Option Row → Type 0
