@@ -13,6 +13,8 @@ use Rattle.sqlite_rules.specs.Lists.{Has}
 use Rattle.sqlite_rules.proofs.ListLemmas.{test_has, some_has, some_from}
 use Rattle.sql_laws.proofs.RowMaps.{texts_are_one}
 use Rattle.po_text.specs.Texts.{text_eq}
+use Rattle.tables.specs.declared.faults.Lost.TheVariants as lost
+use Rattle.sql_decoding.specs.declared.faults.Failure.{Failure}
 use Rattle.sql_streams.specs.declared.walking.WalkFault.{WalkFault}
 use Rattle.sql_streams.specs.declared.walking.WalkFault.TheVariants.{NoRows, NoSink}
 use Rattle.sql_streams.specs.Walks.{GaveUpTo, CutShort}
@@ -30,7 +32,7 @@ use Rattle.sql_adoption.specs.declared.faults.OpenFault.{OpenFault}
 use Rattle.sql_adoption.specs.declared.faults.OpenFault.TheVariants.{Memory, Disk, Foreign, Exists}
 use Rattle.sql_adoption.specs.declared.faults.Mismatch.TheVariants.{OtherTables, OtherForm, UnreadRow, OtherFigures, BrokenRules}
 use Rattle.sql_adoption.specs.OwnedRows.{TakesNamed, AreOwnedAmong, AllOwnedAmong, RefusesUnless, TestsRows}
-use Rattle.sql_adoption.specs.Reading.{is_shown_among, IsOfStatement, IsOfTest}
+use Rattle.sql_adoption.specs.Reading.{is_shown_among, unread, IsOfStatement, IsOfWalk}
 use Rattle.sql_adoption.proofs.Looked.{looked_in_vain, looked_failed, looked_weaker, both_looked, looked_same}
 use Rattle.sql_adoption.proofs.Stand.{is_shown, was_there}
 
@@ -91,11 +93,11 @@ module _ (db : Database) (domains : List Row) (table : Owned) where
     abbrev Took : K → List Row → K → Type 0
     Took a rows b = TakesNamed (of a) rows (of b)
 
-    abbrev Refuses : K → Row → OpenFault → K → Type 0
-    Refuses a row fault b = (fault ≡ Foreign UnreadRow) × (is_shown_among (of a) row ≡ false)
+    abbrev Refuses : K → Row → Failure → K → Type 0
+    Refuses a row failure b = (failure.lost ≡ lost.Disk) × (is_shown_among (of a) row ≡ false)
 
     module _ (first last : K) (from : of first ≡ domains) where
-      stray : (refusal : OpenFault) → GaveUpTo Took Refuses IsAnswer first last refusal → AreOwnedAmong domains table (rows_named db) → ⊥
+      stray : (refusal : Failure) → GaveUpTo Took Refuses IsAnswer first last refusal → AreOwnedAmong domains table (rows_named db) → ⊥
       stray refusal it owned =
           let was = was_there (rows_named db) (owned_name table) (owned_place table ∷ []) (0 ∷ []) (it.front ++ it.row ∷ it.rest) it.answer it.row (has_middle it.front it.row it.rest) in
           let shown : is_shown_among domains it.row ≡ true = ap (is_shown_among domains) was.2 ∙ owned was.0 was.1 in
@@ -105,11 +107,11 @@ module _ (db : Database) (domains : List Row) (table : Owned) where
       no_statement fault (inl is) = subst (RefusesUnless (AreOwnedAmong domains table (rows_named db))) (sym is) tt
       no_statement fault (inr is) = subst (RefusesUnless (AreOwnedAmong domains table (rows_named db))) (sym is) tt
 
-      walk_refuses : (cut : WalkFault OpenFault) (fault : OpenFault) → IsOfTest cut fault → CutShort Took Refuses IsAnswer first last cut → RefusesUnless (AreOwnedAmong domains table (rows_named db)) fault
+      walk_refuses : (cut : WalkFault Failure) (fault : OpenFault) → IsOfWalk cut fault → CutShort Took Refuses IsAnswer first last cut → RefusesUnless (AreOwnedAmong domains table (rows_named db)) fault
       walk_refuses (NoRows error) fault is it = no_statement fault is.others
-      walk_refuses (NoSink refusal) fault is it = subst (RefusesUnless (AreOwnedAmong domains table (rows_named db))) (sym (is ∙ it.refused.0)) (stray refusal it)
+      walk_refuses (NoSink refusal) fault is it = subst (RefusesUnless (AreOwnedAmong domains table (rows_named db))) (sym (is ∙ ap unread it.refused.0)) (stray refusal it)
 
-      pub walk_refused : {C A : Type 0} (r : Result A OpenFault) (cut : WalkFault OpenFault) → IsErrAnd r (IsOfTest cut) → (C → CutShort Took Refuses IsAnswer first last cut)
+      pub walk_refused : {C A : Type 0} (r : Result A OpenFault) (cut : WalkFault Failure) → IsErrAnd r (IsOfWalk cut) → (C → CutShort Took Refuses IsAnswer first last cut)
           → IfErr r (λ fault. C → RefusesUnless (AreOwnedAmong domains table (rows_named db)) fault)
       walk_refused (Ok x) cut is it = tt
       walk_refused (Err fault) cut is it = λ clean. walk_refuses cut fault is (it clean)

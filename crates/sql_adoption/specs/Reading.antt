@@ -62,11 +62,6 @@ abbrev pub IsOfWalk : WalkFault Failure → OpenFault → Type 0
 IsOfWalk (NoRows error) fault = IsOfStatement error fault
 IsOfWalk (NoSink failure) fault = fault ≡ unread failure.lost
 
--- why one was that tests rows: by its query, or by what was told of a row
-abbrev pub IsOfTest : WalkFault OpenFault → OpenFault → Type 0
-IsOfTest (NoRows error) fault = IsOfStatement error fault
-IsOfTest (NoSink refusal) fault = fault ≡ refusal
-
 -- ---- the form
 
 -- rows that show one column show these names

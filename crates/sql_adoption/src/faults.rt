@@ -123,20 +123,6 @@ impl From<WalkFault<Failure>> for OpenFault {
     }
 }
 
-/// Of a walk that was cut short: why its query failed, or what was told of a row.
-impl From<WalkFault<OpenFault>> for OpenFault {
-    ghost use Rattle.sql_adoption.specs.Reading.{IsOfTest};
-
-    ghost from_gives = { IsOfTest };
-
-    fn from(fault: WalkFault<OpenFault>) -> OpenFault {
-        match fault {
-            WalkFault::NoRows(error) => OpenFault::from(error),
-            WalkFault::NoSink(refusal) => refusal,
-        }
-    }
-}
-
 impl OpenFault {
     ghost use Rattle.std.specs.Prelude.{◌≡◌};
     ghost use Rattle.sql_adoption.specs.Faults.{lost_of};

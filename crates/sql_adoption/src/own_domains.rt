@@ -9,12 +9,14 @@ ghost use Rattle.sql_meaning.specs.Domains.{HoldsOwnDomains};
 ghost use Rattle.sql_adoption.specs.Reading as spec;
 ghost use Rattle.sql_adoption.specs.OwnedRows.{AreOwnedAmong, AllOwnedAmong, TestsRows};
 
-use crate::faults::{Mismatch, OpenFault};
+use crate::faults::OpenFault;
 use crate::look_ups::look_up_domains;
+use sql_decoding::Failure;
 use sql_statements::owners::{Owned, walk_owners};
 use sql_streams::RowSink;
 use sqlite::types::ValueRef;
 use sqlite::{Alter, Connection, Row};
+use tables::Lost;
 
 /// The bytes of a row's first column, which other values than texts and blobs don't have.
 pub(crate) fn bytes_of(row: &Row) -> &[u8]
@@ -45,24 +47,23 @@ impl<'a> RowSink for Named<'a> {
     ghost use Rattle.std.specs.Prelude.{◌≡◌, false};
     ghost use Rattle.sql_adoption.specs.OwnedRows.{TakesNamed, named_none, named_more};
     ghost use Rattle.sql_adoption.specs.Reading.{is_shown_among};
-    ghost use Rattle.sql_adoption.specs.declared.faults.OpenFault.TheVariants.{Foreign};
-    ghost use Rattle.sql_adoption.specs.declared.faults.Mismatch.TheVariants.{UnreadRow};
+    ghost use Rattle.tables.specs.declared.faults.Lost.TheVariants.{Disk};
 
-    type Refusal = OpenFault;
+    type Refusal = Failure;
 
     ghost Took = { λ a rows b. TakesNamed a.domains.now rows b.domains.now };
 
-    ghost Refuses = { λ a row fault b. (fault ≡ Foreign UnreadRow) × (is_shown_among a.domains.now row ≡ false) };
+    ghost Refuses = { λ a row failure b. (failure.lost ≡ Disk) × (is_shown_among a.domains.now row ≡ false) };
 
     ghost none = { λ s. named_none s.domains.now };
 
     ghost more = { λ a b c xs ys one two. named_more a.domains.now b.domains.now c.domains.now xs ys one two };
 
-    fn take(&mut self, row: &Row) -> Result<(), OpenFault> {
+    fn take(&mut self, row: &Row) -> Result<(), Failure> {
         if is_shown_among(self.domains, row) {
             Ok(())
         } else {
-            Err(OpenFault::Foreign(Mismatch::UnreadRow))
+            Err(Failure { lost: Lost::Disk })
         }
     }
 }

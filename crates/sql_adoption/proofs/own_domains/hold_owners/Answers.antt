@@ -2,7 +2,7 @@ use Rattle.std.proofs.Common.{Ok, refl}
 use Rattle.sqlite.specs.Held.{state}
 use Rattle.sql_streams.specs.declared.walking.WalkFault.{WalkFault}
 use Rattle.sql_schema.specs.Layouts.{rows_named}
-use Rattle.sql_adoption.specs.declared.faults.OpenFault.{OpenFault}
+use Rattle.sql_decoding.specs.declared.faults.Failure.{Failure}
 use Rattle.sql_adoption.specs.OwnedRows.{AreOwnedAmong}
 use Rattle.sql_adoption.proofs.Looked.{walked_on, looked_failed}
 use Rattle.sql_adoption.proofs.OwnDomains.{walk_told, walk_refused}
@@ -14,7 +14,7 @@ returns g c =
     let domains = c.args.domains.now in
     record {
       tests = record {
-        found = walked_on old (state g.S.Store c.walk_owners.new.connection) {E = WalkFault OpenFault} _ (Ok _) _ (λ db _. AreOwnedAmong domains c.args.table (rows_named db)) c.in_ok-walk_owners.ensures.looked (λ clean early is_open.
+        found = walked_on old (state g.S.Store c.walk_owners.new.connection) {E = WalkFault Failure} _ (Ok _) _ (λ db _. AreOwnedAmong domains c.args.table (rows_named db)) c.in_ok-walk_owners.ensures.looked (λ clean early is_open.
             let gave = c.in_ok-walk_owners.ensures.handed clean in
             walk_told old.now domains c.args.table gave.rows gave.answer gave.took.named);
         refused = tt;
