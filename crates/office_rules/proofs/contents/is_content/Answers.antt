@@ -1,4 +1,4 @@
-use Rattle.std.proofs.Common.{refl}
+use Rattle.std.proofs.Common.{Err}
 use Rattle.office_rules.proofs.ContentTests.{content_told, no_content}
 use Rattle.office_rules.proofs.contents.is_content.Goals as goal
 
@@ -6,4 +6,4 @@ pub returns-in-Ok : goal.returns-in-Ok
 returns-in-Ok c = content_told c.args.content.now c.in-Ok.request c.has_content.result c.in-Ok.ensures.one c.has_content.ensures.has c.has_content.ensures.limits
 
 pub returns-in-Err-Malformed : goal.returns-in-Err-Malformed
-returns-in-Err-Malformed c = no_content c.args.content.now (c.in-Err-Malformed.ensures.malformed refl)
+returns-in-Err-Malformed c = no_content c.args.content.now (c.in-Err-Malformed.ensures.malformed (λ i. Err (c.in-Err-Malformed.field-0-is i)))
