@@ -1,8 +1,10 @@
-use Rattle.std.proofs.Common.{◌≡◌, Ok, Err, true, false, sym, ◌∙◌}
+use Rattle.std.proofs.Common.{◌≡◌, List, Ok, Err, true, false, sym, ◌∙◌}
 use Rattle.sqlite.specs.Held.{state}
+use Rattle.sqlite.specs.Order.{Row}
 use Rattle.sql_streams.specs.declared.walking.WalkFault.{WalkFault}
 use Rattle.sql_decoding.specs.declared.faults.Failure.{Failure}
 use Rattle.sql_schema.specs.Layouts.{by_domain}
+use Rattle.sql_adoption.specs.declared.statuses.Contents.{Contents}
 use Rattle.sql_adoption.specs.NotedRecords.{TestsRecords}
 use Rattle.sql_adoption.specs.Reading.{KeepsRecords}
 use Rattle.sql_adoption.specs.declared.faults.OpenFault.TheVariants.{Foreign}
@@ -39,5 +41,5 @@ returns-in_err-walk_contents-clause-found g c =
 pub returns-in_err-walk_contents-clause-refused : goal.returns-in_err-walk_contents-clause-refused
 returns-in_err-walk_contents-clause-refused g c =
     let db = (state g.S.Store c.args.connection.now).now in
-    records_unread db c.from_residual.result (walk_refused db (λ a rows b. TestsRecords a.answered rows b.answered) _ c.walk_contents.new.sink c.from_residual.result c.in_err-walk_contents.field-0.0
+    records_unread db c.from_residual.result (walk_refused db (λ (a : Contents) (rows : List Row) (b : Contents). TestsRecords a.answered rows b.answered) _ c.walk_contents.new.sink c.from_residual.result c.in_err-walk_contents.field-0.0
     c.from_residual.ensures.1 c.in_err-walk_contents.ensures.handed)

@@ -1,8 +1,10 @@
-use Rattle.std.proofs.Common.{Ok}
+use Rattle.std.proofs.Common.{List, Ok}
 use Rattle.std.specs.FinMap as maps
 use Rattle.sqlite.specs.Held.{state}
+use Rattle.sqlite.specs.Order.{Row}
 use Rattle.sql_streams.specs.declared.walking.WalkFault.{WalkFault}
 use Rattle.sql_decoding.specs.declared.faults.Failure.{Failure}
+use Rattle.sql_adoption.specs.declared.statuses.Statuses.{Statuses}
 use Rattle.sql_adoption.specs.NotedRecords.{NotesRecords}
 use Rattle.sql_adoption.specs.Reading.{AreStatusesIn}
 use Rattle.sql_adoption.proofs.Looked.{walked_on, looked_failed}
@@ -25,5 +27,5 @@ returns-in_err-walk_contents-clause-found g c =
 
 pub returns-in_err-walk_contents-clause-refused : goal.returns-in_err-walk_contents-clause-refused
 returns-in_err-walk_contents-clause-refused g c =
-    walk_refused (state g.S.Store c.args.connection.now).now (λ a rows b. NotesRecords a.by_number rows b.by_number) c.new-statuses.result c.walk_contents.new.sink c.from_residual.result c.in_err-walk_contents.field-0.0
+    walk_refused (state g.S.Store c.args.connection.now).now (λ (a : Statuses) (rows : List Row) (b : Statuses). NotesRecords a.by_number rows b.by_number) c.new-statuses.result c.walk_contents.new.sink c.from_residual.result c.in_err-walk_contents.field-0.0
     c.from_residual.ensures.1 c.in_err-walk_contents.ensures.handed

@@ -3,6 +3,7 @@ use Rattle.sqlite.specs.Held.{state}
 use Rattle.sql_streams.specs.declared.walking.WalkFault.{WalkFault}
 use Rattle.sql_schema.specs.Layouts.{rows_named}
 use Rattle.sql_decoding.specs.declared.faults.Failure.{Failure}
+use Rattle.sql_adoption.specs.declared.own_domains.Named.{Named}
 use Rattle.sql_adoption.specs.OwnedRows.{AreOwnedAmong}
 use Rattle.sql_adoption.proofs.Looked.{walked_on, looked_failed}
 use Rattle.sql_adoption.proofs.OwnDomains.{walk_told, walk_refused}
@@ -28,6 +29,6 @@ returns-in_err-walk_owners g c =
     record {
       tests = record {
         found = looked_failed old (state g.S.Store c.walk_owners.new.connection) _ c.from_residual.result _ (λ db _. AreOwnedAmong domains c.args.table (rows_named db)) c.from_residual.ensures.0 c.in_err-walk_owners.ensures.looked;
-        refused = walk_refused old.now domains c.args.table (λ s. s.domains.now) _ c.walk_owners.new.sink refl c.from_residual.result c.in_err-walk_owners.field-0.0 c.from_residual.ensures.1 c.in_err-walk_owners.ensures.handed;
+        refused = walk_refused old.now domains c.args.table (λ (s : Named). s.domains.now) _ c.walk_owners.new.sink refl c.from_residual.result c.in_err-walk_owners.field-0.0 c.from_residual.ensures.1 c.in_err-walk_owners.ensures.handed;
       };
     }
