@@ -6,7 +6,7 @@
 What `office --help` and `office COMMAND --help` list, subcommands, options and arguments, each with its text, has to stand in
 share/man/man1/office.1 and in the completion for zsh, and nothing else; bash has to complete to the same words. `man --warnings` has to find nothing
 in the page. Wrong words have to end with status 2, and help and the version with 0. At a terminal a fault has a line behind it that says what it
-means, and nowhere else. The last line ends in 'N differences'.
+means, and nowhere else; and a file's name that has control characters gives it no orders. The last line ends in 'N differences'.
 """
 import http.client
 import json
@@ -23,9 +23,14 @@ import looks
 TOP = pathlib.Path(__file__).resolve().parent.parent
 PROGRAM = TOP / "crates" / "cli" / "out" / "cli"
 PAGE = TOP / "share" / "man" / "man1" / "office.1"
+# From so many bytes on it is told at a terminal that a file is opened.
+LARGE = 16 << 20
 BASH = TOP / "share" / "bash-completion" / "completions" / "office"
 ZSH = TOP / "share" / "zsh" / "site-functions" / "_office"
 NUMBER = "0197f6a4-5d2e-7c31-8e2a-4b7f0c9d1e55"
+# What zsh completes these values to, and the options that may be there several times.
+PATHS = {"FILE": "_files", "FOLDER": "_files -/"}
+SEVERAL = {("export", "--lang")}
 # Words, and the status that they end with.
 WORDS = [
     (["--help"], 0),
@@ -48,6 +53,14 @@ WORDS = [
     (["export", "--store", "/nowhere/office.db", "--domain", "Docs", "--lang", "de"], 2),
     (["export", "--store", "/nowhere/office.db", "--domain", "", "--lang", "de"], 2),
     (["export", "--store", "/nowhere/office.db", "--domain", "--lang", "de"], 2),
+    (["export", "--store", "/nowhere/office.db", "--lang", "de", "--lang", "fr"], 2),
+    (["export", "--store", "/nowhere/office.db", "--lang", "de", "--lang", "de"], 2),
+    (["export", "--store", "/nowhere/office.db", "--into", "/nowhere/po"], 2),
+    (["export", "--store", "/nowhere/office.db", "--lang", "de", "--into"], 2),
+    (["export", "--store", "/nowhere/office.db", "--lang", "de", "--into", ""], 2),
+    (["export", "--store", "/nowhere/office.db", "--lang", "de", "--lang", "d", "--into", "/nowhere/po"], 2),
+    (["export", "--store", "/nowhere/office.db", "--lang", "de", "--into", "/nowhere/po", "--into", "/nowhere/po"], 2),
+    (["export", "--store", "/nowhere/office.db", "--lang", "de", "--lang", "fr", "--into", "/nowhere/po"], 1),
     (["records", "--help"], 0),
     (["records"], 2),
     (["records", "--after", NUMBER], 2),
@@ -125,11 +138,12 @@ WORDS = [
     (["deliver", "--export", "xx"], 1),
 ]
 # Words, the line of a fault that they tell, and what the line behind it has to name at a terminal. The files `{made}`, `{empty}` and `{twice}` are
-# an office's, an empty one, and one of requests two of which have one number.
+# an office's, an empty one, and one of requests two of which have one number; `{po}` is a folder that isn't there.
 TOLD = [
     (["export", "--store", "/nowhere/office.db", "--lang", "de"], "store fault 2", ["in use by another program", "isn't there", "no database"]),
     (["init", "--store", "{made}", "--manager", "root"], "store: exists", ["an office already"]),
     (["export", "--store", "{empty}", "--lang", "de"], "store fault 3", ["no office's"]),
+    (["export", "--store", "{made}", "--lang", "de", "--into", "{po}"], "de export fault 1", ["no such domain or language"]),
     (["records", "--store", "{made}", "--after", NUMBER], "records fault 1", ["No record", "that number"]),
     (["deliver", "--export", "xx"], "export fault 1", ["no such domain or language"]),
     (["deliver", "--demo", "--export", "de", "--domain", "docs"], "export fault 1", ["no such domain or language"]),
@@ -236,7 +250,7 @@ def zsh_differs(commands, own):
     text = ZSH.read_text().replace("\\:", ":")
     lines = [it.strip().rstrip("\\").strip() for it in text.split("\n")]
     wanted = {quoted(f"{name}:{about}") for name, about in commands.items()}
-    for parts in own.values():
+    for command, parts in own.items():
         for option, about in parts["Options"].items():
             about = re.sub(r" \[default: .*\]$", "", about)
             short, _, rest = option.partition(", ")
@@ -245,7 +259,8 @@ def zsh_differs(commands, own):
             if rest:
                 wanted.add(f"'({short} {name})'{{{short},{name}}}'[{about}]'")
             else:
-                wanted.add(quoted(f"{name}[{about}]" + (f":{value}:" if value else "") + ("_files" if value == "FILE" else "")))
+                again = "*" if (command, name) in SEVERAL else ""
+                wanted.add(quoted(f"{again}{name}[{about}]" + (f":{value}:" if value else "") + PATHS.get(value, "")))
         for name, about in parts.get("Arguments", {}).items():
             place = "*" if name.endswith("...") else str(1 + list(parts["Arguments"]).index(name))
             wanted.add(quoted(f"{place}:{page_name(name)} ({about[0].lower()}{about[1:]}):"))
@@ -268,8 +283,8 @@ def kinds_differ(program):
     yield from (f"the page says else of kind {kind}" for kind, text in kinds.items() if f"{kind} {text.split(';')[0]}" not in page)
 
 
-def told_at_terminal(program, words, meanwhile=lambda: None):
-    """What stands on the second output where it is a terminal, line by line; what is done meanwhile is done once the program runs."""
+def shown_at_terminal(program, words, meanwhile=lambda: None):
+    """What stands on the second output where it is a terminal; what is done meanwhile is done once the program runs."""
     ours, theirs = pty.openpty()
     with subprocess.Popen([program, *words], stdin=subprocess.DEVNULL, stdout=subprocess.DEVNULL, stderr=theirs) as process:
         os.close(theirs)
@@ -282,12 +297,17 @@ def told_at_terminal(program, words, meanwhile=lambda: None):
             pass  # Linux says so where the other side is closed.
         process.wait()
     os.close(ours)
-    return found.decode().replace("\r\n", "\n").splitlines()
+    return found.decode().replace("\r\n", "\n")
+
+
+def told_at_terminal(program, words, meanwhile=lambda: None):
+    """The same, line by line."""
+    return shown_at_terminal(program, words, meanwhile).splitlines()
 
 
 def sentences_differ(program):
     with tempfile.TemporaryDirectory() as name:
-        files = {it: str(pathlib.Path(name) / it) for it in ("made", "empty", "twice")}
+        files = {it: str(pathlib.Path(name) / it) for it in ("made", "empty", "twice", "po")}
         run(program, ["init", "--store", files["made"], "--manager", "root"])
         pathlib.Path(files["empty"]).touch()
         line = '{"act":"team","caller":"root","name":"ann","number":"00000000-0000-4000-8000-000000000001","role":"translator"}\n'
@@ -299,6 +319,18 @@ def sentences_differ(program):
             told = told_at_terminal(program, words)
             if len(told) != 2 or told[0] != fault or not all(it in told[1] for it in named):
                 yield f"{words} tell {told} at a terminal, of {fault}"
+
+
+def orders_given(program):
+    """Whatever stands in the name of a large file, which is told at a terminal: what is shown has no control character but its line ends."""
+    with tempfile.TemporaryDirectory() as name:
+        for it in (it for it in looks.CONTROLS if it):
+            path = pathlib.Path(name) / f"a{chr(it)}b"
+            with path.open("wb") as file:
+                file.truncate(LARGE)
+            shown = shown_at_terminal(program, ["export", "--store", str(path), "--lang", "de"]).split("\n")
+            if len(shown) != 4 or not shown[0].startswith("opening ") or any(ord(one) in looks.CONTROLS for one in "".join(shown)):
+                yield f"the name of a file with U+{it:04X} is shown at a terminal as {shown}"
 
 
 def disk_fault_differs(program):
@@ -339,10 +371,10 @@ def main(words):
     program = pathlib.Path(words[0] if words else PROGRAM).resolve()
     commands, own = words_of(program)
     wrong = [*page_differs(commands, own), *bash_differs(commands, own), *zsh_differs(commands, own)]
-    wrong += [*page_warnings(), *kinds_differ(program), *man_page_named(program), *sentences_differ(program), *disk_fault_differs(program), *status_differs(program)]
+    wrong += [*page_warnings(), *kinds_differ(program), *man_page_named(program), *sentences_differ(program), *orders_given(program), *disk_fault_differs(program), *status_differs(program)]
     for it in wrong:
         print(it)
-    print(f"{len(commands)} subcommands, {len(WORDS) + len(TOLD) + 1} runs: {len(wrong)} differences")
+    print(f"{len(commands)} subcommands, {len(WORDS) + len(TOLD) + len(looks.CONTROLS)} runs: {len(wrong)} differences")
     return 1 if wrong else 0
 
 
