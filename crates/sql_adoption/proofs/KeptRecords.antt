@@ -62,9 +62,9 @@ unread_records db Exists h = absurd h
 unread_records db Memory h = tt
 unread_records db Disk h = tt
 
-pub records_unread : {C A : Type 0} (db : Database) (r : Result A OpenFault) → IfErr r (λ fault. C → RefusesBook db fault) → IfErr r (λ fault. C → RefusesRecords db fault)
-records_unread db (Ok x) h = tt
-records_unread db (Err fault) h = λ clean. unread_records db fault (h clean)
+pub records_unread : (C : Type 0) {A : Type 0} (db : Database) (r : Result A OpenFault) → IfErr r (λ fault. C → RefusesBook db fault) → IfErr r (λ fault. C → RefusesRecords db fault)
+records_unread C db (Ok x) h = tt
+records_unread C db (Err fault) h = λ clean. unread_records db fault (h clean)
 
 -- ---- with an office
 

@@ -183,14 +183,15 @@ module _ (domains : List Row) where
 
 -- ---- with the domains that there are
 
-module _ {A E V : Type 0} (a b c : State) (found : A) (shown : A → List Row) (r : Result V OpenFault) (one : IsLookUp {E = E} a b (Ok found) (λ db x. ShowsDomains db (shown x))) where
-  pub own_tested : TestsRows (AllAmong (shown found)) b c r → TestsRows (λ db. HoldsOwnDomains (rows_named db)) a c r
-  own_tested it = record { found = own_found; refused = by r it }
-    where
-      own_found : IsLookUp a c r (λ db _. HoldsOwnDomains (rows_named db))
-      own_found = looked_weaker a c r (λ db _. ShowsDomains db (shown found) × AllAmong (shown found) db) (λ db _. HoldsOwnDomains (rows_named db))
-          (λ db v both. own_told (rows_named db) (shown found) both.0 both.1) (both_looked a b c found r (λ db x. ShowsDomains db (shown x)) (λ db _. AllAmong (shown found) db) one it.found)
+module _ {A V : Type 0} (a b c : State) (found : A) (shown : A → List Row) (r : Result V OpenFault) (one : IsLookUp {E = Error} a b (Ok found) (λ db x. ShowsDomains db (shown x))) where
+  own_found : TestsRows (AllAmong (shown found)) b c r → IsLookUp a c r (λ db _. HoldsOwnDomains (rows_named db))
+  own_found it =
+      looked_weaker a c r (λ db _. ShowsDomains db (shown found) × AllAmong (shown found) db) (λ db _. HoldsOwnDomains (rows_named db))
+      (λ db v both. own_told (rows_named db) (shown found) both.0 both.1) (both_looked a b c found r (λ db x. ShowsDomains db (shown x)) (λ db _. AllAmong (shown found) db) one it.found)
 
+  pub own_tested : TestsRows (AllAmong (shown found)) b c r → TestsRows (λ db. HoldsOwnDomains (rows_named db)) a c r
+  own_tested it = record { found = own_found it; refused = by r it }
+    where
       by : (s : Result V OpenFault) → TestsRows (AllAmong (shown found)) b c s → IfErr s (λ fault. HasCleanDisk c → RefusesUnless (HoldsOwnDomains (rows_named a.now)) fault)
       by (Ok v) t = tt
       by (Err fault) t = λ clean.

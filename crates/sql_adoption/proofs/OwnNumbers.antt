@@ -104,6 +104,13 @@ module _ (db : Database) (ready : AreOfficeTablesOf by_domain db) (stands : (dom
   abbrev Among : Text → (Row → Type 0) → Text → Type 0
   Among domain Told number = (x : Row) × Has (suggestions domain) x × Told x × (number ≡ number_at 1 x)
 
+  -- the place of a suggestion's unit
+  abbrev unit_place : Row → Place
+  unit_place x = (text_at 2 x, key_at 3 x)
+
+  abbrev place_named : Text → Text → Place
+  place_named lang key = (lang, key_parts key)
+
   module _ (domain : Text) where
     abbrev tables : NamedRows
     tables = seen_in domain rows
@@ -121,7 +128,7 @@ module _ (db : Database) (ready : AreOfficeTablesOf by_domain db) (stands : (dom
       alone [] = refl
       alone (e ∷ es) = ap (λ ns. e.1.number ∷ ns) (alone es)
 
-      its_place : (x : Row) → Has on_it x → Has (suggestions domain) x × ((text_at 2 x, key_at 3 x) ≡ (lang, key_parts key))
+      its_place : (x : Row) → Has on_it x → Has (suggestions domain) x × (unit_place x ≡ place_named lang key)
       its_place x there =
           let kept = has_filtered (is_on_unit lang key) (suggestions domain) x there in
           let parts = and_parts (has_text 2 lang x) (has_text 3 key x) kept.1 in
@@ -134,24 +141,24 @@ module _ (db : Database) (ready : AreOfficeTablesOf by_domain db) (stands : (dom
           (λ p q m n own other e. sym own.2 ∙ ap (integer_at 4) (one_row domain domain own.0 other.0 own.1 other.1 (sym own.3 ∙ e ∙ other.3)).0 ∙ other.2)
           (λ x there. (tt, tt)) (λ x there. ((x, (its_place x there).0, refl, refl), tt)))
 
-      unit_owns : AllByRecursion (Among domain (λ x. (text_at 2 x, key_at 3 x) ≡ (lang, key_parts key))) (map (λ (s : Suggestion). s.number) (suggestions_in tables lang key))
-      unit_owns = subst (AllByRecursion (Among domain (λ x. (text_at 2 x, key_at 3 x) ≡ (lang, key_parts key)))) (alone _)
-          (all_numbered int_cmp int_cmp_total int_cmp-IsAntisymmetric (integer_at 4) (suggestion_of_row tables) number_alone on_it (Among domain (λ x. (text_at 2 x, key_at 3 x) ≡ (lang, key_parts key)))
+      unit_owns : AllByRecursion (Among domain (λ x. unit_place x ≡ place_named lang key)) (map (λ (s : Suggestion). s.number) (suggestions_in tables lang key))
+      unit_owns = subst (AllByRecursion (Among domain (λ x. unit_place x ≡ place_named lang key))) (alone _)
+          (all_numbered int_cmp int_cmp_total int_cmp-IsAntisymmetric (integer_at 4) (suggestion_of_row tables) number_alone on_it (Among domain (λ x. unit_place x ≡ place_named lang key))
           (λ x there. ((x, (its_place x there).0, (its_place x there).1, refl), tt)))
 
     -- ---- a domain's
 
     domain_distinct : IsDistinct text_eq (numbers_in (domain_of_rows rows domain))
     domain_distinct =
-        numbers_distinct place_cmp place_total place_IsAntisymmetric place_of_row (unit_of_row tables) numbers_of (tables (codes "unit")) (λ place. Among domain (λ x. (text_at 2 x, key_at 3 x) ≡ place))
-        (λ p q m n own other e. sym own.2 ∙ ap (λ x. (text_at 2 x, key_at 3 x)) (one_row domain domain own.0 other.0 own.1 other.1 (sym own.3 ∙ e ∙ other.3)).0 ∙ other.2)
+        numbers_distinct place_cmp place_total place_IsAntisymmetric place_of_row (unit_of_row tables) numbers_of (tables (codes "unit")) (λ place. Among domain (λ x. unit_place x ≡ place))
+        (λ p q m n own other e. sym own.2 ∙ ap unit_place (one_row domain domain own.0 other.0 own.1 other.1 (sym own.3 ∙ e ∙ other.3)).0 ∙ other.2)
         (λ u there. unit_distinct (text_at 1 u) (text_at 2 u)) (λ u there. unit_owns (text_at 1 u) (text_at 2 u))
 
     domain_owns : AllByRecursion (Among domain (λ x. ⊤)) (numbers_in (domain_of_rows rows domain))
     domain_owns = all_numbered place_cmp place_total place_IsAntisymmetric place_of_row (unit_of_row tables) numbers_of (tables (codes "unit")) (Among domain (λ x. ⊤))
         (λ u there. any (text_at 1 u) (text_at 2 u) _ (unit_owns (text_at 1 u) (text_at 2 u)))
       where
-        any : (lang key : Text) (ns : List Text) → AllByRecursion (Among domain (λ x. (text_at 2 x, key_at 3 x) ≡ (lang, key_parts key))) ns → AllByRecursion (Among domain (λ x. ⊤)) ns
+        any : (lang key : Text) (ns : List Text) → AllByRecursion (Among domain (λ x. unit_place x ≡ place_named lang key)) ns → AllByRecursion (Among domain (λ x. ⊤)) ns
         any lang key [] all = tt
         any lang key (n ∷ ns) all = ((all.0.0, all.0.1, tt, all.0.3), any lang key ns all.1)
 

@@ -1,5 +1,5 @@
 -- What a foreign key of the tables by domains says: each suggestion's number is a record's.
-use Rattle.std.proofs.Common.{◌≡◌, [], ◌∷◌, codes, true, Some, refl, sym, subst}
+use Rattle.std.proofs.Common.{◌≡◌, [], ◌∷◌, codes, true, false, Some, refl, sym, subst}
 use Rattle.std.proofs.lemmas.Bool.{and_parts}
 use Rattle.std.specs.List.{list_any}
 use Rattle.sqlite.specs.Order.{Row, column}

@@ -19,13 +19,13 @@ returns-then-branch-clause-found g c =
     looked_on old (state g.S.Store c.keep_records.new.connection) {E = OpenFault} _ (Ok _) (λ db _. KeepsRecords db) (λ db _. IsReadOf by_domain db read → KeepsBook (office_in read.maps) db) c.in_ok-keep_records.ensures.found
     (λ early is_open records is. recorded_kept old.now read (c.requires.idle.ready early is_open) records (c.in_ok-is_office.ensures.0 c.if-branch.true) is)
 
-pub returns-clause-found : goal.returns-clause-found
-returns-clause-found g c =
+pub returns-else-branch-clause-found : goal.returns-else-branch-clause-found
+returns-else-branch-clause-found g c =
     looked_in_vain (state g.S.Store c.args.connection.now) (state g.S.Store c.keep_records.new.connection) {E = OpenFault} _ (Foreign BrokenRules) (λ db _. KeepsRecords db)
     (λ db _. IsReadOf by_domain db c.args.read.now → KeepsBook (office_in c.args.read.now.maps) db) c.in_ok-keep_records.ensures.found
 
-pub returns-clause-refused : goal.returns-clause-refused
-returns-clause-refused g c = λ clean rules. false≢true (sym c.if-branch.false ∙ c.in_ok-is_office.ensures.1 rules.office)
+pub returns-else-branch-clause-refused : goal.returns-else-branch-clause-refused
+returns-else-branch-clause-refused g c = λ clean rules. false≢true (sym c.if-branch.false ∙ c.in_ok-is_office.ensures.1 rules.office)
 
 pub returns-in_err-keep_records-clause-refused : goal.returns-in_err-keep_records-clause-refused
 returns-in_err-keep_records-clause-refused g c =

@@ -14,29 +14,29 @@ use Rattle.sql_adoption.proofs.own_domains.hold_all_owners.Goals as goal
 idle_on : {U : Type 0} (P : Database → Type 0) (a b : State) (u : U) → IsIdleOver by_domain a → TestsRows P a b (Ok u) → IsIdleOver by_domain b
 idle_on P a b u idle it = idle_still a b (Ok u) (λ db _. P db) idle it.found
 
-pub hold_owners-2-requires-clause-idle : goal.hold_owners-2-requires-clause-idle
-hold_owners-2-requires-clause-idle g c = idle_on _ (state g.S.Store c.args.connection.now) (state g.S.Store c.hold_owners.new.connection) _ c.requires.idle c.in_ok-hold_owners.ensures.tests
+pub hold_owners-requires-2-clause-idle : goal.hold_owners-requires-2-clause-idle
+hold_owners-requires-2-clause-idle g c = idle_on _ (state g.S.Store c.args.connection.now) (state g.S.Store c.hold_owners.new.connection) _ c.requires.idle c.in_ok-hold_owners.ensures.tests
 
-pub hold_owners-2-requires-clause-is_open : goal.hold_owners-2-requires-clause-is_open
-hold_owners-2-requires-clause-is_open g c = c.in_ok-hold_owners.ensures.tests.found.is_open
+pub hold_owners-requires-2-clause-is_open : goal.hold_owners-requires-2-clause-is_open
+hold_owners-requires-2-clause-is_open g c = c.in_ok-hold_owners.ensures.tests.found.is_open
 
-pub hold_owners-3-requires-clause-idle : goal.hold_owners-3-requires-clause-idle
-hold_owners-3-requires-clause-idle g c =
+pub hold_owners-requires-3-clause-idle : goal.hold_owners-requires-3-clause-idle
+hold_owners-requires-3-clause-idle g c =
     let b = state g.S.Store c.hold_owners.new.connection in
     idle_on _ b (state g.S.Store c.hold_owners-2.new.connection) _ (idle_on _ (state g.S.Store c.args.connection.now) b _ c.requires.idle c.in_ok-hold_owners.ensures.tests) c.in_ok-hold_owners-2.ensures.tests
 
-pub hold_owners-3-requires-clause-is_open : goal.hold_owners-3-requires-clause-is_open
-hold_owners-3-requires-clause-is_open g c = c.in_ok-hold_owners-2.ensures.tests.found.is_open
+pub hold_owners-requires-3-clause-is_open : goal.hold_owners-requires-3-clause-is_open
+hold_owners-requires-3-clause-is_open g c = c.in_ok-hold_owners-2.ensures.tests.found.is_open
 
-pub hold_owners-4-requires-clause-idle : goal.hold_owners-4-requires-clause-idle
-hold_owners-4-requires-clause-idle g c =
+pub hold_owners-requires-4-clause-idle : goal.hold_owners-requires-4-clause-idle
+hold_owners-requires-4-clause-idle g c =
     let b = state g.S.Store c.hold_owners.new.connection in
     let d = state g.S.Store c.hold_owners-2.new.connection in
     idle_on _ d (state g.S.Store c.hold_owners-3.new.connection) _
     (idle_on _ b d _ (idle_on _ (state g.S.Store c.args.connection.now) b _ c.requires.idle c.in_ok-hold_owners.ensures.tests) c.in_ok-hold_owners-2.ensures.tests) c.in_ok-hold_owners-3.ensures.tests
 
-pub hold_owners-4-requires-clause-is_open : goal.hold_owners-4-requires-clause-is_open
-hold_owners-4-requires-clause-is_open g c = c.in_ok-hold_owners-3.ensures.tests.found.is_open
+pub hold_owners-requires-4-clause-is_open : goal.hold_owners-requires-4-clause-is_open
+hold_owners-requires-4-clause-is_open g c = c.in_ok-hold_owners-3.ensures.tests.found.is_open
 
 pub returns : goal.returns
 returns g c =

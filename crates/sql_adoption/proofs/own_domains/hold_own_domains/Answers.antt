@@ -1,4 +1,5 @@
-use Rattle.std.proofs.Common.{◌≡◌, rules, subst}
+use Rattle.std.proofs.Common.{◌≡◌, rules, subst, Vec, Global}
+use Rattle.sqlite.specs.Order.{Row}
 use Rattle.sqlite.specs.Held.{state}
 use Rattle.sqlite.specs.declared.error.Error.{Error}
 use Rattle.sql_adoption.specs.OwnedRows.{TestsRows}
@@ -12,7 +13,7 @@ returns g c =
     let new = state g.S.Store c.hold_all_owners.new.connection in
     let same : c.as_slice.result.now ≡ c.in_ok-domains.domains.items = search rules in
     record {
-      tests = own_tested (state g.S.Store c.args.connection.now) mid new {E = Error} c.in_ok-domains.domains (λ rows. rows.items) c.hold_all_owners.result c.in_ok-domains.ensures.found
+      tests = own_tested (state g.S.Store c.args.connection.now) mid new c.in_ok-domains.domains (λ (rows : Vec Row Global). rows.items) c.hold_all_owners.result c.in_ok-domains.ensures.found
           (subst (λ ds. TestsRows (AllAmong ds) mid new c.hold_all_owners.result) same c.hold_all_owners.ensures.tests);
     }
 

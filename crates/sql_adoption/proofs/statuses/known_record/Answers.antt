@@ -1,4 +1,4 @@
-use Rattle.std.proofs.Common.{◌≡◌, true, false, sym, ap, subst, ◌∙◌}
+use Rattle.std.proofs.Common.{◌≡◌, true, false, sym, ap, subst, ◌∙◌, rules}
 use Rattle.std.proofs.lemmas.Bool.{false≢true}
 use Rattle.request_book.specs.declared.book.Record.{Record}
 use Rattle.request_book.specs.Contents.{IsContent}
@@ -15,9 +15,11 @@ returns-in_err-record-clause-unread c =
 pub returns-then-branch-clause-stands : goal.returns-then-branch-clause-stands
 returns-then-branch-clause-stands c =
     let content = ap (λ (r : Record). r.content) c.in_ok-record.ensures.value in
-    record { stands = c.in_ok-record.ensures.stands; content = subst IsContent content (c.in_ok-is_content.ensures.0 c.if-branch.true) }
+    let same : c.as_str.result.now ≡ c.in_ok-record.record.content = search rules in
+    record { stands = c.in_ok-record.ensures.stands; content = subst IsContent (content ∙ same) (c.in_ok-is_content.ensures.0 c.if-branch.true) }
 
-pub returns-clause-unread : goal.returns-clause-unread
-returns-clause-unread c =
+pub returns-else-branch-clause-unread : goal.returns-else-branch-clause-unread
+returns-else-branch-clause-unread c =
     let content = ap (λ (r : Record). r.content) c.in_ok-record.ensures.value in
-    λ disk is. false≢true (sym c.if-branch.false ∙ c.in_ok-is_content.ensures.1 (subst IsContent (sym content) is.content))
+    let same : c.as_str.result.now ≡ c.in_ok-record.record.content = search rules in
+    λ disk is. false≢true (sym c.if-branch.false ∙ c.in_ok-is_content.ensures.1 (subst IsContent (sym (content ∙ same)) is.content))

@@ -22,3 +22,45 @@ returns-in-ForMain-clause-found g c =
 pub returns-in-ForMain-clause-refused : goal.returns-in-ForMain-clause-refused
 returns-in-ForMain-clause-refused g c =
     rw c.in-ForMain.is (IfErr-weaker c.keep_book.result _ _ (λ fault refused clean given. kept_refused (for_main false) (office_in c.args.read.now.maps) (state g.S.Store c.args.connection.now).now fault (refused clean)) c.keep_book.ensures.refused)
+
+pub returns-in_ok-keep_book-in-WithFigures-clause-found : goal.returns-in_ok-keep_book-in-WithFigures-clause-found
+returns-in_ok-keep_book-in-WithFigures-clause-found g c =
+    let old = state g.S.Store c.args.connection.now in
+    let mid = state g.S.Store c.keep_book-in-WithFigures.new.connection in
+    let office = office_in c.args.read.now.maps in
+    let Given : Database → Type 0 = λ db. IsReadOf (for_main true) db c.args.read.now in
+    rw c.in-WithFigures.is (rows_are_kept (for_main true) _ office Given old mid (state g.S.Store c.keep_main_figures.new.connection) c.keep_main_figures.result
+    (kept_anyway office Given old mid (Ok _) c.in_ok-keep_book-in-WithFigures.ensures.found) c.keep_main_figures.ensures.found)
+
+pub returns-in_ok-keep_book-in-WithFigures-clause-refused : goal.returns-in_ok-keep_book-in-WithFigures-clause-refused
+returns-in_ok-keep_book-in-WithFigures-clause-refused g c =
+    let old = state g.S.Store c.args.connection.now in
+    let mid = state g.S.Store c.keep_book-in-WithFigures.new.connection in
+    let office = office_in c.args.read.now.maps in
+    let Given : Database → Type 0 = λ db. IsReadOf (for_main true) db c.args.read.now in
+    rw c.in-WithFigures.is (rows_refused (for_main true) _ office Given old mid (state g.S.Store c.keep_main_figures.new.connection) c.keep_main_figures.result
+    (kept_anyway office Given old mid (Ok _) c.in_ok-keep_book-in-WithFigures.ensures.found) c.keep_main_figures.ensures.found c.keep_main_figures.ensures.refused)
+
+pub returns-in_ok-keep_recorded-in-ByDomain-clause-found : goal.returns-in_ok-keep_recorded-in-ByDomain-clause-found
+returns-in_ok-keep_recorded-in-ByDomain-clause-found g c =
+    let Given : Database → Type 0 = λ db. IsReadOf by_domain db c.args.read.now in
+    rw c.in-ByDomain.is (rows_are_kept by_domain _ (office_in c.args.read.now.maps) Given (state g.S.Store c.args.connection.now) (state g.S.Store c.keep_recorded.new.connection) (state g.S.Store c.keep_figures.new.connection)
+    c.keep_figures.result c.in_ok-keep_recorded.ensures.found c.keep_figures.ensures.found)
+
+pub returns-in_ok-keep_recorded-in-ByDomain-clause-refused : goal.returns-in_ok-keep_recorded-in-ByDomain-clause-refused
+returns-in_ok-keep_recorded-in-ByDomain-clause-refused g c =
+    let Given : Database → Type 0 = λ db. IsReadOf by_domain db c.args.read.now in
+    rw c.in-ByDomain.is (rows_refused by_domain _ (office_in c.args.read.now.maps) Given (state g.S.Store c.args.connection.now) (state g.S.Store c.keep_recorded.new.connection) (state g.S.Store c.keep_figures.new.connection)
+    c.keep_figures.result c.in_ok-keep_recorded.ensures.found c.keep_figures.ensures.found c.keep_figures.ensures.refused)
+
+pub returns-in_err-keep_book-in-WithFigures-clause-refused : goal.returns-in_err-keep_book-in-WithFigures-clause-refused
+returns-in_err-keep_book-in-WithFigures-clause-refused g c =
+    let p = err_from_is_err_and c.from_residual.result c.from_residual.ensures.1 in
+    rw (c.in-WithFigures.is, p.1, p.2) (λ clean given. kept_refused (for_main true) (office_in c.args.read.now.maps) (state g.S.Store c.args.connection.now).now c.in_err-keep_book-in-WithFigures.field-0.0
+    (c.in_err-keep_book-in-WithFigures.ensures.refused clean))
+
+pub returns-in_err-keep_recorded-in-ByDomain-clause-refused : goal.returns-in_err-keep_recorded-in-ByDomain-clause-refused
+returns-in_err-keep_recorded-in-ByDomain-clause-refused g c =
+    let p = err_from_is_err_and c.from_residual-in_err-keep_recorded.result c.from_residual-in_err-keep_recorded.ensures.1 in
+    rw (c.in-ByDomain.is, p.1, p.2) (λ clean given. kept_refused by_domain (office_in c.args.read.now.maps) (state g.S.Store c.args.connection.now).now c.in_err-keep_recorded.field-0.0
+    (c.in_err-keep_recorded.ensures.refused clean))
