@@ -16,10 +16,10 @@ pub returns-then-branch-clause-stands : goal.returns-then-branch-clause-stands
 returns-then-branch-clause-stands c =
     let content = ap (λ (r : Record). r.content) c.in_ok-record.ensures.value in
     let same : c.as_str.result.now ≡ c.in_ok-record.record.content = search rules in
-    record { stands = c.in_ok-record.ensures.stands; content = subst IsContent (content ∙ same) (c.in_ok-is_content.ensures.0 c.if-branch.true) }
+    record { stands = c.in_ok-record.ensures.stands; content = subst IsContent (same ∙ content) (c.in_ok-is_content.ensures.0 c.if-branch.true) }
 
 pub returns-else-branch-clause-unread : goal.returns-else-branch-clause-unread
 returns-else-branch-clause-unread c =
     let content = ap (λ (r : Record). r.content) c.in_ok-record.ensures.value in
     let same : c.as_str.result.now ≡ c.in_ok-record.record.content = search rules in
-    λ disk is. false≢true (sym c.if-branch.false ∙ c.in_ok-is_content.ensures.1 (subst IsContent (sym (content ∙ same)) is.content))
+    λ disk is. false≢true (sym c.if-branch.false ∙ c.in_ok-is_content.ensures.1 (subst IsContent (sym (same ∙ content)) is.content))

@@ -45,13 +45,13 @@ pub returns-in_ok-keep_recorded-in-ByDomain-clause-found : goal.returns-in_ok-ke
 returns-in_ok-keep_recorded-in-ByDomain-clause-found g c =
     let Given : Database → Type 0 = λ db. IsReadOf by_domain db c.args.read.now in
     rw c.in-ByDomain.is (rows_are_kept by_domain _ (office_in c.args.read.now.maps) Given (state g.S.Store c.args.connection.now) (state g.S.Store c.keep_recorded.new.connection) (state g.S.Store c.keep_figures.new.connection)
-    c.keep_figures.result c.in_ok-keep_recorded.ensures.found c.keep_figures.ensures.found)
+    c.keep_figures.result c.in_ok-keep_recorded-in-ByDomain.ensures.found c.keep_figures.ensures.found)
 
 pub returns-in_ok-keep_recorded-in-ByDomain-clause-refused : goal.returns-in_ok-keep_recorded-in-ByDomain-clause-refused
 returns-in_ok-keep_recorded-in-ByDomain-clause-refused g c =
     let Given : Database → Type 0 = λ db. IsReadOf by_domain db c.args.read.now in
     rw c.in-ByDomain.is (rows_refused by_domain _ (office_in c.args.read.now.maps) Given (state g.S.Store c.args.connection.now) (state g.S.Store c.keep_recorded.new.connection) (state g.S.Store c.keep_figures.new.connection)
-    c.keep_figures.result c.in_ok-keep_recorded.ensures.found c.keep_figures.ensures.found c.keep_figures.ensures.refused)
+    c.keep_figures.result c.in_ok-keep_recorded-in-ByDomain.ensures.found c.keep_figures.ensures.found c.keep_figures.ensures.refused)
 
 pub returns-in_err-keep_book-in-WithFigures-clause-refused : goal.returns-in_err-keep_book-in-WithFigures-clause-refused
 returns-in_err-keep_book-in-WithFigures-clause-refused g c =
@@ -61,6 +61,6 @@ returns-in_err-keep_book-in-WithFigures-clause-refused g c =
 
 pub returns-in_err-keep_recorded-in-ByDomain-clause-refused : goal.returns-in_err-keep_recorded-in-ByDomain-clause-refused
 returns-in_err-keep_recorded-in-ByDomain-clause-refused g c =
-    let p = err_from_is_err_and c.from_residual-in_err-keep_recorded.result c.from_residual-in_err-keep_recorded.ensures.1 in
-    rw (c.in-ByDomain.is, p.1, p.2) (λ clean given. kept_refused by_domain (office_in c.args.read.now.maps) (state g.S.Store c.args.connection.now).now c.in_err-keep_recorded.field-0.0
-    (c.in_err-keep_recorded.ensures.refused clean))
+    let p = err_from_is_err_and c.from_residual-in_err-keep_recorded-in-ByDomain.result c.from_residual-in_err-keep_recorded-in-ByDomain.ensures.1 in
+    rw (c.in-ByDomain.is, p.1, p.2) (λ clean given. kept_refused by_domain (office_in c.args.read.now.maps) (state g.S.Store c.args.connection.now).now c.in_err-keep_recorded-in-ByDomain.field-0.0
+    (c.in_err-keep_recorded-in-ByDomain.ensures.refused clean))
