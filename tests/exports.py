@@ -3,7 +3,7 @@
 
     tests/exports.py [PROGRAM] [--kills N]     (crates/cli/out/cli, as ./office has built it; 30)
 
-An office in a file has as many languages as it may have, each of some hundred messages, and a second domain. What is wanted comes from the
+An office in a file has 32 languages, each of some hundred messages, and a second domain. What is wanted comes from the
 program too, asked for one language at a time: so this shows that many languages by one opening are what each is alone, and that each file is whole
 at any time. Where an output or a disk is full, a place is taken or a language isn't there, its line says so, its file is as it was, and the
 others are written. A program that is killed leaves each file as it was or whole. Prints what is otherwise, and last `N looks, M wrong`. Wants

@@ -1,6 +1,8 @@
 -- Entries that are found by the hashes of their keys.
-use Rattle.std.proofs.Common.{◌≡◌, ◌⊎◌, inl, inr, ℕ, zero, suc, ◌+◌, ◌<◌, List, [], ◌∷◌, ◌++◌, Bool, true, false, ◌||◌, ◌&&◌, cond, length, refl, sym, ◌∙◌, ap, subst, arith, Option, Some, None, IsSome, is_some}
+use Rattle.std.proofs.Common.{◌≡◌, ◌⊎◌, inl, inr, ℕ, zero, suc, ◌+◌, ◌<◌, List, [], ◌∷◌, ◌++◌, Bool, true, false, ◌||◌, ◌&&◌, cond, length, refl, sym, ◌∙◌, ap, subst, arith, Option, Some, None, IsSome, is_some, nat_eq}
 use Rattle.std.specs.List.{list_any, slice_get}
+use Rattle.std.specs.Option.{option_eq}
+use Rattle.std.specs.Cmp.Lexicographic.{pointwise}
 use Rattle.std.specs.Ordering.{nat_cmp, is_eq}
 use Rattle.std.specs.BTreeMap.{BTreeMap, get}
 use Rattle.std.specs.BTreeSet.{BTreeSet, contains}
@@ -10,7 +12,7 @@ use Rattle.std.proofs.lemmas.Option.{slice_get_within}
 use Rattle.std.proofs.lemmas.Map.Keys.{any_passes_from_place}
 use Rattle.std.proofs.lemmas.List.{length-append}
 use Rattle.std.proofs.lemmas.List.Folds.{list_any-append}
-use Rattle.po_text.specs.Entries.{Key, key_of, same_key}
+use Rattle.po_text.specs.Entries.{Key, key_of, same_context, same_key}
 use Rattle.po_text.specs.Keys.{entry_key_cmp}
 use Rattle.po_text.specs.Texts.{Text}
 use Rattle.po_text.specs.declared.entry.Entry.{Entry}
@@ -26,13 +28,13 @@ record Place (p : Entry → Bool) (es : List Entry) : Type 0 where
   there : slice_get es i ≡ Some e
   passes : p e ≡ true
 
+behind_first : (p : Entry → Bool) (x : Entry) (es : List Entry) (b : Bool) → p x ≡ b → (b || list_any p es) ≡ true → (list_any p es ≡ true → Place p es) → Place p (x ∷ es)
+behind_first p x es true k h rest = record { i = 0; e = x; there = refl; passes = k }
+behind_first p x es false k h rest = let r = rest h in record { i = suc r.i; e = r.e; there = r.there; passes = r.passes }
+
 any_place : (p : Entry → Bool) (es : List Entry) → list_any p es ≡ true → Place p es
 any_place p [] h = absurd (false≢true h)
-any_place p (x ∷ es) h = by (p x) refl h
-  where
-    by : (b : Bool) → p x ≡ b → (b || list_any p es) ≡ true → Place p (x ∷ es)
-    by true k h = record { i = 0; e = x; there = refl; passes = k }
-    by false k h = let r = any_place p es h in record { i = suc r.i; e = r.e; there = r.there; passes = r.passes }
+any_place p (x ∷ es) h = behind_first p x es (p x) refl h (any_place p es)
 
 pub same_place : (es : List Entry) (i j : ℕ) (e d : Entry) → slice_get es i ≡ Some e → slice_get es j ≡ Some d → i ≡ j → e ≡ d
 same_place es i j e d p q is = some_same (sym p ∙ ap (slice_get es) is ∙ q)
@@ -49,25 +51,34 @@ old_or_new (x ∷ es) new (suc i) e h = elim (old_or_new es new i e h) [ inl old
 
 -- ---- looked up
 
+pub context_same : (a b : Option Text) → option_eq (pointwise nat_eq) a b ≡ same_context a b
+context_same None None = refl
+context_same None (Some y) = refl
+context_same (Some x) None = refl
+context_same (Some x) (Some y) = refl
+
+pub keys_same : (e : Entry) (ctx : Option Text) (id : Text) (both same_ctx same_id : Bool) → same_ctx ≡ option_eq (pointwise nat_eq) e.ctx ctx → same_id ≡ pointwise nat_eq e.id id → both ≡ (same_ctx && same_id) → both ≡ same_key (key_of e) (ctx, id)
+keys_same e ctx id both same_ctx same_id c i b = b ∙ (λ j. (c ∙ context_same e.ctx ctx) j && i j)
+
 abbrev with_key : Option Text → Text → Entry → Bool
 with_key ctx id e = same_key (key_of e) (ctx, id)
 
 not_there : (b : Bool) → (b ≡ true → ⊥) → false ≡ b
-not_there true no = absurd (no refl)
-not_there false no = refl
+not_there true never = absurd (never refl)
+not_there false _ = refl
 
 pub none_found : (es : List Entry) (lasts : BTreeMap ℕ ℕ) (others : BTreeSet EntryKey) (ctx : Option Text) (id : Text) → AreFound es lasts others → get nat_cmp lasts (key_hash ctx id) ≡ None → false ≡ has_key ctx id es
-none_found es lasts others ctx id h none = not_there (has_key ctx id es) no
+none_found es lasts others ctx id h none = not_there (has_key ctx id es) never
   where
     hashed : (e : Entry) → key_of e ≡ (ctx, id) → get nat_cmp lasts (key_hash e.ctx e.id) ≡ None
     hashed e is = ap (λ (k : Key). get nat_cmp lasts (key_hash k.0 k.1)) is ∙ none
 
-    no : has_key ctx id es ≡ true → ⊥
-    no found =
+    never : has_key ctx id es ≡ true → ⊥
+    never found =
         let at = any_place (with_key ctx id) es found in
         let is = hashed at.e (key_same (key_of at.e) (ctx, id) at.passes) in
         elim (h.each at.i at.e at.there) [
-          | inl some ↦ (let no : None ≡ Some at.i = sym is ∙ some in cc)
+          | inl some ↦ (let differs : None ≡ Some at.i = sym is ∙ some in cc)
           | inr some ↦ false≢true (ap is_some (sym is) ∙ some.0)
         ]
 
@@ -150,23 +161,23 @@ found_with es new lasts lasts' others others' h updated grown moved only = recor
         omega (arith, length-append es (new ∷ []))
 
 -- its hash is new
-pub found_new : (es : List Entry) (new : Entry) (lasts lasts' : BTreeMap ℕ ℕ) (others : BTreeSet EntryKey) → AreFound es lasts others → IsLastNow lasts lasts' (key_hash new.ctx new.id) (length es) → get nat_cmp lasts (key_hash new.ctx new.id) ≡ None
+new_hash : (es : List Entry) (new : Entry) (lasts lasts' : BTreeMap ℕ ℕ) (others : BTreeSet EntryKey) → AreFound es lasts others → IsLastNow lasts lasts' (key_hash new.ctx new.id) (length es) → get nat_cmp lasts (key_hash new.ctx new.id) ≡ None
     → AreFound (es ++ new ∷ []) lasts' others
-found_new es new lasts lasts' others h updated none =
+new_hash es new lasts lasts' others h updated none =
     found_with es new lasts lasts' others others h updated (λ key there. there)
     (λ i e there is.
     let gone : get nat_cmp lasts (key_hash e.ctx e.id) ≡ None = ap (get nat_cmp lasts) (sym is) ∙ none in
     elim (h.each i e there) [
-      | inl some ↦ (let no : None ≡ Some i = sym gone ∙ some in cc)
+      | inl some ↦ (let differs : None ≡ Some i = sym gone ∙ some in cc)
       | inr some ↦ some.1
     ])
     h.keys
 
 -- another has its hash, and its key goes to the others
-pub found_behind : (es : List Entry) (new other : Entry) (lasts lasts' : BTreeMap ℕ ℕ) (others others' : BTreeSet EntryKey) (before : ℕ) (key : EntryKey) → AreFound es lasts others → IsLastNow lasts lasts' (key_hash new.ctx new.id) (length es)
+same_hash : (es : List Entry) (new other : Entry) (lasts lasts' : BTreeMap ℕ ℕ) (others others' : BTreeSet EntryKey) (before : ℕ) (key : EntryKey) → AreFound es lasts others → IsLastNow lasts lasts' (key_hash new.ctx new.id) (length es)
     → get nat_cmp lasts (key_hash new.ctx new.id) ≡ Some before → slice_get es before ≡ Some other → key ≡ key_at_hand other.ctx other.id → ((q : EntryKey) → contains entry_key_cmp others' q ≡ cond (is_eq (entry_key_cmp key q)) true (contains entry_key_cmp others q))
     → AreFound (es ++ new ∷ []) lasts' others'
-found_behind es new other lasts lasts' others others' before key h updated last there is_key inserted =
+same_hash es new other lasts lasts' others others' before key h updated last there is_key inserted =
     found_with es new lasts lasts' others others' h updated grown moved only
   where
     or_true : (a : Bool) → cond a true true ≡ true
@@ -202,3 +213,23 @@ found_behind es new other lasts lasts' others others' before key h updated last 
         by true e in_old =
             any_passes_from_place (with_key q.ctx q.id) es before other there
             (sym (cmp_same (key_at_hand other.ctx other.id) q) ∙ ap (λ (k : EntryKey). is_eq (entry_key_cmp k q)) (sym is_key) ∙ e)
+
+-- ---- the same, by the hash and the place that were computed
+
+hashed_last : (lasts lasts' : BTreeMap ℕ ℕ) (hash place h i : ℕ) → hash ≡ h → place ≡ i → IsLastNow lasts lasts' hash place → IsLastNow lasts lasts' h i
+hashed_last lasts lasts' hash place h i is at updated q = updated q ∙ (λ j. cond (is_eq (nat_cmp (is j) q)) (Some (at j)) (get nat_cmp lasts q))
+
+pub found_new : (es all : List Entry) (new : Entry) (lasts lasts' : BTreeMap ℕ ℕ) (others : BTreeSet EntryKey) (hash place : ℕ) → AreFound es lasts others → all ≡ es ++ new ∷ [] → hash ≡ key_hash new.ctx new.id → place ≡ length es
+    → IsLastNow lasts lasts' hash place → get nat_cmp lasts hash ≡ None → AreFound all lasts' others
+found_new es all new lasts lasts' others hash place h grown is at updated none =
+    subst (λ (xs : List Entry). AreFound xs lasts' others) (sym grown)
+    (new_hash es new lasts lasts' others h (hashed_last lasts lasts' hash place (key_hash new.ctx new.id) (length es) is at updated) (ap (get nat_cmp lasts) (sym is) ∙ none))
+
+pub found_behind : (es all : List Entry) (new other : Entry) (lasts lasts' : BTreeMap ℕ ℕ) (others others' : BTreeSet EntryKey) (hash place before : ℕ) (key : EntryKey) → AreFound es lasts others → all ≡ es ++ new ∷ [] → hash ≡ key_hash new.ctx new.id → place ≡ length es
+    → IsLastNow lasts lasts' hash place → get nat_cmp lasts hash ≡ Some before → slice_get all before ≡ Some other → key ≡ key_at_hand other.ctx other.id
+    → ((q : EntryKey) → contains entry_key_cmp others' q ≡ cond (is_eq (entry_key_cmp key q)) true (contains entry_key_cmp others q)) → AreFound all lasts' others'
+found_behind es all new other lasts lasts' others others' hash place before key h grown is at updated last there is_key inserted =
+    let within : before < length es = h.places hash before last in
+    let old : slice_get es before ≡ Some other = elim (old_or_new es new before other (ap (λ (xs : List Entry). slice_get xs before) (sym grown) ∙ there)) [ inl old ↦ old | inr behind ↦ absurd (omega (arith, behind.0)) ] in
+    subst (λ (xs : List Entry). AreFound xs lasts' others') (sym grown)
+    (same_hash es new other lasts lasts' others others' before key h (hashed_last lasts lasts' hash place (key_hash new.ctx new.id) (length es) is at updated) (ap (get nat_cmp lasts) (sym is) ∙ last) old is_key inserted)

@@ -1,6 +1,7 @@
 //! Whole entries, each found by its key.
 
 ghost use Rattle.std.specs.Prelude.{◌≡◌, ◌++◌, ◌∷◌, List, [], IfOk, OnOk};
+ghost use Rattle.po_text.specs.Entries.{key_of, same_key};
 ghost use Rattle.po_text.specs.declared.entry.Entry.{Entry as EntryValue};
 ghost use Rattle.po_read.specs.Found.{key_hash, has_key, AreFound};
 
@@ -67,7 +68,7 @@ impl Entries {
             return Ok(false);
         };
         let entry = &self.all[*last];
-        if entry.ctx == *ctx && entry.id == *id {
+        if is_key_of(entry, ctx, id) {
             return Ok(true);
         }
         let key = EntryKey::of(alloc, ctx, id)?;
@@ -104,6 +105,14 @@ impl Entries {
             }
         }
     }
+}
+
+/// Whether the entry has this key.
+#[tactic(auto, using(crate::proofs::FoundLemmas::context_same))]
+fn is_key_of(entry: &Entry, ctx: &Option<PoString>, id: &PoString) -> bool
+    ensures { result ≡ same_key (key_of entry.now) (ctx.now, id.now) }
+{
+    entry.ctx == *ctx && entry.id == *id
 }
 
 /// The hash of a key.

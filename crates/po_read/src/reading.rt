@@ -244,7 +244,7 @@ impl<'a> Reader<'a> {
     fn read_lines(&mut self, text: &'a str) -> Result<Vec<Entry>, PoFault>
         requires first { Reads self.old no_lines }
         requires fits { length text.now < 2 ^ 63 }
-        ensures ok { IfOk result (λ entries. (fault_from limits 1 no_lines (lines_of text.now) ≡ None) × (entries ≡ entries_of text.now)) }
+        ensures ok { IfOk result (λ entries. (fault_from limits 1 no_lines (lines_of text.now) ≡ None) × (entries.items ≡ entries_of text.now)) }
         ensures err { IfErr result (λ fault. (fault_from limits 1 no_lines (lines_of text.now) ≡ Some (fault.line, fault.kind)) ⊎ IsMemory fault) }
         ensures memory { IfErr result (λ fault. IsMemory fault → PassesBefore limits (lines_of text.now) fault.line) }
     {
@@ -285,7 +285,7 @@ fn begins_entry(line: &Line<'_>) -> bool
 /// The entries that a text spells.
 fn read_text(alloc: Global, text: &str) -> Result<Vec<Entry>, PoFault>
     requires { length text.now < 2 ^ 63 }
-    ensures ok { IfOk result (λ entries. (fault_from limits 1 no_lines (lines_of text.now) ≡ None) × (entries ≡ entries_of text.now)) }
+    ensures ok { IfOk result (λ entries. (fault_from limits 1 no_lines (lines_of text.now) ≡ None) × (entries.items ≡ entries_of text.now)) }
     ensures err { IfErr result (λ fault. (fault_from limits 1 no_lines (lines_of text.now) ≡ Some (fault.line, fault.kind)) ⊎ IsMemory fault) }
     ensures memory { IfErr result (λ fault. IsMemory fault → PassesBefore limits (lines_of text.now) fault.line) }
 {

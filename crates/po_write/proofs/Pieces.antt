@@ -16,12 +16,16 @@ use Rattle.po_text.specs.Entries.{Keyed, keyed_forms, numbered, previous_strings
 use Rattle.po_text.specs.declared.entry.Entry.{Entry}
 use Rattle.po_write.specs.Text.{ended, spaced, comment, flags_line, further, pieces_of, piece_lines, string_pieces, string_lines, message_mark, previous_mark, entry_text}
 
+-- a slice up to the end
+pub rest_slice : (bytes : List ℕ) (n : ℕ) → n ≤ length bytes → drop n bytes ≡ take (length bytes - n) (drop n bytes)
+rest_slice bytes n within = sym (take_all (length bytes - n) (drop n bytes) (omega (arith, length-drop n bytes)))
+
 -- the bytes that one write took, and those behind them
 pub taken_by_write : (bytes : List ℕ) (i n : ℕ) → i ≤ length bytes
     → drop i bytes ≡ take n (take (length bytes - i) (drop i bytes)) ++ drop (i + n) bytes
 taken_by_write bytes i n within =
     sym (take-append-drop n (drop i bytes)) ∙ ap (λ xs. take n (drop i bytes) ++ xs) (drop-drop n i bytes ∙ ap (λ k. drop k bytes) (omega arith))
-    ∙ ap (λ xs. take n xs ++ drop (i + n) bytes) (sym (take_all (length bytes - i) (drop i bytes) (omega (arith, length-drop i bytes))))
+    ∙ ap (λ xs. take n xs ++ drop (i + n) bytes) (rest_slice bytes i within)
 
 pub fits_write : (bytes : List ℕ) (i n : ℕ) → i ≤ length bytes → n ≤ length (take (length bytes - i) (drop i bytes)) → i + n ≤ length bytes
 fits_write bytes i n within most = grind (arith, common_steps)
@@ -49,7 +53,7 @@ pub some_left : {X : Type 0} (xs : List X) → false ≡ (length xs == 0) → 0 
 some_left [] some = let differs : false ≡ true = some in cc
 some_left (x ∷ xs) some = omega arith
 
-none_there : {X : Type 0} (xs : List X) → true ≡ (length xs == 0) → xs ≡ []
+pub none_there : {X : Type 0} (xs : List X) → true ≡ (length xs == 0) → xs ≡ []
 none_there [] none = refl
 none_there (x ∷ xs) none = let zero_long : length (x ∷ xs) ≡ 0 = eqb-true (length (x ∷ xs)) 0 (sym none) in absurd (omega arith)
 

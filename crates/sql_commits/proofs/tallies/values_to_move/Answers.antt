@@ -1,7 +1,6 @@
 use Rattle.std.proofs.Common.{◌≡◌, Ok, rules, ap, ◌∙◌}
 use Rattle.sqlite.specs.Effect.{Database}
 use Rattle.sqlite.specs.Held.{state}
-use Rattle.sql_decoding.specs.declared.faults.Failure.{Failure}
 use Rattle.sql_decoding.specs.declared.units_read.UnitNumbers.{UnitNumbers}
 use Rattle.sql_schema.proofs.Sequences.{reads_both}
 use Rattle.sql_statements.specs.DomainAnswers.{ShowsDomainUnit, ShowsPlaces}
@@ -21,8 +20,9 @@ returns-then-numbers-unit-clause-found g c =
     let unit = c.args.unit.now in
     let found = c.in_ok-found.found in
     let values = c.values_of.result in
-    let alike : values.obsolete ≡ unit.obsolete = search rules in
-    let none : values.suggestions ≡ 0 = search rules in
+    let same : c.in_ok-numbers-in-Some.numbers.obsolete ≡ unit.obsolete = search rules in
+    let alike : values.obsolete ≡ unit.obsolete = ap (λ (v : CountedValues). v.obsolete) c.values_of.ensures ∙ same in
+    let none : values.suggestions ≡ 0 = ap (λ (v : CountedValues). v.suggestions) c.values_of.ensures in
     read_told old mid found _ (λ (db : Database) shown. ShowsDomainUnit c.as_str.result.now c.as_str-2.result.now c.as_str-3.result.now db shown) (ShowsMoving domain lang unit) c.requires.steady
     (λ ready shown. row_moving old.now ready domain lang unit.key c.key_fits.ensures.strings c.as_str.result.now c.as_str-2.result.now c.as_str-3.result.now found (search rules) (search rules) (search rules) shown unit.obsolete
     c.in-Some.row values (search rules)

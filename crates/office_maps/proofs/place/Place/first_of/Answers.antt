@@ -1,8 +1,8 @@
 use Rattle.std.proofs.Common.{None}
 use Rattle.office_maps.proofs.place.Place.first_of.Goals as goal
 
-pub returns-in-Ok-clause-lang : goal.returns-in-Ok-clause-lang
-returns-in-Ok-clause-lang c = c.in_ok-lang.ensures
+pub returns-clause-lang : goal.returns-clause-lang
+returns-clause-lang c = c.in_ok-duplicate.ensures
 
-pub returns-in-Ok-clause-key : goal.returns-in-Ok-clause-key
-returns-in-Ok-clause-key c = λ i. record { ctx = None; id = c.in-Ok.ensures i }
+pub returns-clause-key : goal.returns-clause-key
+returns-clause-key c = λ i. record { ctx = None; id = c.empty.ensures i }
