@@ -1,16 +1,14 @@
 -- Records that a walk over all of them tested: they keep their rules, or don't.
-use Rattle.std.proofs.Common.{◌≡◌, List, ◌∷◌, [], true, false, Result, Ok, Err, IfErr, refl, sym, ap, subst, ◌∙◌, codes, All}
+use Rattle.std.proofs.Common.{◌≡◌, List, ◌∷◌, [], true, false, Result, Ok, Err, IfErr, sym, ap, subst, ◌∙◌, codes, All}
 use Rattle.std.specs.List.{list_all}
 use Rattle.std.proofs.lemmas.Bool.{false≢true}
 use Rattle.sqlite.specs.Effect.{Database}
 use Rattle.sqlite.specs.Order.{Row}
-use Rattle.sqlite_rules.specs.Lists.{Has}
 use Rattle.sqlite_rules.proofs.ListLemmas.{test_has, test_from}
 use Rattle.sql_laws.specs.RowMaps.{OneEach}
 use Rattle.units.specs.Office.{Office, main}
 use Rattle.units.specs.Offices.{IsOffice}
 use Rattle.office_maps.specs.OfficeIn.{office_in}
-use Rattle.office_rules.specs.Books.{HasStatuses}
 use Rattle.deliveries.specs.OfficeRules.{KeepsRules}
 use Rattle.sql_schema.specs.Keys.{columns}
 use Rattle.sql_schema.specs.Inside.{AreOfficeTablesOf}

@@ -1,5 +1,5 @@
 -- No two suggestions of an office by domains have one number, since each row has its own.
-use Rattle.std.proofs.Common.{◌≡◌, ℤ, List, [], ◌∷◌, map, filter, Bool, true, false, Option, Some, None, refl, sym, ap, subst, ◌∙◌, codes}
+use Rattle.std.proofs.Common.{◌≡◌, ℤ, List, [], ◌∷◌, map, filter, false, Option, Some, None, refl, sym, ap, subst, ◌∙◌, codes}
 use Rattle.std.specs.Prelude.{⊤, IsSome, flat_map}
 use Rattle.std.specs.Option.{option_map_or}
 use Rattle.std.specs.List.{AllByRecursion, IsDistinct}
@@ -25,7 +25,7 @@ use Rattle.deliveries.specs.OfficeRules.{numbers_in, all_numbers}
 use Rattle.deliveries.proofs.rules.UnitRules.{numbers_of}
 use Rattle.deliveries.proofs.rules.Numbering.{AreApart, all_from, distinct_from}
 use Rattle.sql_columns.specs.Readings.{number_read, key_parts}
-use Rattle.sql_schema.specs.Keys.{text_at, first_text, has_text, is_on_unit, columns}
+use Rattle.sql_schema.specs.Keys.{text_at, first_text, has_text, is_on_unit}
 use Rattle.sql_schema.specs.Inside.{AreOfficeTablesOf}
 use Rattle.sql_schema.specs.Layouts.{NamedRows, by_domain, rows_named}
 use Rattle.sql_schema.specs.Views.{seen_in, suggestion_seen}

@@ -7,7 +7,7 @@ use Rattle.sql_schema.specs.Layouts.{by_domain, rows_named}
 use Rattle.sql_schema.specs.Views.{seen_in}
 use Rattle.sql_schema.specs.Whole.{IsLookUp}
 use Rattle.sql_meaning.specs.Domains.{is_domain, HoldsOwnDomains}
-use Rattle.sql_adoption.specs.Adoption.{StandForOffice, StandInDomains}
+use Rattle.sql_adoption.specs.Adoption.{StandForOffice}
 use Rattle.sql_adoption.specs.Reading.{AreDomainsRead, IsReadOf, RefusesOf}
 use Rattle.sql_adoption.specs.declared.faults.OpenFault.{OpenFault}
 use Rattle.sql_adoption.specs.declared.faults.OpenFault.TheVariants.{Memory, Disk, Foreign, Exists}

@@ -1,5 +1,5 @@
 -- The texts that read of which domain each row is.
-use Rattle.std.proofs.Common.{ℕ, List, [], ◌∷◌, ◌++◌, codes, refl}
+use Rattle.std.proofs.Common.{List, [], ◌∷◌, ◌++◌, codes, refl}
 use Rattle.sqlite.specs.Order.{Row}
 use Rattle.sqlite.specs.State.{State, Begins, Shown}
 use Rattle.sqlite.specs.Listing.{understood}

@@ -1,8 +1,6 @@
-use Rattle.std.proofs.Common.{[], arith, subst}
+use Rattle.std.proofs.Common.{[], arith}
 use Rattle.sqlite.specs.Held.{state}
-use Rattle.sqlite.specs.Listing.{understood}
 use Rattle.sqlite.specs.State.{HasCleanDisk}
-use Rattle.sqlite.proofs.Callers.{IsPlain}
 use Rattle.sql_streams.proofs.Answers.{hands_out}
 use Rattle.sql_statements.specs.Owners.{owned_name, owned_place, owners_text, ShowsOwners}
 use Rattle.sql_statements.proofs.OwnersRead.{owners_plain, owners_shown, owners_begun}
