@@ -5,6 +5,6 @@ pub mod EachWritten
 mod Parsed
 mod Readers
 mod Three
-mod PartsLemmas
+pub mod PartsLemmas
 mod PutLemmas
 mod Ends
