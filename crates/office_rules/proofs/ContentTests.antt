@@ -16,7 +16,7 @@ same_content r s caller act = λ i. canon_text (caller i) (act i)
 pub content_told : {E : Type 0} (content : Text) (request : Request) (r : Result Bool E) → ((other : Request) → IsContentText content other → (other.caller ≡ request.caller) × (other.act ≡ request.act)) →
     IfOk r (λ has. Decides has (content_text request ≡ content)) → IfOk r (λ _. IsRequest request) → IfOk r (λ is. Decides is (IsContent content))
 content_told content request (Ok has) one told fits = (
-  λ yes. (request, (fits, told.0 yes)),
+  λ yes. (request, fits, told.0 yes),
   λ found.
       let same = one found.0 (content_reads content found.0 found.1 found.2) in
       told.1 (same_content request found.0 (sym same.0) (sym same.1) ∙ found.2),
