@@ -18,7 +18,7 @@ use Rattle.sql_meaning.specs.Meaning.{AreNumbered}
 use Rattle.sql_meaning.specs.Domains.{meaning_by_domain, meaning_for, TreesMean}
 use Rattle.sql_files.specs.Files.{IsOfficeFile, MakesFiles}
 use Rattle.sql_files.proofs.Stops.{look_up_keeps, look_up_leaves, commit_keeps, commit_leaves}
-use Rattle.store_sql.specs.Kept.{KeepsOffice, LeavesItsOwn, LeavesOwnTrees, LeavesReadable, is_honest, is_whole, means, may_leave, is_stopped}
+use Rattle.store_sql.specs.Kept.{KeepsOffice, LeavesItsOwn, LeavesOwnTrees, LeavesReadable, is_honest, is_whole, means, may_leave, faults, is_stopped}
 use Rattle.sql_schema.specs.Layouts.{by_domain, schema_of, rows_named}
 use Rattle.sql_files.proofs.Listed.{database_means, database_means_only}
 
