@@ -61,7 +61,7 @@ pub(crate) fn known<T: Tables>(
     ensures answer { T.is_honest tables.new → IfOk result
         (λ reply. reply ≡ option_map (λ recorded. reply_from recorded request.now) (maps.get (T.means tables.old).book request.now.number)) }
     ensures same { T.is_honest tables.new → T.is_whole tables.new → T.means tables.new ≡ T.means tables.old }
-    ensures kept { IsKept T.is_honest T.is_whole T.means T.may_leave T.is_stopped tables.old tables.new result Disk Nothing }
+    ensures kept { IsKept T.is_honest T.is_whole T.means T.may_leave T.faults T.is_stopped tables.old tables.new result Disk Nothing }
 {
     let recorded = tables.record_of(&request.number)?;
     let reply = reply_by(alloc, content, &recorded);
@@ -99,7 +99,7 @@ fn decide_suggestion<T: Tables>(
     requires found { T.is_honest tables.old → found ≡ without_suggestions (found_for (T.means tables.old).office domain.now lang.now key.now request.now) }
     ensures answer { T.is_honest tables.new → IfOk result (Decides (found_for (T.means tables.old).office domain.now lang.now key.now request.now) request.now act.now) }
     ensures same { T.is_honest tables.new → T.is_whole tables.new → T.means tables.new ≡ T.means tables.old }
-    ensures kept { IsKept T.is_honest T.is_whole T.means T.may_leave T.is_stopped tables.old tables.new result Disk Nothing }
+    ensures kept { IsKept T.is_honest T.is_whole T.means T.may_leave T.faults T.is_stopped tables.old tables.new result Disk Nothing }
 {
     let suggestions = tables.suggestions_of(domain, lang, key)?;
     let outcome = suggested_outcome(alloc, found, suggestions, request, act);
@@ -124,7 +124,7 @@ fn decide_vote<T: Tables>(
     requires found { T.is_honest tables.old → found ≡ without_suggestions (found_for (T.means tables.old).office domain.now lang.now key.now request.now) }
     ensures answer { T.is_honest tables.new → IfOk result (λ outcome. IfSome outcome (Decides (found_for (T.means tables.old).office domain.now lang.now key.now request.now) request.now act.now)) }
     ensures same { T.is_honest tables.new → T.is_whole tables.new → T.means tables.new ≡ T.means tables.old }
-    ensures kept { IsKept T.is_honest T.is_whole T.means T.may_leave T.is_stopped tables.old tables.new result Disk Nothing }
+    ensures kept { IsKept T.is_honest T.is_whole T.means T.may_leave T.faults T.is_stopped tables.old tables.new result Disk Nothing }
 {
     let suggestion = tables.suggestion_of(domain, lang, key, named)?;
     let outcome = voted_outcome(alloc, found, suggestion, request, act);
@@ -143,7 +143,7 @@ fn decide_whole<T: Tables>(
 ) -> Result<UnitOutcome, Lost>
     ensures answer { T.is_honest tables.new → IfOk result (Decides (found_for (T.means tables.old).office domain.now lang.now key.now request.now) request.now act.now) }
     ensures same { T.is_honest tables.new → T.is_whole tables.new → T.means tables.new ≡ T.means tables.old }
-    ensures kept { IsKept T.is_honest T.is_whole T.means T.may_leave T.is_stopped tables.old tables.new result Disk Nothing }
+    ensures kept { IsKept T.is_honest T.is_whole T.means T.may_leave T.faults T.is_stopped tables.old tables.new result Disk Nothing }
 {
     let found = tables.view_of(domain, lang, key, &request.caller)?;
     let outcome = whole_outcome(alloc, found, request, act);
@@ -167,7 +167,7 @@ fn decide_vote_or_acceptance<T: Tables>(
     requires found { T.is_honest tables.old → found ≡ without_suggestions (found_for (T.means tables.old).office domain.now lang.now key.now request.now) }
     ensures answer { T.is_honest tables.new → IfOk result (Decides (found_for (T.means tables.old).office domain.now lang.now key.now request.now) request.now act.now) }
     ensures same { T.is_honest tables.new → T.is_whole tables.new → T.means tables.new ≡ T.means tables.old }
-    ensures kept { IsKept T.is_honest T.is_whole T.means T.may_leave T.is_stopped tables.old tables.new result Disk Nothing }
+    ensures kept { IsKept T.is_honest T.is_whole T.means T.may_leave T.faults T.is_stopped tables.old tables.new result Disk Nothing }
 {
     match decide_vote(alloc, tables, request, domain, lang, key, act, named, found)? {
         Some(outcome) => Ok(outcome),
@@ -189,7 +189,7 @@ fn decide_with_suggestions<T: Tables>(
     requires found { T.is_honest tables.old → found ≡ without_suggestions (found_for (T.means tables.old).office domain.now lang.now key.now request.now) }
     ensures answer { T.is_honest tables.new → IfOk result (Decides (found_for (T.means tables.old).office domain.now lang.now key.now request.now) request.now act.now) }
     ensures same { T.is_honest tables.new → T.is_whole tables.new → T.means tables.new ≡ T.means tables.old }
-    ensures kept { IsKept T.is_honest T.is_whole T.means T.may_leave T.is_stopped tables.old tables.new result Disk Nothing }
+    ensures kept { IsKept T.is_honest T.is_whole T.means T.may_leave T.faults T.is_stopped tables.old tables.new result Disk Nothing }
 {
     match &act.action {
         UnitAction::Suggest(_) => {
@@ -218,7 +218,7 @@ fn read_and_decide<T: Tables>(
 ) -> Result<UnitOutcome, Lost>
     ensures answer { T.is_honest tables.new → IfOk result (Decides (found_for (T.means tables.old).office domain.now lang.now key.now request.now) request.now act.now) }
     ensures same { T.is_honest tables.new → T.is_whole tables.new → T.means tables.new ≡ T.means tables.old }
-    ensures kept { IsKept T.is_honest T.is_whole T.means T.may_leave T.is_stopped tables.old tables.new result Disk Nothing }
+    ensures kept { IsKept T.is_honest T.is_whole T.means T.may_leave T.faults T.is_stopped tables.old tables.new result Disk Nothing }
 {
     let found = tables.unit_of(domain, lang, key, &request.caller)?;
     match row_outcome(alloc, &found, request, act)? {
@@ -248,7 +248,7 @@ fn commit_unit_act<T: Tables>(
     ensures done { T.is_honest tables.new → OnOk result
         (T.means tables.new ≡ record { office = with_write_in (T.means tables.old).office domain.now lang.now key.now write; book = with_record (T.means tables.old).book row }) }
     ensures same { T.is_honest tables.new → T.is_whole tables.new → OnErr result (T.means tables.new ≡ T.means tables.old) }
-    ensures kept { IsKept T.is_honest T.is_whole T.means T.may_leave T.is_stopped tables.old tables.new result Disk
+    ensures kept { IsKept T.is_honest T.is_whole T.means T.may_leave T.faults T.is_stopped tables.old tables.new result Disk
         (λ m. m ≡ record { office = with_write_in (T.means tables.old).office domain.now lang.now key.now write; book = with_record (T.means tables.old).book row }) }
 {
     tables.commit_unit(row, domain, lang, key, write)?;
@@ -273,7 +273,7 @@ fn deliver_unit_act<T: Tables>(
     ensures ok { T.is_honest tables.new → IfOk result
         (λ reply. (T.means tables.new, reply) ≡ first_delivered (T.means tables.old) request.now) }
     ensures lost { T.is_honest tables.new → T.is_whole tables.new → OnErr result (T.means tables.new ≡ T.means tables.old) }
-    ensures kept { IsKept T.is_honest T.is_whole T.means T.may_leave T.is_stopped tables.old tables.new result Disk
+    ensures kept { IsKept T.is_honest T.is_whole T.means T.may_leave T.faults T.is_stopped tables.old tables.new result Disk
         (λ m. m ≡ (first_delivered (T.means tables.old) request.now).0) }
 {
     let UnitOutcome { write, reply } = read_and_decide(
@@ -300,7 +300,7 @@ fn read_office_and_decide<T: Tables>(
     ensures answer { T.is_honest tables.new → IfOk result
         (λ outcome. IsSettled (T.means tables.old).office outcome (step (T.means tables.old).office request.now)) }
     ensures same { T.is_honest tables.new → T.is_whole tables.new → T.means tables.new ≡ T.means tables.old }
-    ensures kept { IsKept T.is_honest T.is_whole T.means T.may_leave T.is_stopped tables.old tables.new result Disk Nothing }
+    ensures kept { IsKept T.is_honest T.is_whole T.means T.may_leave T.faults T.is_stopped tables.old tables.new result Disk Nothing }
 {
     tables.office_rows()?;
     let outcome = office_outcome(alloc, tables.office(), request);
@@ -317,7 +317,7 @@ fn ask_role_and_decide<T: Tables>(
     ensures answer { T.is_honest tables.new → IfOk result
         (λ outcome. IsSettled (T.means tables.old).office outcome (step (T.means tables.old).office request.now)) }
     ensures same { T.is_honest tables.new → T.is_whole tables.new → T.means tables.new ≡ T.means tables.old }
-    ensures kept { IsKept T.is_honest T.is_whole T.means T.may_leave T.is_stopped tables.old tables.new result Disk Nothing }
+    ensures kept { IsKept T.is_honest T.is_whole T.means T.may_leave T.faults T.is_stopped tables.old tables.new result Disk Nothing }
 {
     let role = tables.role_of(&request.caller)?;
     if role.is_below(Role::Manager) {
@@ -342,7 +342,7 @@ fn commit_office_act<T: Tables>(
     ensures done { T.is_honest tables.new → OnOk result
         (T.means tables.new ≡ record { office = changed_by (T.means tables.old).office change; book = with_record (T.means tables.old).book row }) }
     ensures same { T.is_honest tables.new → T.is_whole tables.new → OnErr result (T.means tables.new ≡ T.means tables.old) }
-    ensures kept { IsKept T.is_honest T.is_whole T.means T.may_leave T.is_stopped tables.old tables.new result Disk
+    ensures kept { IsKept T.is_honest T.is_whole T.means T.may_leave T.faults T.is_stopped tables.old tables.new result Disk
         (λ m. m ≡ record { office = changed_by (T.means tables.old).office change; book = with_record (T.means tables.old).book row }) }
 {
     tables.commit_office(row, change)?;
@@ -363,7 +363,7 @@ fn deliver_office_act<T: Tables>(
     ensures ok { T.is_honest tables.new → IfOk result
         (λ reply. (T.means tables.new, reply) ≡ first_delivered (T.means tables.old) request.now) }
     ensures lost { T.is_honest tables.new → T.is_whole tables.new → OnErr result (T.means tables.new ≡ T.means tables.old) }
-    ensures kept { IsKept T.is_honest T.is_whole T.means T.may_leave T.is_stopped tables.old tables.new result Disk
+    ensures kept { IsKept T.is_honest T.is_whole T.means T.may_leave T.faults T.is_stopped tables.old tables.new result Disk
         (λ m. m ≡ (first_delivered (T.means tables.old) request.now).0) }
 {
     let OfficeOutcome { change, reply } = ask_role_and_decide(alloc, tables, request)?;
@@ -391,7 +391,7 @@ pub(crate) fn deliver_first<T: Tables>(
     ensures ok { T.is_honest tables.new → IfOk result
         (λ reply. (T.means tables.new, reply) ≡ first_delivered (T.means tables.old) request.now) }
     ensures lost { T.is_honest tables.new → T.is_whole tables.new → OnErr result (T.means tables.new ≡ T.means tables.old) }
-    ensures kept { IsKept T.is_honest T.is_whole T.means T.may_leave T.is_stopped tables.old tables.new result Disk
+    ensures kept { IsKept T.is_honest T.is_whole T.means T.may_leave T.faults T.is_stopped tables.old tables.new result Disk
         (λ m. m ≡ (first_delivered (T.means tables.old) request.now).0) }
 {
     match &request.act {

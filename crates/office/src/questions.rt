@@ -53,7 +53,7 @@ fn unit_of<T: Tables>(
     // What isn't there is told by tables that aren't shut.
     ensures open_still { T.is_honest tables.new → (result ≡ Err NoLanguage) ⊎ (result ≡ Err NoUnit) → T.is_whole tables.new }
     ensures same { T.is_honest tables.new → T.is_whole tables.new → T.means tables.new ≡ T.means tables.old }
-    ensures kept { IsKept T.is_honest T.is_whole T.means T.may_leave T.is_stopped tables.old tables.new result Disk Nothing }
+    ensures kept { IsKept T.is_honest T.is_whole T.means T.may_leave T.faults T.is_stopped tables.old tables.new result Disk Nothing }
 {
     if tables.stopped() {
         return Err(QueryFault::Disk);
@@ -83,7 +83,7 @@ fn counts_of<T: Tables>(
     // What isn't there is told by tables that aren't shut.
     ensures open_still { T.is_honest tables.new → result ≡ Err NoLanguage → T.is_whole tables.new }
     ensures same { T.is_honest tables.new → T.is_whole tables.new → T.means tables.new ≡ T.means tables.old }
-    ensures kept { IsKept T.is_honest T.is_whole T.means T.may_leave T.is_stopped tables.old tables.new result Disk Nothing }
+    ensures kept { IsKept T.is_honest T.is_whole T.means T.may_leave T.faults T.is_stopped tables.old tables.new result Disk Nothing }
 {
     match tables.counts(domain, lang)? {
         None => Err(QueryFault::NoLanguage),
@@ -107,7 +107,7 @@ impl<T: Tables> Desk<T> {
         ensures open_still { T.is_honest self.new → (result ≡ Err NoLanguage) ⊎ (result ≡ Err NoUnit) → T.is_whole self.new }
         ensures same { T.is_honest self.new → T.is_whole self.new → T.means self.new ≡ T.means self.old }
         // Nothing is written, and the tables are stopped just where `Disk` is answered.
-        ensures kept { IsKept T.is_honest T.is_whole T.means T.may_leave T.is_stopped self.old self.new result Disk Nothing }
+        ensures kept { IsKept T.is_honest T.is_whole T.means T.may_leave T.faults T.is_stopped self.old self.new result Disk Nothing }
     {
         unit_of(self.alloc, &mut self.tables, domain, lang, key)
     }
@@ -126,7 +126,7 @@ impl<T: Tables> Desk<T> {
         ensures open_still { T.is_honest self.new → result ≡ Err NoLanguage → T.is_whole self.new }
         ensures same { T.is_honest self.new → T.is_whole self.new → T.means self.new ≡ T.means self.old }
         // Nothing is written, and the tables are stopped just where `Disk` is answered.
-        ensures kept { IsKept T.is_honest T.is_whole T.means T.may_leave T.is_stopped self.old self.new result Disk Nothing }
+        ensures kept { IsKept T.is_honest T.is_whole T.means T.may_leave T.faults T.is_stopped self.old self.new result Disk Nothing }
     {
         counts_of(self.alloc, &mut self.tables, domain, lang)
     }
