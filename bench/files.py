@@ -5,7 +5,8 @@
 that 100,000 requests stand recorded. Then, each in a run of its own and the best of several: a run without a request, which opens the file,
 tests it whole and closes it; translations, each decided, recorded and committed; and a new template in which 100 messages have another
 comment for translators. The latter two are timed from the open office to the last reply. Beside the acts stands what an append of a page with
-its fdatasync takes, of which each commit has one. Each reply has to be the right one.
+its fdatasync takes, of which each commit has one. Then 32 exports, the languages in turn, each by an opening of its own, and all by one. Each
+reply has to be the right one, and each file the text that its language prints.
 
 Usage: bench/files.py [FOLDER [RECORDS [ENTRIES]]]      (from the top of the repository, after ./office --version has built the
 program; the file is made in FOLDER, which should lie on a disk)
@@ -25,7 +26,7 @@ RECORDS = int(sys.argv[2]) if len(sys.argv) > 2 else 100_000
 ENTRIES = int(sys.argv[3]) if len(sys.argv) > 3 else 20_000
 PROGRAM = os.path.join("crates", "cli", "out", "cli")
 LANGUAGES = ("cs", "de", "fr")
-CHANGED, ACTS, ROUNDS = 100, 2_000, 3
+CHANGED, ACTS, ROUNDS, EXPORTS = 100, 2_000, 3, 32
 HEADER = (
     'msgid ""\nmsgstr ""\n"Content-Type: text/plain; charset=UTF-8\\n"\n'
     '"Plural-Forms: nplurals=2; plural=n != 1;\\n"\n'
@@ -117,6 +118,21 @@ def appended(path, count):
         return time.monotonic() - start
 
 
+def exported(path, folder):
+    """The seconds of exports, each by an opening of its own, and of the same by one opening."""
+    langs = [LANGUAGES[n % len(LANGUAGES)] for n in range(EXPORTS)]
+    start, texts = time.monotonic(), {}
+    for lang in langs:
+        texts[lang] = subprocess.run([PROGRAM, "export", "--store", path, "--lang", lang], stdout=subprocess.PIPE, stderr=subprocess.DEVNULL, check=True).stdout
+    between = time.monotonic()
+    words = [it for lang in langs for it in ("--lang", lang)]
+    subprocess.run([PROGRAM, "export", "--store", path, "--into", folder, *words], stderr=subprocess.DEVNULL, check=True)
+    end = time.monotonic()
+    if any(pathlib.Path(folder, lang + ".po").read_bytes() != text for lang, text in texts.items()):
+        raise SystemExit("another text by one opening")
+    return between - start, end - between
+
+
 def main():
     with tempfile.TemporaryDirectory(dir=FOLDER) as place:
         path, requests = os.path.join(place, "office.db"), Requests()
@@ -127,6 +143,7 @@ def main():
         opening, _, memory = min(ran(path) for _ in range(ROUNDS))
         acts = min(ran(path, requests.acts(ACTS))[1] for _ in range(ROUNDS))
         updates = [ran(path, requests.new_template(turn)) for turn in range(1, ROUNDS + 1)]
+        alone, together = exported(path, os.path.join(place, "exports"))
         append = min(appended(os.path.join(place, "pages"), ACTS) for _ in range(ROUNDS))
         updating = min(seconds for _, seconds, _ in updates)
         most = max(it for _, _, it in updates)
@@ -135,6 +152,7 @@ def main():
     print("opening, with its tests, and closing    %9.2f s, at most %.1f MB" % (opening, memory))
     print("translations                            %9.0f a second (%.0f while the file was made)" % (ACTS / acts, RECORDS / (recorded or 1)))
     print("  an append and its fdatasync           %9.0f a second" % (ACTS / append))
+    print("%d exports                              %9.2f s, by one opening %.2f s" % (EXPORTS, alone, together))
     print("a template with %d other comments      %9.2f s, at most %.1f MB" % (CHANGED, updating, most))
 
 

@@ -26,6 +26,9 @@ PAGE = TOP / "share" / "man" / "man1" / "office.1"
 BASH = TOP / "share" / "bash-completion" / "completions" / "office"
 ZSH = TOP / "share" / "zsh" / "site-functions" / "_office"
 NUMBER = "0197f6a4-5d2e-7c31-8e2a-4b7f0c9d1e55"
+# What zsh completes these values to, and the options that may be there several times.
+PATHS = {"FILE": "_files", "FOLDER": "_files -/"}
+SEVERAL = {("export", "--lang")}
 # Words, and the status that they end with.
 WORDS = [
     (["--help"], 0),
@@ -48,6 +51,14 @@ WORDS = [
     (["export", "--store", "/nowhere/office.db", "--domain", "Docs", "--lang", "de"], 2),
     (["export", "--store", "/nowhere/office.db", "--domain", "", "--lang", "de"], 2),
     (["export", "--store", "/nowhere/office.db", "--domain", "--lang", "de"], 2),
+    (["export", "--store", "/nowhere/office.db", "--lang", "de", "--lang", "fr"], 2),
+    (["export", "--store", "/nowhere/office.db", "--lang", "de", "--lang", "de"], 2),
+    (["export", "--store", "/nowhere/office.db", "--into", "/nowhere/po"], 2),
+    (["export", "--store", "/nowhere/office.db", "--lang", "de", "--into"], 2),
+    (["export", "--store", "/nowhere/office.db", "--lang", "de", "--into", ""], 2),
+    (["export", "--store", "/nowhere/office.db", "--lang", "de", "--lang", "d", "--into", "/nowhere/po"], 2),
+    (["export", "--store", "/nowhere/office.db", "--lang", "de", "--into", "/nowhere/po", "--into", "/nowhere/po"], 2),
+    (["export", "--store", "/nowhere/office.db", "--lang", "de", "--lang", "fr", "--into", "/nowhere/po"], 1),
     (["records", "--help"], 0),
     (["records"], 2),
     (["records", "--after", NUMBER], 2),
@@ -236,7 +247,7 @@ def zsh_differs(commands, own):
     text = ZSH.read_text().replace("\\:", ":")
     lines = [it.strip().rstrip("\\").strip() for it in text.split("\n")]
     wanted = {quoted(f"{name}:{about}") for name, about in commands.items()}
-    for parts in own.values():
+    for command, parts in own.items():
         for option, about in parts["Options"].items():
             about = re.sub(r" \[default: .*\]$", "", about)
             short, _, rest = option.partition(", ")
@@ -245,7 +256,8 @@ def zsh_differs(commands, own):
             if rest:
                 wanted.add(f"'({short} {name})'{{{short},{name}}}'[{about}]'")
             else:
-                wanted.add(quoted(f"{name}[{about}]" + (f":{value}:" if value else "") + ("_files" if value == "FILE" else "")))
+                again = "*" if (command, name) in SEVERAL else ""
+                wanted.add(quoted(f"{again}{name}[{about}]" + (f":{value}:" if value else "") + PATHS.get(value, "")))
         for name, about in parts.get("Arguments", {}).items():
             place = "*" if name.endswith("...") else str(1 + list(parts["Arguments"]).index(name))
             wanted.add(quoted(f"{place}:{page_name(name)} ({about[0].lower()}{about[1:]}):"))

@@ -2,6 +2,7 @@
 //!
 //! - `subcommands`, `words`: the subcommands with their options, as rows that clap reads by; what the words ask for
 //! - `files`, `work`: offices in files, and what is done to the office in one
+//! - `folder`: `office export --into`: languages exported into files of a folder
 //! - `serve`, `send`: `office serve` and `office send`
 //! - `faults`, `sentences`: the second output, where faults are told by numbers, and what the numbers mean
 //! - `stack`: the stack that the deepest line takes, taken before anything is read
@@ -9,6 +10,7 @@
 
 mod faults;
 mod files;
+mod folder;
 mod send;
 mod sentences;
 mod serve;
@@ -70,11 +72,7 @@ fn asked_status(rt: &HostRuntime, asked: &Asked<'_>) -> io::Result<u8> {
     match asked {
         Asked::Init(options) => Ok(in_file(rt, options.store, Work::Make(&options.start))),
         Asked::Deliver(options) => deliver_standard(rt, options),
-        Asked::Export(options) => Ok(in_file(
-            rt,
-            options.store,
-            Work::Export(&options.domain, &options.lang),
-        )),
+        Asked::Export(options) => Ok(in_file(rt, options.store, Work::Export(options))),
         Asked::Records(options) => Ok(in_file(rt, options.store, Work::Records(options))),
         Asked::Serve(options) => Ok(in_file(rt, options.store, Work::Serve(options))),
         Asked::Send(options) => send_file(rt, options),

@@ -14,6 +14,8 @@ enum Value {
     TextOr(&'static str),
     /// The text of an option that has to be there.
     NeededText,
+    /// The same, of an option that may be there several times.
+    NeededTexts,
     /// The number of a port, of an option that has to be there.
     Port,
     /// A number from 1 on, of an option that has to be there.
@@ -126,7 +128,7 @@ pub(crate) const DELIVER: Subcommand = Subcommand {
 
 pub(crate) const EXPORT: Subcommand = Subcommand {
     name: "export",
-    about: "Prints a language's PO text; its length and SHA-256 go to the second output",
+    about: "Prints a language's PO text, or writes those of several into files; length and SHA-256 go to the second output",
     words: &[
         Word {
             name: "store",
@@ -143,8 +145,14 @@ pub(crate) const EXPORT: Subcommand = Subcommand {
         Word {
             name: "lang",
             called: "LANG",
-            value: Value::NeededText,
-            help: "The language",
+            value: Value::NeededTexts,
+            help: "The language; with --into, of several each",
+        },
+        Word {
+            name: "into",
+            called: "FOLDER",
+            value: Value::Text,
+            help: "Writes the text of each language into the folder's file LANG.po, and prints none",
         },
     ],
     behind: MAN_PAGE,
@@ -258,7 +266,7 @@ fn with_value<'a>(arg: Arg<'a>, value: Value) -> Arg<'a> {
     match value {
         Value::Flag | Value::Text => arg,
         Value::TextOr(text) => arg.default_value(text),
-        Value::NeededText | Value::Argument => arg.required(true),
+        Value::NeededText | Value::NeededTexts | Value::Argument => arg.required(true),
         Value::Port => arg
             .required(true)
             .value_parser(value_parser!(u16).range(1..)),
@@ -272,6 +280,14 @@ fn with_value<'a>(arg: Arg<'a>, value: Value) -> Arg<'a> {
     }
 }
 
+/// What clap does with the text of an option that comes again: it is refused, or kept behind those before it.
+fn action_of(value: Value) -> ArgAction {
+    match value {
+        Value::NeededTexts => ArgAction::Append,
+        _ => ArgAction::Set,
+    }
+}
+
 /// A word as clap has it.
 fn arg_of<'a>(alloc: Global, word: Word) -> Arg<'a> {
     let arg = Arg::new(alloc, word.name).help(word.help);
@@ -281,7 +297,7 @@ fn arg_of<'a>(alloc: Global, word: Word) -> Arg<'a> {
         _ => with_value(
             arg.long(word.name)
                 .value_name(word.called)
-                .action(ArgAction::Set),
+                .action(action_of(word.value)),
             word.value,
         ),
     }

@@ -47,12 +47,21 @@ pub(crate) struct Deliver<'a> {
     pub(crate) at_lost: AtLost,
 }
 
-/// The options of `export`: the file, the domain, and its language.
+/// The options of `export`: the file, the domain, and what becomes of the texts of its languages.
 #[derive(Drop)]
 pub(crate) struct Export<'a> {
     pub(crate) store: &'a str,
     pub(crate) domain: Name,
-    pub(crate) lang: Lang,
+    pub(crate) texts: Texts<'a>,
+}
+
+/// What becomes of the texts of languages.
+#[derive(Drop)]
+pub(crate) enum Texts<'a> {
+    /// That of one is printed.
+    Printed(Lang),
+    /// Each is put into a file of this folder, in this order.
+    Filed(&'a str, Vec<Lang>),
 }
 
 /// The options of `records`: the file, and the number of the record behind which the records are wanted.
@@ -214,6 +223,9 @@ const NO_NAME: &str =
 const NO_LANG: &str =
     "a LANG is 2 to 16 ASCII letters, digits, `_`, `-` and `@`, the first of them a letter";
 
+const NO_FOLDER: &str =
+    "several languages are written into a folder, which --into names, and not printed";
+
 const NO_REQUEST: &str =
     "a NUMBER is that of a request: 36 characters, hyphenated and in lower case";
 
@@ -259,14 +271,34 @@ fn init_options<'a>(alloc: Global, found: &ArgMatches<'a>) -> Result<Asked<'a>, 
     }))
 }
 
+/// The languages of these codes.
+fn langs_of(alloc: Global, codes: &[&str]) -> Result<Vec<Lang>, Error> {
+    let mut langs = Vec::new(alloc);
+    for code in codes {
+        langs.push(lang_of(alloc, *code, EXPORT, "office export")?)?;
+    }
+    Ok(langs)
+}
+
+/// What becomes of the texts of the languages that are named. clap has seen that one is.
+fn texts_of<'a>(alloc: Global, found: &ArgMatches<'a>) -> Result<Texts<'a>, Error> {
+    let codes = found.get_strs("lang").unwrap_or(&[]);
+    match (found.get_str("into"), codes) {
+        (Some(folder), _) if !folder.is_empty() => {
+            Ok(Texts::Filed(folder, langs_of(alloc, codes)?))
+        }
+        (None, [code]) => Ok(Texts::Printed(lang_of(alloc, *code, EXPORT, "office export")?)),
+        _ => Err(or_memory(wrong_value(command_of(alloc, EXPORT), "office export", NO_FOLDER))),
+    }
+}
+
 fn export_options<'a>(alloc: Global, found: &ArgMatches<'a>) -> Result<Asked<'a>, Error> {
-    let text = found.get_str("lang").unwrap_or("");
-    let lang = lang_of(alloc, text, EXPORT, "office export")?;
+    let texts = texts_of(alloc, found)?;
     let domain = name_of(alloc, found, "domain", EXPORT, "office export")?;
     Ok(Asked::Export(Export {
         store: found.get_str("store").unwrap_or(""),
         domain,
-        lang,
+        texts,
     }))
 }
 

@@ -1,8 +1,9 @@
 //! What is done to the office in a database.
 ghost use Rattle.std.specs.Prelude.{◌≡◌, false};
 
+use crate::folder::export_into;
 use crate::serve::serve_opened;
-use crate::words::{Deliver, Records, Serve};
+use crate::words::{Deliver, Export, Records, Serve, Texts};
 use crate::{DONE, second_output};
 use commands::{FAILED, Input, Output};
 use file_commands::{Closed, deliver_store, export_store, init_store, records_store, say_ready};
@@ -20,8 +21,8 @@ pub(crate) enum Work<'a> {
     Make(&'a Start),
     /// The standard input is delivered to it, and then the domain's language is exported, if one is named.
     Deliver(&'a Deliver<'a>),
-    /// The domain's language is exported.
-    Export(&'a Name, &'a Lang),
+    /// The domain's languages are exported.
+    Export(&'a Export<'a>),
     /// The records behind that of a number are listed, or all.
     Records(&'a Records<'a>),
     /// It is served on a port.
@@ -54,7 +55,7 @@ pub(crate) fn done<S: Alter + Drop>(
     match work {
         Work::Make(start) => make(rt, connection, start),
         Work::Deliver(options) => deliver(rt, connection, options),
-        Work::Export(domain, lang) => export(rt, connection, domain, lang),
+        Work::Export(options) => export(rt, connection, options),
         Work::Records(options) => records(rt, connection, options.after),
         Work::Serve(options) => serve_opened(rt, connection, options),
     }
@@ -98,6 +99,21 @@ fn deliver<S: Alter + Drop>(
 }
 
 fn export<S: Alter + Drop>(
+    rt: &HostRuntime,
+    connection: Connection<S>,
+    options: &Export<'_>,
+) -> Closed<S>
+    requires { connection.in_transaction ≡ false }
+{
+    match &options.texts {
+        Texts::Printed(lang) => print(rt, connection, &options.domain, lang),
+        Texts::Filed(folder, langs) => {
+            export_into(rt, connection, &options.domain, langs.as_slice(), *folder)
+        }
+    }
+}
+
+fn print<S: Alter + Drop>(
     rt: &HostRuntime,
     connection: Connection<S>,
     domain: &Name,
