@@ -149,7 +149,7 @@ def calls_of(office, folder, langs):
 def by_one_opening(office, place):
     """The office's file is opened once; a text is on the disk before it gets its place."""
     calls = calls_of(office, place / "traced", LANGUAGES)
-    opened = [it for it in calls if re.search(rf'open(at)?\(.*"{re.escape(str(office.path))}"', it)]
+    opened = [it for it in calls if re.search(rf'open(at)?\(.*"{re.escape(str(office.path))}".* = \d', it)]
     same("openings of the office's file", len(opened), 1)
     for lang in LANGUAGES:
         its = [it for it in calls if f"/{lang}.po" in it]

@@ -136,11 +136,12 @@ WORDS = [
     (["deliver", "--export", "xx"], 1),
 ]
 # Words, the line of a fault that they tell, and what the line behind it has to name at a terminal. The files `{made}`, `{empty}` and `{twice}` are
-# an office's, an empty one, and one of requests two of which have one number.
+# an office's, an empty one, and one of requests two of which have one number; `{po}` is a folder that isn't there.
 TOLD = [
     (["export", "--store", "/nowhere/office.db", "--lang", "de"], "store fault 2", ["in use by another program", "isn't there", "no database"]),
     (["init", "--store", "{made}", "--manager", "root"], "store: exists", ["an office already"]),
     (["export", "--store", "{empty}", "--lang", "de"], "store fault 3", ["no office's"]),
+    (["export", "--store", "{made}", "--lang", "de", "--into", "{po}"], "de export fault 1", ["no such domain or language"]),
     (["records", "--store", "{made}", "--after", NUMBER], "records fault 1", ["No record", "that number"]),
     (["deliver", "--export", "xx"], "export fault 1", ["no such domain or language"]),
     (["deliver", "--demo", "--export", "de", "--domain", "docs"], "export fault 1", ["no such domain or language"]),
@@ -299,7 +300,7 @@ def told_at_terminal(program, words, meanwhile=lambda: None):
 
 def sentences_differ(program):
     with tempfile.TemporaryDirectory() as name:
-        files = {it: str(pathlib.Path(name) / it) for it in ("made", "empty", "twice")}
+        files = {it: str(pathlib.Path(name) / it) for it in ("made", "empty", "twice", "po")}
         run(program, ["init", "--store", files["made"], "--manager", "root"])
         pathlib.Path(files["empty"]).touch()
         line = '{"act":"team","caller":"root","name":"ann","number":"00000000-0000-4000-8000-000000000001","role":"translator"}\n'
