@@ -10,6 +10,9 @@ with the whole header and the first entry written, since entries are handed on b
 export's first is found by halving: the refusal of an earlier one leaves the office unopened. Every 50th growth from there on is
 refused, and the last hundred, as above.
 
+Two languages that are exported into a folder: each stands in its file, whole, with its receipt, or isn't there, and fault 3 is told behind its
+code; or the office can't be opened, and there is no folder. Some refusals cost the first language alone, others the second.
+
 With --spoil exports that were cut off are taken for whole ones behind which the fault was told, as by a program that asks for memory once all is
 written, which has to be found. The last line is `N exports, W wrong`; the status is 1 if anything was wrong.
 
@@ -147,6 +150,43 @@ def small(library, folder):
     return wrong
 
 
+def filed_as(lang, text, line, files):
+    """What came of a language that is exported into a file; None where the line isn't that of what stands there."""
+    found = files.pop(lang + ".po", None)
+    if found == text and line.startswith("%s bytes %d sha256 " % (lang, len(text.encode()))):
+        return AMPLE
+    return CUT if found is None and line == lang + " export fault 3" else None
+
+
+def filed(library, folder):
+    said = {lang: HEADER + entry(0, "") + "".join(entry(i, "#~ ") for i in range(1, count)) for lang, count in (("de", 3), ("fr", 4))}
+    requests = [{"act": "template", "po": source(0)[1:]}] + [{"act": "language", "lang": lang, "po": text} for lang, text in said.items()]
+    path, found = made(os.path.join(folder, "filed.db"), requests), collections.Counter()
+    number, quiet = 0, 0
+    while quiet < 50:
+        number += 1
+        into = os.path.join(folder, "into-%d" % number)
+        words = [PROGRAM, "export", "--store", path, "--into", into, "--lang", "de", "--lang", "fr"]
+        Export.runs += 1
+        done = subprocess.run(words, capture_output=True, env=dict(os.environ, LD_PRELOAD=library, FAIL_N=str(number)))
+        files = {it.name: open(it.path).read() for it in os.scandir(into)} if os.path.isdir(into) else {}
+        lines, status = done.stderr.decode().splitlines(), done.returncode
+        if len(lines) == 2 and not done.stdout:
+            kinds = tuple(filed_as(lang, said[lang], line, files) for lang, line in zip(said, lines))
+        else:
+            kinds = (UNOPENED,) * 2 if status == 1 and done.stderr in (b"", b"error: out of memory\n", b"store fault 1\n") else (None,)
+        if None in kinds or files or status != (kinds != (AMPLE, AMPLE)):
+            kinds = None
+            print("growth %d refused, into a folder: %r, %s" % (number, (status, done.stdout, done.stderr), sorted(files)))
+        found[kinds] += 1
+        quiet = quiet + 1 if kinds == (AMPLE, AMPLE) else 0
+    print("two languages into a folder: %s" % ", ".join("%d %s" % (n, " and ".join(it or ["wrong"])) for it, n in sorted(found.items(), key=str)))
+    missing = [it for it in ((CUT, AMPLE), (AMPLE, CUT)) if not found[it]]
+    for it in missing:
+        print("no refusal leaves them %s" % " and ".join(it))
+    return found[None] + len(missing)
+
+
 def large(library, folder):
     text = HEADER + "".join(entry(i, "#~ ") for i in range(OBSOLETE))
     export = Export(library, made(os.path.join(folder, "large.db"), [{"act": "language", "lang": "de", "po": text}]), text)
@@ -170,7 +210,7 @@ with tempfile.TemporaryDirectory() as folder:
     library = os.path.join(folder, "refuse.so")
     source_of = os.path.join("tests", "growths", "refuse.c")
     subprocess.run(["cc", "-O1", "-shared", "-fPIC", "-o", library, source_of, "-ldl"], check=True)
-    offices = [small] if GIVEN.spoil else [small, large]
+    offices = [small] if GIVEN.spoil else [small, filed, large]
     wrong = sum(it(library, folder) for it in offices)
 print("%d exports, %d wrong" % (Export.runs, wrong))
 raise SystemExit(1 if wrong else 0)

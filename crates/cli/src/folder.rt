@@ -55,8 +55,8 @@ impl Write for TextFile<'_> {
     }
 }
 
-/// Exports a language into its file. Its receipt, which is told once the file is in its place, or its fault stands behind its code.
-/// What was written of a text that isn't whole is removed.
+/// Exports a language into its file. What was written of a text that isn't whole is removed. An error is want of memory, before anything is
+/// exported.
 fn export_file<T: Tables>(
     rt: &HostRuntime,
     desk: &mut Desk<T>,
@@ -74,16 +74,39 @@ fn export_file<T: Tables>(
         file: None,
     };
     let mut text = Output::new(BufWriter::new(rt.alloc(), file)?);
-    let mut faults = Faults::new(rt);
-    let named = write!(faults, "{} ", lang.as_str());
     let status = export_text(desk, domain, lang, &mut text, &mut second_output(rt));
     drop(text);
     if status != DONE {
         // Of a language that isn't there, and of a text that is in its place, nothing stands beside it.
         let _ = fs::remove_file(rt, beside.as_str());
     }
-    named?;
     Ok(status)
+}
+
+/// Tells a fault, and answers the exit status.
+fn told(rt: &HostRuntime, fault: ExportFault) -> u8 {
+    // Where it can't be told, the status tells it.
+    let mut faults = Faults::new(rt);
+    let _ = writeln!(faults, "export fault {}", fault.number());
+    FAILED
+}
+
+/// Exports a language into its file. Its line is its code, and behind it its receipt, which is told once the file is in its place, or its
+/// fault.
+fn export_named<T: Tables>(
+    rt: &HostRuntime,
+    desk: &mut Desk<T>,
+    domain: &Name,
+    lang: &Lang,
+    folder: &str,
+) -> u8 {
+    let mut faults = Faults::new(rt);
+    let named = write!(faults, "{} ", lang.as_str());
+    let status = match export_file(rt, desk, domain, lang, folder) {
+        Ok(status) => status,
+        Err(_) => told(rt, ExportFault::Memory),
+    };
+    if named.is_ok() { status } else { FAILED }
 }
 
 /// Exports the languages in this order, whatever comes of each. Answers the exit status: 0, or 1 where one of them failed.
@@ -96,9 +119,8 @@ fn export_each<T: Tables>(
 ) -> u8 {
     let mut status = DONE;
     for lang in langs {
-        match export_file(rt, desk, domain, lang, folder) {
-            Ok(DONE) => {}
-            _ => status = FAILED,
+        if export_named(rt, desk, domain, lang, folder) != DONE {
+            status = FAILED;
         }
     }
     status
