@@ -126,14 +126,6 @@ fn export_each<T: Tables>(
     status
 }
 
-/// Tells a fault of which no language is named. Answers the exit status.
-fn told(rt: &HostRuntime, fault: ExportFault) -> u8 {
-    // Where it can't be told, the status tells it.
-    let mut faults = Faults::new(rt);
-    let _ = writeln!(faults, "export fault {}", fault.number());
-    FAILED
-}
-
 /// Exports the languages that a domain has, in the order of their codes.
 fn export_all<T: Tables>(rt: &HostRuntime, desk: &mut Desk<T>, domain: &Name, folder: &str) -> u8 {
     match desk.languages(domain) {
