@@ -3,8 +3,9 @@
 
 Refused acts: a stranger's act on the office and a stranger's translation, each refused for the role and recorded, in
 an office of many units. Counts: a question for those of a language there, and of one that isn't there, behind a
-translation each. Votes: a look at a unit of 49 suggestions with 9,999 votes each, a vote on one of them, and the
-opening of its file. Role: a stranger's refused translation of a unit with 100 suggestions of eight long forms.
+translation each. Votes: a look at a unit of 99 suggestions with 9,999 votes each, the opening of its file, and what
+writes one row of it or two: a vote on one of them, a translation, a comment, and the one suggestion more that there may
+be; and the dismissal of one, which writes the whole unit. Role: a stranger's refused translation of a unit with 100 suggestions of eight long forms.
 Placeholders: a translation of a message of 16,383 directives into one with the same directives in another order.
 First act: a translation behind an opening, beside the next ones, in the office of many units. Each the best of
 several, of one program or of two in turn, the second in the second column, say that of the commit before; and what is
@@ -31,9 +32,7 @@ FOLDER = sys.argv[3] if len(sys.argv) > 3 else None
 LANGUAGES = int(sys.argv[4]) if len(sys.argv) > 4 else 32
 ENTRIES = int(sys.argv[5]) if len(sys.argv) > 5 else 15_000
 ROUNDS = 5
-SUGGESTIONS, VOTES = 49, 9_999
-# A vote on a unit that has many takes long, so few are tried.
-VOTERS = 2
+SUGGESTIONS, VOTES = 99, 9_999
 LONG_SUGGESTIONS, FORMS, LETTERS = 100, 8, 50_000
 DIRECTIVES = 16_383
 POLICY = {"accept_at": 0, "guests_suggest": True, "line_ends": True, "placeholders": True, "reviews": False, "voting": True}
@@ -243,20 +242,31 @@ def of_many_votes(program, path):
     def right(view):
         return [it["votes"] for it in view["suggestions"]] == [1 + VOTES % 2] * SUGGESTIONS
 
-    return [*looked(program, path, b"/v1/unit?lang=de&id=Hello", right), voted(program, path)]
+    return [*looked(program, path, b"/v1/unit?lang=de&id=Hello", right), *of_few_rows(program, path)]
 
 
-def voted(program, path):
-    """The seconds of the best of some votes, each on another suggestion, which have to be counted."""
+def of_few_rows(program, path):
+    """The seconds of the best of several votes, each on another suggestion, which have to be counted, of translations and comments; of one suggestion, and of its dismissal."""
     with contextlib.closing(sqlite3.connect(path)) as db:
-        own = [it for (it,) in db.execute("SELECT number FROM d_suggestion LIMIT ?", (VOTERS,))]
-    wanted = '200 {"accepted":false,"revision":1,"state":"untranslated","votes":%d}' % (2 + VOTES % 2)
-    requests, times = Requests(LATER), []
+        own = [it for (it,) in db.execute("SELECT number FROM d_suggestion LIMIT ?", (ROUNDS,))]
+    requests, votes, translations, comments = Requests(LATER), [], [], []
+    unit, state = {"id": "Hello", "lang": "de"}, "untranslated"
     with Desk(program, path) as desk:
-        for it in own:
-            line = requests.line("vote", "ann", id="Hello", lang="de", seen=1, suggestion=it, value=1)
-            times.append(desk.ask(line, wanted))
-    return min(times)
+        for turn, suggestion in enumerate(own):
+            seen = 2 * turn + 1
+            line = requests.line("vote", "ann", seen=seen, suggestion=suggestion, value=1, **unit)
+            votes.append(desk.ask(line, '200 {"accepted":false,"revision":%d,"state":"%s","votes":%d}' % (seen, state, 2 + VOTES % 2)))
+            state = "translated"
+            line = requests.line("translate", "ann", seen=seen, forms=["Text of turn %d" % turn], **unit)
+            translations.append(desk.ask(line, '200 {"revision":%d,"state":"%s"}' % (seen + 1, state)))
+            line = requests.line("comment", "ann", seen=seen + 1, lines=["Turn %d" % turn], **unit)
+            comments.append(desk.ask(line, '200 {"revision":%d,"state":"%s"}' % (seen + 2, state)))
+        line = requests.line("suggest", "ann", seen=2 * ROUNDS + 1, forms=["Hallo"], **unit)
+        wanted = '200 {"revision":%d,"state":"%s","suggestion":"%s","votes":1}' % (2 * ROUNDS + 1, state, number(requests.count))
+        suggestion = desk.ask(line, wanted)
+        line = requests.line("dismiss", "ann", seen=2 * ROUNDS + 1, suggestion=number(requests.count), **unit)
+        dismissal = desk.ask(line, '200 {"revision":%d,"state":"%s"}' % (2 * ROUNDS + 1, state))
+    return [min(votes), min(translations), min(comments), suggestion, dismissal]
 
 
 def of_long_suggestions(program, path):
@@ -314,10 +324,14 @@ def main():
     tell("a language's counts", counts, 0.01)
     tell("those of a language that isn't there", no_counts, 0.01)
     print("a unit of %d suggestions with %d votes each" % (SUGGESTIONS, VOTES))
-    look, opening, vote = beside(many_votes, of_many_votes)
-    tell("a look", look, 0.3)
+    look, opening, vote, translation, comment, suggestion, dismissal = beside(many_votes, of_many_votes)
+    tell("a look", look, 0.6)
     tell("the opening", opening)
     tell("a vote", vote, 0.02)
+    tell("a translation", translation, 0.02)
+    tell("a comment", comment, 0.02)
+    tell("a suggestion", suggestion, 0.02)
+    tell("its dismissal", dismissal)
     print("a unit of %d suggestions of %d forms of %d letters" % (LONG_SUGGESTIONS, FORMS, LETTERS))
     (refused,) = beside(long_suggestions, of_long_suggestions)
     tell("a stranger's refused translation", refused, 0.02)

@@ -26,10 +26,10 @@ ROUNDS = int(sys.argv[3]) if len(sys.argv) > 3 else 5
 PROGRAM = pathlib.Path(sys.argv[4] if len(sys.argv) > 4 else "/tmp/office-store-program/crates/stored_offices/out/stored_offices").resolve()
 LOOKS = 10 * ACTS
 
-# In the order in which an act runs them: a look into the book, six reads, and the writes, behind another look at the unit and its suggestions.
-# The first act moves the tally.
+# In the order in which they stand there: a look into the book, the six reads of a look, of which an act leaves the last out, and the writes, behind
+# looks at the domain and, again, at the unit. The first act moves the tally.
 STATEMENTS = re.findall(r'"((?:SELECT|INSERT|DELETE) [^"]*)"', (TOP / "tests" / "store" / "bare.rt.txt").read_text())
-RECORD, READS, (PUT_RECORD, TALLY, PUT_TALLY, PUT_UNIT, CLEAR) = STATEMENTS[0], STATEMENTS[1:7], STATEMENTS[7:]
+RECORD, READS, (PUT_RECORD, DOMAIN, TALLY, PUT_TALLY, PUT_UNIT) = STATEMENTS[0], STATEMENTS[1:7], STATEMENTS[7:]
 UNIT = ("main", "de", "Hello")
 VALUES = [("main", "de"), (), ("ann",), UNIT, ("main", "Hello"), UNIT]
 
@@ -54,9 +54,9 @@ def opened(path):
     return db
 
 
-def look(db):
+def look(db, reads=6):
     db.execute("BEGIN")
-    for text, values in zip(READS, VALUES):
+    for text, values in list(zip(READS, VALUES))[:reads]:
         db.execute(text, values).fetchall()
     db.execute("COMMIT")
 
@@ -69,16 +69,15 @@ def translate(db, n):
     db.execute("BEGIN")
     db.execute(RECORD, (number,)).fetchall()
     db.execute("COMMIT")
-    look(db)
+    look(db, 5)
     db.execute("BEGIN")
     db.execute(PUT_RECORD, (number, content, 200, body))
+    db.execute(DOMAIN, ("main",)).fetchall()
     db.execute(READS[3], UNIT).fetchall()
-    db.execute(READS[5], UNIT).fetchall()
     if n == 1:
         db.execute(TALLY, ("main", "de")).fetchall()
         db.execute(PUT_TALLY, ("main", "de", 0, 0, 1, 0, 0, 0, 0))
     db.execute(PUT_UNIT, unit)
-    db.execute(CLEAR, UNIT)
     db.execute("COMMIT")
 
 

@@ -29,12 +29,19 @@ from looks import HOST, free_port, number
 TOP = pathlib.Path(__file__).resolve().parent.parent
 SECONDS = 300
 HEADER = 'msgid ""\nmsgstr ""\n"Content-Type: text/plain; charset=UTF-8\\n"\n"Plural-Forms: nplurals=2; plural=n != 1;\\n"\n'
+# Each way to write of a unit is among them: its row alone, a suggestion, a vote that is new or taken back, with its sum, and what a vote accepts.
+ON_HELLO = {"lang": "de", "id": "Hello", "seen": 2}
+VOTE = {"act": "vote", **ON_HELLO, "suggestion": number(5)}
 ACTS = [
     {"act": "template", "po": 'msgid "Hello"\nmsgstr ""\n'},
     {"act": "language", "lang": "de", "po": HEADER},
-    {"act": "translate", "lang": "de", "id": "Hello", "seen": 1, "forms": ["Hallo"]},
+    {"act": "translate", **ON_HELLO, "seen": 1, "forms": ["Hallo"]},
     {"act": "team", "name": "ann", "role": "translator"},
-    {"act": "suggest", "lang": "de", "id": "Hello", "seen": 2, "forms": ["Servus"]},
+    {"act": "policy", "accept_at": 2, "guests_suggest": False, "line_ends": False, "placeholders": False, "reviews": False, "voting": True},
+    {"act": "suggest", **ON_HELLO, "caller": "ann", "forms": ["Servus"]},
+    {**VOTE, "value": -1},
+    {**VOTE, "value": 0},
+    {**VOTE, "value": 1},
 ]
 # The replies, by the page of formats.
 REPLIES = [
@@ -42,10 +49,16 @@ REPLIES = [
     '200 {"loaded":0,"missing":1,"obsolete":0}',
     '200 {"revision":2,"state":"translated"}',
     '200 {"name":"ann","role":"translator"}',
-    '200 {"revision":2,"state":"translated","suggestion":"00000000-0000-4000-8000-000000000004","votes":1}',
+    '200 {"units":0}',
+    '200 {"revision":2,"state":"translated","suggestion":"%s","votes":1}' % number(5),
+    '200 {"accepted":false,"revision":2,"state":"translated","votes":0}',
+    '200 {"accepted":false,"revision":2,"state":"translated","votes":1}',
+    '200 {"accepted":true,"revision":3,"state":"translated","votes":2}',
 ]
 DISK = '507 {"error":"disk"}'
+# The language's text behind the translation, and behind all.
 TEXT = HEADER + '\nmsgid "Hello"\nmsgstr "Hallo"\n'
+LAST_TEXT = TEXT.replace("Hallo", "Servus")
 KINDS = ("pwrite", "sync", "truncate", "open", "unlink")
 LIE = {"FAIL_ERRNO": "0", "FAIL_LIE": "1"}
 WAYS = [{"FAIL_ERRNO": "5"}, {"FAIL_ERRNO": "28"}, {"FAIL_ERRNO": "5", "FAIL_ON": "1"}]
@@ -53,7 +66,7 @@ PROGRAMS = ("init", "deliver", "convert", "convert_second", "export", "serve", "
 SHORT = {"FAIL_ERRNO": "0", "FAIL_SHORT": "1"}
 
 
-LINES = [json.dumps({**it, "caller": "root", "number": number(n)}) for n, it in enumerate(ACTS)]
+LINES = [json.dumps({"caller": "root", **it, "number": number(n)}) for n, it in enumerate(ACTS)]
 
 
 class Trial:
@@ -127,7 +140,7 @@ class Trial:
         if found is None or found not in (wanted[:answered], wanted[: answered + 1]):
             self.say(what, f"records {found}, {answered} were answered")
         status, out, faults = self.run("deliver", "--store", self.store, "--export", "de", given="".join(it + "\n" for it in LINES))
-        if (status, out, faults) != (0, "".join(it + "\n" for it in REPLIES) + TEXT, ""):
+        if (status, out, faults) != (0, "".join(it + "\n" for it in REPLIES) + LAST_TEXT, ""):
             self.say(what, f"then {status} {faults} {out[:300]}")
 
     # the programs, each with what it may say
@@ -201,7 +214,8 @@ class Trial:
         if process.poll() is not None:
             return said
         for n, act in enumerate(ACTS):
-            client.request("POST", f"/v1/requests/{number(n)}", json.dumps(act), {"X-Office-Caller": "root"})
+            body = json.dumps({name: it for name, it in act.items() if name != "caller"})
+            client.request("POST", f"/v1/requests/{number(n)}", body, {"X-Office-Caller": act.get("caller", "root")})
             answer = client.getresponse()
             said.append(f"{answer.status} {answer.read().decode()}")
         client.close()

@@ -42,6 +42,20 @@ REQUESTS = [
 
 DOCS = "INSERT INTO domain VALUES ('docs')"
 
+
+def languages(count):
+    """So many languages in the place of the one: the others have its units, and no suggestion."""
+    others = f"WITH RECURSIVE n (i) AS (SELECT 100 UNION ALL SELECT i + 1 FROM n LIMIT {count - 1})"
+    return ";".join(
+        f"{others} INSERT INTO {table} SELECT domain, 'l' || i, {columns} FROM n, {table} WHERE lang = 'de'"
+        for table, columns in (
+            ("d_language", "header, plural"),
+            ("d_unit", "key, plural, forms, state, obsolete, revision, comment, previous"),
+            ("d_tally", "untranslated, needs_editing, translated, approved, read_only, 0, obsolete"),
+        )
+    )
+
+
 # What is done to a copy, as SQL, and the fault that it has to give.
 SPOILT = [
     ("another schema number", "UPDATE policy SET schema = 2", 3),
@@ -84,6 +98,7 @@ SPOILT = [
     ("a member whose name has a blank", "INSERT INTO team VALUES ('an n', 1)", 3),
     ("an approved unit without reviews", "UPDATE d_unit SET state = 3 WHERE key = 'Bye'; UPDATE d_tally SET translated = 0, approved = 1", 3),
     ("a language without a rule", "UPDATE d_language SET plural = 'none'", 3),
+    ("a language too many", languages(257), 3),
     ("a sum of no suggestion", f"INSERT INTO d_vote_sum VALUES ('{number(99)}', 1)", 2),
 ]
 
@@ -114,6 +129,7 @@ MISCOUNTED = [
 RECOUNTED = [
     ("another domain", DOCS),
     ("eight domains", "INSERT INTO domain VALUES ('d1'), ('d2'), ('d3'), ('d4'), ('d5'), ('d6'), ('d7')"),
+    ("as many languages as may be", languages(256)),
     (
         "a language of another domain, counted so",
         f"{DOCS}; INSERT INTO d_language SELECT 'docs', lang, header, plural FROM d_language; INSERT INTO d_tally VALUES ('docs', 'de', 0, 0, 0, 0, 0, 0, 0)",

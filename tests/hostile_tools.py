@@ -24,11 +24,12 @@ import threading
 import time
 
 import looks
-from looks import HOST, number, same
+from looks import BIDI, CONTROLS, HOST, number, same
+from patience import seconds
 from serve import TOP
 
 TOOLS = TOP / "share" / "tools"
-SECONDS = 60
+SECONDS = seconds(60)
 # Runs a tool with less patience, and room for less, than it has: an answer may take so long, and a file or an answer be so long.
 IMPATIENT = """
 import runpy, sys
@@ -59,9 +60,7 @@ sys.argv = sys.argv[3:]
 runpy.run_path(sys.argv[0], run_name="__main__")
 """
 
-# What no terminal and no log is to be given, and halves of surrogate pairs, which JSON may have.
-BIDI = [0x061C, 0x200E, 0x200F, *range(0x202A, 0x202F), *range(0x2066, 0x206A)]
-CONTROLS = [*range(0x20), *range(0x7F, 0xA0), 0x2028, 0x2029, *BIDI]
+# With halves of surrogate pairs, which JSON may have.
 ESCAPED = [*CONTROLS, 0xD800, 0xDFFF]
 UNSEEN = re.compile("[" + "".join(re.escape(chr(it)) for it in CONTROLS if it not in (9, 10)) + "]")
 HEADER = 'msgid ""\nmsgstr ""\n"Content-Type: text/plain; charset=UTF-8\\n"\n"Plural-Forms: nplurals=2; plural=n != 1;\\n"\n'
@@ -93,12 +92,12 @@ def is_clean(*outputs):
     return not UNSEEN.search(text) and "Traceback" not in text and (not text or text.endswith("\n"))
 
 
-def one_fault(what, tool, *words, patched=False, within=SECONDS, says=""):
+def one_fault(what, tool, *words, patched=False, within=60, says=""):
     """The tool has to end with status 1 and one line on the second output, which says this."""
     status, _, faults, took = run(tool, *words, patched=patched)
     lines = faults.decode(errors="replace").split("\n")
     wanted = (1, 2, "", True, True)
-    same(what, (status, len(lines), lines[-1], lines[0].startswith(f"{tool}: ") and says in lines[0], took < within), wanted)
+    same(what, (status, len(lines), lines[-1], lines[0].startswith(f"{tool}: ") and says in lines[0], took < seconds(within)), wanted)
     same(f"{what}: its line", is_clean(faults), True)
 
 
@@ -441,7 +440,7 @@ def odd_places(place):
     for it in place.iterdir():
         if it.name not in ("export.po", "x.pot", "folder", "long"):
             status, out, faults, took = imported_beside(place, it)
-            same(f"import beside {it.name}", (status, out, b"de: not loaded: " in faults, is_clean(faults), took < 10), (1, b"", True, True, True))
+            same(f"import beside {it.name}", (status, out, b"de: not loaded: " in faults, is_clean(faults), took < seconds(10)), (1, b"", True, True, True))
 
 
 def imported_beside(place, it):

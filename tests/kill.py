@@ -5,10 +5,12 @@
 
 Each office gets one list of requests, piece by piece, by `office deliver` and by `office serve` in turn, which is sent a few requests ahead of its
 answers, and is killed with SIGKILL a moment after one of them, or, now and then, while it opens the file; then the same piece is delivered again,
-whole. Each request that was answered before has to be recorded, in order, and to get the same answer, the file has to be whole for SQLite, and
-behind fifty kills all answers and the export have to equal those of an office that got the list undisturbed; then a new office begins. Most of the
-kills have to fall between two answers to new requests. With `--spoil` the end of the log is cut off behind each kill, as if the program answered
-before it wrote, which has to be found. Prints what is otherwise, and last `N kills, S of them of serve, C between two answers, M wrong`.
+whole. The requests write of a unit in each way: its row alone, a suggestion, a vote with its sum, and what an accepting vote changes. Each request that
+was answered before has to be recorded, in order, and to get the same answer, the file has to be whole for SQLite, and behind fifty kills all answers,
+the exports and the rows of units, suggestions and votes have to equal those of an office that got the list undisturbed, and the sums and counts that
+the file keeps those that queries count; then a new office begins. Most of the kills have to fall between two answers to new requests. With `--spoil`
+the end of the log is cut off behind each kill, as if the program answered before it wrote, which has to be found. Prints what is otherwise, and last
+`N kills, S of them of serve, C between two answers, M wrong`.
 """
 import argparse
 import contextlib
@@ -23,7 +25,8 @@ import sys
 import tempfile
 import time
 
-from looks import HOST, free_port
+from figures import kept_and_counted
+from looks import HOST, free_port, number
 
 TOP = pathlib.Path(__file__).resolve().parent.parent
 # How many kills an office sees.
@@ -35,6 +38,11 @@ AGAIN = 10
 AHEAD = 4
 MESSAGES = 20
 DOMAINS = ["main", "docs", "web"]
+POLICY = {"act": "policy", "accept_at": 3, "guests_suggest": False, "line_ends": False, "placeholders": False, "reviews": False, "voting": True}
+# Where acts on units write.
+TABLES = ("d_unit", "d_suggestion", "d_vote", "d_vote_sum", "d_tally")
+# How many ways to write of a unit are tried in turn.
+WAYS = 8
 # How many bytes of the log a spoilt kill loses.
 SPOILT = 4096
 SECONDS = 300
@@ -46,8 +54,9 @@ def template(extra):
 
 
 def requests(count):
-    """A list of requests: translations in each domain in turn, and now and then one of the office's acts."""
-    seen, made = {}, []
+    """A list of requests: acts on units in each domain in turn, and now and then one of the office's acts."""
+    visits, seen, open_ones = {}, {}, {}
+    made = [{"act": "team", "name": it, "role": "translator"} for it in ("ann", "bea")] + [POLICY]
     for domain in DOMAINS:
         made += [{"act": "domain", "name": domain}] if domain != "main" else []
         made += [{"act": "template", "domain": domain, "po": template(0)}, {"act": "language", "domain": domain, "lang": "de", "po": HEADER}]
@@ -59,9 +68,33 @@ def requests(count):
             made.append({"act": "team", "name": f"t{n}", "role": "translator"})
         else:
             at = domain, n % MESSAGES
-            seen[at] = seen.get(at, 0) + 1
-            made.append({"act": "translate", "domain": domain, "forms": [f"Meldung {n}"], "id": f"message {at[1]}", "lang": "de", "seen": seen[at]})
-    return [json.dumps({**it, "caller": "root", "number": f"00000000-0000-4000-8000-{n:012}"}) for n, it in enumerate(made)]
+            visits[at] = visits.get(at, -1) + 1
+            fields, moves = on_unit(visits[at], f"Meldung {n}", open_ones.get(at))
+            made.append({**fields, "domain": domain, "id": f"message {at[1]}", "lang": "de", "seen": seen.get(at, 1)})
+            seen[at] = seen.get(at, 1) + moves
+            if fields["act"] == "suggest":
+                open_ones[at] = number(len(made) - 1)
+    return [json.dumps({"caller": "root", **it, "number": number(n)}) for n, it in enumerate(made)]
+
+
+def on_unit(visit, form, suggestion):
+    """What is done to a unit at the n-th visit, and by how much its revision grows: each way to write of a unit in turn. The third vote accepts."""
+    vote = {"act": "vote", "suggestion": suggestion}
+    return (
+        ({"act": "translate", "forms": [form]}, 1),
+        ({"act": "suggest", "caller": "ann", "forms": [form]}, 0),
+        ({**vote, "value": -1}, 0),
+        ({**vote, "value": 0}, 0),
+        ({**vote, "caller": "bea", "value": -1}, 0),
+        ({**vote, "caller": "bea", "value": 1}, 0),
+        ({**vote, "value": 1}, 1),
+        ({"act": "comment", "lines": [form]}, 1),
+    )[visit % WAYS]
+
+
+def rows_of(path, table):
+    with contextlib.closing(sqlite3.connect(path)) as db:
+        return sorted(db.execute(f"SELECT * FROM {table}"), key=repr)
 
 
 class Lines:
@@ -197,7 +230,7 @@ class Kills:
             assert self.run("init", "--store", path, "--manager", "root") == (0, "ready\n", "")
         whole = "".join(it + "\n" for it in lines)
         answers = self.run("deliver", "--store", quiet, given=whole)[1].split("\n")[:-1]
-        assert len(answers) == len(lines) and all(it[:3] in ("200", "409") for it in answers)
+        assert len(answers) == len(lines) and all(it[:3] == "200" for it in answers)
         for kill in range(count):
             place = kill * (PIECE - AGAIN)
             self.kill(disturbed, lines[place : place + PIECE], answers, place)
@@ -207,6 +240,12 @@ class Kills:
             texts = [self.run("export", "--store", it, "--lang", "de", "--domain", domain) for it in (disturbed, quiet)]
             if texts[0] != texts[1] or texts[0][0]:
                 self.say(f"behind kill {self.kills}: other exports of {domain}")
+        kept, counted = kept_and_counted(disturbed)
+        if kept != counted:
+            self.say(f"behind kill {self.kills}: sums or counts that aren't those of the rows")
+        for table in TABLES:
+            if rows_of(disturbed, table) != rows_of(quiet, table):
+                self.say(f"behind kill {self.kills}: other rows of {table}")
 
 
 def main():

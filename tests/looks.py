@@ -8,6 +8,9 @@ import subprocess
 import time
 
 HOST = "127.0.0.1"
+# What no terminal and no log is to be given: marks of direction (UAX 9, explicit and implicit ones), the two rows of controls, line ends of Unicode.
+BIDI = [0x061C, 0x200E, 0x200F, *range(0x202A, 0x202F), *range(0x2066, 0x206A)]
+CONTROLS = [*range(0x20), *range(0x7F, 0xA0), 0x2028, 0x2029, *BIDI]
 
 count = wrong = 0
 

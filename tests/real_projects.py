@@ -3,14 +3,15 @@
 
     tests/real_projects.py [--program FILE] [--store DIR] [PACKAGE..]
 
-tests/real_projects.txt lists source packages of Debian with a template and a translation in each. They are fetched by `apt-get source
---download-only` into DIR (office-real-projects in the folder for temporary files), unless they are there, with a list of sources of their own, so
-that the machine's stays as it is. Of each, a text in another charset than UTF-8 is converted by `msgconv`; then an office gets the
-template and the language as two requests, and the language is exported.
+tests/real_projects.txt lists source packages of Debian with a template and a translation in each, or all translations (`po/*.po`). They are
+fetched by `apt-get source --download-only` into DIR (office-real-projects in the folder for temporary files), unless they are there, with a list of
+sources of their own, so that the machine's stays as it is. Of each, a text in another charset than UTF-8 is converted by `msgconv`, and where a header
+has no plural rule it gets the one that gettext knows for the language, or one as most have it. Then an office in a file gets the template and the
+languages as requests, and each language is exported.
 
 What comes out has to be what `msgmerge --no-fuzzy-matching` makes of the translation and the template, both sorted by
 `msgcat --sort-output`, apart from what docs/FORMATS.md says is dropped: previous strings where an entry isn't fuzzy, and of
-obsolete entries comments of the program, references and flags other than fuzzy. The header has to be the translation's own.
+obsolete entries comments of the program, references and flags other than fuzzy. The header has to be the one that went in.
 `msgcmp` has to find the template's messages in the export and no others, and `msgfmt -c` to take it.
 
 The program is the one that ./office has built, or FILE (or the variable OFFICE). Wants apt-get, gettext and the network. It stands
@@ -18,6 +19,7 @@ outside the gate. The last line is 'N catalogues come out as they went in, M not
 """
 import argparse
 import contextlib
+import fnmatch
 import json
 import os
 import pathlib
@@ -28,6 +30,9 @@ import tarfile
 import tempfile
 
 TOP = pathlib.Path(__file__).resolve().parent.parent
+sys.path.insert(0, str(TOP / "share" / "tools"))
+from office_tools import po  # noqa: E402
+
 LIST = TOP / "tests" / "real_projects.txt"
 BUILT = TOP / "crates" / "cli" / "out" / "cli"
 SUITE = "bookworm"
@@ -40,6 +45,7 @@ APT::Get::Only-Source "true";
 APT::Sandbox::User "";
 """
 ENVIRONMENT = {**os.environ, "LC_ALL": "C.UTF-8"}
+ONE_FORM = {"id", "ms", "zh_CN", "zh_TW", "th", "ka", "kk", "fa", "az"}
 
 
 class Wrong(Exception):
@@ -88,15 +94,41 @@ def archive_of(package, store, suite=SUITE):
     return found[0]
 
 
+def members(archive):
+    """The files of a package's sources, by their paths."""
+    return {it.name.partition("/")[2]: it for it in archive.getmembers() if it.isfile()}
+
+
 def texts_of(package, names, store):
-    """The texts of these files of the package's sources, in UTF-8."""
+    """The texts of the files of the package's sources that these patterns name, in UTF-8, by their paths: the first one's first."""
     with tarfile.open(archive_of(package, store)) as archive:
-        members = {it.name.partition("/")[2]: it for it in archive.getmembers() if it.isfile()}
-        texts = [archive.extractfile(members[name]).read() for name in names]
-    return [text if is_utf8(text) else on_file(text, "msgconv", "--to-code=UTF-8", "--no-wrap", "FILE") for text in texts]
+        there = members(archive)
+        paths = [path for name in names for path in sorted(fnmatch.filter(there, name))]
+        texts = {path: archive.extractfile(there[path]).read() for path in paths}
+    return {path: text if is_utf8(text) else on_file(text, "msgconv", "--to-code=UTF-8", "--no-wrap", "FILE") for path, text in texts.items()}
+
+
+def names_another(text):
+    """Whether a header names another charset than UTF-8."""
+    return re.search(rb"^\"Content-Type: [^\"]*charset=(?!utf-8\b|charset\b)", text, re.IGNORECASE | re.MULTILINE)
+
+
+def rule_of(lang):
+    """A plural rule for a language that gettext's own table lacks: of one form, or as most have it."""
+    return "nplurals=1; plural=0;" if lang in ONE_FORM else "nplurals=2; plural=n != 1;"
+
+
+def with_rule(lang, text):
+    """The text, with a plural rule where its header has none."""
+    laid_out = on_file(text, "msgcat", "--no-wrap", "FILE").decode()
+    if po.plural_forms(laid_out):
+        return text
+    return po.with_plural_forms(laid_out, po.known_rule(lang) or rule_of(lang)).encode()
 
 
 def is_utf8(text):
+    if names_another(text):
+        return False
     try:
         text.decode()
     except UnicodeDecodeError:
@@ -104,18 +136,19 @@ def is_utf8(text):
     return True
 
 
-def exported(program, template, language, lang):
-    """The language's text after the template and the language came in."""
-    requests = [
-        {"act": "template", "caller": "root", "number": "01900000-0000-7000-8000-000000000001", "po": template.decode()},
-        {"act": "language", "caller": "root", "lang": lang, "number": "01900000-0000-7000-8000-000000000002", "po": language.decode()},
-    ]
+def exported(program, template, languages):
+    """The reply to each language and its text, of an office in a file that got the template and the languages."""
+    acts = [{"act": "template", "po": template.decode()}, *({"act": "language", "lang": lang, "po": text.decode()} for lang, text in languages.items())]
+    requests = [{**it, "caller": "root", "number": f"01900000-0000-7000-8000-{n:012}"} for n, it in enumerate(acts)]
     lines = "".join(json.dumps(it, ensure_ascii=False) + "\n" for it in requests)
-    done = subprocess.run([program, "deliver", "--export", lang], input=lines.encode(), capture_output=True, check=False)
-    *replies, text = done.stdout.split(b"\n", 2)
-    if done.returncode or not all(it.startswith(b"200 ") for it in replies):
-        raise Wrong((b" ".join(replies) + b" " + done.stderr).decode())
-    return replies, text
+    with tempfile.TemporaryDirectory() as folder:
+        store = os.path.join(folder, "office.db")
+        tool(program, "init", "--store", store, "--manager", "root")
+        replies = tool(program, "deliver", "--store", store, given=lines.encode()).split(b"\n")[:-1]
+        refused = [(it.get("lang"), reply.decode()) for it, reply in zip(requests, replies) if not reply.startswith(b"200 ")]
+        if refused:
+            raise Wrong(f"refused: {refused}")
+        return {lang: (reply, tool(program, "export", "--store", store, "--lang", lang)) for lang, reply in zip(languages, replies[1:])}
 
 
 def blocks(text):
@@ -183,12 +216,21 @@ def compare(template, language, text):
 
 
 def check(program, package, names, store):
-    template, language = texts_of(package, names, store)
-    lang = pathlib.Path(names[1]).stem
-    replies, text = exported(program, template, language, lang)
-    count = compare(template, language, text)
-    told = re.sub(rb'[{}"]', b"", replies[1][4:]).decode()
-    print(f"{package} {lang}: {count} entries, {told}", flush=True)
+    """How many catalogues of a package come out as they went in, and how many not, each of which is told."""
+    (_, template), *others = texts_of(package, names, store).items()
+    texts = {pathlib.Path(path).stem: text for path, text in others}
+    languages = {lang: with_rule(lang, text) for lang, text in texts.items()}
+    wrong = 0
+    for lang, (reply, text) in exported(program, template, languages).items():
+        try:
+            count = compare(template, languages[lang], text)
+            told = re.sub(rb'[{}"]', b"", reply[4:]).decode()
+            ruled = "" if languages[lang] == texts[lang] else ", with a rule"
+            print(f"{package} {lang}: {count} entries, {told}{ruled}", flush=True)
+        except Wrong as why:
+            print(f"{package} {lang}: {why}", flush=True)
+            wrong += 1
+    return len(languages) - wrong, wrong
 
 
 def main(words):
@@ -199,15 +241,16 @@ def main(words):
     given = parser.parse_args(words)
     rows = [line.split() for line in LIST.read_text().split("\n") if line and not line.startswith("#")]
     rows = [it for it in rows if not given.packages or it[0] in given.packages]
-    good = 0
+    good = bad = 0
     for package, *names in rows:
         try:
-            check(given.program, package, names, given.store.resolve())
-            good += 1
-        except (Wrong, subprocess.CalledProcessError, KeyError) as why:
+            right, wrong = check(given.program, package, names, given.store.resolve())
+        except (Wrong, subprocess.CalledProcessError, KeyError, ValueError) as why:
             print(f"{package}: {why}", flush=True)
-    print(f"{good} catalogues come out as they went in, {len(rows) - good} not")
-    return 0 if rows and good == len(rows) else 1
+            right, wrong = 0, 1
+        good, bad = good + right, bad + wrong
+    print(f"{good} catalogues come out as they went in, {bad} not")
+    return 0 if rows and not bad else 1
 
 
 if __name__ == "__main__":

@@ -813,7 +813,8 @@ def imports(folder):
     po.mkdir()
     (po / "x.pot").write_text(HEADER % ("CHARSET", "") + HELLO % "")
     most = tools.told_limits()["languages of a domain"]
-    codes = [f"{a}{b}" for a in "abcd" for b in "abcdefghijklmnopqrstuvwxyz"][: most + 3]
+    letters = "abcdefghijklmnopqrstuvwxyz"
+    codes = [f"{a}{b}" for a in letters for b in letters][: most + 3]
     for it in codes:
         (po / f"{it}.po").write_text(HEADER % ("UTF-8", RULE) + HELLO % it)
     status, out, faults = tools.imported(po, po / "requests")

@@ -25,7 +25,7 @@ import threading
 import time
 
 import looks
-from looks import HOST, free_port, number, same
+from looks import CONTROLS, HOST, free_port, number, same
 from patience import seconds
 
 TOP = pathlib.Path(__file__).resolve().parent.parent
@@ -442,9 +442,8 @@ REPLIES = (
     '404 {"refusal":"no-language","rule":1}\n'
 )
 NONE = "none\n" * len(LIST)
-# What a terminal or a reader of logs takes for more than a letter, though JSON lets it stand in a string: U+007F and the second row of controls, marks
-# of direction (UAX 9, explicit and implicit ones), line and paragraph separators.
-UNSEEN = [*range(0x7F, 0xA0), 0x061C, 0x200E, 0x200F, *range(0x2028, 0x202F), *range(0x2066, 0x206A)]
+# What a terminal or a reader of logs takes for more than a letter, though JSON lets it stand in a string.
+UNSEEN = [it for it in CONTROLS if it >= 0x20]
 
 
 def listed(folder, requests):

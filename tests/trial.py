@@ -41,9 +41,7 @@ SECONDS = 1800
 TEAM = {"ann": "translator", "rob": "reviewer", "machine": "translator", "memory": "translator", "git": "manager"}
 PEOPLE = "Ann Example <ann@example.org> ann\nRob Example <rob@example.org> rob\n"
 POLICY = {"reviews": True, "voting": True, "accept_at": 2, "guests_suggest": True, "placeholders": True, "line_ends": True}
-# A rule for a language that gettext's own table lacks: of one form, or as most have it.
-ONE_FORM = {"id", "ms", "zh_CN", "zh_TW", "th", "ka", "kk", "fa", "az"}
-RULES = {True: "nplurals=1; plural=0;", False: "nplurals=2; plural=n != 1;"}
+
 
 class Wrong(Exception):
     """What is otherwise than it should be."""
@@ -192,7 +190,7 @@ def imports(it):
     it.run("office-import", it.old, it.requests, status=None)
     faults = it.run("office-import", it.old, status=None)[1]
     unruled = re.findall(r"^office-import: (\S+): not loaded: .*--plural-forms '\1=RULE' tells one$", faults, re.M)
-    it.rules = [word for lang in unruled for word in ("--plural-forms", f"{lang}={RULES[lang in ONE_FORM]}")]
+    it.rules = [word for lang in unruled for word in ("--plural-forms", f"{lang}={real_projects.rule_of(lang)}")]
     faults = it.run("office-import", *it.rules, it.old, it.requests, status=None)[1]
     it.left = left = re.findall(r"^office-import: (\S+): not loaded: (.*)$", faults, re.M)
     it.is_full = any(why.startswith("limit") for _, why in left)

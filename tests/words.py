@@ -6,7 +6,7 @@
 What `office --help` and `office COMMAND --help` list, subcommands, options and arguments, each with its text, has to stand in
 share/man/man1/office.1 and in the completion for zsh, and nothing else; bash has to complete to the same words. `man --warnings` has to find nothing
 in the page. Wrong words have to end with status 2, and help and the version with 0. At a terminal a fault has a line behind it that says what it
-means, and nowhere else. The last line ends in 'N differences'.
+means, and nowhere else; and a file's name that has control characters gives it no orders. The last line ends in 'N differences'.
 """
 import http.client
 import json
@@ -23,6 +23,8 @@ import looks
 TOP = pathlib.Path(__file__).resolve().parent.parent
 PROGRAM = TOP / "crates" / "cli" / "out" / "cli"
 PAGE = TOP / "share" / "man" / "man1" / "office.1"
+# From so many bytes on it is told at a terminal that a file is opened.
+LARGE = 16 << 20
 BASH = TOP / "share" / "bash-completion" / "completions" / "office"
 ZSH = TOP / "share" / "zsh" / "site-functions" / "_office"
 NUMBER = "0197f6a4-5d2e-7c31-8e2a-4b7f0c9d1e55"
@@ -287,8 +289,8 @@ def kinds_differ(program):
     yield from (f"the page says else of kind {kind}" for kind, text in kinds.items() if f"{kind} {text.split(';')[0]}" not in page)
 
 
-def told_at_terminal(program, words, meanwhile=lambda: None):
-    """What stands on the second output where it is a terminal, line by line; what is done meanwhile is done once the program runs."""
+def shown_at_terminal(program, words, meanwhile=lambda: None):
+    """What stands on the second output where it is a terminal; what is done meanwhile is done once the program runs."""
     ours, theirs = pty.openpty()
     with subprocess.Popen([program, *words], stdin=subprocess.DEVNULL, stdout=subprocess.DEVNULL, stderr=theirs) as process:
         os.close(theirs)
@@ -301,7 +303,12 @@ def told_at_terminal(program, words, meanwhile=lambda: None):
             pass  # Linux says so where the other side is closed.
         process.wait()
     os.close(ours)
-    return found.decode().replace("\r\n", "\n").splitlines()
+    return found.decode().replace("\r\n", "\n")
+
+
+def told_at_terminal(program, words, meanwhile=lambda: None):
+    """The same, line by line."""
+    return shown_at_terminal(program, words, meanwhile).splitlines()
 
 
 def sentences_differ(program):
@@ -318,6 +325,18 @@ def sentences_differ(program):
             told = told_at_terminal(program, words)
             if len(told) != 2 or told[0] != fault or not all(it in told[1] for it in named):
                 yield f"{words} tell {told} at a terminal, of {fault}"
+
+
+def orders_given(program):
+    """Whatever stands in the name of a large file, which is told at a terminal: what is shown has no control character but its line ends."""
+    with tempfile.TemporaryDirectory() as name:
+        for it in (it for it in looks.CONTROLS if it):
+            path = pathlib.Path(name) / f"a{chr(it)}b"
+            with path.open("wb") as file:
+                file.truncate(LARGE)
+            shown = shown_at_terminal(program, ["export", "--store", str(path), "--lang", "de"]).split("\n")
+            if len(shown) != 4 or not shown[0].startswith("opening ") or any(ord(one) in looks.CONTROLS for one in "".join(shown)):
+                yield f"the name of a file with U+{it:04X} is shown at a terminal as {shown}"
 
 
 def disk_fault_differs(program):
@@ -358,10 +377,10 @@ def main(words):
     program = pathlib.Path(words[0] if words else PROGRAM).resolve()
     commands, own = words_of(program)
     wrong = [*page_differs(commands, own), *bash_differs(commands, own), *zsh_differs(commands, own)]
-    wrong += [*page_warnings(), *kinds_differ(program), *man_page_named(program), *sentences_differ(program), *disk_fault_differs(program), *status_differs(program)]
+    wrong += [*page_warnings(), *kinds_differ(program), *man_page_named(program), *sentences_differ(program), *orders_given(program), *disk_fault_differs(program), *status_differs(program)]
     for it in wrong:
         print(it)
-    print(f"{len(commands)} subcommands, {len(WORDS) + len(TOLD) + 1} runs: {len(wrong)} differences")
+    print(f"{len(commands)} subcommands, {len(WORDS) + len(TOLD) + len(looks.CONTROLS)} runs: {len(wrong)} differences")
     return 1 if wrong else 0
 
 

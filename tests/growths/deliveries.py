@@ -4,7 +4,8 @@
     tests/growths/deliveries.py [PROGRAM] [--first N] [--every K] [--minutes M] [--only WORD] [--delivery WORDS] [--spoil N]
     (crates/cli/out/cli, each growth, no end; wants cc)
 
-The first translation; the third of three votes, which accepts a suggestion; a template that brings a message back; a new language; and a new domain.
+The first translation; a suggestion beside another; a vote, another in its place, and it taken back; the third of three votes, which accepts a
+suggestion; a template that brings a message back; a new language; and a new domain.
 `office deliver` gets the requests that lead there, each read by itself, and then the line, whose growths alone are counted: the first is refused,
 the second and so on, till none is met. The line gets its reply, or `503 {"error":"memory"}`. Then the tables are as before: each row of the file, or
 the export of an office in maps; and the same line gets its reply, with which rows and export are those of ample memory. With `--every K` each K-th
@@ -53,8 +54,16 @@ def member(number, name):
     return line(number, "root", "team", name=name, role="translator"), f'{{"name":"{name}","role":"translator"}}'
 
 
-def vote(number, name):
-    return line(number, name, "vote", lang="de", id="Hello", seen=1, suggestion=SUGGESTION, value=1)
+def vote(number, name, value=1):
+    return line(number, name, "vote", lang="de", id="Hello", seen=1, suggestion=SUGGESTION, value=value)
+
+
+def suggest(number, name, form):
+    return line(number, name, "suggest", lang="de", id="Hello", seen=1, forms=[form])
+
+
+def suggested(number):
+    return f'{{"revision":1,"state":"untranslated","suggestion":"00000000-0000-4000-8000-{number:012}","votes":1}}'
 
 
 def voted(is_accepted, revision, state, votes):
@@ -72,10 +81,7 @@ TO_THE_THIRD_VOTE = [
     *(member(60, "bea"), member(61, "cay"), member(62, "dan")),
     (line(70, "root", "policy", **POLICY), '{"units":0}'),
     (line(50, "root", "template", po=messages("Hello", "Bye")), languages(added=1, kept=1)),
-    (
-        line(20, "ann", "suggest", lang="de", id="Hello", seen=1, forms=["Hallo"]),
-        f'{{"revision":1,"state":"untranslated","suggestion":"{SUGGESTION}","votes":1}}',
-    ),
+    (suggest(20, "ann", "Hallo"), suggested(20)),
     (vote(30, "bea"), voted("false", 1, "untranslated", 2)),
     (vote(31, "cay"), voted("false", 1, "untranslated", 3)),
 ]
@@ -87,6 +93,10 @@ TO_THE_RETURN = [
 # Each with the language that is exported behind it.
 DELIVERIES = {
     "first translation": ([], line(1, "ann", "translate", lang="de", id="Hello", seen=1, forms=["Hallo"]), f"200 {FIRST}\n", "de"),
+    "a suggestion": (TO_THE_THIRD_VOTE, suggest(21, "bea", "Servus"), f"200 {suggested(21)}\n", "de"),
+    "a vote": (TO_THE_THIRD_VOTE, vote(33, "dan", -1), f'200 {voted("false", 1, "untranslated", 2)}\n', "de"),
+    "another vote": (TO_THE_THIRD_VOTE, vote(34, "cay", -1), f'200 {voted("false", 1, "untranslated", 1)}\n', "de"),
+    "a vote taken back": (TO_THE_THIRD_VOTE, vote(35, "cay", 0), f'200 {voted("false", 1, "untranslated", 2)}\n', "de"),
     "third vote": (TO_THE_THIRD_VOTE, vote(32, "dan"), f'200 {voted("true", 2, "translated", 4)}\n', "de"),
     "an entry comes back": (TO_THE_RETURN, line(55, "root", "template", po=files("%d pieces")), f"200 {languages(revived=1)}\n", "de"),
     "a language": ([], line(6, "root", "language", lang="fr", po=FRENCH), '200 {"loaded":1,"missing":0,"obsolete":1}\n', "fr"),

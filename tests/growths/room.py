@@ -40,20 +40,29 @@ DEEP = ["[" * 127 + "]" * 127, '{"":' * 127 + "0" + "}" * 127]
 HEADER = 'msgid ""\nmsgstr ""\n"Content-Type: text/plain; charset=UTF-8\\n"\n"Plural-Forms: nplurals=2; plural=n != 1;\\n"\n'
 COUNT = 40
 ACTS = [
+    {"act": "team", "name": "ann", "role": "translator"},
+    {"act": "policy", "accept_at": 2, "guests_suggest": False, "line_ends": False, "placeholders": False, "reviews": False, "voting": True},
     {"act": "template", "po": "\n".join(f'msgid "message {n}"\nmsgstr ""\n' for n in range(COUNT))},
     {"act": "language", "lang": "de", "po": HEADER},
     *({"act": "comment", "id": f"message {n}", "lang": "de", "lines": ["x" * 900] * 20, "seen": 1} for n in range(COUNT)),
 ]
-LAST = {"act": "comment", "id": "message 0", "lang": "de", "lines": ["y"], "seen": 2}
+# Each way to write of a unit: its row alone, a suggestion, a vote that is new or taken back, with its sum, and what a vote accepts.
+UNIT = {"id": "message 0", "lang": "de", "seen": 2}
+VOTE = {"act": "vote", "suggestion": number(len(ACTS) + 3), **UNIT}
+LAST = [
+    {"act": "suggest", "caller": "ann", "forms": ["Meldung"], **UNIT},
+    *({"value": it, **VOTE} for it in (-1, 0, 1)),
+    {"act": "comment", "lines": ["y"], **UNIT, "seen": 3},
+]
 # What is asked, each with a number: the deep ones once the room is filled.
-ASKED = [(number(n + 1), it) for n, it in enumerate([*ACTS, *DEEP, LAST])]
+ASKED = [(number(n + 1), it) for n, it in enumerate([*ACTS, *DEEP, *LAST])]
 NAMES = ("init", "maps", "deliver", "export", "serve")
 NOT_BEGUN = ["", "error: out of memory\n", "store fault 1\n"]
 
 
 def line_of(asked):
     number_of, act = asked
-    return act if isinstance(act, str) else json.dumps({**act, "caller": "root", "number": number_of})
+    return act if isinstance(act, str) else json.dumps({"caller": "root", **act, "number": number_of})
 
 
 def reply_of(line):
@@ -209,8 +218,9 @@ class Trial:
             return
         with contextlib.suppress(http.client.HTTPException, OSError):
             for it, act in ASKED:
-                body = act if isinstance(act, str) else json.dumps(act)
-                client.request("POST", f"/v1/requests/{it}", body.encode(), {"X-Office-Caller": "root"})
+                fields = {} if isinstance(act, str) else act
+                body = act if isinstance(act, str) else json.dumps({name: it for name, it in fields.items() if name != "caller"})
+                client.request("POST", f"/v1/requests/{it}", body.encode(), {"X-Office-Caller": fields.get("caller", "root")})
                 reply = client.getresponse()
                 yield reply.status, reply.read().decode()
         client.close()

@@ -39,11 +39,11 @@ pub(crate) struct Stage {
 }
 
 /// The demo office, or one with this manager alone.
-fn start(alloc: Global, who: &str) -> Option<Start> {
+fn start(who: &str) -> Option<Start> {
     if who == "demo" {
         return Some(Start::Demo);
     }
-    Some(Start::Opening(Name::try_new(alloc, who).ok()??))
+    Some(Start::Opening(Name::try_new(who)?))
 }
 
 impl Stage {
@@ -75,7 +75,7 @@ impl Stage {
     fn given(&self, alloc: Global, words: &str) -> Option<Given> {
         let (word, rest) = first_word(words);
         match word {
-            "make" => Some(Given::Start(start(alloc, rest)?)),
+            "make" => Some(Given::Start(start(rest)?)),
             "deliver" => Some(Given::Request(Request::from_json(alloc, self.line(rest)).ok()?)),
             _ => None,
         }

@@ -1,7 +1,7 @@
 //! The words of a row.
 use po_text::{Items, Text};
 use std::alloc::Global;
-use units::{AcceptAt, CommentLines, Policy, Role};
+use units::{AcceptAt, CommentLines, Policy};
 
 /// A row's deed, and what it is to come to, behind the first arrow.
 pub(crate) fn both_sides(row: &str) -> (&str, &str) {
@@ -32,16 +32,6 @@ pub(crate) fn words_and_texts(deed: &str) -> (&str, Option<&str>) {
 
 pub(crate) fn yes_or_no(holds: bool) -> &'static str {
     if holds { "yes" } else { "no" }
-}
-
-pub(crate) fn role(word: &str) -> Option<Role> {
-    match word {
-        "guest" => Some(Role::Guest),
-        "translator" => Some(Role::Translator),
-        "reviewer" => Some(Role::Reviewer),
-        "manager" => Some(Role::Manager),
-        _ => None,
-    }
 }
 
 /// The policy of such marks, under which so many votes accept.

@@ -6,14 +6,11 @@ use tables::{PlainTables, Start};
 use units::Name;
 
 /// The demo office, or one with this manager alone.
-pub(crate) fn start(alloc: Global, who: &str) -> Option<Start> {
+pub(crate) fn start(who: &str) -> Option<Start> {
     if who == "demo" {
         return Some(Start::Demo);
     }
-    match Name::try_new(alloc, who).ok().flatten() {
-        Some(manager) => Some(Start::Opening(manager)),
-        None => None,
-    }
+    Some(Start::Opening(Name::try_new(who)?))
 }
 
 pub(crate) fn desk_in_maps(alloc: Global, start: &Start) -> Option<Desk<PlainTables>> {
@@ -25,7 +22,7 @@ pub(crate) fn desk_in_maps(alloc: Global, start: &Start) -> Option<Desk<PlainTab
 
 /// A desk of this office.
 pub(crate) fn desk_opened(alloc: Global, who: &str) -> Option<Desk<PlainTables>> {
-    match start(alloc, who) {
+    match start(who) {
         Some(start) => desk_in_maps(alloc, &start),
         None => None,
     }

@@ -1,5 +1,4 @@
 //! Languages of domains, by their names.
-use std::alloc::Global;
 use units::{Lang, Name};
 
 /// The names of a language and of its domain.
@@ -17,9 +16,9 @@ impl<'a> Place<'a> {
     }
 
     /// The domain and the language. None where a name isn't of its form.
-    pub(crate) fn named(self, alloc: Global) -> Option<(Name, Lang)> {
-        let domain = Name::try_new(alloc, self.domain).ok()??;
-        let lang = Lang::try_new(alloc, self.code).ok()??;
+    pub(crate) fn named(self) -> Option<(Name, Lang)> {
+        let domain = Name::try_new(self.domain)?;
+        let lang = Lang::try_new(self.code)?;
         Some((domain, lang))
     }
 

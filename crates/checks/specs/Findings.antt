@@ -7,6 +7,7 @@ use Rattle.std.specs.Bool.{beq}
 use Rattle.std.specs.List.{starts_with, ends_with, list_any, list_all, enumerate_from}
 use Rattle.plural_expr.specs.Values.{Rule, serves_one}
 use Rattle.po_text.specs.Texts.{Text, text_eq, texts_eq, is_empty}
+use Rattle.units.specs.Units.{has_flag}
 use Rattle.checks.specs.declared.source.Findings.{Findings}
 use Rattle.checks.specs.declared.format.Format.{Format}
 use Rattle.checks.specs.declared.format.Format.TheVariants.{C, Brace}
@@ -53,9 +54,6 @@ are_fitting Brace may found wanted = are_same_set found wanted || (may && is_sub
 -- a form that serves exactly one number may leave placeholders out, in a unit with a msgid_plural
 abbrev pub may_leave_out : Source → Rule → ℕ → Bool
 may_leave_out source rule number = is_some source.plural && serves_one rule number
-
-abbrev pub has_flag : List Text → Text → Bool
-has_flag flags name = list_any (λ flag. text_eq flag name) flags
 
 -- what a form's placeholders are held against, where the source has the format's flag: those of msgid_plural, or of msgid where
 -- there is none

@@ -2,7 +2,7 @@
 
 ghost use Rattle.std.specs.Prelude.{◌≡◌, ◌<◌, ◌^◌, IfOk, length, option_map};
 ghost use Rattle.po_text.specs.Texts.{is_empty};
-ghost use Rattle.checks.specs.Findings.{wanted_of, may_leave_out, are_fitting, fit_under, line_ends_fit, has_flag, unfit_placeholders, unfit_line_ends, findings};
+ghost use Rattle.checks.specs.Findings.{wanted_of, may_leave_out, are_fitting, fit_under, line_ends_fit, unfit_placeholders, unfit_line_ends, findings};
 ghost use Rattle.checks.specs.Result.{is_found, result_state};
 
 use crate::agreement::{agree, are_same_set, is_subset, leaves_out};
@@ -12,18 +12,12 @@ use crate::source::{Findings, Source};
 use plural_expr::PluralForms;
 use po_text::{Items, PoString, Text};
 use std::alloc::Global;
-use units::{Memory, Policy, UnitState, all_empty, some_empty};
+use units::{Memory, Policy, UnitState, all_empty, has_flag, some_empty};
 
 fn is_empty(form: &PoString) -> bool
     ensures { result ≡ is_empty form.now }
 {
     form.as_str().is_empty()
-}
-
-fn has_flag(flags: &[Text], name: &str) -> bool
-    ensures { result ≡ has_flag flags.now name.now }
-{
-    flags.iter().any(|flag| flag.as_str() == name)
 }
 
 /// Whether the form begins with LF exactly if msgid does, and ends with LF exactly if msgid does.

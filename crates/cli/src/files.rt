@@ -53,8 +53,14 @@ fn fault_of(error: &Error) -> OpenFault {
     }
 }
 
-/// How many pages of a file that were read are kept in memory, of 4,096 bytes each.
-const CACHED_PAGES: usize = 12_000;
+/// How many bytes a page of a file has.
+const PAGE: u64 = 4_096;
+
+/// How many pages of a file that were read are kept in memory, at least: those that a connection keeps by itself.
+const FEWEST_PAGES: usize = 2_000;
+
+/// How many pages of a file that were read are kept in memory, at most. Room for them is taken when the file is opened.
+const MOST_PAGES: usize = 12_000;
 
 const NO_MEMORY: Error = Error::SqliteFailure(ErrorCode::OutOfMemory);
 
@@ -73,21 +79,33 @@ fn files_at(rt: &HostRuntime, path: &str) -> Result<Files<File>, Error> {
     }
 }
 
-/// A seed that nobody else knows, and room for more pages than a connection has by itself.
-fn options(rt: &HostRuntime) -> Result<Options, Error> {
+/// How many pages are kept of a file of so many bytes: all that it has, within the two bounds.
+fn cached_pages(length: u64) -> usize {
+    match usize::try_from(length / PAGE) {
+        Ok(pages) => pages.clamp(FEWEST_PAGES, MOST_PAGES),
+        Err(_) => MOST_PAGES,
+    }
+}
+
+/// A seed that nobody else knows, and room for the pages of a file of so many bytes.
+fn options(rt: &HostRuntime, length: u64) -> Result<Options, Error> {
     let seed = RandomState::new(rt)
         .map_err(|_| CANNOT_OPEN)?
         .hash_one(&0u8);
     Ok(Options {
-        cache_pages: CACHED_PAGES,
+        cache_pages: cached_pages(length),
         ..Options::new(seed)
     })
 }
 
-/// Opens a file, or makes it, as `Connection::open` does, with more room for the pages that were read: acts all over a large office read few
+/// Opens a file of so many bytes, or makes it, as `Connection::open` does, with room for the pages of a large office: acts all over it read few
 /// of them again.
-fn open_file(rt: &HostRuntime, path: &str) -> Result<Connection<FileStore<File>>, Error> {
-    let options = options(rt)?;
+fn open_file(
+    rt: &HostRuntime,
+    path: &str,
+    length: u64,
+) -> Result<Connection<FileStore<File>>, Error> {
+    let options = options(rt, length)?;
     let files = files_at(rt, path)?;
     match Connection::open_files(rt.alloc(), files, options) {
         Ok(mut connection) => {
@@ -104,8 +122,8 @@ fn open_file(rt: &HostRuntime, path: &str) -> Result<Connection<FileStore<File>>
 /// Opens a file, or makes it, does work on the office in it, and closes it: it is whole by itself then, without the log beside it.
 ///
 /// Here alone stands the type of a connection to a file: each function that owns one is dear to prove.
-fn in_open_file(rt: &HostRuntime, path: &str, work: Work<'_>) -> u8 {
-    match open_file(rt, path) {
+fn in_open_file(rt: &HostRuntime, path: &str, length: u64, work: Work<'_>) -> u8 {
+    match open_file(rt, path, length) {
         Ok(connection) => {
             let Closed {
                 status,
@@ -125,10 +143,11 @@ fn in_open_file(rt: &HostRuntime, path: &str, work: Work<'_>) -> u8 {
 
 /// Does work on the office in a file, which has to be there but where the work makes an office. Answers the exit status.
 pub(crate) fn in_file(rt: &HostRuntime, path: &str, work: Work<'_>) -> u8 {
-    match found_at(rt, path) {
-        Found::File(length) => tell_opening(rt, path, length),
-        Found::Nothing if !work.opens() => {}
+    let length = match found_at(rt, path) {
+        Found::File(length) => length,
+        Found::Nothing if !work.opens() => 0,
         _ => return store_fault(rt, OpenFault::Disk),
-    }
-    in_open_file(rt, path, work)
+    };
+    tell_opening(rt, path, length);
+    in_open_file(rt, path, length, work)
 }

@@ -161,7 +161,7 @@ fn plural_standard(rt: &HostRuntime, options: &Plural<'_>) -> io::Result<u8> {
 fn canon_standard(rt: &HostRuntime) -> io::Result<u8> {
     let alloc = rt.alloc();
     let mut source = Input::new(rt.stdin());
-    let mut text = Output::new(BufWriter::new(alloc, rt.stdout())?);
+    let mut text = Output::new(BufWriter::with_capacity(alloc, 65_536, rt.stdout())?);
     let mut faults = second_output(rt);
     let status = canon_text(alloc, &mut source, &mut text, &mut faults);
     match text.flush() {

@@ -28,20 +28,20 @@ enum Value {
 
 /// An option or an argument: its name, how the help calls its value, what it says of it, and what the value is.
 #[derive(Clone, Copy)]
-struct Word {
+struct Argument {
     name: &'static str,
-    called: &'static str,
+    value_name: &'static str,
     value: Value,
     help: &'static str,
 }
 
-/// A subcommand: its name, what the help says of it, its words, and what stands behind them in its help.
+/// A subcommand: its name, what the help says of it, its options and arguments, and what stands behind them in its help.
 #[derive(Clone, Copy)]
 pub(crate) struct Subcommand {
     name: &'static str,
     about: &'static str,
-    words: &'static [Word],
-    behind: &'static str,
+    arguments: &'static [Argument],
+    after_help: &'static str,
 }
 
 /// Where more stands.
@@ -65,209 +65,209 @@ const KINDS: &str = "Kinds:
 pub(crate) const INIT: Subcommand = Subcommand {
     name: "init",
     about: "Makes an office in a new file, and prints ready",
-    words: &[
-        Word {
+    arguments: &[
+        Argument {
             name: "store",
-            called: "FILE",
+            value_name: "FILE",
             value: Value::NeededText,
             help: "The file, an SQLite database",
         },
-        Word {
+        Argument {
             name: "manager",
-            called: "NAME",
+            value_name: "NAME",
             value: Value::NeededText,
             help: "Who manages the office",
         },
     ],
-    behind: MAN_PAGE,
+    after_help: MAN_PAGE,
 };
 
 pub(crate) const DELIVER: Subcommand = Subcommand {
     name: "deliver",
     about: "Reads a JSON request a line from standard input, and prints STATUS BODY for each",
-    words: &[
-        Word {
+    arguments: &[
+        Argument {
             name: "store",
-            called: "FILE",
+            value_name: "FILE",
             value: Value::Text,
             help: "The file that the office is in; without it, it stands in memory",
         },
-        Word {
+        Argument {
             name: "manager",
-            called: "NAME",
+            value_name: "NAME",
             value: Value::TextOr("root"),
             help: "Who manages the office that opens empty",
         },
-        Word {
+        Argument {
             name: "demo",
-            called: "",
+            value_name: "",
             value: Value::Flag,
             help: "Opens the demo office: a template with `Hello`, and the language de",
         },
-        Word {
+        Argument {
             name: "export",
-            called: "LANG",
+            value_name: "LANG",
             value: Value::Text,
             help: "Prints the language's PO text behind the replies",
         },
-        Word {
+        Argument {
             name: "domain",
-            called: "NAME",
+            value_name: "NAME",
             value: Value::TextOr("main"),
             help: "The language's domain",
         },
-        Word {
+        Argument {
             name: "stop-at-lost",
-            called: "",
+            value_name: "",
             value: Value::Flag,
             help: "Delivers nothing behind the first line that is answered 503 or 507",
         },
     ],
-    behind: MAN_PAGE,
+    after_help: MAN_PAGE,
 };
 
 pub(crate) const EXPORT: Subcommand = Subcommand {
     name: "export",
     about: "Prints a language's PO text, or writes those of several into files; length and SHA-256 go to the second output",
-    words: &[
-        Word {
+    arguments: &[
+        Argument {
             name: "store",
-            called: "FILE",
+            value_name: "FILE",
             value: Value::NeededText,
             help: "The file that the office is in",
         },
-        Word {
+        Argument {
             name: "domain",
-            called: "NAME",
+            value_name: "NAME",
             value: Value::TextOr("main"),
             help: "The language's domain",
         },
-        Word {
+        Argument {
             name: "lang",
-            called: "LANG",
+            value_name: "LANG",
             value: Value::Texts,
             help: "The language; with --into, of several each",
         },
-        Word {
+        Argument {
             name: "all",
-            called: "",
+            value_name: "",
             value: Value::Flag,
             help: "All languages of the domain, with --into, in the place of --lang",
         },
-        Word {
+        Argument {
             name: "into",
-            called: "FOLDER",
+            value_name: "FOLDER",
             value: Value::Text,
             help: "Writes the text of each language into the folder's file LANG.po, and prints none",
         },
     ],
-    behind: MAN_PAGE,
+    after_help: MAN_PAGE,
 };
 
 pub(crate) const RECORDS: Subcommand = Subcommand {
     name: "records",
     about: "Prints number and status of each record as a line of JSON, in the order in which the office took them",
-    words: &[
-        Word {
+    arguments: &[
+        Argument {
             name: "store",
-            called: "FILE",
+            value_name: "FILE",
             value: Value::NeededText,
             help: "The file that the office is in",
         },
-        Word {
+        Argument {
             name: "after",
-            called: "NUMBER",
+            value_name: "NUMBER",
             value: Value::Text,
             help: "Prints those behind the record of this number alone",
         },
     ],
-    behind: MAN_PAGE,
+    after_help: MAN_PAGE,
 };
 
 pub(crate) const SERVE: Subcommand = Subcommand {
     name: "serve",
     about: "Serves an office over HTTP on 127.0.0.1, one connection after another",
-    words: &[
-        Word {
+    arguments: &[
+        Argument {
             name: "store",
-            called: "FILE",
+            value_name: "FILE",
             value: Value::NeededText,
             help: "The file that the office is in",
         },
-        Word {
+        Argument {
             name: "port",
-            called: "P",
+            value_name: "P",
             value: Value::Port,
             help: "The port to listen on, from 1 to 65535",
         },
-        Word {
+        Argument {
             name: "connections",
-            called: "K",
+            value_name: "K",
             value: Value::Count,
             help: "Ends behind so many connections, from 1 to 4294967295",
         },
     ],
-    behind: MAN_PAGE,
+    after_help: MAN_PAGE,
 };
 
 pub(crate) const SEND: Subcommand = Subcommand {
     name: "send",
     about: "Sends a file's requests to an office that serves, and prints STATUS BODY for each, or none",
-    words: &[
-        Word {
+    arguments: &[
+        Argument {
             name: "port",
-            called: "P",
+            value_name: "P",
             value: Value::Port,
             help: "The port of 127.0.0.1 that the office listens on",
         },
-        Word {
+        Argument {
             name: "file",
-            called: "FILE",
+            value_name: "FILE",
             value: Value::NeededText,
             help: "The file of requests, a line of JSON each",
         },
-        Word {
+        Argument {
             name: "tries",
-            called: "T",
+            value_name: "T",
             value: Value::Count,
             help: "Sends each request so often at most, from 1 to 4294967295",
         },
     ],
-    behind: MAN_PAGE,
+    after_help: MAN_PAGE,
 };
 
 pub(crate) const PLURAL: Subcommand = Subcommand {
     name: "plural",
     about: "Prints N INDEX a line: the number of the form that the rule gives at N",
-    words: &[
-        Word {
+    arguments: &[
+        Argument {
             name: "value",
-            called: "VALUE",
+            value_name: "VALUE",
             value: Value::Argument,
             help: "The value of a header's Plural-Forms field",
         },
-        Word {
+        Argument {
             name: "n",
-            called: "N",
+            value_name: "N",
             value: Value::Numbers,
             help: "Numbers from 0 to 4294967295",
         },
     ],
-    behind: MAN_PAGE,
+    after_help: MAN_PAGE,
 };
 
 const CANON: Subcommand = Subcommand {
     name: "canon",
     about: "Reads a PO text from standard input, and prints it in canonical form, or only po line L kind K",
-    words: &[],
-    behind: KINDS,
+    arguments: &[],
+    after_help: KINDS,
 };
 
 const SUBCOMMANDS: [Subcommand; 8] = [INIT, DELIVER, EXPORT, RECORDS, SERVE, SEND, PLURAL, CANON];
 
 const VERSION: &str = "0.2.0-dev";
 
-/// A word that isn't a flag, with its value.
+/// An option or an argument that isn't a flag, with its value.
 fn with_value<'a>(arg: Arg<'a>, value: Value) -> Arg<'a> {
     match value {
         Value::Flag | Value::Text | Value::Texts => arg,
@@ -294,17 +294,20 @@ fn action_of(value: Value) -> ArgAction {
     }
 }
 
-/// A word as clap has it.
-fn arg_of<'a>(alloc: Global, word: Word) -> Arg<'a> {
-    let arg = Arg::new(alloc, word.name).help(word.help);
-    match word.value {
-        Value::Flag => arg.long(word.name).action(ArgAction::SetTrue),
-        Value::Argument | Value::Numbers => with_value(arg.value_name(word.called), word.value),
+/// An option or an argument as clap has it.
+fn arg_of<'a>(alloc: Global, argument: Argument) -> Arg<'a> {
+    let arg = Arg::new(alloc, argument.name).help(argument.help);
+    match argument.value {
+        Value::Flag => arg.long(argument.name).action(ArgAction::SetTrue),
+        Value::Argument | Value::Numbers => with_value(
+            arg.value_name(argument.value_name),
+            argument.value,
+        ),
         _ => with_value(
-            arg.long(word.name)
-                .value_name(word.called)
-                .action(action_of(word.value)),
-            word.value,
+            arg.long(argument.name)
+                .value_name(argument.value_name)
+                .action(action_of(argument.value)),
+            argument.value,
         ),
     }
 }
@@ -316,10 +319,10 @@ pub(crate) fn command_of<'a>(
 ) -> Result<Command<'a>, AllocError> {
     let mut command = Command::new(alloc, subcommand.name)
         .about(subcommand.about)
-        .after_help(subcommand.behind)
+        .after_help(subcommand.after_help)
         .version(VERSION);
-    for word in subcommand.words {
-        command = command.arg(arg_of(alloc, *word))?;
+    for argument in subcommand.arguments {
+        command = command.arg(arg_of(alloc, *argument))?;
     }
     Ok(command)
 }

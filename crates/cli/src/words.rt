@@ -258,7 +258,7 @@ fn name_of(
     subcommand: Subcommand,
     usage: &str,
 ) -> Result<Name, Error> {
-    match Name::try_new(alloc, found.get_str(option).unwrap_or(""))? {
+    match Name::try_new(found.get_str(option).unwrap_or("")) {
         Some(name) => Ok(name),
         None => Err(or_memory(wrong_value(command_of(alloc, subcommand), usage, NO_NAME))),
     }
@@ -266,7 +266,7 @@ fn name_of(
 
 /// The language of this code, in a subcommand whose usage begins so.
 fn lang_of(alloc: Global, text: &str, subcommand: Subcommand, usage: &str) -> Result<Lang, Error> {
-    match Lang::try_new(alloc, text)? {
+    match Lang::try_new(text) {
         Some(lang) => Ok(lang),
         None => Err(or_memory(wrong_value(command_of(alloc, subcommand), usage, NO_LANG))),
     }

@@ -7,7 +7,7 @@ use Rattle.request_book.specs.declared.act.Request.{Request}
 use Rattle.client.specs.declared.fault.SendFault.{SendFault}
 use Rattle.client.specs.declared.fault.SendFault.TheVariants.{Unread, Malformed, Twice, Memory}
 use Rattle.client.specs.Lists.{in_front, lines_of, IsRequestLine, AreRequests}
-use Rattle.client.specs.Steps.{Pushed, IsLineFault, IsLinesFault}
+use Rattle.client.specs.TalkSteps.{Pushed, IsLineFault, IsLinesFault}
 
 -- ---- the first line
 

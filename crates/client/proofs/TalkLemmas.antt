@@ -11,7 +11,7 @@ use Rattle.sender.specs.Sending.{Sending, is_open, is_ready, replied, hear}
 use Rattle.client.specs.Talks.{Said, said_behind, Hears, heard, missed, Turn, IsTalk, times, IsWithin, requests_of, Talked}
 use Rattle.client.specs.Messages.{message}
 use Rattle.client.specs.Answers.{IsReplyIn}
-use Rattle.client.specs.Steps.{Exchanged, Sent, once, never, tries_at, Takes, IsPaid}
+use Rattle.client.specs.TalkSteps.{Exchanged, Sent, once, never, tries_at, Takes, IsPaid}
 
 -- ---- what was said
 

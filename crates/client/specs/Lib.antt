@@ -3,5 +3,5 @@ pub mod Faults
 pub mod Lists
 pub mod Messages
 pub mod SendLines
-pub mod Steps
+pub mod TalkSteps
 pub mod Talks

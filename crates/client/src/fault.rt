@@ -17,7 +17,7 @@ pub(crate) enum SendFault {
 
 impl From<SenderFault> for SendFault {
     ghost use Rattle.std.specs.Prelude.{◌≡◌};
-    ghost use Rattle.client.specs.Steps.{of_sender};
+    ghost use Rattle.client.specs.TalkSteps.{of_sender};
 
     ghost from_gives = { λ fault gives. gives ≡ of_sender fault };
 

@@ -5,7 +5,7 @@ ghost use Rattle.byte_streams.specs.Streams.{RoseOrStands};
 ghost use Rattle.po_write.specs.Sending.{TookAll, TookPart};
 ghost use Rattle.client.specs.Talks.{Talked, IsWithin};
 ghost use Rattle.client.specs.SendLines.{IsFaultOf, WasSent, WasSentFrom, SentLines};
-ghost use Rattle.client.specs.Steps.{IsListFault};
+ghost use Rattle.client.specs.TalkSteps.{IsListFault};
 
 use crate::fault::SendFault;
 use crate::link::Link;

@@ -4,7 +4,7 @@ ghost use Rattle.std.specs.Prelude.{◌≡◌, ◌<◌, ◌∷◌, [], length, E
 ghost use Rattle.request_book.specs.declared.act.Request.{Request as RequestValue};
 ghost use Rattle.request_book.specs.declared.fault.RequestFault.TheVariants.{Malformed as NoRequest};
 ghost use Rattle.client.specs.Lists.{lines_of, IsRequestLine, AreRequests};
-ghost use Rattle.client.specs.Steps.{Pushed, IsLineFault, IsLinesFault};
+ghost use Rattle.client.specs.TalkSteps.{Pushed, IsLineFault, IsLinesFault};
 
 use crate::fault::SendFault;
 use memchr::memchr;

@@ -3,7 +3,7 @@
 ghost use Rattle.std.specs.Prelude.{◌≡◌, true, false, OnErr};
 ghost use Rattle.sender.specs.Sending.{is_ready};
 ghost use Rattle.client.specs.Talks.{Talked, IsWithin, requests_of};
-ghost use Rattle.client.specs.Steps.{Exchanged, Sent, Takes, IsPaid};
+ghost use Rattle.client.specs.TalkSteps.{Exchanged, Sent, Takes, IsPaid};
 
 use crate::answer::reply_in;
 use crate::link::Link;

@@ -3,7 +3,7 @@
 ghost use Rattle.std.specs.Prelude.{◌≡◌, ◌<◌, ◌≤◌, ◌+◌, ◌++◌, ℕ, length, take, vec_len, IfOk, IfErr, OnOk};
 ghost use Rattle.byte_streams.specs.Streams.{prepend_known, IsAtEnd, RoseOrStands};
 ghost use Rattle.client.specs.SendLines.{IsAllOf};
-ghost use Rattle.client.specs.Steps.{IsReadFault};
+ghost use Rattle.client.specs.TalkSteps.{IsReadFault};
 
 use crate::fault::SendFault;
 use byte_streams::{ByteSource, SourceFault};

@@ -11,11 +11,13 @@ use po_lex::{FaultKind, PoFault};
 use po_read::read;
 use po_write::{send, write_catalogue};
 use std::alloc::Global;
+use std::mem::forget;
 
 /// The most bytes that are read: one more than a PO text may have.
 const MOST: usize = 16_777_217;
 
-const ROOM: usize = 16_384;
+/// So many bytes are asked for at a time.
+const ROOM: usize = 65_536;
 
 /// Why no text was gathered.
 #[derive(Drop)]
@@ -85,10 +87,15 @@ fn canon_bytes<W: ByteSink, E: ByteSink>(alloc: Global, bytes: &[u8], w: &mut W,
     ensures status { result ≤ 1 }
 {
     match read(alloc, bytes) {
-        Ok(catalogue) => match write_catalogue(w, &catalogue) {
-            Ok(()) => 0,
-            Err(_) => 1,
-        },
+        Ok(catalogue) => {
+            let written = write_catalogue(w, &catalogue);
+            // The program ends behind this, and its memory goes at once.
+            forget(catalogue);
+            match written {
+                Ok(()) => 0,
+                Err(_) => 1,
+            }
+        }
         Err(fault) => {
             let _ = send_po_fault(e, fault);
             1
@@ -100,7 +107,8 @@ fn canon_bytes<W: ByteSink, E: ByteSink>(alloc: Global, bytes: &[u8], w: &mut W,
 /// the second output, where the text spells no catalogue within the limits (the kinds are numbered as `PoFault::number` says;
 /// line 0 stands for the whole text). Where memory runs out the kind is 10.
 ///
-/// The answer is the exit status: 0, or 1 for a named fault or a failed stream.
+/// The answer is the exit status: 0, or 1 for a named fault or a failed stream. It is for a program that ends with it: the
+/// catalogue's memory isn't given back.
 pub fn canon_text<R: ByteSource, W: ByteSink, E: ByteSink>(
     alloc: Global,
     source: &mut R,

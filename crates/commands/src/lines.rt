@@ -1,5 +1,6 @@
 //! One line of input, gathered within a limit.
 ghost use Rattle.std.specs.Prelude.{◌≤◌, vec_len};
+ghost use Rattle.office.specs.Exchanges.{line_limit};
 
 use std::alloc::Global;
 
@@ -24,7 +25,7 @@ pub(crate) struct Line {
     /// How many bytes came, as long as they are within the limit.
     count: usize,
     gathered: Gathered,
-    ghost bounded: { count ≤ 22000000 },
+    ghost bounded: { count ≤ line_limit },
     ghost kept: { vec_len bytes ≤ count },
 }
 
@@ -72,7 +73,7 @@ impl Line {
     /// The bytes that are kept.
     pub(crate) fn bytes(&self) -> &[u8]
         ensures value { result.now ≡ self.now.bytes.items }
-        ensures within { length result.now ≤ 22000000 }
+        ensures within { length result.now ≤ line_limit }
     {
         self.bytes.as_slice()
     }

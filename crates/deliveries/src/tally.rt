@@ -31,7 +31,7 @@ fn is_read_only(entry: Option<&Entry>) -> bool
     ensures { result ≡ spec.is_read_only (option_copied entry.entry) }
 {
     match entry {
-        Some(entry) => has_flag("read-only", entry),
+        Some(entry) => has_flag(entry.flags.as_slice(), "read-only"),
         None => false,
     }
 }

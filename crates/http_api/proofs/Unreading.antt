@@ -7,11 +7,9 @@ use Rattle.http_api.specs.Answers.{refusal_text}
 use Rattle.http_messages.specs.Asked.{Asked}
 use Rattle.http_messages.specs.Asked as ask
 use Rattle.http_messages.specs.Askings.{MayTakeMemory}
-use Rattle.office.specs.Exchanges.{unread}
-use Rattle.office.proofs.Going.{stays}
-use Rattle.http_api.specs.Outcomes.{Outcome, posted, failed, outcome_answer, unit_lost, counts_lost, text_lost}
+use Rattle.http_api.specs.Outcomes.{Outcome, failed, outcome_answer, unit_lost}
 use Rattle.http_api.specs.Answering.{Came}
-use Rattle.http_api.proofs.Coming.{told, posts}
+use Rattle.http_api.proofs.Coming.{told}
 
 pub record ToldOfMemory (Honest Whole Stopped : Type 0) (meaning : OfficeWithBook) (asked : Asked) : Type 0 where
   pub outcome : Outcome
@@ -20,16 +18,8 @@ pub record ToldOfMemory (Honest Whole Stopped : Type 0) (meaning : OfficeWithBoo
 
 pub unread_told : (Honest Whole Stopped : Type 0) (meaning : OfficeWithBook) (asked : Asked) → MayTakeMemory asked → ToldOfMemory Honest Whole Stopped meaning asked
 unread_told Honest Whole Stopped meaning (ask.refused refusal) may = absurd may
-unread_told Honest Whole Stopped meaning (ask.request number callers body) may = record {
-  outcome = posted unread;
-  came = posts Honest Whole Stopped Honest Whole Stopped meaning meaning number callers body unread tt (stays Honest Whole Stopped meaning _ refl refl);
-  text = λ last. refl;
-}
-unread_told Honest Whole Stopped meaning (ask.export name) may = record {
-  outcome = failed Memory;
-  came = told Honest Whole Stopped Honest Whole Stopped meaning meaning (ask.export name) (failed Memory) refl (λ h. h) (λ h w. w) (λ s. s) (λ h w. refl) (λ office place. text_lost lost.Memory refl (λ never. absurd (let is : lost.Memory ≡ lost.Disk = never in cc)));
-  text = λ last. refl;
-}
+unread_told Honest Whole Stopped meaning (ask.request number callers body) may = absurd may
+unread_told Honest Whole Stopped meaning (ask.export name) may = absurd may
 unread_told Honest Whole Stopped meaning (ask.unit name) may = record {
   outcome = failed Memory;
   came = told Honest Whole Stopped Honest Whole Stopped meaning meaning (ask.unit name) (failed Memory) refl (λ h. h) (λ h w. w) (λ s. s) (λ h w. refl) (λ office place. unit_lost lost.Memory refl (λ never. absurd (let is : lost.Memory ≡ lost.Disk = never in cc)));
@@ -40,8 +30,4 @@ unread_told Honest Whole Stopped meaning ask.unnamed may = record {
   came = told Honest Whole Stopped Honest Whole Stopped meaning meaning ask.unnamed (failed Memory) refl (λ h. h) (λ h w. w) (λ s. s) (λ h w. refl) (λ office place. inr refl);
   text = λ last. refl;
 }
-unread_told Honest Whole Stopped meaning (ask.stats name) may = record {
-  outcome = failed Memory;
-  came = told Honest Whole Stopped Honest Whole Stopped meaning meaning (ask.stats name) (failed Memory) refl (λ h. h) (λ h w. w) (λ s. s) (λ h w. refl) (λ office place. counts_lost lost.Memory refl (λ never. absurd (let is : lost.Memory ≡ lost.Disk = never in cc)));
-  text = λ last. refl;
-}
+unread_told Honest Whole Stopped meaning (ask.stats name) may = absurd may

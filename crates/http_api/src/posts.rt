@@ -14,7 +14,7 @@ ghost use Rattle.http_api.specs.Posts.{IsPosted};
 
 use http_messages::{RequestParts, Values};
 use request_book::{Act, Request, RequestFault, bytes_fit};
-use std::alloc::{AllocError, Global};
+use std::alloc::Global;
 use units::Name;
 use uuid::Uuid;
 
@@ -48,22 +48,22 @@ fn number_in(part: &[u8]) -> Option<Uuid>
 
 /// The caller whose name a value is.
 #[tactic(auto, using(crate::proofs::NameLemmas::no_name))]
-fn name_in(alloc: Global, value: &[u8]) -> Result<Option<Name>, AllocError>
-    ensures { IfOk result (λ name. name ≡ (if is_name value.now then Some value.now else None)) }
+fn name_in(value: &[u8]) -> Option<Name>
+    ensures { result ≡ (if is_name value.now then Some value.now else None) }
 {
     match str::from_utf8(value) {
-        Ok(text) => Name::try_new(alloc, text),
-        Err(_) => Ok(None),
+        Ok(text) => Name::try_new(text),
+        Err(_) => None,
     }
 }
 
 /// The caller in the one header.
-fn caller_in(alloc: Global, callers: Values<'_>) -> Result<Option<Name>, AllocError>
-    ensures { IfOk result (λ name. (values : List (List ℕ)) → AreValues callers.entry values → name ≡ only_one is_name values) }
+fn caller_in(callers: Values<'_>) -> Option<Name>
+    ensures { (values : List (List ℕ)) → AreValues callers.entry values → result ≡ only_one is_name values }
 {
     match callers {
-        Values::One(value) => name_in(alloc, value),
-        _ => Ok(None),
+        Values::One(value) => name_in(value),
+        _ => None,
     }
 }
 
@@ -91,7 +91,7 @@ pub(crate) fn request_of(alloc: Global, parts: RequestParts<'_>) -> Result<Reque
     let Some(number) = number_in(parts.number) else {
         return Err(RequestFault::Malformed);
     };
-    let Some(caller) = caller_in(alloc, parts.callers)? else {
+    let Some(caller) = caller_in(parts.callers) else {
         return Err(RequestFault::Malformed);
     };
     let act = act_in(alloc, parts.body)?;

@@ -28,11 +28,11 @@ pub record IsAsking (asking : AskingValue) (is : Asking) : Type 0 where
   pub asked : IsAsked asking.asked is.asked
   pub ends : asking.ends ≡ is.ends
 
--- what takes memory to be read: a message that passes all tests; of its question only a unit's query isn't tested before
+-- what takes memory to be read: a unit's query
 abbrev pub MayTakeMemory : Asked → Type 0
 MayTakeMemory (refused refusal) = ⊥
-MayTakeMemory (request number callers body) = ⊤
-MayTakeMemory (export name) = ⊤
+MayTakeMemory (request number callers body) = ⊥
+MayTakeMemory (export name) = ⊥
 MayTakeMemory (unit name) = ⊤
 MayTakeMemory unnamed = ⊤
-MayTakeMemory (stats name) = ⊤
+MayTakeMemory (stats name) = ⊥

@@ -223,7 +223,7 @@ impl Inbox {
 
     /// What the message asks that stands at the front with so many bytes of its head and its body.
     ///
-    /// An error where a growth was refused: then the message fails no test, but that its query may name no unit.
+    /// An error where a growth was refused: then the message passes all tests, and asks for a unit by a query, which may name none.
     pub fn asking(
         &self,
         alloc: Global,

@@ -5,8 +5,7 @@
 //! - `inbox`: what was read of a stream (`Inbox`): a whole message at the front, a refusal, or the end
 //! - `cut`, `head`, `lines`, `body`: where a head ends, what it says, its field lines, and the length of the body
 //! - `message`, `refusal`: the tests of a message, its question (`Asked`), and the errors
-//! - `route`, `target`, `query`, `lang`: the six routes, by `matchit`; path and query; the unit that a query names;
-//!   whether a part of a path names a language or a domain
+//! - `route`, `target`, `query`: the six routes, by `matchit`; path and query; the unit that a query names
 //! - `laws`: the router finds the routes by their texts
 //!
 //! Specs:
@@ -24,7 +23,6 @@ mod body;
 mod cut;
 mod head;
 mod inbox;
-mod lang;
 mod laws;
 mod lines;
 mod message;

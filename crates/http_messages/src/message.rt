@@ -1,18 +1,17 @@
 //! What a message asks: the tests that it has to pass, in their order, and its question.
-ghost use Rattle.std.specs.Prelude.{◌≡◌, ◌&&◌, Some, true, is_some, option_map, IfOk, IfErr, OnErr};
-ghost use Rattle.units.specs.Limits.{is_lang};
+ghost use Rattle.std.specs.Prelude.{◌≡◌, ◌&&◌, Some, option_map, IfOk, IfSome, IfErr, OnErr};
 ghost use Rattle.http_messages.specs.Pairs.{name_of};
 ghost use Rattle.http_messages.specs.Framing.{body_length};
-ghost use Rattle.http_messages.specs.Asked.{target_route, wants_length, is_absent, asked_of, lang_in, domain_in, language_in, named, unit_in_query, export, stats, question, asking_of};
+ghost use Rattle.http_messages.specs.Targets.{query_of};
+ghost use Rattle.http_messages.specs.Asked.{target_route, wants_length, is_absent, asked_of, language_in, named, unit_in_query, export, stats, question, asking_of};
 ghost use Rattle.http_messages.specs.Askings.{IsAsked, IsAsking, MayTakeMemory, route_at, language_at};
 
 use crate::head::{BodyLength, Head};
-use crate::lang::{is_lang, is_name};
 use crate::lines::Values;
 use crate::query::{UnitName, unit_of};
 use crate::refusal::Refusal;
 use crate::route::{Route, RouteKind, Routes};
-use crate::target::{Target, split_target};
+use crate::target::split_target;
 use std::alloc::{AllocError, Global};
 use thiserror::Error;
 use units::{Lang, Name};
@@ -81,13 +80,16 @@ impl Unread {
     }
 }
 
-/// The route of a head's target, if it has no query or may have one.
-fn target_route<'b>(routes: &Routes, head: &Head<'b>) -> Option<Route<'b>>
-    ensures { option_map route_at result ≡ target_route head.now }
+/// The route of a head's target, if it has no query or may have one, and its query.
+fn target_route<'b>(routes: &Routes, head: &Head<'b>) -> Option<(Route<'b>, Option<&'b str>)>
+    ensures route { option_map (λ found. route_at found.0) result ≡ target_route head.now }
+    ensures query { IfSome result (λ found. option_map (λ query. query.now) found.1 ≡ query_of head.now.target) }
 {
     let target = split_target(head.target());
     match routes.route_of(target.path) {
-        Some(route) if target.query.is_none() || route.kind.may_have_query() => Some(route),
+        Some(route) if target.query.is_none() || route.kind.may_have_query() => {
+            Some((route, target.query))
+        }
         _ => None,
     }
 }
@@ -102,53 +104,16 @@ fn lacks_length(route: Route<'_>, head: &Head<'_>) -> bool
     }
 }
 
-/// The language that a part names. Where it names none, no memory is taken.
-fn lang_in(alloc: Global, part: &str) -> Result<Option<Lang>, AllocError>
-    ensures named { IfOk result (λ lang. lang ≡ lang_in part.now) }
-    ensures memory { OnErr result (is_lang part.now ≡ true) }
+/// The language of a route.
+fn language_in(route: Route<'_>) -> Option<LanguageName>
+    ensures { option_map language_at result ≡ language_in (route_at route.entry).1 }
 {
-    if is_lang(part.as_bytes()) {
-        Lang::try_new(alloc, part)
-    } else {
-        Ok(None)
-    }
-}
-
-/// The domain of a route.
-fn domain_in(alloc: Global, part: Option<&str>) -> Result<Option<Name>, AllocError>
-    ensures { IfOk result (λ domain. domain ≡ domain_in (option_map (λ p. p.now) part.entry)) }
-{
-    match part {
-        Some(part) => Name::try_new(alloc, part),
-        None => Ok(Some(Name::main_domain())),
-    }
-}
-
-/// Whether a route's domain is a name.
-fn names_domain(part: Option<&str>) -> bool
-    ensures { result ≡ is_some (domain_in (option_map (λ p. p.now) part.entry)) }
-{
-    match part {
-        Some(part) => is_name(part.as_bytes()),
-        None => true,
-    }
-}
-
-/// The language of a route. Where its parts name none, no memory is taken.
-fn language_in(alloc: Global, route: Route<'_>) -> Result<Option<LanguageName>, AllocError>
-    ensures named { IfOk result (λ name. option_map language_at name ≡ language_in (route_at route.entry).1) }
-    ensures memory { OnErr result (is_some (language_in (route_at route.entry).1) ≡ true) }
-{
-    if !names_domain(route.domain) {
-        return Ok(None);
-    }
-    let Some(lang) = lang_in(alloc, route.part)? else {
-        return Ok(None);
+    let domain = match route.domain {
+        Some(part) => Name::try_new(part)?,
+        None => Name::main_domain(),
     };
-    match domain_in(alloc, route.domain)? {
-        Some(domain) => Ok(Some(LanguageName { domain, lang })),
-        None => Ok(None),
-    }
+    let lang = Lang::try_new(route.part)?;
+    Some(LanguageName { domain, lang })
 }
 
 fn export_of<'b>(name: Option<LanguageName>) -> Asked<'b>
@@ -179,11 +144,11 @@ fn named<'b>(unit: Option<UnitName>) -> Asked<'b>
 }
 
 /// The unit that a target's query names. Without a query no memory is taken.
-fn unit_asked<'b>(alloc: Global, target: &Target<'_>) -> Result<Asked<'b>, AllocError>
-    ensures asked { IfOk result (λ asked. IsAsked asked (unit_in_query (option_map (λ query. query.now) target.now.query))) }
-    ensures memory { OnErr result (MayTakeMemory (unit_in_query (option_map (λ query. query.now) target.now.query))) }
+fn unit_asked<'b>(alloc: Global, query: Option<&str>) -> Result<Asked<'b>, AllocError>
+    ensures asked { IfOk result (λ asked. IsAsked asked (unit_in_query (option_map (λ text. text.now) query.entry))) }
+    ensures memory { OnErr result (MayTakeMemory (unit_in_query (option_map (λ text. text.now) query.entry))) }
 {
-    let Some(query) = target.query else {
+    let Some(query) = query else {
         return Ok(Asked::Refused(Refusal::Malformed));
     };
     Ok(named(unit_of(alloc, query.as_bytes())?))
@@ -193,9 +158,11 @@ fn unit_asked<'b>(alloc: Global, target: &Target<'_>) -> Result<Asked<'b>, Alloc
 fn question<'b>(
     alloc: Global,
     route: Route<'b>,
+    query: Option<&str>,
     head: &Head<'b>,
     body: &'b [u8],
 ) -> Result<Asked<'b>, AllocError>
+    requires { option_map (λ text. text.now) query ≡ query_of head.now.target }
     ensures asked { IfOk result (λ asked. IsAsked asked (question (Some (route_at route.entry)) head.now body.now)) }
     ensures memory { OnErr result (MayTakeMemory (question (Some (route_at route.entry)) head.now body.now)) }
 {
@@ -205,15 +172,15 @@ fn question<'b>(
             callers: head.values(CALLER_FIELD.as_bytes()),
             body,
         })),
-        RouteKind::Export => Ok(export_of(language_in(alloc, route)?)),
-        RouteKind::Unit => unit_asked(alloc, &split_target(head.target())),
-        RouteKind::Stats => Ok(stats_of(language_in(alloc, route)?)),
+        RouteKind::Export => Ok(export_of(language_in(route))),
+        RouteKind::Unit => unit_asked(alloc, query),
+        RouteKind::Stats => Ok(stats_of(language_in(route))),
     }
 }
 
 /// What a message asks that has this head and this body, of the size that the head gives.
 ///
-/// An error where a growth was refused: then the message fails no test, but that its query may name no unit.
+/// An error where a growth was refused: then the message passes all tests, and asks for a unit by a query, which may name none.
 pub(crate) fn asking_of<'b>(
     alloc: Global,
     routes: &Routes,
@@ -225,7 +192,7 @@ pub(crate) fn asking_of<'b>(
     ensures ends { IfErr result (λ unread. unread.ends ≡ (asking_of head.now body.now).ends) }
 {
     let ends = head.closes();
-    let Some(route) = target_route(routes, head) else {
+    let Some((route, query)) = target_route(routes, head) else {
         return Ok(Asking {
             asked: Asked::Refused(Refusal::NoRoute),
             ends,
@@ -243,7 +210,7 @@ pub(crate) fn asking_of<'b>(
             ends: true,
         });
     }
-    match question(alloc, route, head, body) {
+    match question(alloc, route, query, head, body) {
         Ok(asked) => Ok(Asking { asked, ends }),
         Err(_) => Err(Unread { ends }),
     }

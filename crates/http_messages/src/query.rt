@@ -81,22 +81,22 @@ fn values_named<'b>(pairs: &'b [Pair<'_>], name: &str) -> Named<'b>
     found
 }
 
-fn one_domain(alloc: Global, pairs: &[Pair<'_>]) -> Result<Option<Name>, AllocError>
-    ensures { IfOk result (λ name. name ≡ one_or is_name main (values_named (codes "domain") (pairs_at pairs.now))) }
+fn one_domain(pairs: &[Pair<'_>]) -> Option<Name>
+    ensures { result ≡ one_or is_name main (values_named (codes "domain") (pairs_at pairs.now)) }
 {
     match values_named(pairs, "domain") {
-        Named::None => Ok(Some(Name::main_domain())),
-        Named::One(text) => Name::try_new(alloc, text),
-        Named::More => Ok(None),
+        Named::None => Some(Name::main_domain()),
+        Named::One(text) => Name::try_new(text),
+        Named::More => None,
     }
 }
 
-fn only_lang(alloc: Global, pairs: &[Pair<'_>]) -> Result<Option<Lang>, AllocError>
-    ensures { IfOk result (λ lang. lang ≡ only_one is_lang (values_named (codes "lang") (pairs_at pairs.now))) }
+fn only_lang(pairs: &[Pair<'_>]) -> Option<Lang>
+    ensures { result ≡ only_one is_lang (values_named (codes "lang") (pairs_at pairs.now)) }
 {
     match values_named(pairs, "lang") {
-        Named::One(text) => Lang::try_new(alloc, text),
-        _ => Ok(None),
+        Named::One(text) => Lang::try_new(text),
+        _ => None,
     }
 }
 
@@ -171,8 +171,8 @@ pub(crate) fn unit_of(alloc: Global, query: &[u8]) -> Result<Option<UnitName>, A
     if !all_known(pairs) {
         return Ok(None);
     }
-    let domain = one_domain(alloc, pairs)?;
-    let lang = only_lang(alloc, pairs)?;
+    let domain = one_domain(pairs);
+    let lang = only_lang(pairs);
     let id = only_id(alloc, pairs)?;
     let ctx = context(alloc, pairs)?;
     Ok(unit_with(domain, lang, id, ctx))

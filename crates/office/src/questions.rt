@@ -8,7 +8,7 @@ ghost use Rattle.units.specs.Project.{languages};
 ghost use Rattle.office_maps.specs.OfficeIn.{office_in};
 ghost use Rattle.tables.specs.Stops.{Nothing};
 ghost use Rattle.tables.specs.Kept.{IsKept};
-ghost use Rattle.office.specs.declared.faults.QueryFault.TheVariants.{NoLanguage, NoUnit, Memory, Disk};
+ghost use Rattle.office.specs.declared.faults.QueryFault.TheVariants.{NoLanguage, NoUnit, Disk};
 ghost use Rattle.tables.specs.declared.faults.Lost.TheVariants as lost;
 
 use crate::desk::Desk;
@@ -21,11 +21,9 @@ use units::{Key, Lang, Name};
 use views::{counts_text, unit_text};
 
 /// A name to read a unit with: what is shown of a unit doesn't depend on it.
-fn reader(alloc: Global) -> Result<Name, QueryFault>
-    ensures { IfErr result (λ e. e ≡ Memory) }
-{
-    match Name::try_new(alloc, "reader")? {
-        Some(name) => Ok(name),
+fn reader() -> Name {
+    match Name::try_new("reader") {
+        Some(name) => name,
         None => unreachable!(),
     }
 }
@@ -64,7 +62,7 @@ fn unit_of<T: Tables>(
     if tables.stopped() {
         return Err(QueryFault::Disk);
     }
-    let name = reader(alloc)?;
+    let name = reader();
     match tables.view_of(domain, lang, key, &name)? {
         None => Err(QueryFault::NoLanguage),
         Some(found) => {

@@ -15,6 +15,7 @@ use crate::domain_maps::DomainMaps;
 use crate::languages::Languages;
 use crate::office_maps::OfficeMaps;
 use crate::place::Place;
+use crate::puts::put_in;
 use crate::template::Template;
 use crate::unit_rows::{Displaced, put_all, put_at, put_back, unapprove_all, units_of_plans};
 use deliveries::{Change, DomainChange, Language};
@@ -35,13 +36,7 @@ pub(crate) fn add_member(
     ensures err { OnErr result (team_in team.new ≡ team_in team.old) }
 {
     let own = String::from_str(alloc, name)?;
-    match team.insert(own, role) {
-        Ok(_) => Ok(()),
-        Err(refused) => {
-            drop(refused);
-            Err(AllocError)
-        }
-    }
+    put_in(team, own, role)
 }
 
 /// Sets a name's role: a guest isn't in the team.
@@ -90,16 +85,7 @@ fn put_under(
     ensures ok { OnOk result (domains_in domains.new ≡ maps.insert (domains_in domains.old) (string_bytes own) (domain_in domain)) }
     ensures err { OnErr result (domains_in domains.new ≡ domains_in domains.old) }
 {
-    match domains.insert(own, domain) {
-        Ok(before) => {
-            drop(before);
-            Ok(())
-        }
-        Err(refused) => {
-            drop(refused);
-            Err(AllocError)
-        }
-    }
+    put_in(domains, own, domain)
 }
 
 /// Puts a language with its units in, or neither.

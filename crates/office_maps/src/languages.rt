@@ -9,6 +9,7 @@ ghost use Rattle.std.proofs.Props.{props};
 ghost use Rattle.po_text.specs.Texts.{text_cmp};
 ghost use Rattle.units.specs.Limits.{is_lang};
 
+use crate::puts::put_in;
 use deliveries::Language;
 use std::alloc::{AllocError, Global};
 use std::collections::BTreeMap;
@@ -65,15 +66,6 @@ impl Languages {
         ensures ok { OnOk result (headers_in self.new.rows ≡ maps.insert (headers_in self.old.rows) (string_bytes own) language.header) }
         ensures err { OnErr result (self.new.rows.entries ≡ self.old.rows.entries) }
     {
-        match self.rows.insert(own, language) {
-            Ok(before) => {
-                drop(before);
-                Ok(())
-            }
-            Err(refused) => {
-                drop(refused);
-                Err(AllocError)
-            }
-        }
+        put_in(&mut self.rows, own, language)
     }
 }

@@ -12,20 +12,9 @@ use crate::project_maps::ProjectMaps;
 use crate::unit_rows::units_of;
 use deliveries::Language;
 use po_text::Catalogue;
-use std::alloc::{AllocError, Global};
+use std::alloc::Global;
 use template_update::{Plan, plan};
 use units::{Lang, Memory};
-
-/// A code of its own for a text that is one.
-pub(crate) fn lang_of(alloc: Global, code: &str) -> Result<Lang, AllocError>
-    requires { is_lang code.now ≡ true }
-    ensures { IfOk result (λ lang. lang ≡ code.now) }
-{
-    match Lang::try_new(alloc, code)? {
-        Some(lang) => Ok(lang),
-        None => unreachable!(),
-    }
-}
 
 impl<'a> ProjectMaps<'a> {
     ghost use Rattle.office_maps.specs.OfficeIn.{lent_project};
@@ -84,7 +73,9 @@ impl<'a> ProjectMaps<'a> {
         ensures { Some language.now.header ≡ maps.get (lent_project self.now).headers code.now
             → IfOk result (λ found. found ≡ plan_at (lent_project self.now) next.now code.now) }
     {
-        let lang = lang_of(alloc, code)?;
+        let Some(lang) = Lang::try_new(code) else {
+            unreachable!();
+        };
         match self.plan_at(alloc, &lang, language, next)? {
             Some(plan) => Ok(Some((lang, plan))),
             None => Ok(None),

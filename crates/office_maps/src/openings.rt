@@ -12,7 +12,6 @@ ghost use Rattle.units.specs.Openings as opens;
 use crate::changes::{add_member, put_domain};
 use crate::domain_maps::DomainMaps;
 use crate::languages::Languages;
-use crate::lookups::lang_of;
 use crate::office_maps::OfficeMaps;
 use crate::template::Template;
 use crate::unit_rows::add_unit;
@@ -46,7 +45,7 @@ fn closed_policy() -> Policy
 }
 
 /// A string of its own for a text that is one.
-pub(crate) fn string(alloc: Global, text: &str) -> Result<PoString, AllocError>
+fn string(alloc: Global, text: &str) -> Result<PoString, AllocError>
     requires { is_string text.now ≡ true }
     ensures { IfOk result (λ string. string ≡ text.now) }
 {
@@ -60,12 +59,7 @@ fn one_form(alloc: Global, text: &str) -> Result<Forms, AllocError>
     requires { is_string text.now ≡ true }
     ensures { IfOk result (λ forms. forms ≡ text.now ∷ []) }
 {
-    let mut strings = Vec::new(alloc);
-    strings.push(string(alloc, text)?)?;
-    match Forms::try_new(strings) {
-        Some(forms) => Ok(forms),
-        None => unreachable!(),
-    }
+    Forms::one(alloc, string(alloc, text)?)
 }
 
 /// An entry with a msgid and one form.
@@ -99,7 +93,7 @@ fn demo_unit(alloc: Global) -> Result<Unit, AllocError>
     ensures { IfOk result (λ unit. unit ≡ opens.demo_unit) }
 {
     let id = string(alloc, "Hello")?;
-    match one_form(alloc, "") {
+    match Forms::one(alloc, PoString::empty(alloc)) {
         Ok(forms) => Ok(Unit {
             key: Key { ctx: None, id },
             plural: None,
@@ -251,9 +245,9 @@ impl OfficeMaps {
     pub fn demo(alloc: Global) -> Result<OfficeMaps, Memory>
         ensures { IfOk result (λ office. office_in office ≡ opens.demo) }
     {
-        let lang = lang_of(alloc, "de")?;
-        let made = demo_in(alloc, &lang);
-        drop(lang);
-        Ok(made?)
+        let Some(lang) = Lang::try_new("de") else {
+            unreachable!();
+        };
+        Ok(demo_in(alloc, &lang)?)
     }
 }

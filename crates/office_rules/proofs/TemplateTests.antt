@@ -22,10 +22,10 @@ false_tells : (b : Bool) → Decides (not b) (b ≡ false)
 false_tells true = (λ e. cc, λ e. cc)
 false_tells false = (λ e. refl, λ e. refl)
 
-pub entry_told : (entry : Entry) (r a b : Bool) → r ≡ (a && (b && true)) → a ≡ (not entry.obsolete && (not (is_header entry) && not (has_flag (codes "fuzzy") entry))) → Decides b (IsUntouched entry) →
+pub entry_told : (entry : Entry) (r a b : Bool) → r ≡ (a && (b && true)) → a ≡ (not entry.obsolete && (not (is_header entry) && not (has_flag entry.flags (codes "fuzzy")))) → Decides b (IsUntouched entry) →
     Decides r (IsTemplateEntry entry)
 entry_told entry r a b e plain untouched =
-    three_tell {P = (entry.obsolete ≡ false) × ((is_header entry ≡ false) × (has_flag (codes "fuzzy") entry ≡ false))} {Q = IsUntouched entry} r a b true e
+    three_tell {P = (entry.obsolete ≡ false) × ((is_header entry ≡ false) × (has_flag entry.flags (codes "fuzzy") ≡ false))} {Q = IsUntouched entry} r a b true e
     (λ h. record {
       plain = h.0.1.0;
       current = h.0.0;
@@ -35,7 +35,7 @@ entry_told entry r a b e plain untouched =
       unmarked = h.0.1.1;
     })
     (λ h. ((h.current, (h.plain, h.unmarked)), (record { unworked = h.unworked; uncommented = h.uncommented; unchanged = h.unchanged }, tt)))
-    (three_tell a (not entry.obsolete) (not (is_header entry)) (not (has_flag (codes "fuzzy") entry)) plain (λ h. h) (λ h. h)
-    (false_tells entry.obsolete) (false_tells (is_header entry)) (false_tells (has_flag (codes "fuzzy") entry)))
+    (three_tell a (not entry.obsolete) (not (is_header entry)) (not (has_flag entry.flags (codes "fuzzy"))) plain (λ h. h) (λ h. h)
+    (false_tells entry.obsolete) (false_tells (is_header entry)) (false_tells (has_flag entry.flags (codes "fuzzy"))))
     untouched
     holds

@@ -11,7 +11,7 @@ use crate::project_rules::keeps_project_rules;
 use crate::unit_rules::hold_all;
 use office_maps::{DomainMaps, OfficeMaps, ProjectMaps};
 use std::alloc::{AllocError, Global};
-use units::{Lang, Name};
+use units::{DOMAIN_LIMIT, Lang, Name};
 
 /// A domain with the team and the policy of its office.
 fn project_of<'a>(maps: &'a OfficeMaps, domain: &'a DomainMaps) -> ProjectMaps<'a>
@@ -52,5 +52,5 @@ pub(crate) fn is_office(
 {
     let projects = are_projects(alloc, maps, langs)?;
     let main = maps.has_domain(&Name::main_domain());
-    Ok(hold_all(main, maps.domain_count() <= 8, projects))
+    Ok(hold_all(main, maps.domain_count() <= DOMAIN_LIMIT, projects))
 }

@@ -15,7 +15,7 @@ use deliveries::Language;
 use office_maps::{Place, ProjectMaps, key_of};
 use po_text::{Catalogue, Duplicate, Entry, PoString};
 use std::alloc::{AllocError, Global};
-use units::{Lang, Unit};
+use units::{Lang, UNIT_LIMIT, Unit};
 
 /// Whether an entry alone is a valid catalogue.
 fn is_valid_alone(alloc: Global, entry: &Entry) -> Result<bool, AllocError>
@@ -113,7 +113,7 @@ fn has_few_units(alloc: Global, project: &ProjectMaps<'_>, lang: &Lang) -> Resul
         if *lang != place.lang {
             return Ok(true);
         }
-        if count == 150_000 {
+        if count == UNIT_LIMIT {
             return Ok(false);
         }
         count += 1;

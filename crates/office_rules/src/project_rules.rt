@@ -18,7 +18,7 @@ use crate::unit_rules::hold_all;
 use office_maps::ProjectMaps;
 use std::alloc::{AllocError, Global};
 use std::collections::BTreeMap;
-use units::{Lang, Role};
+use units::{LANGUAGE_LIMIT, Lang, Role, TEAM_LIMIT};
 
 /// Whether somebody in the team is a manager.
 fn is_managed(team: &BTreeMap<String, Role>) -> bool
@@ -39,7 +39,7 @@ fn is_team(team: &BTreeMap<String, Role>) -> bool
     ensures { (result ≡ true) ↔ IsTeam (team_in team.now) }
 {
     let managed = is_managed(team);
-    hold_all(managed, has_no_guest(team), team.len() <= 1000)
+    hold_all(managed, has_no_guest(team), team.len() <= TEAM_LIMIT)
 }
 
 /// Whether a project keeps the rules apart from those of languages and units.
@@ -51,7 +51,7 @@ fn keeps_frame(project: &ProjectMaps<'_>) -> bool
     hold_all(
         is_team(project.team),
         are_template_entries(entries),
-        project.language_count() <= 32,
+        project.language_count() <= LANGUAGE_LIMIT,
     )
 }
 

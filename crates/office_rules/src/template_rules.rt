@@ -41,12 +41,12 @@ fn is_untouched(entry: &Entry) -> bool
 
 /// Whether an entry is current, no header's and not fuzzy.
 fn is_plain(entry: &Entry) -> bool
-    ensures { result ≡ (not entry.now.obsolete && (not (is_header entry.now) && not (has_flag (codes "fuzzy") entry.now))) }
+    ensures { result ≡ (not entry.now.obsolete && (not (is_header entry.now) && not (has_flag entry.now.flags (codes "fuzzy")))) }
 {
     hold_all(
         !entry.obsolete,
         !is_header(entry),
-        !has_flag("fuzzy", entry),
+        !has_flag(entry.flags.as_slice(), "fuzzy"),
     )
 }
 

@@ -13,7 +13,7 @@ ghost use Rattle.office_rules.specs.Parts.{HasForms, IsPutAway, HasItsForms, Kee
 
 use plural_expr::PluralForms;
 use po_text::{Forms, Previous, Text};
-use units::{Key, Suggestion, Unit, UnitState, forms_needed};
+use units::{Key, SUGGESTION_LIMIT, Suggestion, Unit, UnitState, VOTE_LIMIT, forms_needed};
 
 /// Whether all three hold.
 pub(crate) fn hold_all(first: bool, second: bool, third: bool) -> bool
@@ -130,14 +130,18 @@ fn have_few_votes(suggestions: &[Suggestion]) -> bool
 {
     suggestions
         .iter()
-        .all(|suggestion| suggestion.votes.len() <= 10_000)
+        .all(|suggestion| suggestion.votes.len() <= VOTE_LIMIT)
 }
 
 fn has_few_suggestions(unit: &Unit) -> bool
     ensures { (result ≡ true) ↔ HasFewSuggestions unit.now }
 {
     let suggestions = unit.suggestions.as_slice();
-    hold_all(suggestions.len() <= 100, have_few_votes(suggestions), true)
+    hold_all(
+        suggestions.len() <= SUGGESTION_LIMIT,
+        have_few_votes(suggestions),
+        true,
+    )
 }
 
 /// Whether a unit keeps the rules of one, under the plural rule of its language.

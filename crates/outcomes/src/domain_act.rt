@@ -15,10 +15,7 @@ use deliveries::Change;
 use office_maps::OfficeMaps;
 use po_text::Duplicate;
 use std::alloc::Global;
-use units::{Memory, Name, Refusal};
-
-/// How many domains an office has at most.
-const MAX_DOMAINS: usize = 8;
+use units::{DOMAIN_LIMIT, Memory, Name, Refusal};
 
 /// What a new domain comes to.
 pub(crate) fn domain_outcome(
@@ -32,7 +29,7 @@ pub(crate) fn domain_outcome(
     if office.has_domain(domain) {
         return OfficeOutcome::refused(alloc, Refusal::DomainExists);
     }
-    if office.domain_count() >= MAX_DOMAINS {
+    if office.domain_count() >= DOMAIN_LIMIT {
         return OfficeOutcome::refused(alloc, Refusal::PastLimit);
     }
     let own = domain.duplicate()?;

@@ -24,10 +24,7 @@ use po_text::{Catalogue, Duplicate, Entry, Text};
 use request_book::Reply;
 use std::alloc::{AllocError, Global};
 use template_update::{Plan, load, loads_count_the_template};
-use units::{Lang, Memory, Refusal};
-
-/// How many languages a project has at most.
-const MAX_LANGUAGES: usize = 32;
+use units::{LANGUAGE_LIMIT, Lang, Memory, Refusal};
 
 /// What tells of a language that comes: copies of its code and its header, the tally of its units, and the reply.
 #[derive(Drop)]
@@ -110,7 +107,7 @@ fn load_language(
         (λ outcome. IsSettledIn (lent_project project.now) outcome (spec.with_rule (lent_project project.now) lang.now text.now header.now rule)) }
 {
     loads_count_the_template();
-    if project.language_count() >= MAX_LANGUAGES {
+    if project.language_count() >= LANGUAGE_LIMIT {
         drop(rule);
         return DomainOutcome::refused(alloc, Refusal::PastLimit);
     }

@@ -16,10 +16,7 @@ use deliveries::Change;
 use office_maps::OfficeMaps;
 use po_text::Duplicate;
 use std::alloc::Global;
-use units::{Memory, Name, Refusal, Role};
-
-/// How many names a team has at most.
-const MAX_NAMES: usize = 1000;
+use units::{Memory, Name, Refusal, Role, TEAM_LIMIT};
 
 fn is_manager(role: Role) -> bool
     ensures { result ≡ is_manager role }
@@ -71,7 +68,7 @@ pub(crate) fn role_outcome(
     ensures { IfOk result
         (λ outcome. IsSettled (office_in office.now) outcome (spec.team_step (office_in office.now) name.now role)) }
 {
-    if team_size_with(office, name, role) > MAX_NAMES {
+    if team_size_with(office, name, role) > TEAM_LIMIT {
         return OfficeOutcome::refused(alloc, Refusal::PastLimit);
     }
     if !has_manager_with(office, name, role) {

@@ -3,7 +3,7 @@ pub mod Trees
 pub mod Values
 pub mod Plain
 pub mod Faults
-pub mod Kept
+pub mod KeptRule
 pub mod Views
 pub mod Codes
 pub mod FrameViews

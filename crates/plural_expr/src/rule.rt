@@ -2,7 +2,7 @@
 
 ghost use Rattle.plural_expr.specs.Values.{Rule};
 ghost use Rattle.plural_expr.specs.Codes.{coded_rule};
-ghost use Rattle.plural_expr.specs.Kept.{IsKept};
+ghost use Rattle.plural_expr.specs.KeptRule.{IsKept};
 ghost use Rattle.plural_expr.specs.Views.{tree_view};
 
 use crate::tree::Tree;

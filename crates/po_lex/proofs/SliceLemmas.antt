@@ -1,5 +1,5 @@
 -- Slices of slices, and what is found at the front of a text.
-use Rattle.std.proofs.Common.{◌≡◌, ◌≢◌, ℕ, ◌<◌, List, [], ◌∷◌, ◌++◌, Bool, true, false, not, length, take, drop, get_or, refl, sym, ◌∙◌, ap, subst, eq-eqb, append_assoc, arith, Option, Some, None, MatchOption, nat_lt, map, suc, Decides, Result, Ok, Err, IfOk, Bor, ◌⊎◌, inl, inr, ◌&&◌, ◌==◌, cond}
+use Rattle.std.proofs.Common.{◌≡◌, ◌≢◌, ℕ, ◌<◌, List, [], ◌∷◌, ◌++◌, Bool, true, false, not, length, take, drop, get_or, refl, sym, ◌∙◌, ap, subst, eq-eqb, append_assoc, ◌+◌, arith, Option, Some, None, MatchOption, nat_lt, map, suc, Decides, Result, Ok, Err, IfOk, Bor, ◌⊎◌, inl, inr, ◌&&◌, ◌==◌, cond}
 use Rattle.std.proofs.lemmas.Bool.Decides.{nat_tests}
 use Rattle.std.specs.Str.{IsCharBoundary}
 use Rattle.std.proofs.lemmas.Str.{IsCharBoundary-end, IsCharBoundary-before_ascii}
@@ -8,8 +8,9 @@ use Rattle.po_lex.specs.declared.line.Part.TheVariants.{Begins, Continues}
 use Rattle.po_lex.specs.declared.line.Line.{Line as LineToken}
 use Rattle.po_lex.specs.declared.line.Line.TheVariants.{Blank, Translator, Extracted, Reference, Flags, Previous, Message}
 use Rattle.std.specs.List.{list_all}
-use Rattle.std.proofs.lemmas.List.{append-nil, take-append-drop}
-use Rattle.std.proofs.lemmas.Bool.{ne_eqb, false≢true}
+use Rattle.std.proofs.lemmas.List.{append-nil, take-append-drop, drop_more, get_or-take, length-take}
+use Rattle.std.proofs.lemmas.Bool.{ne_eqb, eqb-true, false≢true}
+use Rattle.memchr.specs.Find.{IsFirstByte, is_byte}
 use Rattle.po_lex.specs.declared.fault.FaultKind.{FaultKind}
 use Rattle.po_lex.specs.Reading.{is_white, is_all_white, drop_white_end, trim}
 use Rattle.po_lex.specs.Lines.{begins_with, lines_of, word_of}
@@ -96,6 +97,24 @@ pub not_cut : (text : List ℕ) → 0 < length text → NoLf text → lines_of t
 unfolding lines_of
 not_cut [] h n = absurd (omega arith)
 not_cut (b ∷ line) h n = last_line b line n
+
+-- what the first place of an LF says
+pub lf_found : (text : List ℕ) (n : ℕ) → IsFirstByte (is_byte 10) text (Some n) → lines_of text ≡ take n text ∷ lines_of (drop (n + 1) text)
+lf_found text n h =
+    let lf : get_or text n 0 ≡ 10 = eqb-true (get_or text n 0) 10 h.1 in
+    let cut : text ≡ take n text ++ 10 ∷ drop (n + 1) text = sym (take-append-drop n text) ∙ ap (λ t. take n text ++ t) (drop_more text n 0 h.0.high ∙ ap (λ b. b ∷ drop (n + 1) text) lf) in
+    cut_at_lf text (take n text) (drop (n + 1) text) (cut, no_lf_before)
+  where
+    no_lf_before : NoLf (take n text)
+    no_lf_before i lt e =
+        let below : i < n = omega (arith, length-take n text) in
+        h.0.before i (omega arith) below (eq-eqb (get_or text i 0) 10 (sym (get_or-take n text i 0 below) ∙ e))
+
+pub lf_ends : (text : List ℕ) (n : ℕ) → IsFirstByte (is_byte 10) text (Some n) → get_or text n 0 < 128
+lf_ends text n h = let lf : get_or text n 0 ≡ 10 = eqb-true (get_or text n 0) 10 h.1 in omega arith
+
+pub lf_nowhere : (text : List ℕ) → 0 < length text → IsFirstByte (is_byte 10) text None → lines_of text ≡ text ∷ lines_of []
+lf_nowhere text some h = not_cut text some (λ i lt e. h i (omega arith) lt (eq-eqb (get_or text i 0) 10 e))
 
 -- ---- words
 

@@ -1,6 +1,6 @@
 -- The strings that quoted pieces stand for. The GNU gettext manual, "The Format of PO Files", gives strings the syntax of C, escapes included; of these,
 -- this project's profile takes the nine that are listed here.
-use Rattle.std.specs.Prelude.{ℕ, List, [], ◌∷◌, ◌++◌, ◌==◌, nat_lt, Option, Some, None, option_map, unwrap_or, is_some, Result, Ok, Err, if◌then◌else◌, flat_map}
+use Rattle.std.specs.Prelude.{ℕ, List, [], ◌∷◌, ◌++◌, Bool, not, ◌||◌, ◌==◌, nat_lt, Option, Some, None, option_map, unwrap_or, is_some, Result, Ok, Err, if◌then◌else◌, flat_map}
 use Rattle.std.specs.List.{find}
 use Rattle.po_lex.specs.declared.fault.FaultKind.{FaultKind}
 use Rattle.po_lex.specs.declared.fault.FaultKind.TheVariants.{Quote, Escape}
@@ -27,6 +27,13 @@ meaning_of letter = option_map (λ e. e.0) (find (λ e. e.1 == letter) escapes)
 abbrev pub escaped_byte : Option ℕ → ℕ → List ℕ
 escaped_byte None c = c ∷ []
 escaped_byte (Some letter) c = backslash ∷ letter ∷ []
+
+-- a byte that doesn't stand as it is between quotes: a control character, a quote or a backslash
+abbrev pub is_stop : ℕ → Bool
+is_stop c = nat_lt c 32 || ((c == quote) || (c == backslash))
+
+abbrev pub is_bare : ℕ → Bool
+is_bare c = not (is_stop c)
 
 -- a string as it is written between quotes
 abbrev pub escaped : List ℕ → List ℕ

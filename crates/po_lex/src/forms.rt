@@ -11,6 +11,7 @@ ghost use Rattle.po_lex.specs.Views.{read_part, read_line, line_view, spelled, I
 use crate::fault::FaultKind;
 use crate::line::{Keyword, Line, Part};
 use crate::pieces::{is_all_white, is_white, raw_len};
+use crate::scan::bare_len;
 
 /// The keywords as they are written.
 const KEYWORDS: [(&str, Keyword); 12] = [
@@ -147,10 +148,20 @@ fn part_at(text: &str) -> Result<Part<'_>, FaultKind>
     Ok(Part::Begins(keyword, piece_at(skip_white(rest))?))
 }
 
-fn is_comment_text(text: &str) -> bool
+/// Whether the text has no control character but tabs.
+pub fn is_comment_text(text: &str) -> bool
     ensures { result ≡ is_comment_text text.now }
 {
-    text.as_bytes().iter().all(|b| *b == b'\t' || *b >= 32)
+    let bytes = text.as_bytes();
+    let mut i = bare_len(bytes);
+    while i < bytes.len() {
+        if bytes[i] < 32 && bytes[i] != b'\t' {
+            return false;
+        }
+        let behind = i + 1;
+        i = behind + bare_len(&bytes[behind..]);
+    }
+    true
 }
 
 /// The line of a comment with this text.

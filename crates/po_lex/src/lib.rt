@@ -4,6 +4,7 @@
 //! - `line`: a line, over slices of the source
 //! - `forms`: the form of a line
 //! - `pieces`: quoted pieces
+//! - `scan`: bytes that stand as they are between quotes
 //! - `white`: spaces and tabs at the ends of a text
 //! - `fault`: why a text spells no catalogue
 #![tactic(auto)]
@@ -13,9 +14,12 @@ mod forms;
 mod line;
 mod lines;
 mod pieces;
+mod scan;
 mod white;
 
 pub use fault::{FaultKind, PoFault};
+pub use forms::is_comment_text;
 pub use line::{Keyword, Line, Part, Token};
 pub use lines::{Lines, first_line, lex};
+pub use scan::bare_len;
 pub use white::trim;

@@ -7,6 +7,7 @@ ghost use Rattle.po_lex.specs.Views.{Rest, IsNext};
 use crate::fault::PoFault;
 use crate::forms::line_of;
 use crate::line::Token;
+use memchr::memchr;
 use std::marker::Model;
 
 /// The lines that are left of a text.
@@ -59,8 +60,8 @@ pub fn first_line(text: &str) -> Option<(&str, &str)>
     if text.is_empty() {
         return None;
     }
-    match text.split_once('\n') {
-        Some((line, rest)) => Some((line, rest)),
+    match memchr(b'\n', text.as_bytes()) {
+        Some(len) => Some((&text[..len], &text[len + 1..])),
         None => Some((text, "")),
     }
 }

@@ -5,6 +5,7 @@ ghost use Rattle.po_lex.specs.Reading.{is_white, is_all_white};
 ghost use Rattle.po_lex.specs.Escapes.{raw_at, meaning_of};
 
 use crate::fault::FaultKind;
+use crate::scan::bare_len;
 
 pub(crate) fn is_white(b: u8) -> bool
     ensures { result ≡ is_white b }
@@ -34,7 +35,7 @@ pub(crate) fn raw_len(bytes: &[u8]) -> Result<usize, FaultKind>
     ensures quote { IfOk result (λ n. slice_index bytes.now n ≡ 34) }
     ensures err { IfErr result (λ e. raw_at bytes.now ≡ Err e) }
 {
-    let mut i = 0;
+    let mut i = bare_len(bytes);
     while i < bytes.len() {
         let c = bytes[i];
         if c == b'"' {
@@ -44,16 +45,14 @@ pub(crate) fn raw_len(bytes: &[u8]) -> Result<usize, FaultKind>
                 Err(FaultKind::Quote)
             };
         }
-        if c == b'\\' {
-            if i + 1 == bytes.len() || !is_letter(bytes[i + 1]) {
-                return Err(FaultKind::Escape);
-            }
-            i += 2;
-        } else if c < 32 {
+        if c != b'\\' {
             return Err(FaultKind::Quote);
-        } else {
-            i += 1;
         }
+        if i + 1 == bytes.len() || !is_letter(bytes[i + 1]) {
+            return Err(FaultKind::Escape);
+        }
+        let behind = i + 2;
+        i = behind + bare_len(&bytes[behind..]);
     }
     Err(FaultKind::Quote)
 }

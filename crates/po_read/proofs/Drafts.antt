@@ -7,7 +7,7 @@ use Rattle.po_read.specs.declared.message.Message.{Message}
 use Rattle.po_read.specs.declared.message.Message.TheVariants.{Counted}
 use Rattle.po_lex.specs.declared.line.Keyword.TheVariants.{Msgctxt, Msgid, MsgidPlural, Msgstr, MsgstrAt}
 use Rattle.po_lex.specs.declared.fault.FaultKind.TheVariants as kinds
-use Rattle.po_lex.specs.Lines.{Part, begins, continues, is_form}
+use Rattle.po_lex.specs.Lines.{Part, begins, continues}
 use Rattle.po_text.specs.Entries.{Keyed, optional, numbered, previous_strings}
 use Rattle.po_text.specs.Texts.{Text}
 use Rattle.po_text.specs.declared.entry.Previous.{Previous}
@@ -169,17 +169,6 @@ pub all_go_on : (P : Text → Type 0) (strings : List Keyed) (more : Text) → A
 all_go_on P [] more all h = tt
 all_go_on P (s ∷ []) more all h = (h, tt)
 all_go_on P (s ∷ t ∷ strings) more all h = (all.0, all_go_on P (t ∷ strings) more all.1 h)
-
--- ---- the key of a whole entry
-
-pub whole_key : (ctx : Option Text) (id : Text) (plural : Option Text) (forms : List Text) (d : Draft) → is_form (draft_last d) ≡ true → d ≡ whole_of ctx id plural forms → draft_key d ≡ (ctx, id)
-whole_key ctx id plural forms d h e = ap draft_key e ∙ of_whole plural forms (ap (λ (d : Draft). is_form (draft_last d)) (sym e) ∙ h)
-  where
-    of_whole : (plural : Option Text) (forms : List Text) → is_form (draft_last (whole_of ctx id plural forms)) ≡ true → draft_key (whole_of ctx id plural forms) ≡ (ctx, id)
-    of_whole (Some plural) forms h = refl
-    of_whole None (form ∷ []) h = refl
-    of_whole None [] h = cc
-    of_whole None (form ∷ other ∷ forms) h = cc
 
 -- ---- the forms, of which the last goes on
 

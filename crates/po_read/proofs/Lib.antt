@@ -12,6 +12,7 @@ pub mod Passing
 pub mod Least
 pub mod Rows
 pub mod Following
+pub mod FoundLemmas
 pub mod Tested
 pub mod TextLines
 pub mod Answered

@@ -1,9 +1,7 @@
 -- What the reader keeps of whole entries is what the tests ask of them, and an entry that ends is the one that its lines spell.
 use Rattle.std.proofs.Common.{◌≡◌, ℕ, ◌+◌, ◌-◌, List, [], ◌∷◌, ◌++◌, Bool, true, false, not, ◌&&◌, ◌||◌, cond, map, length, refl, sym, ◌∙◌, ap, subst, Option, Some, None, is_some, suc, arith, nat_le, ◌⊎◌, inl, inr}
 use Rattle.std.specs.List.{list_any}
-use Rattle.std.specs.BTreeSet.{contains}
 use Rattle.std.proofs.lemmas.List.{length-map, map-append}
-use Rattle.std.proofs.lemmas.List.Folds.{list_any-append}
 use Rattle.po_lex.specs.declared.fault.FaultKind.{FaultKind}
 use Rattle.po_lex.specs.declared.fault.FaultKind.TheVariants as kinds
 use Rattle.po_lex.specs.declared.line.Keyword.{Keyword}
@@ -16,14 +14,14 @@ use Rattle.po_read.specs.Spells.{limits}
 use Rattle.po_text.specs.Flags.{with_fuzzy_first}
 use Rattle.po_read.specs.Faults.{Lines, strings_in, previous_in, last_string, key_at, has_header_key, when, key_fault, header_fault, ended_fault, count_of, entries_fault, has_form, begins_entry, before, after, fault_at, fault_at_end, or_else, string_fault, goes_on, order_fault, last_with, is_long}
 use Rattle.po_read.specs.Plain.{groups_of, entry_of, string_with, forms_in}
-use Rattle.po_text.specs.Keys.{entry_key_cmp}
+use Rattle.po_read.specs.Found.{has_key}
 use Rattle.po_read.specs.Drafts.{Draft, nothing, context, named, counted, single, draft_of, draft_strings, draft_last, draft_key, whole_of, previous_end, IsSoundLine}
-use Rattle.po_read.specs.SoFar.{SoFar, so_far, IsEntry, IsSoFar, Reads, key_at_hand, key_fault_here, header_fault_here, ended_draft, ended_here, count_in, entries_here, IsClosed, end_fault, front_fault, length_fault, order_fault_here, with_line, marked, has_strings, has_previous}
+use Rattle.po_read.specs.SoFar.{SoFar, so_far, IsEntry, IsSoFar, Reads, key_fault_here, header_fault_here, ended_draft, ended_here, count_in, entries_here, IsClosed, end_fault, front_fault, length_fault, order_fault_here, with_line, marked, has_strings, has_previous}
 use Rattle.po_text.specs.declared.entry.Entry.{Entry}
 use Rattle.po_text.specs.declared.entry.Previous.{Previous}
 use Rattle.po_read.specs.declared.reading.Reader.{Reader}
 use Rattle.po_read.proofs.Accepts.{last_single, goes_not}
-use Rattle.po_text.proofs.EntryLists.{both_true, cmp_same, or_last}
+use Rattle.po_text.proofs.EntryLists.{both_true}
 use Rattle.po_read.proofs.Growing.{closed}
 use Rattle.po_read.proofs.Following.{key_is, form_is, length_is, goes_is, order_is, with_line_is}
 
@@ -31,8 +29,14 @@ empty_map : (groups : List (List Line)) → is_empty (map entry_of groups) ≡ i
 empty_map [] = refl
 empty_map (g ∷ groups) = refl
 
-first_is : (r : Reader) (s : Lines) → Reads r s → is_empty r.entries.items ≡ is_empty s.whole
+first_is : (r : Reader) (s : Lines) → Reads r s → is_empty r.entries ≡ is_empty s.whole
 first_is r s h = ap is_empty h.entries ∙ empty_map s.whole
+
+-- the keys of whole entries are those of their lines
+keys_are : (groups : List (List Line)) (ctx : Option Text) (id : Text) → has_key ctx id (map entry_of groups) ≡ list_any (λ lines. same_key (key_at lines) (ctx, id)) groups
+unfolding entry_of
+keys_are [] ctx id = refl
+keys_are (g ∷ groups) ctx id = ap (λ b. same_key (key_at g) (ctx, id) || b) (keys_are groups ctx id)
 
 -- ---- the tests of a string that has ended
 
@@ -78,7 +82,7 @@ key_tested : (r : Reader) (s : Lines) (ctx : Option Text) (id : Text) → Reads 
 key_tested r s ctx id h e =
     let key : (let k : Key = (ctx, id) in k) ≡ key_at s.current = ap draft_key (sym e) ∙ key_is (so_far r.current) s.current h.current in
     let header : is_header_key ctx id ≡ has_header_key s.current = ap (λ (k : Key). is_header_key k.0 k.1) key in
-    let found : contains entry_key_cmp r.keys (key_at_hand ctx id) ≡ list_any (λ lines. same_key (key_at lines) (key_at s.current)) s.whole = h.keys (key_at_hand ctx id) ∙ ap (λ (k : Key). list_any (λ lines. same_key (key_at lines) k) s.whole) key in
+    let found : has_key ctx id r.entries ≡ list_any (λ lines. same_key (key_at lines) (key_at s.current)) s.whole = ap (has_key ctx id) h.entries ∙ keys_are s.whole ctx id ∙ ap (λ (k : Key). list_any (λ lines. same_key (key_at lines) k) s.whole) key in
     λ i. cond (header i && (not (first_is r s h i) || h.current.obsolete i)) (Some kinds.Order) (when (found i) kinds.Duplicate)
 
 header_tested : (r : Reader) (s : Lines) (ctx : Option Text) (id form : Text) → Reads r s → draft_of r.current.message ≡ single ctx id form → header_fault_here r ctx id form ≡ header_fault s form
@@ -115,7 +119,7 @@ count_is (g ∷ groups) = by (has_header_key g)
     by true = let n : length (map entry_of groups) ≡ length groups = length-map groups entry_of in omega arith
     by false = let n : length (map entry_of groups) ≡ length groups = length-map groups entry_of in omega arith
 
-entries_at : (r : Reader) (s : Lines) → Reads r s → when (nat_le 50000 (count_in r.entries.items)) kinds.Limit ≡ when (nat_le 50000 (count_of s.whole)) kinds.Limit
+entries_at : (r : Reader) (s : Lines) → Reads r s → when (nat_le 50000 (count_in r.entries)) kinds.Limit ≡ when (nat_le 50000 (count_of s.whole)) kinds.Limit
 entries_at r s h = ap (λ n. when (nat_le 50000 n) kinds.Limit) (ap count_in h.entries ∙ count_is s.whole)
 
 pub entries_is : (r : Reader) (s : Lines) (line : Line) → Reads r s → entries_here r line ≡ entries_fault 50000 s line
@@ -201,21 +205,13 @@ entry_is s lines e h w form =
       obsolete = obsolete i;
     }
 
--- ---- keys in a set
+-- ---- an entry that has ended
 
 pub closed_is : (old new : Reader) (s : Lines) → Reads old s → IsClosed old new → is_form (draft_last (draft_of old.current.message)) ≡ true → Reads new (closed s)
-unfolding entry_of
 closed_is old new s h c form =
     let e : c.entry ≡ entry_of s.current = entry_is (so_far old.current) s.current c.entry h.current c.was form in
-    let key : (let k : Key = (c.entry.ctx, c.entry.id) in k) ≡ key_at s.current = λ i. ((e i).ctx, (e i).id) in
     record {
       entries = c.entries ∙ (λ i. h.entries i ++ e i ∷ []) ∙ sym (map-append entry_of s.whole (s.current ∷ []));
-      keys = λ k.
-          c.keys k
-          ∙ (λ i. cond (cmp_same (key_at_hand c.entry.ctx c.entry.id) k i) true (h.keys k i))
-          ∙ ap (λ (x : Key). cond (same_key x (k.ctx, k.id)) true (list_any (λ group. same_key (key_at group) (k.ctx, k.id)) s.whole)) key
-          ∙ or_last (same_key (key_at s.current) (k.ctx, k.id)) (list_any (λ group. same_key (key_at group) (k.ctx, k.id)) s.whole)
-          ∙ sym (list_any-append (λ group. same_key (key_at group) (k.ctx, k.id)) s.whole (s.current ∷ []));
       current = c.current;
     }
 
@@ -290,10 +286,9 @@ or_assoc : (a b c : Option FaultKind) → or_else (or_else a b) c ≡ or_else a 
 or_assoc None b c = refl
 or_assoc (Some k) b c = refl
 
-pub added : (here new : Reader) (s : Lines) (line : Line) → Reads here (before s line) → IsSoundLine line → (line ≡ blank → ⊥) → order_fault_here (so_far here.current) line ≡ None → so_far new.current ≡ with_line (so_far here.current) line → new.entries ≡ here.entries → new.keys ≡ here.keys → Reads new (after s line)
-added here new s line h sound nb f c e k = record {
-  entries = ap (λ v. v.items) e ∙ h.entries;
-  keys = λ key. ap (λ m. contains entry_key_cmp m key) k ∙ h.keys key;
+pub added : (here new : Reader) (s : Lines) (line : Line) → Reads here (before s line) → IsSoundLine line → (line ≡ blank → ⊥) → order_fault_here (so_far here.current) line ≡ None → so_far new.current ≡ with_line (so_far here.current) line → new.entries ≡ here.entries → Reads new (after s line)
+added here new s line h sound nb f c e = record {
+  entries = e ∙ h.entries;
   current = subst (λ (x : SoFar). IsSoFar x ((before s line).current ++ line ∷ [])) (sym c) (with_line_is (so_far here.current) (before s line).current line h.current sound nb f);
 }
 
@@ -324,10 +319,10 @@ pub entry_told : (old here : Reader) (line : Line) (kind : FaultKind) → front_
 entry_told old here line kind none e f s h = inl (back_is old here line (Some kind) none e f s h)
 
 pub entry_read : (old here new : Reader) (line : Line) → front_fault old line ≡ None → None ≡ or_else (order_fault_here (so_far here.current) line) (entries_here here line) → ((s : Lines) → Reads old s → Reads here (before s line)) → IsSoundLine line → (line ≡ blank → ⊥)
-    → so_far new.current ≡ with_line (so_far here.current) line → new.entries ≡ here.entries → new.keys ≡ here.keys → (s : Lines) → Reads old s → (fault_at limits s line ≡ None) × Reads new (after s line)
-entry_read old here new line none e f sound nb c es ks s h =
+    → so_far new.current ≡ with_line (so_far here.current) line → new.entries ≡ here.entries → (s : Lines) → Reads old s → (fault_at limits s line ≡ None) × Reads new (after s line)
+entry_read old here new line none e f sound nb c es s h =
     let passes : order_fault_here (so_far here.current) line ≡ None = first_none (order_fault_here (so_far here.current) line) (entries_here here line) (sym e) in
-    (back_is old here line None none e f s h, added here new s line (f s h) sound nb passes c es ks)
+    (back_is old here line None none e f s h, added here new s line (f s h) sound nb passes c es)
   where
     first_none : (a b : Option FaultKind) → or_else a b ≡ None → a ≡ None
     first_none None b g = refl
@@ -363,12 +358,12 @@ some_form s f = by s.current f
     by [] g = cc
     by (l ∷ ls) g = refl
 
-pub end_closed : (r new : Reader) → ended_here r true ≡ None → None ≡ end_fault (so_far r.current) → IsClosed r new → is_form (draft_last (draft_of r.current.message)) ≡ true → (s : Lines) → Reads r s → (fault_at_end s ≡ None) × (new.entries.items ≡ map entry_of (groups_of s))
+pub end_closed : (r new : Reader) → ended_here r true ≡ None → None ≡ end_fault (so_far r.current) → IsClosed r new → is_form (draft_last (draft_of r.current.message)) ≡ true → (s : Lines) → Reads r s → (fault_at_end s ≡ None) × (new.entries ≡ map entry_of (groups_of s))
 end_closed r new none e c f s h =
     let some : is_empty s.current ≡ false = some_form s (sym (form_is (so_far r.current) s.current h.current) ∙ f) in
     (end_passes r none e s h, (closed_is r new s h c f).entries ∙ ap (λ b. map entry_of (cond b s.whole (s.whole ++ s.current ∷ []))) (sym some))
 
-pub end_open : (r : Reader) → ended_here r true ≡ None → None ≡ end_fault (so_far r.current) → is_form (draft_last (draft_of r.current.message)) ≡ false → (s : Lines) → Reads r s → (fault_at_end s ≡ None) × (r.entries.items ≡ map entry_of (groups_of s))
+pub end_open : (r : Reader) → ended_here r true ≡ None → None ≡ end_fault (so_far r.current) → is_form (draft_last (draft_of r.current.message)) ≡ false → (s : Lines) → Reads r s → (fault_at_end s ≡ None) × (r.entries ≡ map entry_of (groups_of s))
 end_open r none e f s h =
     let begun : r.current.begun ≡ false = by r.current.begun (is_form (draft_last (draft_of r.current.message))) f (sym e) in
     let nothing : is_empty s.current ≡ true = flip (is_empty s.current) (sym h.current.begun ∙ begun) in

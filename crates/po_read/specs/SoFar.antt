@@ -1,25 +1,22 @@
 -- What the reader keeps of the lines so far: this project's own words.
 use Rattle.std.specs.Prelude.{◌≡◌, ℕ, List, [], ◌∷◌, ◌++◌, Bool, true, false, not, ◌&&◌, ◌||◌, map, Option, Some, None, Result, Ok, Err, is_some, if◌then◌else◌, ◌⊎◌, ◌+◌, length, nat_le}
-use Rattle.std.specs.List.{fold, list_any, filter_map}
+use Rattle.std.specs.List.{fold, filter_map}
 use Rattle.std.specs.Prelude.{flat_map}
-use Rattle.std.specs.BTreeSet.{contains}
 use Rattle.po_lex.specs.declared.fault.FaultKind.{FaultKind}
 use Rattle.po_lex.specs.declared.fault.FaultKind.TheVariants as kinds
 use Rattle.po_lex.specs.Lines.{begins, continues, Line, blank, translator, extracted, reference, flags, previous, message, is_form}
-use Rattle.po_text.specs.Entries.{previous_strings, is_header_key, same_key}
+use Rattle.po_text.specs.Entries.{previous_strings, is_header_key}
 use Rattle.po_text.specs.Texts.{Text, is_empty}
-use Rattle.std.specs.Ordering.{is_eq}
 use Rattle.po_lex.specs.declared.line.Keyword.TheVariants.{Msgid}
 use Rattle.po_text.specs.Header.{has_charset}
-use Rattle.po_read.specs.Spells.{translator_text, extracted_text, reference_text, flag_items}
+use Rattle.po_read.specs.Spells.{translator_text, extracted_text, reference_text, flag_items, limits}
 use Rattle.po_text.specs.Flags.{add_once, with_fuzzy_first}
-use Rattle.po_read.specs.Faults.{Lines, strings_in, previous_in, last_keyword, has_mark, key_at, is_long, when, part_fault, previous_fault, or_else, begins_entry}
+use Rattle.po_read.specs.Faults.{Lines, strings_in, previous_in, last_keyword, has_mark, is_long, when, part_fault, previous_fault, or_else, begins_entry}
 use Rattle.po_read.specs.Plain.{entry_of}
+use Rattle.po_read.specs.Found.{has_key}
 use Rattle.po_read.specs.Drafts.{Draft, named, single, draft_of, draft_strings, draft_last, draft_header, draft_end, draft_with, previous_end, previous_with, whole_of}
-use Rattle.po_text.specs.Keys.{entry_key_cmp}
 use Rattle.po_text.specs.declared.entry.Entry.{Entry}
 use Rattle.po_text.specs.declared.entry.Previous.{Previous}
-use Rattle.po_text.specs.declared.key.EntryKey.{EntryKey}
 use Rattle.po_read.specs.declared.unfinished.Unfinished.{Unfinished}
 use Rattle.po_read.specs.declared.reading.Reader.{Reader}
 
@@ -63,7 +60,7 @@ text_here s (previous obsolete (continues text)) = if goes_on_here s (previous o
 text_here s _ = None
 
 abbrev pub length_fault : SoFar → Line → Option FaultKind
-length_fault s line = when (is_long 262144 (text_here s line)) kinds.Limit
+length_fault s line = when (is_long limits.string (text_here s line)) kinds.Limit
 
 abbrev pub order_fault_here : SoFar → Line → Option FaultKind
 order_fault_here s (message obsolete part) = if marked s (not obsolete) then Some kinds.Order else part_fault (draft_last s.draft) (draft_header s.draft) part
@@ -112,8 +109,7 @@ pub record IsSoFar (s : SoFar) (lines : List Line) : Type 0 where
   pub obsolete : s.obsolete ≡ has_mark true lines
 
 pub record Reads (reader : Reader) (lines : Lines) : Type 0 where
-  pub entries : reader.entries.items ≡ map entry_of lines.whole
-  pub keys : (key : EntryKey) → contains entry_key_cmp reader.keys key ≡ list_any (λ group. same_key (key_at group) (key.ctx, key.id)) lines.whole
+  pub entries : reader.entries ≡ map entry_of lines.whole
   pub current : IsSoFar (so_far reader.current) lines.current
 
 -- ---- the tests of a reader
@@ -123,16 +119,13 @@ abbrev pub Tells : {A : Type 0} → Result A FaultKind → Option FaultKind → 
 Tells (Ok x) fault = fault ≡ None
 Tells (Err kind) fault = (fault ≡ Some kind) ⊎ (kind ≡ kinds.Memory)
 
-abbrev pub key_at_hand : Option Text → Text → EntryKey
-key_at_hand ctx id = record { ctx = ctx; id = id }
-
 abbrev pub key_fault_here : Reader → Option Text → Text → Option FaultKind
 key_fault_here r ctx id =
-    if is_header_key ctx id && (not (is_empty r.entries.items) || r.current.obsolete) then Some kinds.Order
-    else when (contains entry_key_cmp r.keys (key_at_hand ctx id)) kinds.Duplicate
+    if is_header_key ctx id && (not (is_empty r.entries) || r.current.obsolete) then Some kinds.Order
+    else when (has_key ctx id r.entries) kinds.Duplicate
 
 abbrev pub header_fault_here : Reader → Option Text → Text → Text → Option FaultKind
-header_fault_here r ctx id form = when (is_empty r.entries.items && is_header_key ctx id && not (has_charset form)) kinds.Charset
+header_fault_here r ctx id form = when (is_empty r.entries && is_header_key ctx id && not (has_charset form)) kinds.Charset
 
 abbrev pub ended_draft : Reader → Bool → Draft → Option FaultKind
 ended_draft r ends (named ctx id) = key_fault_here r ctx id
@@ -151,10 +144,10 @@ count_in [] = 0
 count_in (e ∷ es) = if is_header_key e.ctx e.id then length es else length es + 1
 
 abbrev pub count_here : Reader → ℕ
-count_here r = count_in r.entries.items
+count_here r = count_in r.entries
 
 abbrev pub entries_here : Reader → Line → Option FaultKind
-entries_here r (message obsolete (begins Msgid text)) = when (nat_le 50000 (count_here r)) kinds.Limit
+entries_here r (message obsolete (begins Msgid text)) = when (nat_le limits.entries (count_here r)) kinds.Limit
 entries_here r _ = None
 
 abbrev pub has_form_here : Reader → Bool
@@ -164,6 +157,5 @@ has_form_here r = is_form (draft_last (draft_of r.current.message))
 pub record IsClosed (old new : Reader) : Type 0 where
   pub entry : Entry
   pub was : IsEntry (so_far old.current) entry
-  pub entries : new.entries.items ≡ old.entries.items ++ entry ∷ []
-  pub keys : (key : EntryKey) → contains entry_key_cmp new.keys key ≡ (if is_eq (entry_key_cmp (key_at_hand entry.ctx entry.id) key) then true else contains entry_key_cmp old.keys key)
+  pub entries : new.entries ≡ old.entries ++ entry ∷ []
   pub current : IsSoFar (so_far new.current) []

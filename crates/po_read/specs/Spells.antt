@@ -3,6 +3,7 @@ use Rattle.std.specs.Prelude.{◌≡◌, ℕ, ◌-◌, ◌≤◌, List, [], ◌�
 use Rattle.std.specs.List.{filter_map, fold, AllZip, AllByRecursion}
 use Rattle.po_lex.specs.Lines.{Part, begins, continues, Line, blank, translator, extracted, reference, flags, previous, message, line_of, lines_of}
 use Rattle.po_text.specs.Entries.{Keyed, entry_strings, previous_strings, is_header_key}
+use Rattle.po_text.specs.Strings.{string_limit}
 use Rattle.po_text.specs.Texts.{Text}
 use Rattle.po_text.specs.declared.entry.Entry.{Entry}
 use Rattle.po_text.specs.Valid.{IsValid, AllStrings}
@@ -104,8 +105,15 @@ pub record Limits : Type 0 where
   pub entries : ℕ
   pub string : ℕ
 
+abbrev pub text_limit : ℕ
+text_limit = 16777216
+
+-- besides the header
+abbrev pub entry_limit : ℕ
+entry_limit = 50000
+
 abbrev pub limits : Limits
-limits = record { bytes = 16777216; entries = 50000; string = 262144 }
+limits = record { bytes = text_limit; entries = entry_limit; string = string_limit }
 
 abbrev pub besides_header : List Entry → ℕ
 besides_header [] = 0

@@ -5,17 +5,17 @@ ghost use Rattle.std.specs.List.{list_all};
 ghost use Rattle.po_lex.specs.Lines.{is_form, begins};
 ghost use Rattle.po_lex.specs.Escapes.{unescaped};
 ghost use Rattle.po_lex.specs.Views.{part_view};
-ghost use Rattle.po_text.specs.Strings.{is_string_byte};
+ghost use Rattle.po_text.specs.Strings.{string_limit, is_string_byte};
 ghost use Rattle.po_text.specs.Entries.{is_header_key};
 ghost use Rattle.po_read.specs.Faults.{part_fault, form_fault, numbered_fault, when, is_id};
-ghost use Rattle.po_read.specs.Drafts.{draft_of, draft_last, draft_header, draft_end, draft_key, draft_with, counted, with_keyword, with_more, whole_of, part_text, part_more, IsDigitKey, IsDigitPart};
+ghost use Rattle.po_read.specs.Drafts.{draft_of, draft_last, draft_header, draft_end, draft_with, counted, with_keyword, with_more, whole_of, part_text, part_more, IsDigitKey, IsDigitPart};
 ghost use Rattle.po_read.specs.Views.{told};
 ghost use Rattle.po_lex.specs.declared.fault.FaultKind.TheVariants as kinds;
 ghost use Rattle.po_lex.specs.declared.line.Keyword.TheVariants.{Msgid, MsgidPlural, Msgstr, MsgstrAt};
 ghost use Rattle.po_text.specs.Texts.{Text};
 
 use po_lex::{FaultKind, Keyword, Part};
-use po_text::{EntryKey, Forms, PoString, Strings, is_header_key};
+use po_text::{Forms, PoString, Strings, is_header_key};
 use std::alloc::{AllocError, Global};
 use std::mem::replace;
 
@@ -69,7 +69,7 @@ impl Message {
     /// How many bytes the last string has.
     pub(crate) fn last_len(&self) -> usize
         ensures value { result ≡ length (draft_end (draft_of self.now)) }
-        ensures fits { result ≤ 262144 }
+        ensures fits { result ≤ string_limit }
     {
         match self {
             Message::Nothing => 0,
@@ -81,7 +81,7 @@ impl Message {
         }
     }
 
-    /// Fault 5 or 6 if this part can't follow.
+    /// `Order` or `Forms` if this part can't follow.
     pub(crate) fn test(&self, part: &Part<'_>) -> Result<(), FaultKind>
         ensures { told result ≡ part_fault (draft_last (draft_of self.now)) (draft_header (draft_of self.now)) (part_view part.now) }
     {
@@ -97,7 +97,7 @@ impl Message {
         }
     }
 
-    /// Fault 5 if a `msgid_plural` can't follow: only behind a msgid that isn't the header's.
+    /// `Order` if a `msgid_plural` can't follow: only behind a msgid that isn't the header's.
     fn test_plural(&self) -> Result<(), FaultKind>
         ensures { told result ≡ when (not (is_id (draft_last (draft_of self.now))) || draft_header (draft_of self.now)) kinds.Order }
     {
@@ -113,7 +113,7 @@ impl Message {
         }
     }
 
-    /// Fault 5 or 6 if a `msgstr` can't follow.
+    /// `Order` or `Forms` if a `msgstr` can't follow.
     fn test_form(&self) -> Result<(), FaultKind>
         ensures { told result ≡ form_fault (draft_last (draft_of self.now)) }
     {
@@ -124,7 +124,7 @@ impl Message {
         }
     }
 
-    /// Fault 5 or 6 if a `msgstr[D]` with this digit can't follow.
+    /// `Order` or `Forms` if a `msgstr[D]` with this digit can't follow.
     fn test_numbered(&self, digit: u8) -> Result<(), FaultKind>
         ensures { told result ≡ numbered_fault (draft_last (draft_of self.now)) digit }
     {
@@ -138,7 +138,7 @@ impl Message {
 
     /// Adds one more part, which can follow.
     pub(crate) fn add(&mut self, alloc: Global, part: Part<'_>) -> Result<(), AllocError>
-        requires short { length (part_text (draft_end (draft_of self.old)) (part_view part)) ≤ 262144 }
+        requires short { length (part_text (draft_end (draft_of self.old)) (part_view part)) ≤ string_limit }
         requires bytes { list_all is_string_byte (part_more (part_view part)) ≡ true }
         requires follows { part_fault (draft_last (draft_of self.old)) (draft_header (draft_of self.old)) (part_view part) ≡ None }
         requires digit { IsDigitPart (part_view part) }
@@ -192,6 +192,7 @@ impl Message {
     }
 
     fn add_id(&mut self, text: PoString)
+        requires { part_fault (draft_last (draft_of self.old)) (draft_header (draft_of self.old)) (begins Msgid text) ≡ None }
         ensures { draft_of self.new ≡ with_keyword (draft_of self.old) Msgid text }
     {
         let new = match replace(self, Message::Nothing) {
@@ -203,15 +204,13 @@ impl Message {
                 ctx: Some(ctx),
                 id: text,
             },
-            other => {
-                drop(other);
-                Message::Context(text)
-            }
+            _ => unreachable!(),
         };
         self.set(new);
     }
 
     fn add_plural(&mut self, text: PoString)
+        requires { part_fault (draft_last (draft_of self.old)) (draft_header (draft_of self.old)) (begins MsgidPlural text) ≡ None }
         ensures { draft_of self.new ≡ with_keyword (draft_of self.old) MsgidPlural text }
     {
         let new = match replace(self, Message::Nothing) {
@@ -220,15 +219,13 @@ impl Message {
                 id,
                 plural: text,
             },
-            other => {
-                drop(other);
-                Message::Context(text)
-            }
+            _ => unreachable!(),
         };
         self.set(new);
     }
 
     fn add_form(&mut self, text: PoString)
+        requires { form_fault (draft_last (draft_of self.old)) ≡ None }
         ensures { draft_of self.new ≡ with_keyword (draft_of self.old) Msgstr text }
     {
         let new = match replace(self, Message::Nothing) {
@@ -237,10 +234,7 @@ impl Message {
                 id,
                 form: text,
             },
-            other => {
-                drop(other);
-                Message::Context(text)
-            }
+            _ => unreachable!(),
         };
         self.set(new);
     }
@@ -277,22 +271,9 @@ impl Message {
         self.set(new);
     }
 
-    /// The key of the strings, where there is a form.
-    pub(crate) fn key(&self, alloc: Global) -> Result<EntryKey, AllocError>
-        requires { is_form (draft_last (draft_of self.now)) ≡ true }
-        ensures ctx { IfOk result (λ key. key.ctx ≡ (draft_key (draft_of self.now)).0) }
-        ensures id { IfOk result (λ key. key.id ≡ (draft_key (draft_of self.now)).1) }
-    {
-        match self {
-            Message::Counted { ctx, id, .. } => EntryKey::of(alloc, ctx, id),
-            Message::Single { ctx, id, .. } => EntryKey::of(alloc, ctx, id),
-            _ => unreachable!(),
-        }
-    }
-
     /// Adds the string of this piece at the last one's end.
     fn add_more(&mut self, alloc: Global, raw: &str) -> Result<(), AllocError>
-        requires short { length (draft_end (draft_of self.old)) + length (unescaped raw.now) ≤ 262144 }
+        requires short { length (draft_end (draft_of self.old)) + length (unescaped raw.now) ≤ string_limit }
         requires bytes { list_all is_string_byte (unescaped raw.now) ≡ true }
         ensures { OnOk result (draft_of self.new ≡ with_more (draft_of self.old) (unescaped raw.now)) }
     {
@@ -307,14 +288,14 @@ impl Message {
     }
 }
 
-/// Fault 5, unless this holds.
+/// The fault `Order`, unless this holds.
 pub(crate) fn in_order(holds: bool) -> Result<(), FaultKind>
     ensures { told result ≡ when (not holds) kinds.Order }
 {
     if holds { Ok(()) } else { Err(FaultKind::Order) }
 }
 
-/// Fault 6, unless this digit is the number of forms so far.
+/// The fault `Forms`, unless this digit is the number of forms so far.
 fn due(count: usize, digit: u8) -> Result<(), FaultKind>
     ensures { told result ≡ when (not (digit == count)) kinds.Forms }
 {

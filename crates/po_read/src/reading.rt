@@ -8,20 +8,19 @@ ghost use Rattle.po_text.specs.declared.entry.Entry.{Entry};
 ghost use Rattle.po_read.specs.Spells.{Spells, IsWithin, limits};
 ghost use Rattle.po_read.specs.Faults.{Lines, no_lines, fault_at, before, after, or_else, begins_entry, IsFault, line_fault, add_line, fault_at_end, fault_from};
 ghost use Rattle.po_read.specs.Plain.{entry_of, entries_of, groups_of};
-ghost use Rattle.std.specs.BTreeSet.{contains};
 ghost use Rattle.po_text.specs.Texts.{is_empty};
 ghost use Rattle.po_text.specs.Header.{has_charset};
-ghost use Rattle.po_text.specs.Keys.{entry_key_cmp};
+ghost use Rattle.po_read.specs.Found.{has_key};
 ghost use Rattle.po_text.specs.Entries.{is_header_key};
 ghost use Rattle.po_read.specs.Drafts.{IsSoundLine};
 ghost use Rattle.po_read.specs.Views.{told, ReadsOrMemory, IsMemory, PassesBefore, IsMemoryLine};
 
+use crate::entries::Entries;
 use crate::message::Message;
 use crate::unfinished::Unfinished;
 use po_lex::{FaultKind, Keyword, Line, Part, PoFault, lex};
-use po_text::{Catalogue, Entry, EntryKey, PoString, has_charset, is_header_key};
+use po_text::{Catalogue, Entry, PoString, has_charset, is_header_key};
 use std::alloc::{AllocError, Global};
-use std::collections::BTreeSet;
 use std::mem::replace;
 
 /// The most bytes that a text may have.
@@ -30,25 +29,23 @@ const TEXT_LIMIT: usize = 16_777_216;
 /// The most entries that a catalogue may have besides the header.
 const ENTRY_LIMIT: usize = 50_000;
 
-/// What was read so far: whole entries with their keys, and the entry that may go on.
+/// What was read so far: whole entries, and the entry that may go on.
 #[derive(Drop)]
 pub(crate) struct Reader<'a> {
-    entries: Vec<Entry>,
-    keys: BTreeSet<EntryKey>,
+    entries: Entries,
     current: Unfinished<'a>,
     alloc: Global,
 }
 
 impl<'a> Reader<'a> {
-    ghost use Rattle.po_read.specs.SoFar.{so_far, goes_on_here, Reads, Tells, ended_here, entries_here, key_fault_here, header_fault_here, key_at_hand, front_fault, length_fault, order_fault_here, with_line, count_here, has_form_here, IsClosed};
+    ghost use Rattle.po_read.specs.SoFar.{so_far, goes_on_here, Reads, Tells, ended_here, entries_here, key_fault_here, header_fault_here, front_fault, length_fault, order_fault_here, with_line, count_here, has_form_here, IsClosed};
 
     /// Nothing was read.
     fn new(alloc: Global) -> Reader<'a>
         ensures { Reads result no_lines }
     {
         Reader {
-            entries: Vec::new(alloc),
-            keys: BTreeSet::new(alloc),
+            entries: Entries::new(alloc),
             current: Unfinished::new(alloc),
             alloc,
         }
@@ -80,7 +77,7 @@ impl<'a> Reader<'a> {
         Ok(())
     }
 
-    /// The tests of a line before the entry ends that it follows: fault 9 for its string, and those of a string that has ended.
+    /// The tests of a line before the entry ends that it follows: `Limit` for its string, and those of a string that has ended.
     fn test_front(&self, line: &Line<'a>) -> Result<(), FaultKind>
         ensures { Tells result (front_fault self.now (line_view line.now)) }
     {
@@ -102,7 +99,7 @@ impl<'a> Reader<'a> {
         Ok(())
     }
 
-    /// The tests of a line in its entry: fault 5 or 6 if it can't follow, fault 9 for one more entry than there may be.
+    /// The tests of a line in its entry: `Order` or `Forms` if it can't follow, `Limit` for one more entry than there may be.
     fn test_entry(&self, line: &Line<'a>) -> Result<(), FaultKind>
         ensures { told result ≡ or_else (order_fault_here (so_far self.now.current) (line_view line.now)) (entries_here self.now (line_view line.now)) }
     {
@@ -117,14 +114,13 @@ impl<'a> Reader<'a> {
         requires follows { order_fault_here (so_far self.old.current) (line_view line) ≡ None }
         ensures added { OnOk result (so_far self.new.current ≡ with_line (so_far self.old.current) (line_view line.entry)) }
         ensures entries { OnOk result (self.new.entries ≡ self.old.entries) }
-        ensures keys { OnOk result (self.new.keys ≡ self.old.keys) }
     {
         self.current.add(self.alloc, line)
     }
 
     /// Ends the last entry, at the end of the text.
     fn finish(&mut self) -> Result<(), FaultKind>
-        ensures ok { OnOk result ((lines : Lines) → Reads self.old lines → (fault_at_end lines ≡ None) × (self.new.entries.items ≡ map entry_of (groups_of lines))) }
+        ensures ok { OnOk result ((lines : Lines) → Reads self.old lines → (fault_at_end lines ≡ None) × (self.new.entries ≡ map entry_of (groups_of lines))) }
         ensures err { IfErr result (λ kind. (lines : Lines) → Reads self.old lines → (fault_at_end lines ≡ Some kind) ⊎ (kind ≡ kinds.Memory)) }
     {
         self.test_ended(true)?;
@@ -135,7 +131,7 @@ impl<'a> Reader<'a> {
         Ok(())
     }
 
-    /// The tests of a string that has ended, and with it the entry or not: fault 5 or 7 for a msgid, 8 for the header's string.
+    /// The tests of a string that has ended, and with it the entry or not: `Order` or `Duplicate` for a msgid, `Charset` for the header's string.
     fn test_ended(&self, ends: bool) -> Result<(), FaultKind>
         ensures { Tells result (ended_here self.now ends) }
     {
@@ -146,7 +142,7 @@ impl<'a> Reader<'a> {
         }
     }
 
-    /// Fault 5 if this is the header's key and not that of the first entry, or that of an obsolete one; fault 7 if it was there before.
+    /// `Order` if this is the header's key and not that of the first entry, or that of an obsolete one; `Duplicate` if it was there before.
     fn test_key(&self, ctx: &Option<PoString>, id: &PoString) -> Result<(), FaultKind>
         ensures { Tells result (key_fault_here self.now ctx.now id.now) }
     {
@@ -162,7 +158,7 @@ impl<'a> Reader<'a> {
 
     /// Whether there is no whole entry.
     fn is_first(&self) -> bool
-        ensures { result ≡ is_empty self.now.entries.items }
+        ensures { result ≡ is_empty self.now.entries }
     {
         match self.entries.as_slice() {
             [] => true,
@@ -172,20 +168,19 @@ impl<'a> Reader<'a> {
 
     /// Whether this is the header's key and not that of the first entry, or that of an obsolete one.
     fn is_misplaced(&self, ctx: &Option<PoString>, id: &PoString) -> bool
-        ensures { result ≡ (is_header_key ctx.now id.now && (not (is_empty self.now.entries.items) || self.now.current.obsolete)) }
+        ensures { result ≡ (is_header_key ctx.now id.now && (not (is_empty self.now.entries) || self.now.current.obsolete)) }
     {
         is_header_key(ctx, id) && (!self.is_first() || self.current.obsolete)
     }
 
     /// Whether a whole entry has this key.
     fn has_key(&self, ctx: &Option<PoString>, id: &PoString) -> Result<bool, AllocError>
-        ensures { IfOk result (λ has. has ≡ contains entry_key_cmp self.now.keys (key_at_hand ctx.now id.now)) }
+        ensures { IfOk result (λ has. has ≡ has_key ctx.now id.now self.now.entries) }
     {
-        let key = EntryKey::of(self.alloc, ctx, id)?;
-        Ok(self.keys.contains(&key))
+        self.entries.has(self.alloc, ctx, id)
     }
 
-    /// Fault 8 if this is the header, with another charset.
+    /// `Charset` if this is the header, with another charset.
     fn test_header(
         &self,
         ctx: &Option<PoString>,
@@ -203,12 +198,12 @@ impl<'a> Reader<'a> {
 
     /// Whether this is the header, with another charset.
     fn is_foreign(&self, ctx: &Option<PoString>, id: &PoString, form: &PoString) -> bool
-        ensures { result ≡ (is_empty self.now.entries.items && is_header_key ctx.now id.now && not (has_charset form.now)) }
+        ensures { result ≡ (is_empty self.now.entries && is_header_key ctx.now id.now && not (has_charset form.now)) }
     {
         self.is_first() && is_header_key(ctx, id) && !has_charset(form.as_str())
     }
 
-    /// Fault 9 if the line begins one more entry than there may be.
+    /// `Limit` if the line begins one more entry than there may be.
     fn test_entries(&self, line: &Line<'a>) -> Result<(), FaultKind>
         ensures { told result ≡ entries_here self.now (line_view line.now) }
     {
@@ -242,8 +237,6 @@ impl<'a> Reader<'a> {
         requires { has_form_here self.old ≡ true }
         ensures { OnOk result (IsClosed self.old self.new) }
     {
-        let key = self.current.message.key(self.alloc)?;
-        self.keys.insert(key)?;
         self.current.move_to(self.alloc, &mut self.entries)
     }
 
@@ -251,7 +244,7 @@ impl<'a> Reader<'a> {
     fn read_lines(&mut self, text: &'a str) -> Result<Vec<Entry>, PoFault>
         requires first { Reads self.old no_lines }
         requires fits { length text.now < 2 ^ 63 }
-        ensures ok { IfOk result (λ entries. (fault_from limits 1 no_lines (lines_of text.now) ≡ None) × (entries.items ≡ entries_of text.now)) }
+        ensures ok { IfOk result (λ entries. (fault_from limits 1 no_lines (lines_of text.now) ≡ None) × (entries ≡ entries_of text.now)) }
         ensures err { IfErr result (λ fault. (fault_from limits 1 no_lines (lines_of text.now) ≡ Some (fault.line, fault.kind)) ⊎ IsMemory fault) }
         ensures memory { IfErr result (λ fault. IsMemory fault → PassesBefore limits (lines_of text.now) fault.line) }
     {
@@ -265,7 +258,7 @@ impl<'a> Reader<'a> {
             line += 1;
         }
         match self.finish() {
-            Ok(()) => Ok(replace(&mut self.entries, Vec::new(self.alloc))),
+            Ok(()) => Ok(replace(&mut self.entries, Entries::new(self.alloc)).into_vec()),
             Err(kind) => Err(PoFault { line, kind }),
         }
     }
@@ -292,7 +285,7 @@ fn begins_entry(line: &Line<'_>) -> bool
 /// The entries that a text spells.
 fn read_text(alloc: Global, text: &str) -> Result<Vec<Entry>, PoFault>
     requires { length text.now < 2 ^ 63 }
-    ensures ok { IfOk result (λ entries. (fault_from limits 1 no_lines (lines_of text.now) ≡ None) × (entries.items ≡ entries_of text.now)) }
+    ensures ok { IfOk result (λ entries. (fault_from limits 1 no_lines (lines_of text.now) ≡ None) × (entries ≡ entries_of text.now)) }
     ensures err { IfErr result (λ fault. (fault_from limits 1 no_lines (lines_of text.now) ≡ Some (fault.line, fault.kind)) ⊎ IsMemory fault) }
     ensures memory { IfErr result (λ fault. IsMemory fault → PassesBefore limits (lines_of text.now) fault.line) }
 {

@@ -6,21 +6,21 @@ ghost use Rattle.po_lex.specs.Lines.{is_form, items_of, translator, extracted, r
 ghost use Rattle.po_lex.specs.Escapes.{unescaped};
 ghost use Rattle.po_lex.specs.Views.{line_view, part_view};
 ghost use Rattle.po_lex.specs.declared.fault.FaultKind.TheVariants as kinds;
-ghost use Rattle.po_text.specs.Strings.{is_string_byte};
+ghost use Rattle.po_text.specs.Strings.{string_limit, is_string_byte};
 ghost use Rattle.po_read.specs.Faults.{when, part_fault};
 ghost use Rattle.po_read.specs.Drafts.{draft_of, draft_last, draft_header, draft_end, nothing, previous_end, part_text, part_more, IsDigitPart, IsSoundLine};
 ghost use Rattle.po_text.specs.declared.entry.Entry.{Entry};
 ghost use Rattle.po_read.specs.Views.{told};
 
+use crate::entries::Entries;
 use crate::message::{Message, in_order};
-use crate::was::{add_previous, has_no_previous, previous_len, test_previous};
+use crate::previous::{add_previous, has_no_previous, previous_len, test_previous};
 use po_lex::{FaultKind, Line, Part};
-use po_text::{Entry, Flags, Items, Previous, Strings, Text, add_text, both, unescaped_len};
+use po_text::{
+    Entry, Flags, Items, Previous, STRING_LIMIT, Strings, Text, add_text, both, unescaped_len,
+};
 use std::alloc::{AllocError, Global};
 use std::mem::replace;
-
-/// The most bytes that a string may have.
-const STRING_LIMIT: usize = 262_144;
 
 /// What the lines of an entry so far say.
 #[derive(Drop)]
@@ -91,7 +91,7 @@ impl<'a> Unfinished<'a> {
         }
     }
 
-    /// Fault 9 if the string that the line begins or goes on with is too long.
+    /// `Limit` if the string that the line begins or goes on with is too long.
     pub(crate) fn test_length(&self, line: &Line<'a>) -> Result<(), FaultKind>
         ensures { told result ≡ length_fault (so_far self.now) (line_view line.now) }
     {
@@ -116,7 +116,7 @@ impl<'a> Unfinished<'a> {
         }
     }
 
-    /// Fault 5 or 6 if the line can't follow here.
+    /// `Order` or `Forms` if the line can't follow here.
     pub(crate) fn test_order(&self, line: &Line<'a>) -> Result<(), FaultKind>
         ensures { told result ≡ order_fault_here (so_far self.now) (line_view line.now) }
     {
@@ -187,7 +187,7 @@ impl<'a> Unfinished<'a> {
         obsolete: bool,
         part: Part<'a>,
     ) -> Result<(), AllocError>
-        requires short { length (part_text (previous_end self.old.previous) (part_view part)) ≤ 262144 }
+        requires short { length (part_text (previous_end self.old.previous) (part_view part)) ≤ string_limit }
         requires bytes { list_all is_string_byte (part_more (part_view part)) ≡ true }
         ensures { OnOk result (so_far self.new ≡ with_line (so_far self.old) (previous obsolete (part_view part.entry))) }
     {
@@ -201,7 +201,7 @@ impl<'a> Unfinished<'a> {
         obsolete: bool,
         part: Part<'a>,
     ) -> Result<(), AllocError>
-        requires short { length (part_text (draft_end (draft_of self.old.message)) (part_view part)) ≤ 262144 }
+        requires short { length (part_text (draft_end (draft_of self.old.message)) (part_view part)) ≤ string_limit }
         requires bytes { list_all is_string_byte (part_more (part_view part)) ≡ true }
         requires follows { part_fault (draft_last (draft_of self.old.message)) (draft_header (draft_of self.old.message)) (part_view part) ≡ None }
         requires digit { IsDigitPart (part_view part) }
@@ -225,7 +225,7 @@ impl<'a> Unfinished<'a> {
         }
     }
 
-    /// Fault 5 if an entry was begun and has no form yet.
+    /// `Order` if an entry was begun and has no form yet.
     pub(crate) fn test_end(&self) -> Result<(), FaultKind>
         ensures { told result ≡ end_fault (so_far self.now) }
     {
@@ -237,19 +237,14 @@ impl<'a> Unfinished<'a> {
     }
 
     /// Moves the entry, which has a form, to the end of these: then there are no lines.
-    pub(crate) fn move_to(
-        &mut self,
-        alloc: Global,
-        entries: &mut Vec<Entry>,
-    ) -> Result<(), AllocError>
+    pub(crate) fn move_to(&mut self, alloc: Global, entries: &mut Entries) -> Result<(), AllocError>
         requires { is_form (draft_last (draft_of self.old.message)) ≡ true }
-        ensures moved { OnOk result ((entry : Entry) × IsEntry (so_far self.old) entry × (entries.new.items ≡ entries.old.items ++ entry ∷ [])) }
+        ensures moved { OnOk result ((entry : Entry) × IsEntry (so_far self.old) entry × (entries.new ≡ entries.old ++ entry ∷ [])) }
         ensures rest { OnOk result (IsSoFar (so_far self.new) []) }
     {
         let message = replace(&mut self.message, Message::Nothing);
         let (flags, strings) = both(self.flags.to_items(alloc), message.into_strings(alloc))?;
-        entries.push(self.take_rest(alloc, flags, strings))?;
-        Ok(())
+        entries.push(alloc, self.take_rest(alloc, flags, strings))
     }
 
     /// Takes the entry out, with these flags and strings, where its own strings were taken.
@@ -280,11 +275,11 @@ impl<'a> Unfinished<'a> {
     }
 }
 
-/// Fault 9, unless a string of this length with that of a piece behind it is within the limit.
+/// The fault `Limit`, unless a string of this length with that of a piece behind it is within the limit.
 #[tactic(auto, using(crate::proofs::PieceLengths::unescaped_shorter))]
 fn fits(len: usize, raw: &str) -> Result<(), FaultKind>
-    requires { len ≤ 262144 }
-    ensures { told result ≡ when (nat_lt 262144 (len + length (unescaped raw.now))) kinds.Limit }
+    requires { len ≤ string_limit }
+    ensures { told result ≡ when (nat_lt string_limit (len + length (unescaped raw.now))) kinds.Limit }
 {
     // A piece is no shorter than its string.
     if len + raw.len() <= STRING_LIMIT || len + unescaped_len(raw) <= STRING_LIMIT {

@@ -1,11 +1,10 @@
 -- The string of a piece, cut at a backslash.
-use Rattle.std.proofs.Common.{◌≡◌, ◌≢◌, ℕ, ◌+◌, List, [], ◌∷◌, ◌++◌, Bool, true, false, cond, length, drop, refl, sym, ◌∙◌, ap, Some, None, Result, Ok, Err, option_map, unwrap_or, ◌==◌, suc, arith, append_assoc, subst, ◌≤◌, Option}
+use Rattle.std.proofs.Common.{◌≡◌, ◌≢◌, ℕ, ◌+◌, List, [], ◌∷◌, ◌++◌, Bool, true, false, cond, length, take, drop, get_or, refl, sym, ◌∙◌, ap, eq-eqb, Some, None, Result, Ok, Err, option_map, unwrap_or, ◌==◌, suc, arith, append_assoc, subst, ◌≤◌, ◌<◌, Option}
 use Rattle.std.specs.List.{slice_get}
-use Rattle.std.specs.Option.{is_some}
 use Rattle.std.specs.Result.{is_ok, OnOk}
-use Rattle.std.proofs.lemmas.Bool.{ne_eqb}
+use Rattle.std.proofs.lemmas.Bool.{ne_eqb, eqb-true}
 use Rattle.std.proofs.lemmas.Bool.Decides.{nat_tests}
-use Rattle.std.proofs.lemmas.List.{length-append}
+use Rattle.std.proofs.lemmas.List.{length-append, length-take, get_or-take, drop_more, take-append-drop}
 use Rattle.po_lex.specs.Escapes.{meaning_of, unescaped, unescaped_behind}
 use Rattle.memchr.specs.Find.{IsFirstByte, is_byte}
 use Rattle.po_text.proofs.HeaderLemmas.{Without}
@@ -48,19 +47,13 @@ unfolding unescaped unescaped_behind
 behind_letter [] letter character h m = cc
 behind_letter (b ∷ text) letter character h m = ap (λ o. unwrap_or o b ∷ unescaped text) (ap (λ o. unwrap_or (option_map meaning_of o) None) h ∙ m)
 
-pub cut_at : (text front behind : List ℕ) → (text ≡ front ++ 92 ∷ behind) × Without 92 front → unescaped text ≡ front ++ unescaped_behind behind
-cut_at text front behind h = ap unescaped h.0 ∙ front_cut front behind h.1
-
-pub cut_len : (text front behind : List ℕ) → text ≡ front ++ 92 ∷ behind → length text ≡ length front + length behind + 1
-cut_len text front behind h = ap length h ∙ (let e : length (front ++ 92 ∷ behind) ≡ length front + length behind + 1 = omega (arith, length-append front (92 ∷ behind)) in e)
-
-pub letter_len : (text front behind more : List ℕ) (character : ℕ) → (text ≡ front ++ 92 ∷ behind) × Without 92 front → unescaped_behind behind ≡ character ∷ unescaped more → length (unescaped text) ≡ length front + 1 + length (unescaped more)
+pub letter_len : (text front behind more : List ℕ) (character : ℕ) → unescaped text ≡ front ++ unescaped_behind behind → unescaped_behind behind ≡ character ∷ unescaped more → length (unescaped text) ≡ length front + 1 + length (unescaped more)
 letter_len text front behind more character h e =
-    ap length (cut_at text front behind h ∙ ap (λ t. front ++ t) e)
+    ap length (h ∙ ap (λ t. front ++ t) e)
     ∙ (let n : length (front ++ character ∷ unescaped more) ≡ length front + 1 + length (unescaped more) = omega (arith, length-append front (character ∷ unescaped more)) in n)
 
-pub other_len : (text front behind : List ℕ) → (text ≡ front ++ 92 ∷ behind) × Without 92 front → unescaped_behind behind ≡ unescaped behind → length (unescaped text) ≡ length front + length (unescaped behind)
-other_len text front behind h e = ap length (cut_at text front behind h ∙ ap (λ t. front ++ t) e) ∙ length-append front (unescaped behind)
+pub other_len : (text front behind : List ℕ) → unescaped text ≡ front ++ unescaped_behind behind → unescaped_behind behind ≡ unescaped behind → length (unescaped text) ≡ length front + length (unescaped behind)
+other_len text front behind h e = ap length (h ∙ ap (λ t. front ++ t) e) ∙ length-append front (unescaped behind)
 
 pub pushed_letter : (t0 t1 t2 rest front behind more whole : List ℕ) (character : ℕ) → t1 ≡ t0 ++ front → t2 ≡ t1 ++ character ∷ [] → unescaped rest ≡ front ++ unescaped_behind behind → unescaped_behind behind ≡ character ∷ unescaped more → t0 ++ unescaped rest ≡ whole
     → t2 ++ unescaped more ≡ whole
@@ -80,11 +73,24 @@ pub pushed_rest : {A E : Type 0} (r : Result A E) (t0 t1 rest whole : List ℕ) 
 pushed_rest (Ok x) t0 t1 rest whole a e w = a ∙ ap (λ t. t0 ++ t) (sym e) ∙ w
 pushed_rest (Err x) t0 t1 rest whole a e w = tt
 
--- ---- a piece without a backslash
+-- ---- the first backslash
 
-pub no_escape : (text : List ℕ) (found : Option ℕ) → IsFirstByte (is_byte 92) text found → is_some found ≡ false → unescaped text ≡ text
-no_escape text None first e = plain text (λ i lt at. first i (omega arith) lt (subst (λ (n : ℕ). (n == 92) ≡ true) (sym at) refl))
-no_escape text (Some k) first e = cc
+before : (text : List ℕ) (n : ℕ) → IsFirstByte (is_byte 92) text (Some n) → Without 92 (take n text)
+before text n h i lt e =
+    let below : i < n = omega (arith, length-take n text) in
+    h.0.before i (omega arith) below (eq-eqb (get_or text i 0) 92 (sym (get_or-take n text i 0 below) ∙ e))
+
+pub backslash_found : (text : List ℕ) (n : ℕ) → IsFirstByte (is_byte 92) text (Some n) → unescaped text ≡ take n text ++ unescaped_behind (drop (n + 1) text)
+backslash_found text n h =
+    let backslash : get_or text n 0 ≡ 92 = eqb-true (get_or text n 0) 92 h.1 in
+    let cut : text ≡ take n text ++ 92 ∷ drop (n + 1) text = sym (take-append-drop n text) ∙ ap (λ t. take n text ++ t) (drop_more text n 0 h.0.high ∙ ap (λ b. b ∷ drop (n + 1) text) backslash) in
+    ap unescaped cut ∙ front_cut (take n text) (drop (n + 1) text) (before text n h)
+
+pub backslash_low : (text : List ℕ) (n : ℕ) → IsFirstByte (is_byte 92) text (Some n) → get_or text n 0 < 128
+backslash_low text n h = let backslash : get_or text n 0 ≡ 92 = eqb-true (get_or text n 0) 92 h.1 in omega arith
+
+pub no_backslash : (text : List ℕ) → IsFirstByte (is_byte 92) text None → unescaped text ≡ text
+no_backslash text h = plain text (λ i lt e. h i (omega arith) lt (eq-eqb (get_or text i 0) 92 e))
 
 -- ---- a string is no longer than its piece
 

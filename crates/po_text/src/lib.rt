@@ -33,5 +33,5 @@ pub use header::{field_value, has_charset};
 pub use items::Items;
 pub use key::{EntryKey, is_header_key};
 pub use pieces::unescaped_len;
-pub use string::{Forms, PoString};
+pub use string::{Forms, PoString, STRING_LIMIT};
 pub use text::Text;

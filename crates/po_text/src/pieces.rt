@@ -1,6 +1,6 @@
 //! The strings that pieces stand for.
 
-ghost use Rattle.std.specs.Prelude.{◌≡◌, ◌++◌, false, ◌∷◌, ◌<◌, ◌≤◌, length, string_bytes, MatchOption, IfSome, OnOk};
+ghost use Rattle.std.specs.Prelude.{◌≡◌, ◌++◌, ◌∷◌, ◌+◌, ◌<◌, ◌≤◌, length, string_bytes, MatchOption, IfSome, OnOk};
 ghost use Rattle.po_lex.specs.Escapes.{meaning_of, unescaped, unescaped_behind};
 
 use memchr::memchr;
@@ -37,11 +37,13 @@ fn split_letter(text: &str) -> Option<(char, &str)>
     Some((character, &text[1..]))
 }
 
-/// Whether there is a backslash. A piece without one is its string.
-fn may_have_escapes(raw: &str) -> bool
-    ensures { result ≡ false → unescaped raw.now ≡ raw.now }
+/// What stands in front of the first backslash and what stands behind it. A piece without one is its string.
+fn split_backslash(raw: &str) -> Option<(&str, &str)>
+    ensures cut { MatchOption result (unescaped raw.now ≡ raw.now) (λ cut. unescaped raw.now ≡ cut.0.now ++ unescaped_behind cut.1.now) }
+    ensures lengths { IfSome result (λ cut. length cut.0.now + length cut.1.now + 1 ≡ length raw.now) }
 {
-    memchr(b'\\', raw.as_bytes()).is_some()
+    let len = memchr(b'\\', raw.as_bytes())?;
+    Some((&raw[..len], &raw[len + 1..]))
 }
 
 /// How many bytes the string of a piece has.
@@ -49,12 +51,9 @@ pub fn unescaped_len(raw: &str) -> usize
     ensures value { result ≡ length (unescaped raw.now) }
     ensures within { result ≤ length raw.now }
 {
-    if !may_have_escapes(raw) {
-        return raw.len();
-    }
     let mut len = 0;
     let mut rest = raw;
-    while let Some((front, behind)) = rest.split_once('\\') {
+    while let Some((front, behind)) = split_backslash(rest) {
         len += front.len();
         rest = match split_letter(behind) {
             Some((_, more)) => {
@@ -71,11 +70,8 @@ pub fn unescaped_len(raw: &str) -> usize
 pub(crate) fn push_unescaped(text: &mut String, raw: &str) -> Result<(), AllocError>
     ensures { OnOk result (string_bytes text.new ≡ string_bytes text.old ++ unescaped raw.now) }
 {
-    if !may_have_escapes(raw) {
-        return text.push_str(raw);
-    }
     let mut rest = raw;
-    while let Some((front, behind)) = rest.split_once('\\') {
+    while let Some((front, behind)) = split_backslash(rest) {
         text.push_str(front)?;
         rest = match split_letter(behind) {
             Some((character, more)) => {

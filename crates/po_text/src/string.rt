@@ -4,7 +4,7 @@ ghost use Rattle.std.specs.List.{list_all};
 ghost use Rattle.std.specs.Cmp.{partial_equiv_from_equiv};
 ghost use Rattle.std.specs.Cmp.Lexicographic.{pointwise, nat_list_eq_equiv};
 ghost use Rattle.po_lex.specs.Escapes.{unescaped};
-ghost use Rattle.po_text.specs.Strings.{form_limit, is_string_byte, is_string, is_forms};
+ghost use Rattle.po_text.specs.Strings.{form_limit, string_limit, is_string_byte, is_string, is_forms};
 ghost use Rattle.po_text.specs.Texts.{Text, last_text, last_more};
 
 use crate::duplicate::Duplicate;
@@ -14,8 +14,11 @@ use std::alloc::{AllocError, Global};
 use std::marker::Model;
 use std::mem::replace;
 
-/// A string of a catalogue: Unicode text without U+0000 to U+0006 and U+000E to U+001F, of at most 262,144 bytes. The other
-/// control characters have escapes of their own.
+/// How many bytes a string has at most. (This project's own rule.)
+pub const STRING_LIMIT: usize = 262_144;
+
+/// A string of a catalogue: Unicode text without U+0000 to U+0006 and U+000E to U+001F, of at most [`STRING_LIMIT`] bytes. The
+/// other control characters have escapes of their own.
 #[derive(Debug, Drop)]
 pub struct PoString {
     inner: String,
@@ -44,7 +47,7 @@ impl PoString {
 
     /// The string that a piece stands for.
     pub fn from_piece(alloc: Global, raw: &str) -> Result<PoString, AllocError>
-        requires short { length (unescaped raw.now) ≤ 262144 }
+        requires short { length (unescaped raw.now) ≤ string_limit }
         requires bytes { list_all is_string_byte (unescaped raw.now) ≡ true }
         ensures { IfOk result (λ string. string ≡ unescaped raw.now) }
     {
@@ -54,7 +57,7 @@ impl PoString {
     }
 
     /// No text. It takes no memory.
-    fn empty(alloc: Global) -> PoString
+    pub fn empty(alloc: Global) -> PoString
         ensures { result ≡ [] }
     {
         PoString {
@@ -64,7 +67,7 @@ impl PoString {
 
     /// Adds that of a piece at the end.
     pub fn add_piece(&mut self, alloc: Global, raw: &str) -> Result<(), AllocError>
-        requires short { length self.old + length (unescaped raw.now) ≤ 262144 }
+        requires short { length self.old + length (unescaped raw.now) ≤ string_limit }
         requires bytes { list_all is_string_byte (unescaped raw.now) ≡ true }
         ensures { OnOk result (self.new ≡ self.old ++ unescaped raw.now) }
     {
@@ -165,7 +168,7 @@ impl Forms {
 
     /// Adds the string of a piece at the last one's end.
     pub fn add_piece(&mut self, alloc: Global, raw: &str) -> Result<(), AllocError>
-        requires short { (first : Text) × (length (last_text first self.old) + length (unescaped raw.now) ≤ 262144) }
+        requires short { (first : Text) × (length (last_text first self.old) + length (unescaped raw.now) ≤ string_limit) }
         requires bytes { list_all is_string_byte (unescaped raw.now) ≡ true }
         ensures more { OnOk result (self.new ≡ last_more self.old (unescaped raw.now)) }
         ensures were { is_forms self.old ≡ true }
@@ -198,7 +201,7 @@ impl Duplicate for Forms {
 fn holds_string(text: &str) -> bool
     ensures { result ≡ is_string text.now }
 {
-    text.len() <= 262_144 && holds_string_bytes(text.as_bytes())
+    text.len() <= STRING_LIMIT && holds_string_bytes(text.as_bytes())
 }
 
 fn holds_string_bytes(bytes: &[u8]) -> bool

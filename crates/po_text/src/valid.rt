@@ -4,7 +4,6 @@ ghost use Rattle.std.specs.Prelude.{◌≡◌, ◌↔◌, ◌==◌, ◌&&◌, no
 ghost use Rattle.std.specs.List.{list_all, AllByRecursion};
 ghost use Rattle.std.specs.Str.{byte};
 ghost use Rattle.std.specs.Option.{IfSome};
-ghost use Rattle.po_lex.specs.Lines.{is_comment_text};
 ghost use Rattle.po_text.specs.Header.{has_charset};
 ghost use Rattle.po_text.specs.Valid.{IsString, IsCommentLine, IsFlag, AreDistinct, AreFlags, IsValidEntry, HasUniqueKeys, IsValid};
 ghost use Rattle.po_text.specs.Checked.{is_flag, none_is_fuzzy, lacks_fuzzy, is_single, is_header_like, lacks_header_key, has_header_first, AreCommentLines, AreStrings};
@@ -15,7 +14,7 @@ use crate::header::has_charset;
 use crate::key::{EntryKey, is_header_key};
 use crate::string::PoString;
 use crate::text::Text;
-use po_lex::trim;
+use po_lex::{is_comment_text, trim};
 use std::alloc::{AllocError, Global};
 use std::collections::BTreeSet;
 
@@ -24,12 +23,6 @@ fn hold_all(first: bool, second: bool, third: bool) -> bool
     ensures { result ≡ (first && (second && third)) }
 {
     first && second && third
-}
-
-fn is_comment_text(text: &str) -> bool
-    ensures { result ≡ is_comment_text text.now }
-{
-    text.as_bytes().iter().all(|b| *b == b'\t' || *b >= 32)
 }
 
 fn is_comment_line(line: &Text) -> bool

@@ -1,12 +1,16 @@
 -- How texts are cut by the loops that send them.
-use Rattle.std.proofs.Common.{◌≡◌, ◌≢◌, ℕ, ◌+◌, ◌-◌, ◌<◌, ◌≤◌, ◌==◌, Bool, true, false, is_some, Option, Some, None, cond, List, [], ◌∷◌, ◌++◌, length, take, drop, get_or, refl, sym, ◌∙◌, ap, append_assoc, arith, take_all, zero, suc}
+use Rattle.std.proofs.Common.{◌≡◌, ◌≢◌, ℕ, ◌+◌, ◌-◌, ◌<◌, ◌≤◌, ◌==◌, Bool, true, false, is_some, Option, Some, None, cond, List, [], ◌∷◌, ◌++◌, length, take, drop, get_or, refl, sym, ◌∙◌, ap, append_assoc, arith, take_all, zero, suc, nat_lt}
 use Rattle.std.specs.Prelude.{codes, flat_map}
 use Rattle.std.proofs.lemmas.Grind.{common_steps, flat_map-append}
+use Rattle.std.specs.List.{prefix_len}
 use Rattle.std.proofs.lemmas.List.{take-append-drop, length-drop, drop-drop}
+use Rattle.std.proofs.lemmas.List.Sums.{prefix_len_passes}
 use Rattle.std.proofs.lemmas.Bool.{eq-eqb, eqb-true, ne_eqb, lt-ltb, le-ltb}
 use Rattle.std.proofs.Math.Seq.{drop-cons}
+use Rattle.memchr.specs.Find.{IsFirstByte, is_byte}
 use Rattle.po_lex.specs.declared.line.Keyword.TheVariants.{Msgstr, MsgstrAt}
-use Rattle.po_lex.specs.Escapes.{letter_of, escaped_byte, escaped, quoted}
+use Rattle.po_lex.specs.Escapes.{letter_of, escaped_byte, escaped, quoted, is_bare}
+use Rattle.po_lex.proofs.EscapeLemmas.{bare_letter}
 use Rattle.po_lex.specs.Lines.{with_byte}
 use Rattle.po_text.specs.Entries.{Keyed, keyed_forms, numbered, previous_strings, entry_strings}
 use Rattle.po_text.specs.declared.entry.Entry.{Entry}
@@ -71,6 +75,9 @@ flag_cut flags i flag item within is same =
 unescaped_byte : (found : Option ℕ) (b : ℕ) → is_some found ≡ false → escaped_byte found b ≡ b ∷ []
 unescaped_byte None b none = refl
 unescaped_byte (Some letter) b none = let differs : true ≡ false = none in cc
+
+pub bare_unescaped : (xs : List ℕ) (n : ℕ) → n ≡ prefix_len is_bare xs → (k : ℕ) → k < n → is_some (letter_of (get_or xs k 0)) ≡ false
+bare_unescaped xs n is k below = ap is_some (bare_letter (get_or xs k 0) (prefix_len_passes is_bare xs k 0 (omega arith)))
 
 -- bytes that stand as they are
 plain_run : (xs : List ℕ) (n : ℕ) → ((k : ℕ) → k < n → is_some (letter_of (get_or xs k 0)) ≡ false) → escaped (take n xs) ≡ take n xs
@@ -166,6 +173,26 @@ one_piece mark (b ∷ text) n is most =
     let count : length (pieces_of (b ∷ text)) ≡ 1 = ap length (first_piece (b ∷ text) n is (omega arith)) ∙ ap (λ xs. suc (length (pieces_of xs))) none in
     rw (le-ltb 1 (length (pieces_of (b ∷ text))) (omega arith)) refl
 
+-- what stands behind the first quote of a string's pieces
+pub one_behind_quote : (mark text : List ℕ) (n : ℕ) → IsPieceLen text n → length text ≤ n → drop 1 (string_pieces mark text) ≡ escaped text ++ 34 ∷ 10 ∷ []
+one_behind_quote mark text n is most = ap (drop 1) (one_piece mark text n is most ∙ quoted_cut text)
+
+pub many_behind_quote : (mark text : List ℕ) (n : ℕ) → IsPieceLen text n → n < length text → drop 1 (string_pieces mark text) ≡ (34 ∷ 10 ∷ []) ++ piece_lines mark (pieces_of text)
+many_behind_quote mark text n is more = ap (drop 1) (many_pieces mark text n is more)
+
+-- a string's pieces begin with a quote
+first_quote : (many : Bool) (a b : List ℕ) → cond many (34 ∷ a) (34 ∷ b) ≡ 34 ∷ drop 1 (cond many (34 ∷ a) (34 ∷ b))
+first_quote true a b = refl
+first_quote false a b = refl
+
+pub quote_in_front : (front mark text : List ℕ) → front ++ string_pieces mark text ≡ (front ++ 34 ∷ []) ++ drop 1 (string_pieces mark text)
+quote_in_front front mark text =
+    ap (λ t. front ++ t) (first_quote (nat_lt 1 (length (pieces_of text))) _ _)
+    ∙ sym (append_assoc front (34 ∷ []) (drop 1 (string_pieces mark text)))
+
+pub front_and_quote : (mark keyword : List ℕ) → (mark ++ (keyword ++ 32 ∷ [])) ++ 34 ∷ [] ≡ mark ++ (keyword ++ 32 ∷ 34 ∷ [])
+front_and_quote mark keyword = append_assoc mark (keyword ++ 32 ∷ []) (34 ∷ []) ∙ ap (λ t. mark ++ t) (append_assoc keyword (32 ∷ []) (34 ∷ []))
+
 -- ---- message lines
 
 pub single_next : (mark : List ℕ) (forms : List (List ℕ)) (i : ℕ) (form : List ℕ) → i < length forms → form ≡ get_or forms i form
@@ -211,3 +238,21 @@ after_translator e = flat_map (comment (codes "#.")) e.extracted ++ after_extrac
 pub entry_cut : (e : Entry) → entry_text e ≡ flat_map (comment (codes "#")) e.translator ++ after_translator e
 unfolding entry_text
 entry_cut e = refl
+
+-- ---- the first LF
+
+pub lf_place : (text : List ℕ) (k : ℕ) → IsFirstByte (is_byte 10) text (Some k) → IsPieceLen text (k + 1)
+lf_place text k h = record {
+  some = λ _. omega arith;
+  before = λ j below e. h.0.before j (omega arith) (omega arith) (eq-eqb (get_or text j 0) 10 e);
+  last = λ _. ap (λ j. get_or text j 0) (omega arith) ∙ eqb-true (get_or text k 0) 10 h.1;
+  within = let below : k < length text = h.0.high in omega arith;
+}
+
+pub lf_nowhere : (text : List ℕ) → IsFirstByte (is_byte 10) text None → IsPieceLen text (length text)
+lf_nowhere text h = record {
+  some = λ some. some;
+  before = λ j below e. h j (omega arith) (omega arith) (eq-eqb (get_or text j 0) 10 e);
+  last = λ more. absurd (omega arith);
+  within = omega arith;
+}

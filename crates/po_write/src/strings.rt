@@ -1,6 +1,6 @@
 //! Strings behind their keywords, escaped, in one piece or more.
 
-ghost use Rattle.std.specs.Prelude.{◌≡◌, ◌≢◌, ◌+◌, ◌-◌, ◌<◌, ◌≤◌, ℕ, length, slice_index, is_some, false, flat_map};
+ghost use Rattle.std.specs.Prelude.{◌≡◌, ◌≢◌, ◌+◌, ◌-◌, ◌<◌, ◌≤◌, ◌++◌, ℕ, length, drop, slice_index, is_some, false, flat_map, codes};
 ghost use Rattle.po_lex.specs.Escapes.{letter_of, escaped_byte, escaped, quoted};
 ghost use Rattle.po_lex.specs.Lines.{keyword_text};
 ghost use Rattle.po_text.specs.Entries.{optional, keyed_forms, numbered, previous_strings, entry_strings};
@@ -11,7 +11,8 @@ ghost use Rattle.po_write.specs.Text.{ended, front_of, pieces_of, piece_lines, s
 
 use crate::sending::send;
 use byte_streams::{ByteSink, SinkFault};
-use po_lex::Keyword;
+use memchr::memchr;
+use po_lex::{Keyword, bare_len};
 use po_text::{Entry, PoString, Previous};
 
 /// The letter that stands for a byte behind a backslash.
@@ -32,15 +33,12 @@ fn letter_of(byte: u8) -> Option<u8>
     }
 }
 
-/// How many bytes stand before the first that is escaped.
+/// How many bytes at the front stand as they are.
 fn plain_len(bytes: &[u8]) -> usize
     ensures plain { (k : ℕ) → k < result → is_some (letter_of (slice_index bytes.now k)) ≡ false }
     ensures within { result ≤ length bytes.now }
 {
-    match bytes.iter().position(|b| letter_of(*b).is_some()) {
-        Some(len) => len,
-        None => bytes.len(),
-    }
+    bare_len(bytes)
 }
 
 /// The length of the first piece: up to and with the first LF, or all.
@@ -50,7 +48,7 @@ fn piece_len(text: &[u8]) -> usize
     ensures last { result < length text.now → slice_index text.now (result - 1) ≡ 10 }
     ensures within { result ≤ length text.now }
 {
-    match text.iter().position(|b| *b == b'\n') {
+    match memchr(b'\n', text) {
         Some(before) => before + 1,
         None => text.len(),
     }
@@ -104,43 +102,48 @@ fn write_piece_lines<W: ByteSink>(w: &mut W, mark: &[u8], string: &[u8]) -> Resu
     Ok(())
 }
 
-/// Writes a string in one piece, or behind an empty one in a piece for each of its lines.
+/// Writes a string in one piece, or behind an empty one in a piece for each of its lines; all but the first quote.
 fn write_pieces<W: ByteSink>(w: &mut W, mark: &[u8], string: &[u8]) -> Result<(), SinkFault>
-    ensures { Sends W.taken W.failed w.old w.new (string_pieces mark.now string.now) result }
+    ensures { Sends W.taken W.failed w.old w.new (drop 1 (string_pieces mark.now string.now)) result }
 {
     if piece_len(string) < string.len() {
-        write_piece(w, b"")?;
+        send(w, b"\"\n")?;
         write_piece_lines(w, mark, string)
     } else {
-        write_piece(w, string)
+        write_escaped(w, string)?;
+        send(w, b"\"\n")
     }
 }
 
+/// Writes a keyword, a space and a quote.
 fn write_keyword<W: ByteSink>(w: &mut W, keyword: Keyword) -> Result<(), SinkFault>
     requires { HasDigit keyword }
-    ensures { Sends W.taken W.failed w.old w.new (keyword_text keyword) result }
+    ensures { Sends W.taken W.failed w.old w.new (keyword_text keyword ++ codes " \"") result }
 {
     match keyword {
-        Keyword::Msgctxt => send(w, b"msgctxt"),
-        Keyword::Msgid => send(w, b"msgid"),
-        Keyword::MsgidPlural => send(w, b"msgid_plural"),
-        Keyword::Msgstr => send(w, b"msgstr"),
+        Keyword::Msgctxt => send(w, b"msgctxt \""),
+        Keyword::Msgid => send(w, b"msgid \""),
+        Keyword::MsgidPlural => send(w, b"msgid_plural \""),
+        Keyword::Msgstr => send(w, b"msgstr \""),
         Keyword::MsgstrAt(number) => {
-            send(w, b"msgstr[")?;
-            send(w, &[b'0' + number])?;
-            send(w, b"]")
+            let digit = b'0' + number;
+            send(
+                w,
+                &[
+                    b'm', b's', b'g', b's', b't', b'r', b'[', digit, b']', b' ', b'"',
+                ],
+            )
         }
     }
 }
 
-/// Writes a mark, a keyword and a space.
+/// Writes a mark, a keyword, a space and the first quote.
 fn write_front<W: ByteSink>(w: &mut W, mark: &[u8], keyword: Keyword) -> Result<(), SinkFault>
     requires { HasDigit keyword }
-    ensures { Sends W.taken W.failed w.old w.new (front_of mark.now keyword) result }
+    ensures { Sends W.taken W.failed w.old w.new (front_of mark.now keyword ++ codes "\"") result }
 {
     send(w, mark)?;
-    write_keyword(w, keyword)?;
-    send(w, b" ")
+    write_keyword(w, keyword)
 }
 
 /// Writes a string under its keyword.

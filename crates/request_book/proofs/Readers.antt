@@ -18,8 +18,9 @@ use Rattle.units.specs.declared.unit.Role.TheVariants.{Guest, Translator, Review
 use Rattle.uuid.specs.Text.{parsed, lower}
 use Rattle.uuid.proofs.RoundTrips.{parses_hyphenated}
 use Rattle.request_book.specs.Acts.{IsNumber, vote_data}
-use Rattle.request_book.specs.Words.{natural, with_member, string_items, strings, number_text, number_data, role_text}
-use Rattle.request_book.specs.Fields.{only, text_of, revision_of, accept_at_of, role_named, role_of, each_of, forms_of, lines_of, vote_of_numbers, vote_of, take, take_optional, number_of}
+use Rattle.request_book.specs.Words.{natural, with_member, string_items, strings, number_text, number_data}
+use Rattle.units.specs.Words.{role_text, role_named}
+use Rattle.request_book.specs.Fields.{only, text_of, revision_of, accept_at_of, role_of, each_of, forms_of, lines_of, vote_of_numbers, vote_of, take, take_optional, number_of}
 use Rattle.request_book.proofs.Parsed.{both, is_number}
 
 -- ---- options

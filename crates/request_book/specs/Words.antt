@@ -1,15 +1,10 @@
--- Parts of JSON objects, and the words of states and roles in them. This project's own rule; the states are those of Weblate's
--- "Translation workflows".
-use Rattle.std.specs.Prelude.{ℕ, List, [], ◌∷◌, Option, Some, None, ℤ, map, codes}
+-- Parts of JSON objects. This project's own rule.
+use Rattle.std.specs.Prelude.{ℕ, List, [], ◌∷◌, Option, Some, None, ℤ, map}
 use Rattle.uuid.specs.Text.{hyphenated_text, lower}
 use Rattle.serde_json.specs.Data.{Data, number, unsigned, string, array, object, Items, Members, no_members, member, put}
 use Rattle.serde_json.specs.Find.{of_integer}
 use Rattle.serde_json.specs.View.{items_of}
 use Rattle.po_text.specs.Texts.{Text}
-use Rattle.units.specs.declared.unit.ShownState.{ShownState}
-use Rattle.units.specs.declared.unit.ShownState.TheVariants.{Untranslated, NeedsEditing, Translated, Approved, ReadOnly}
-use Rattle.units.specs.declared.unit.Role.{Role}
-use Rattle.units.specs.declared.unit.Role.TheVariants.{Guest, Translator, Reviewer, Manager}
 
 abbrev pub natural : ℕ → Data
 natural n = number (unsigned n)
@@ -29,19 +24,6 @@ number_text = hyphenated_text lower
 
 abbrev pub number_data : Text → Data
 number_data u = string (number_text u)
-
-abbrev pub state_text : ShownState → Text
-state_text Untranslated = codes "untranslated"
-state_text NeedsEditing = codes "needs-editing"
-state_text Translated = codes "translated"
-state_text Approved = codes "approved"
-state_text ReadOnly = codes "read-only"
-
-abbrev pub role_text : Role → Text
-role_text Guest = codes "guest"
-role_text Translator = codes "translator"
-role_text Reviewer = codes "reviewer"
-role_text Manager = codes "manager"
 
 -- ---- objects given by their fields in the byte order of their keys
 

@@ -7,7 +7,7 @@ ghost use Rattle.request_book.specs.Acts.{IsNumber};
 ghost use Rattle.serde_json.specs.Data.{Data};
 ghost use Rattle.serde_json.specs.Find.{as_bool, as_str};
 ghost use Rattle.serde_json.specs.View.{view, items_view, members_view};
-ghost use Rattle.request_book.specs.Fields.{text_of, name_of, lang_of, revision_of, accept_at_of, role_named, role_of, each_of, forms_of, lines_of, vote_of, number_of, take, take_as, take_optional, take_optional_as, take_domain, optional_as, is_over};
+ghost use Rattle.request_book.specs.Fields.{text_of, name_of, lang_of, revision_of, accept_at_of, role_of, each_of, forms_of, lines_of, vote_of, number_of, take, take_as, take_optional, take_optional_as, take_domain, optional_as, is_over};
 ghost use Rattle.request_book.specs.declared.fault.RequestFault.TheVariants.{Malformed};
 
 use crate::fault::RequestFault;
@@ -45,11 +45,11 @@ impl FromField for PoString {
 impl FromField for Name {
     ghost of = { name_of };
 
-    fn from_field(alloc: Global, value: &Value) -> Result<Name, RequestFault> {
+    fn from_field(_alloc: Global, value: &Value) -> Result<Name, RequestFault> {
         let Some(text) = value.as_str() else {
             return Err(RequestFault::Malformed);
         };
-        match Name::try_new(alloc, text)? {
+        match Name::try_new(text) {
             Some(name) => Ok(name),
             None => Err(RequestFault::Malformed),
         }
@@ -120,21 +120,9 @@ pub(crate) fn role_from(value: &Value) -> Result<Role, RequestFault>
     let Some(word) = value.as_str() else {
         return Err(RequestFault::Malformed);
     };
-    match role_named(word) {
+    match Role::from_word(word) {
         Some(role) => Ok(role),
         None => Err(RequestFault::Malformed),
-    }
-}
-
-fn role_named(word: &str) -> Option<Role>
-    ensures { result ≡ role_named word.now }
-{
-    match word {
-        "guest" => Some(Role::Guest),
-        "translator" => Some(Role::Translator),
-        "reviewer" => Some(Role::Reviewer),
-        "manager" => Some(Role::Manager),
-        _ => None,
     }
 }
 
@@ -180,7 +168,6 @@ pub(crate) fn take_flag<'v>(
 }
 
 pub(crate) fn take_lang<'v>(
-    alloc: Global,
     fields: &'v [(String, Value)],
 ) -> Result<(Lang, &'v [(String, Value)]), RequestFault>
     ensures ok { IfOk result
@@ -192,7 +179,7 @@ pub(crate) fn take_lang<'v>(
     let Some(text) = value.as_str() else {
         return Err(RequestFault::Malformed);
     };
-    match Lang::try_new(alloc, text)? {
+    match Lang::try_new(text) {
         Some(lang) => Ok((lang, rest)),
         None => Err(RequestFault::Malformed),
     }

@@ -3,6 +3,7 @@
 //! - `act`: acts and requests (`Act`, `Request`)
 //! - `request`: requests and acts as JSON texts, and a request's canonical content (`canon`)
 //! - `parts`, `fields`, `written`: the members of an object read, each field of it, and acts written as members
+//! - `lists`: lists of texts as JSON
 //! - `reply`: a status and a body (`Reply`)
 //! - `book`: what is kept of a request (`Record`), and whether one that comes is new, a repeat, or has a used number
 //! - `fault`: why a text gave no request
@@ -15,6 +16,7 @@ mod act;
 mod book;
 mod fault;
 mod fields;
+mod lists;
 mod parts;
 mod reply;
 mod request;
@@ -24,5 +26,6 @@ pub use act::{Act, Request};
 pub use book::{Class, Record, classify};
 pub use fault::RequestFault;
 pub use fields::bytes_fit;
+pub use lists::{strings_value, texts_value};
 pub use reply::Reply;
 pub use request::canon;

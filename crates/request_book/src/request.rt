@@ -1,8 +1,9 @@
 //! Requests as JSON texts.
 ghost use Rattle.std.specs.Prelude.{◌≡◌, true, false, Err, IfOk, string_bytes};
-ghost use Rattle.request_book.specs.Acts.{IsRequest, IsRequestText, content_text, IsAct, IsActText, act_text};
+ghost use Rattle.uuid.specs.Parts.{zero_bytes};
+ghost use Rattle.request_book.specs.Acts.{IsRequest, IsRequestText, IsContentText, content_text, IsAct, IsActText, act_text};
 ghost use Rattle.request_book.specs.declared.act.Act.{Act as ActValue};
-ghost use Rattle.request_book.specs.Fields.{to_request, to_act};
+ghost use Rattle.request_book.specs.Fields.{to_request, to_content, to_act};
 ghost use Rattle.serde_json.specs.Written.{compact_text, has_float};
 ghost use Rattle.serde_json.specs.Data.{object};
 ghost use Rattle.serde_json.specs.View.{members_view};
@@ -17,6 +18,7 @@ use po_text::Text;
 use serde_json::{Map, Value};
 use std::alloc::{AllocError, Global};
 use units::Memory;
+use uuid::Uuid;
 
 impl Request {
     /// The request that a text stands for: one JSON object (RFC 8259) with exactly the request's members, each
@@ -36,6 +38,25 @@ impl Request {
             None => Err(RequestFault::Malformed),
         }
     }
+
+    /// The request, under number zero, whose caller and act a text stands for: one JSON object (RFC 8259) with exactly the members of a
+    /// request but for its number, each within its limits. Of a key that stands twice the last value counts, as `serde_json` reads it.
+    ///
+    /// `Malformed` where no caller and act have this text; `Memory` where a growth was refused.
+    pub fn from_content(alloc: Global, text: &str) -> Result<Request, RequestFault>
+        ensures ok { IfOk result (IsContentText text.now) }
+        ensures number { IfOk result (λ r. r.number ≡ zero_bytes) }
+        ensures one { IfOk result
+            (λ r. (other : Request) → IsContentText text.now other → (other.caller ≡ r.caller) × (other.act ≡ r.act)) }
+        ensures malformed { result ≡ Err Malformed
+            → (request : Request) → ¬ IsContentText text.now request }
+    {
+        let parts = parts_from_text(alloc, text)?;
+        match unnumbered(parts) {
+            Some(content) => Ok(content),
+            None => Err(RequestFault::Malformed),
+        }
+    }
 }
 
 fn signed(parts: Parts) -> Option<Request>
@@ -49,6 +70,29 @@ fn signed(parts: Parts) -> Option<Request>
     match (caller, number) {
         (Some(caller), Some(number)) => Some(Request {
             number,
+            caller,
+            act,
+        }),
+        (caller, _) => {
+            drop(caller);
+            drop(act);
+            None
+        }
+    }
+}
+
+/// The request, under number zero, of parts that have a caller and no number.
+fn unnumbered(parts: Parts) -> Option<Request>
+    ensures { result ≡ to_content parts.caller parts.number parts.act }
+{
+    let Parts {
+        caller,
+        number,
+        act,
+    } = parts;
+    match (caller, number) {
+        (Some(caller), None) => Some(Request {
+            number: Uuid::nil(),
             caller,
             act,
         }),

@@ -177,7 +177,7 @@ is_review (Comment lines) = false
 is_review Approve = true
 is_review SendBack = true
 
--- a suggestion past the 100 of a unit, or a vote past the 10,000 of a suggestion
+-- a suggestion past those that a unit may have, or a vote past those of a suggestion
 abbrev pub is_full : Text → Unit → UnitAction → Bool
 is_full caller unit (Suggest forms) = nat_le suggestion_limit (length unit.suggestions)
 is_full caller unit (Vote named value) = option_map_or (λ s. nat_lt vote_limit (maps.len (set_vote caller value s.votes))) (suggestion_of named unit) false

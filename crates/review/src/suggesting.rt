@@ -10,7 +10,10 @@ use crate::suggestions::{find_suggestion, is_there, other_suggestions};
 use crate::units_after::{done, done_plainly, revision_of, with_suggestions};
 use po_text::{Duplicate, Forms};
 use std::alloc::{AllocError, Global};
-use units::{Memory, Name, Refusal, Suggestion, Unit, UnitAction, UnitView, Votes, all_empty};
+use units::{
+    Memory, Name, Refusal, SUGGESTION_LIMIT, Suggestion, Unit, UnitAction, UnitView, Votes,
+    all_empty,
+};
 use uuid::Uuid;
 
 /// A suggestion without votes.
@@ -60,7 +63,7 @@ pub(crate) fn suggest(
     ensures { IfOk result (λ d. (policy : PolicyValue) (rule : Rule) → d ≡ spec.decision_by_act policy rule caller.now number view.now (UnitAction.Suggest forms.now)) }
 {
     let unit = &view.unit;
-    if unit.suggestions.as_slice().len() >= 100 {
+    if unit.suggestions.as_slice().len() >= SUGGESTION_LIMIT {
         return Ok(Decision::Refused(Refusal::IsFull));
     }
     if is_there(forms, unit) {

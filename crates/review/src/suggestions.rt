@@ -10,7 +10,7 @@ ghost use Rattle.review.specs.UnitStep as spec;
 
 use po_text::{Duplicate, Forms, Items, PoString};
 use std::alloc::{AllocError, Global};
-use units::{Name, Suggestion, Unit, VoteValue, Votes};
+use units::{Name, Suggestion, Unit, VOTE_LIMIT, VoteValue, Votes};
 use uuid::Uuid;
 
 /// The suggestion with a number.
@@ -72,7 +72,7 @@ fn len_after(votes: &Votes, caller: &Name, value: Option<VoteValue>) -> usize
 pub(crate) fn is_full_of_votes(votes: &Votes, caller: &Name, value: Option<VoteValue>) -> bool
     ensures { result ≡ nat_lt vote_limit (maps.len (spec.set_vote caller.now value votes.now)) }
 {
-    len_after(votes, caller, value) > 10_000
+    len_after(votes, caller, value) > VOTE_LIMIT
 }
 
 fn is_same_value(value: Option<VoteValue>, other: Option<VoteValue>) -> bool

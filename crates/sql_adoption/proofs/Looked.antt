@@ -37,6 +37,19 @@ module _ (old new : State) {A B E F : Type 0} where
     survives = it.survives;
   }
 
+  -- what is answered off what was handed out meanwhile
+  pub walked_on : (x : A) (s : Result B F) (P : Database → A → Type 0) (Q : Database → B → Type 0) → IsLookUp {E = E} old new (Ok x) P
+      → (HasCleanDisk new → HasCleanDisk old → IsTrue old.is_open → IfOk s (Q old.now)) → IsLookUp old new s Q
+  walked_on x s P Q it answers = record {
+    answer = λ clean.
+        let early : HasCleanDisk old = omega (arith, clean, it.survives.clean) in
+        answers clean early (it.same clean (it.is_open clean)).was_open;
+    same = it.same;
+    is_open = λ clean. on_ok s (it.is_open clean);
+    ended = it.ended;
+    survives = it.survives;
+  }
+
   -- an error behind it
   pub looked_in_vain : (r : Result A E) (f : F) (P : Database → A → Type 0) (Q : Database → B → Type 0) → IsLookUp old new r P → IsLookUp old new (Err f) Q
   looked_in_vain r f P Q it = record { answer = λ clean. tt; same = it.same; is_open = λ clean. tt; ended = it.ended; survives = it.survives }

@@ -1,6 +1,9 @@
 -- The office and the statuses that all rows of the tables show are those that the rows mean.
-use Rattle.std.proofs.Common.{◌≡◌, ℕ, Bool, List, Option, Some, None, Result, Ok, Err, IfOk, IfErr, OnOk, refl, sym, ap, subst, ◌∙◌, codes}
+use Rattle.std.proofs.Common.{◌≡◌, ◌⊎◌, inl, inr, ℕ, Bool, List, [], ◌∷◌, ◌++◌, Option, Some, None, Result, Ok, Err, IfOk, IfErr, OnOk, refl, sym, ap, subst, ◌∙◌, codes}
 use Rattle.std.specs.Prelude.{All, pos, true}
+use Rattle.std.specs.List.{AllByRecursion}
+use Rattle.std.specs.Result.{IsErrAnd}
+use Rattle.std.proofs.lemmas.List.Elements.{recursion_from_All}
 use Rattle.std.specs.BTreeMap.{BTreeMap}
 use Rattle.std.specs.FinMap as maps
 use Rattle.sqlite.specs.declared.types.Value.TheVariants.{Int}
@@ -30,12 +33,15 @@ use Rattle.sql_decoding.specs.RowTests.{AreOfficeRows as ReadRows}
 use Rattle.office_rules.specs.Given.{AreStatusesOf}
 use Rattle.sql_adoption.specs.BookShown.{book_shown, IsRecordRow}
 use Rattle.sql_adoption.proofs.WholeBook.{all_numbered, whole_book}
+use Rattle.sql_streams.specs.declared.walking.WalkFault.{WalkFault}
+use Rattle.sql_streams.specs.declared.walking.WalkFault.TheVariants.{NoRows, NoSink}
+use Rattle.sql_streams.specs.Walks.{GaveUpTo, CutShort}
 use Rattle.sql_adoption.specs.declared.faults.OpenFault.{OpenFault}
 use Rattle.sql_adoption.specs.declared.faults.OpenFault.TheVariants.{Memory, Disk, Foreign, Exists}
 use Rattle.sql_adoption.specs.declared.faults.Mismatch.TheVariants.{OtherTables, OtherForm, UnreadRow, OtherFigures, BrokenRules}
 use Rattle.sql_adoption.specs.declared.office_put.ReadOffice.{ReadOffice}
 use Rattle.sql_adoption.specs.Adoption.{TellsForm}
-use Rattle.sql_adoption.specs.Reading.{unread, ShowsForm, IsOfRows, PutsRows, AddsDomain, RefusesRows, RefusesOf, RefusesBook, IsReadOf, AreStatusesIn}
+use Rattle.sql_adoption.specs.Reading.{unread, IsOfWalk, ShowsForm, IsOfRows, PutsRows, AddsDomain, RefusesRows, RefusesOf, RefusesBook, IsReadOf, AreStatusesIn}
 use Rattle.sql_adoption.proofs.Stand.{office_stands, rows_stand, all_contents, book_stands, records_stand}
 use Rattle.sql_schema.specs.Layouts.{Form, for_main, by_domain, is_own_table, NamedRows, rows_named}
 
@@ -152,10 +158,31 @@ module _ (form : Form) (db : Database) (rows : List Row) (shows : ShowsRecords d
   }
 
 -- records that weren't read
-pub book_unread : {C : Type 0} (db : Database) (rows : List Row) (failure : Failure) (fault : OpenFault) → (C → ShowsRecords db rows) → fault ≡ unread failure.lost
-    → (failure.lost ≡ lost.Disk → ¬ All IsRecordRow rows) → C → RefusesBook db fault
-book_unread {C} db rows failure fault shows is unread_rows clean = subst (RefusesBook db) (sym is) (by failure.lost refl)
-  where
-    by : (l : Lost) → failure.lost ≡ l → RefusesBook db (unread l)
-    by lost.Memory e = tt
-    by lost.Disk e = λ stand. unread_rows e (records_stand (rows_named db) rows (shows clean) stand)
+module _ (db : Database) {K : Type 0} (Took : K → List Row → K → Type 0) (first last : K) where
+  abbrev Refuses : K → Row → Failure → K → Type 0
+  Refuses a row failure b = failure.lost ≡ lost.Disk → ¬ IsRecordRow row
+
+  in_the_middle : (xs : List Row) (y : Row) (ys : List Row) → AllByRecursion IsRecordRow (xs ++ y ∷ ys) → IsRecordRow y
+  in_the_middle [] y ys all = all.0
+  in_the_middle (x ∷ xs) y ys all = in_the_middle xs y ys all.1
+
+  book_unread : (failure : Failure) (fault : OpenFault) → GaveUpTo Took Refuses (ShowsRecords db) first last failure → fault ≡ unread failure.lost → RefusesBook db fault
+  book_unread failure fault it is = subst (RefusesBook db) (sym is) (by failure.lost refl)
+    where
+      by : (l : Lost) → failure.lost ≡ l → RefusesBook db (unread l)
+      by lost.Memory e = tt
+      by lost.Disk e = λ stand.
+          it.refused e (in_the_middle it.front it.row it.rest (recursion_from_All IsRecordRow (it.front ++ it.row ∷ it.rest) (records_stand (rows_named db) (it.front ++ it.row ∷ it.rest) it.answer stand)))
+
+  no_statement : (fault : OpenFault) → (fault ≡ Memory) ⊎ (fault ≡ Disk) → RefusesBook db fault
+  no_statement fault (inl is) = subst (RefusesBook db) (sym is) tt
+  no_statement fault (inr is) = subst (RefusesBook db) (sym is) tt
+
+  walk_refuses : (cut : WalkFault Failure) (fault : OpenFault) → IsOfWalk cut fault → CutShort Took Refuses (ShowsRecords db) first last cut → RefusesBook db fault
+  walk_refuses (NoRows error) fault is it = no_statement fault is.others
+  walk_refuses (NoSink failure) fault is it = book_unread failure fault it is
+
+  pub walk_refused : {C A : Type 0} (r : Result A OpenFault) (cut : WalkFault Failure) → IsErrAnd r (IsOfWalk cut) → (C → CutShort Took Refuses (ShowsRecords db) first last cut)
+      → IfErr r (λ fault. C → RefusesBook db fault)
+  walk_refused (Ok x) cut is it = tt
+  walk_refused (Err fault) cut is it = λ clean. walk_refuses cut fault is (it clean)

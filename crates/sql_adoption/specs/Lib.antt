@@ -1,4 +1,5 @@
 pub mod BookShown
+pub mod NotedRecords
 pub mod Adoption
 pub mod Faults
 pub mod Reading

@@ -29,6 +29,9 @@ use Rattle.sql_statements.specs.declared.owners.Owners.{Owners}
 use Rattle.sql_statements.specs.declared.whole_office.WholeOffice.{WholeOffice}
 use Rattle.sql_meaning.specs.OfficeShown.{project_shown, with_shown}
 use Rattle.sql_decoding.specs.RowTests.{is_domain_row, AreOfficeRows}
+use Rattle.sql_decoding.specs.declared.faults.Failure.{Failure}
+use Rattle.sql_streams.specs.declared.walking.WalkFault.{WalkFault}
+use Rattle.sql_streams.specs.declared.walking.WalkFault.TheVariants.{NoRows, NoSink}
 use Rattle.office_rules.specs.Given.{AreAll, AreAllDomains, AreAllLangs, AreStatusesOf}
 use Rattle.sql_adoption.specs.declared.faults.OpenFault.{OpenFault}
 use Rattle.sql_adoption.specs.declared.faults.OpenFault.TheVariants.{Memory, Disk, Foreign, Exists}
@@ -53,6 +56,11 @@ pub record IsOfStatement (error : Error) (fault : OpenFault) : Type 0 where
 abbrev pub unread : Lost → OpenFault
 unread lost.Memory = Memory
 unread lost.Disk = Foreign UnreadRow
+
+-- why a walk over rows was cut short: by its query, or by a row that was not read
+abbrev pub IsOfWalk : WalkFault Failure → OpenFault → Type 0
+IsOfWalk (NoRows error) fault = IsOfStatement error fault
+IsOfWalk (NoSink failure) fault = fault ≡ unread failure.lost
 
 -- ---- the form
 

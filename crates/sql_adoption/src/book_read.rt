@@ -1,5 +1,5 @@
 //! The book of the rows, beside an office that was read.
-ghost use Rattle.std.specs.Prelude.{◌≡◌, false, IfOk, IfErr, OnOk};
+ghost use Rattle.std.specs.Prelude.{◌≡◌, false, IfErr, IsTrue, OnOk};
 ghost use Rattle.sqlite.specs.Held.{state};
 ghost use Rattle.sqlite.specs.State.{HasCleanDisk};
 ghost use Rattle.request_book.specs.Book.{Book};
@@ -11,29 +11,29 @@ ghost use Rattle.office_rules.specs.Given.{AreStatusesOf};
 ghost use Rattle.sql_adoption.specs.Reading.{AreStatusesIn, HoldsAll, KeepsBook, RefusesWith, RefusesBook, RefusesKept};
 
 use crate::faults::{Mismatch, OpenFault};
-use crate::look_ups::look_up_records;
 use crate::office_put::ReadOffice;
-use crate::statuses::statuses_in;
+use crate::statuses::Statuses;
 use office_rules::keeps_rules;
+use sql_statements::record_queries::walk_contents;
 use sqlite::{Alter, Connection};
 use std::alloc::Global;
 use std::collections::BTreeMap;
 use uuid::Uuid;
 
-/// The statuses of all records.
+/// The statuses of all records, whose rows are read one at a time, of a connection that is open.
 fn read_statuses<S: Alter>(
     connection: &mut Connection<S>,
     alloc: Global,
 ) -> Result<BTreeMap<Uuid, u16>, OpenFault>
     requires autocommit { connection.old.in_transaction ≡ false }
-    ensures found { (form : Form) → IsIdleOver form (state S.Store connection.old) → IsLookUp (state S.Store connection.old) (state S.Store connection.new) result AreStatusesIn }
-    ensures refused { (form : Form) → IsIdleOver form (state S.Store connection.old) → IfErr result (λ fault. HasCleanDisk (state S.Store connection.new) → RefusesBook (state S.Store connection.old).now fault) }
+    requires idle { (form : Form) × IsIdleOver form (state S.Store connection.old) }
+    requires is_open { HasCleanDisk (state S.Store connection.old) → IsTrue (state S.Store connection.old).is_open }
+    ensures found { IsLookUp (state S.Store connection.old) (state S.Store connection.new) result AreStatusesIn }
+    ensures refused { IfErr result (λ fault. HasCleanDisk (state S.Store connection.new) → RefusesBook (state S.Store connection.old).now fault) }
 {
-    let rows = look_up_records(connection)?;
-    match statuses_in(alloc, rows.as_slice()) {
-        Ok(statuses) => Ok(statuses),
-        Err(failure) => Err(OpenFault::unread(failure)),
-    }
+    let mut statuses = Statuses::new(alloc);
+    walk_contents(connection, &mut statuses)?;
+    Ok(statuses.by_number)
 }
 
 /// Tests the rules, for a book of whose records these are the statuses.
@@ -53,16 +53,18 @@ fn keep_rules(
     }
 }
 
-/// Tests the rules of an office that was read, with the book of the rows.
+/// Tests the rules of an office that was read, with the book of the rows, of a connection that is open.
 pub fn keep_book<S: Alter>(
     connection: &mut Connection<S>,
     alloc: Global,
     read: &ReadOffice,
 ) -> Result<(), OpenFault>
     requires autocommit { connection.old.in_transaction ≡ false }
+    requires idle { (form : Form) × IsIdleOver form (state S.Store connection.old) }
+    requires is_open { HasCleanDisk (state S.Store connection.old) → IsTrue (state S.Store connection.old).is_open }
     requires holds { HoldsAll read.now }
-    ensures found { (form : Form) → IsIdleOver form (state S.Store connection.old) → IsLookUp (state S.Store connection.old) (state S.Store connection.new) result (λ db _. KeepsBook (office_in read.now.maps) db) }
-    ensures refused { (form : Form) → IsIdleOver form (state S.Store connection.old) → IfErr result (λ fault. HasCleanDisk (state S.Store connection.new) → RefusesKept (office_in read.now.maps) (state S.Store connection.old).now fault) }
+    ensures found { IsLookUp (state S.Store connection.old) (state S.Store connection.new) result (λ db _. KeepsBook (office_in read.now.maps) db) }
+    ensures refused { IfErr result (λ fault. HasCleanDisk (state S.Store connection.new) → RefusesKept (office_in read.now.maps) (state S.Store connection.old).now fault) }
 {
     let statuses = read_statuses(connection, alloc)?;
     keep_rules(alloc, read, &statuses)

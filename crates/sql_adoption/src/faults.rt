@@ -1,6 +1,7 @@
 //! Why an office's tables can't be had.
 
 use sql_decoding::Failure;
+use sql_streams::WalkFault;
 use sqlite::Error;
 use std::alloc::AllocError;
 use tables::Lost;
@@ -105,6 +106,20 @@ impl From<Error> for OpenFault {
 
     fn from(error: Error) -> OpenFault {
         OpenFault::from(Failure::from(error))
+    }
+}
+
+/// Of a walk that was cut short: why its query failed, or why a row wasn't read.
+impl From<WalkFault<Failure>> for OpenFault {
+    ghost use Rattle.sql_adoption.specs.Reading.{IsOfWalk};
+
+    ghost from_gives = { IsOfWalk };
+
+    fn from(fault: WalkFault<Failure>) -> OpenFault {
+        match fault {
+            WalkFault::NoRows(error) => OpenFault::from(error),
+            WalkFault::NoSink(failure) => OpenFault::unread(failure),
+        }
     }
 }
 

@@ -10,16 +10,16 @@ ghost use Rattle.sql_adoption.specs.Reading.{NotesLang, NotesLangs};
 use sql_columns::lang_from;
 use sql_decoding::Failure;
 use sqlite::Row;
-use std::alloc::{AllocError, Global};
+use std::alloc::AllocError;
 use units::Lang;
 
 /// The language of a row.
-fn lang_of(alloc: Global, row: &Row) -> Result<Lang, Failure>
+fn lang_of(row: &Row) -> Result<Lang, Failure>
     ensures shown { IfOk result (λ lang. lang ≡ text_at 2 row.now) }
     ensures unread { IfErr result (IsUnread (is_language_row row.now)) }
 {
     let column: String = row.get(2)?;
-    Ok(lang_from(alloc, column.as_str())?)
+    Ok(lang_from(column.as_str())?)
 }
 
 /// Notes a language, where it isn't noted yet.
@@ -35,12 +35,12 @@ fn note_lang(langs: &mut Vec<Lang>, lang: Lang) -> Result<(), AllocError>
 }
 
 /// Notes the languages of rows.
-pub(crate) fn note_langs(alloc: Global, langs: &mut Vec<Lang>, rows: &[Row]) -> Result<(), Failure>
+pub(crate) fn note_langs(langs: &mut Vec<Lang>, rows: &[Row]) -> Result<(), Failure>
     ensures noted { OnOk result (NotesLangs (headers_shown rows.now) langs.old.items langs.new.items) }
     ensures unread { IfErr result (IsUnread (list_all is_language_row rows.now)) }
 {
     for row in rows {
-        note_lang(langs, lang_of(alloc, row)?)?;
+        note_lang(langs, lang_of(row)?)?;
     }
     Ok(())
 }

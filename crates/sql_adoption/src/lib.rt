@@ -14,14 +14,14 @@
 //! - `look_ups`: what is read of them, each in a transaction; `own_domains`: whether each is of a domain that there is
 //! - `langs_read`, `office_put`: a domain that is put into an office with all that it sees; `domains_read`: all domains, one after the other
 //! - `office_read`: the office of each form, with no more asked of tables that this program wrote (`load_office`)
-//! - `statuses`, `book_read`: the statuses of all records, and whether the rules hold with the book
+//! - `statuses`, `book_read`: the statuses of all records, one row at a time, and whether the rules hold with the book
 //! - `figure_rows`: the figures that are kept, and the rows that they are of; `language_tallies`, `suggestion_sums`,
 //!   `figures_kept`: whether they are what counting gives
 //! - `tested`: all that is asked (`adopted_office`)
 //! - `faults`: why an office's tables can't be had (`OpenFault`, `Mismatch`)
 //!
 //! The specs `Found` and `Adoption` say what is asked of tables and of rows. `Shapes`, `Checks` and `Tables` are the
-//! tables that constants tell, `BookShown` what rows of records stand for, `Faults` the faults' numbers; inner
+//! tables that constants tell, `BookShown` and `NotedRecords` what rows of records stand for, `Faults` the faults' numbers; inner
 //! functions have the others.
 #![tactic(auto)]
 

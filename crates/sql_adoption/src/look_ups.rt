@@ -1,29 +1,15 @@
-//! What is read in one transaction, which ends by a commit, since only that tells that the connection is still open: all records, the names of
-//! the domains, and of which domain each row of tables by domains is.
+//! What is read in one transaction, which ends by a commit, since only that tells that the connection is still open: the names of the domains,
+//! and of which domain each row of tables by domains is.
 ghost use Rattle.std.specs.Prelude.{◌≡◌, false};
 ghost use Rattle.sqlite.specs.Held.{state};
 ghost use Rattle.sql_schema.specs.Whole.{IsIdleOver, IsLookUp};
-ghost use Rattle.sql_schema.specs.Layouts.{Form, by_domain};
+ghost use Rattle.sql_schema.specs.Layouts.{by_domain};
 ghost use Rattle.sql_statements.specs.DomainAnswers.{ShowsDomains};
-ghost use Rattle.sql_statements.specs.RecordTable.{ShowsRecords};
 ghost use Rattle.sql_statements.specs.Owners.{ShowsAllOwners};
 
 use sql_statements::domains::all_domains;
 use sql_statements::owners::{Owners, all_owners};
-use sql_statements::records::all_records;
 use sqlite::{Alter, Connection, Error, Row};
-
-/// All rows of the table of records, in the order of their numbers. On an error nothing is known of them, and the rows are as before.
-pub(crate) fn look_up_records<S: Alter>(connection: &mut Connection<S>) -> Result<Vec<Row>, Error>
-    requires autocommit { connection.old.in_transaction ≡ false }
-    ensures found { (form : Form) → IsIdleOver form (state S.Store connection.old) → IsLookUp (state S.Store connection.old) (state S.Store connection.new) result
-        (λ db rows. ShowsRecords db rows.items) }
-{
-    let mut tx = connection.transaction();
-    let rows = all_records(&mut tx)?;
-    tx.commit()?;
-    Ok(rows)
-}
 
 /// The domains by name: each one's name. On an error nothing is known of them, and the rows are as before.
 pub(crate) fn look_up_domains<S: Alter>(connection: &mut Connection<S>) -> Result<Vec<Row>, Error>

@@ -84,7 +84,7 @@ fn put_rows(
     ensures all { OnOk result ((domains : List Text) → HoldAll (office_in maps.old) domains langs.old.items → HoldAll (office_in maps.new) (domains ++ domain.now ∷ []) langs.new.items) }
     ensures unread { IfErr result (λ failure. failure.lost ≡ Disk → ¬ AreOfficeRows rows.now) }
 {
-    note_langs(alloc, langs, rows.office.languages.as_slice())?;
+    note_langs(langs, rows.office.languages.as_slice())?;
     add_domain(alloc, maps, domain, rows)
 }
 

@@ -1,5 +1,5 @@
-//! The statuses of all records, as the rows of a read of them all show them.
-ghost use Rattle.std.specs.Prelude.{◌≡◌, true, Some, All, IfOk, IfErr, OnOk};
+//! The statuses of records, as the rows of a walk over them all show them.
+ghost use Rattle.std.specs.Prelude.{◌≡◌, true, Some, IfOk, IfErr, OnOk};
 ghost use Rattle.std.specs.FinMap as maps;
 ghost use Rattle.request_book.specs.Book.{Book, row_of, with_record};
 ghost use Rattle.sql_columns.specs.Readings.{number_read};
@@ -10,12 +10,13 @@ ghost use Rattle.request_book.specs.Contents.{IsContent};
 ghost use Rattle.office_rules.specs.Given.{AreStatusesOf};
 ghost use Rattle.sql_decoding.specs.RowTests.{holds_text, is_number, is_record_row, IsUnread};
 ghost use Rattle.tables.specs.declared.faults.Lost.TheVariants.{Disk};
-ghost use Rattle.sql_adoption.specs.BookShown.{book_shown, IsRecordRow};
+ghost use Rattle.sql_adoption.specs.BookShown.{IsRecordRow};
 
 use office_rules::{is_content, note_status};
 use request_book::{Record, bytes_fit};
 use sql_columns::number_from;
 use sql_decoding::{Failure, record_in};
+use sql_streams::RowSink;
 use sqlite::Row;
 use std::alloc::Global;
 use std::collections::BTreeMap;
@@ -74,17 +75,44 @@ fn note_row(alloc: Global, statuses: &mut BTreeMap<Uuid, u16>, row: &Row) -> Res
     done
 }
 
-/// The statuses of the replies that all rows of the table of records show, by their numbers.
+/// Takes rows of records, and notes the status of each one's reply under its number.
 ///
-/// `Memory` where a growth was refused, and `Disk` exactly where a row stands for no record or its content is no request's.
-pub(crate) fn statuses_in(alloc: Global, rows: &[Row]) -> Result<BTreeMap<Uuid, u16>, Failure>
-    ensures statuses { IfOk result (AreStatusesOf (book_shown rows.now)) }
-    ensures stand { IfOk result (λ _. All IsRecordRow rows.now) }
-    ensures unread { IfErr result (λ failure. failure.lost ≡ Disk → ¬ All IsRecordRow rows.now) }
-{
-    let mut statuses = BTreeMap::new(alloc);
-    for row in rows {
-        note_row(alloc, &mut statuses, row)?;
+/// A row is refused with `Memory` where a growth was, and with `Disk` only where it stands for no record or its content is no request's.
+#[derive(Drop)]
+pub(crate) struct Statuses {
+    alloc: Global,
+    pub(crate) by_number: BTreeMap<Uuid, u16>,
+}
+
+impl Statuses {
+    /// Those of no record.
+    pub(crate) fn new(alloc: Global) -> Statuses
+        ensures { AreStatusesOf maps.empty result.by_number }
+    {
+        Statuses {
+            alloc,
+            by_number: BTreeMap::new(alloc),
+        }
     }
-    Ok(statuses)
+}
+
+impl RowSink for Statuses {
+    ghost use Rattle.std.specs.Prelude.{◌≡◌};
+    ghost use Rattle.tables.specs.declared.faults.Lost.TheVariants.{Disk};
+    ghost use Rattle.sql_adoption.specs.BookShown.{IsRecordRow};
+    ghost use Rattle.sql_adoption.specs.NotedRecords.{NotesRecords, notes_none, notes_more};
+
+    type Refusal = Failure;
+
+    ghost Took = { λ a rows b. NotesRecords a.by_number rows b.by_number };
+
+    ghost Refuses = { λ a row failure b. failure.lost ≡ Disk → ¬ IsRecordRow row };
+
+    ghost none = { λ s. notes_none s.by_number };
+
+    ghost more = { λ a b c xs ys one two. notes_more a.by_number b.by_number c.by_number xs ys one two };
+
+    fn take(&mut self, row: &Row) -> Result<(), Failure> {
+        note_row(self.alloc, &mut self.by_number, row)
+    }
 }

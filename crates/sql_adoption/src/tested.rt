@@ -1,5 +1,5 @@
 //! All that is asked of tables before they are adopted.
-ghost use Rattle.std.specs.Prelude.{◌≡◌, false, Ok, Err, IfOk, IfErr, MatchResult};
+ghost use Rattle.std.specs.Prelude.{◌≡◌, false, Ok, Err, IfOk, IfErr, IsTrue, MatchResult};
 ghost use Rattle.sqlite.specs.Held.{state};
 ghost use Rattle.sqlite.specs.State.{HasCleanDisk};
 ghost use Rattle.sql_schema.specs.Whole.{IsIdleOver, IsLookUp};
@@ -52,7 +52,7 @@ fn where_kept(
     }
 }
 
-/// Tests the rules of an office that was read, with the book of the rows, and the figures that are kept of it.
+/// Tests the rules of an office that was read, with the book of the rows, and the figures that are kept of it, of a connection that is open.
 fn keep_rows<S: Alter>(
     connection: &mut Connection<S>,
     alloc: Global,
@@ -61,6 +61,7 @@ fn keep_rows<S: Alter>(
 ) -> Result<(), OpenFault>
     requires autocommit { connection.old.in_transaction ≡ false }
     requires idle { IsIdleOver (form_told form) (state S.Store connection.old) }
+    requires is_open { HasCleanDisk (state S.Store connection.old) → IsTrue (state S.Store connection.old).is_open }
     requires holds { HoldsAll read.now }
     ensures found { IsLookUp (state S.Store connection.old) (state S.Store connection.new) result (λ db _. KeepsRows (form_told form) (office_in read.now.maps) db) }
     ensures refused { IfErr result (λ fault. HasCleanDisk (state S.Store connection.new) → RefusesKeptRows (form_told form) (office_in read.now.maps) (state S.Store connection.old).now fault) }

@@ -9,6 +9,7 @@ use Rattle.uuid.specs.Text.{parsed}
 use Rattle.po_text.specs.declared.entry.Entry.{Entry}
 use Rattle.po_text.specs.declared.entry.Previous.{Previous}
 use Rattle.po_text.specs.Texts.{Text}
+use Rattle.units.specs.Units.{context_glue}
 use Rattle.units.specs.declared.unit.Key.{Key}
 use Rattle.request_book.specs.Words.{number_text}
 use Rattle.request_book.specs.Fields.{only, text_of, each_of}
@@ -27,7 +28,7 @@ abbrev pub number_read : Text → Option Text
 number_read column = parsed column >>= only (λ number. bytes_eq (number_text number) column)
 
 abbrev pub is_mark : ℕ → Bool
-is_mark b = b == 4
+is_mark b = b == context_glue
 
 -- what stands before the first U+0004 and what follows it, where there is one
 abbrev pub key_parts : Text → Key

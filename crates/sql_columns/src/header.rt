@@ -1,9 +1,8 @@
 //! The columns of a language: its header, and the value of the header's plural rule.
-ghost use Rattle.std.specs.Prelude.{◌≡◌, [], ◌∷◌, map, true, Ok, Err, Some, None, IfOk, OnOk, IfErr};
+ghost use Rattle.std.specs.Prelude.{◌≡◌, [], ◌∷◌, map, Ok, Err, Some, None, IfOk, OnOk, IfErr};
 ghost use Rattle.std.specs.Option.{option_copied};
 ghost use Rattle.serde_json.specs.Data.{array};
 ghost use Rattle.serde_json.specs.View.{view, items_view};
-ghost use Rattle.po_text.specs.Strings.{is_forms};
 ghost use Rattle.units.specs.Rules.{plural_field, rule_in};
 ghost use Rattle.request_book.specs.Words.{strings};
 ghost use Rattle.request_book.specs.Fields.{text_of};
@@ -15,11 +14,11 @@ ghost use Rattle.sql_columns.specs.declared.fault.RowFault.TheVariants.{Malforme
 
 use crate::fault::RowFault;
 use crate::json_columns::{JsonColumn, read_column};
-use crate::names::string_from;
 use crate::previous::{previous_in, previous_value};
-use crate::values::{compact, item, string_in, texts_at, texts_value};
+use crate::values::{compact, item, string_in, texts_at};
 use plural_expr::{PluralFault, PluralForms};
 use po_text::{Entry, Forms, Items, PoString, Previous, Text, field_value};
+use request_book::texts_value;
 use serde_json::Value;
 use std::alloc::{AllocError, Global};
 
@@ -170,30 +169,7 @@ fn comments_in(alloc: Global, value: &Value) -> Result<HeaderComments, RowFault>
     })
 }
 
-/// The msgid and the forms of a header.
-#[derive(Drop)]
-struct HeaderStrings {
-    id: PoString,
-    forms: Forms,
-}
-
-/// A header's msgid is empty, and its string is its one form.
-fn header_strings(alloc: Global, form: PoString) -> Result<HeaderStrings, RowFault>
-    ensures ok { IfOk result (λ strings. strings ≡ record { id = []; forms = form ∷ [] }) }
-    ensures fits { IfOk result (λ strings. is_forms strings.forms ≡ true) }
-    ensures memory { IfErr result (λ e. e ≡ Memory) }
-{
-    let id = string_from(alloc, "")?;
-    let _ = form.as_str();
-    let mut forms = Vec::new(alloc);
-    forms.push(form)?;
-    match Forms::try_new(forms) {
-        Some(forms) => Ok(HeaderStrings { id, forms }),
-        None => Err(RowFault::Malformed),
-    }
-}
-
-/// The header of its parts.
+/// The header of its parts: its msgid is empty, and its string is its one form.
 fn whole_header(
     alloc: Global,
     comments: HeaderComments,
@@ -205,23 +181,26 @@ fn whole_header(
     ensures fits { IfOk result IsHeaderEntry }
     ensures memory { IfErr result (λ e. e ≡ Memory) }
 {
-    match header_strings(alloc, form) {
-        Ok(strings) => Ok(Entry {
-            translator: comments.translator,
-            extracted: comments.extracted,
-            references: comments.references,
-            flags: comments.flags,
-            previous,
-            ctx: None,
-            id: strings.id,
-            plural: None,
-            forms: strings.forms,
-            obsolete: false,
-        }),
-        Err(fault) => {
+    match Forms::one(alloc, form) {
+        Ok(forms) => {
+            let _ = forms.as_slice();
+            Ok(Entry {
+                translator: comments.translator,
+                extracted: comments.extracted,
+                references: comments.references,
+                flags: comments.flags,
+                previous,
+                ctx: None,
+                id: PoString::empty(alloc),
+                plural: None,
+                forms,
+                obsolete: false,
+            })
+        }
+        Err(refused) => {
             drop(comments);
             drop(previous);
-            Err(fault)
+            Err(RowFault::from(refused))
         }
     }
 }

@@ -1,8 +1,6 @@
 //! Columns that are a list of texts: comment lines, references, flags and forms.
 ghost use Rattle.std.specs.Prelude.{◌≡◌, ⊤, List, true, false, Err, IfOk};
 ghost use Rattle.po_text.specs.Strings.{is_forms};
-ghost use Rattle.request_book.specs.Words.{strings};
-ghost use Rattle.serde_json.specs.View.{view};
 ghost use Rattle.sql_columns.specs.Faults.{Gives};
 ghost use Rattle.sql_columns.specs.Readings.{texts_of};
 ghost use Rattle.sql_columns.specs.Written.{texts_text};
@@ -11,8 +9,9 @@ ghost use Rattle.sql_columns.specs.declared.fault.RowFault.TheVariants.{Malforme
 use crate::fault::RowFault;
 use crate::json_columns::{JsonColumn, read_column};
 use crate::names::string_from;
-use crate::values::{compact, texts_in, texts_value};
+use crate::values::{compact, texts_in};
 use po_text::{Forms, Items, Text};
+use request_book::{strings_value, texts_value};
 use serde_json::Value;
 use std::alloc::{AllocError, Global};
 
@@ -52,18 +51,8 @@ impl JsonColumn for Items<Text> {
 pub fn forms_column(alloc: Global, forms: &Forms) -> Result<Text, AllocError>
     ensures { IfOk result (λ column. column ≡ texts_text forms.now) }
 {
-    let value = forms_value(alloc, forms)?;
+    let value = strings_value(alloc, forms.as_slice())?;
     compact(alloc, &value)
-}
-
-fn forms_value(alloc: Global, forms: &Forms) -> Result<Value, AllocError>
-    ensures { IfOk result (λ v. view v ≡ strings forms.now) }
-{
-    let mut list = Vec::new(alloc);
-    for form in forms.as_slice() {
-        list.push(Value::try_from_str(alloc, form.as_str())?)?;
-    }
-    Ok(Value::Array(list))
 }
 
 /// The forms that a column stands for.

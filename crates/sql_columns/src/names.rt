@@ -16,28 +16,30 @@ use crate::fault::RowFault;
 use po_text::{PoString, Text};
 use request_book::bytes_fit;
 use std::alloc::{AllocError, Global};
-use units::{Key, Lang, Name};
+use units::{CONTEXT_GLUE, Key, Lang, Name};
 use uuid::Uuid;
 
 /// The name that a column stands for: the column itself, where it is a name. (A name is written as itself.)
-pub fn name_from(alloc: Global, column: &str) -> Result<Name, RowFault>
+pub fn name_from(column: &str) -> Result<Name, RowFault>
     ensures ok { IfOk result (λ name. column.now ≡ name) }
     ensures fits { IfOk result (λ name. is_name name ≡ true) }
-    ensures back { is_name column.now ≡ true → Gives result column.now }
+    ensures back { is_name column.now ≡ true → result ≡ Ok column.now }
+    ensures fault { IfErr result (λ e. e ≡ Malformed) }
 {
-    match Name::try_new(alloc, column)? {
+    match Name::try_new(column) {
         Some(name) => Ok(name),
         None => Err(RowFault::Malformed),
     }
 }
 
 /// The language that a column stands for: the column itself, where it is a language's code. (A code is written as itself.)
-pub fn lang_from(alloc: Global, column: &str) -> Result<Lang, RowFault>
+pub fn lang_from(column: &str) -> Result<Lang, RowFault>
     ensures ok { IfOk result (λ lang. column.now ≡ lang) }
     ensures fits { IfOk result (λ lang. is_lang lang ≡ true) }
-    ensures back { is_lang column.now ≡ true → Gives result column.now }
+    ensures back { is_lang column.now ≡ true → result ≡ Ok column.now }
+    ensures fault { IfErr result (λ e. e ≡ Malformed) }
 {
-    match Lang::try_new(alloc, column)? {
+    match Lang::try_new(column) {
         Some(lang) => Ok(lang),
         None => Err(RowFault::Malformed),
     }
@@ -92,7 +94,7 @@ fn key_of_parts(alloc: Global, column: &str) -> Result<Key, RowFault>
     ensures fits { IfOk result HasStrings }
     ensures malformed { result ≡ Err Malformed → ¬ HasStrings (key_parts column.now) }
 {
-    match column.split_once('\u{4}') {
+    match column.split_once(CONTEXT_GLUE) {
         Some((ctx, id)) => Ok(Key {
             ctx: Some(string_from(alloc, ctx)?),
             id: string_from(alloc, id)?,

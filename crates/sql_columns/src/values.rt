@@ -7,7 +7,6 @@ ghost use Rattle.serde_json.specs.View.{view, items_view};
 ghost use Rattle.serde_json.specs.Written.{compact_text, has_float};
 ghost use Rattle.po_text.specs.Strings.{is_string};
 ghost use Rattle.request_book.specs.Fields.{text_of, each_of};
-ghost use Rattle.request_book.specs.Words.{strings};
 ghost use Rattle.sql_columns.specs.Readings.{item_as, texts_of, string_or_null_of};
 ghost use Rattle.sql_columns.specs.Written.{string_or_null};
 ghost use Rattle.sql_columns.specs.declared.fault.RowFault.TheVariants.{Malformed};
@@ -115,16 +114,6 @@ pub(crate) fn string_or_null_at(
 }
 
 // ---- writing
-
-pub(crate) fn texts_value(alloc: Global, texts: &[Text]) -> Result<Value, AllocError>
-    ensures { IfOk result (λ v. view v ≡ strings texts.now) }
-{
-    let mut list = Vec::new(alloc);
-    for text in texts {
-        list.push(Value::try_from_str(alloc, text.as_str())?)?;
-    }
-    Ok(Value::Array(list))
-}
 
 pub(crate) fn string_or_null_value(
     alloc: Global,

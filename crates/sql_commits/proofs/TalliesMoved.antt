@@ -1,6 +1,6 @@
 -- How a tally moves by what is read of a unit that is there: for its new view, for its row alone, and for a suggestion more.
 use Rattle.std.specs.Prelude.{⊤}
-use Rattle.std.proofs.Common.{◌≡◌, ◌&&◌, List, [], ◌∷◌, ◌++◌, map, filter, length, Bool, true, Option, Some, None, cond, option_map, unwrap_or, nat_eq, rules, codes, refl, sym, ap, subst, ◌∙◌}
+use Rattle.std.proofs.Common.{◌⊎◌, inl, inr, ◌≡◌, ◌&&◌, List, [], ◌∷◌, ◌++◌, map, filter, length, Bool, true, Option, Some, None, cond, option_map, unwrap_or, nat_eq, rules, codes, refl, sym, ap, subst, ◌∙◌}
 use Rattle.std.specs.FinMap as maps
 use Rattle.std.specs.List.Sorted.{IsPermutation}
 use Rattle.sqlite.specs.Effect.{Database}
@@ -35,7 +35,8 @@ use Rattle.sql_meaning.proofs.Units.{finds_unit}
 use Rattle.sql_figures.specs.Figures.{moved_at, FiguresFollow}
 use Rattle.sql_figures.specs.KeptTallies.{Counts, counted_at}
 use Rattle.sql_figures.proofs.FigureSteps.{follow_as}
-use Rattle.sql_commits.specs.Counted.{HasValues, HasValuesIf, ShowsValues, CountsOneMore}
+use Rattle.sql_commits.specs.Counted.{HasValues, HasValuesIf, HasMoving, HasMovingIf, ShowsMoving, ShowsValues, CountsOneMore}
+use Rattle.sql_commits.proofs.UnitTallied.{suggestions_aside}
 use Rattle.sql_commits.specs.Figures.{project_at, FollowsView, FollowsOwnRow, FollowsOneMore}
 use Rattle.sql_commits.specs.declared.unit_counts.CountedValues.{CountedValues}
 
@@ -62,6 +63,20 @@ module _ (db : Database) (ready : AreOfficeTablesOf by_domain db) (domain lang :
   unit_looked_up given code column found is_domain is_lang is_key shown =
       let own = subst (λ (x : Text × Text × Text). ShowsDomainUnit x.0 x.1 x.2 db found) (λ i. (is_domain i, is_lang i, is_key i)) shown in
       finds_unit tables lang key found (domain_rows db ready domain).keyed.one_unit strings (unit_found_seen domain lang (key_text key) db found own (tables (codes "unit")) refl)
+
+  -- what is read of its row is what it counts, but for its suggestions
+  module _ (given code column : Text) (found : Option Row) (is_domain : given ≡ domain) (is_lang : code ≡ lang) (is_key : column ≡ key_text key) (shown : ShowsDomainUnit given code column db found) (obsolete : Bool) where
+    row_at_key : maps.get (project_at domain db).units (lang, key) ≡ option_map (shown_unit key suggested) found
+    row_at_key = unit_looked_up given code column found is_domain is_lang is_key shown
+
+    pub row_moving : (row : Row) (values : CountedValues) → found ≡ Some row → values.state ≡ state_at 2 row → values.obsolete ≡ flag_at 3 row → values.obsolete ≡ obsolete → values.suggestions ≡ 0
+        → HasMovingIf key obsolete (maps.get (project_at domain db).units (lang, key)) (Some values)
+    row_moving row values is_found is_state is_obsolete alike none =
+        subst (λ o. HasMovingIf key obsolete o (Some values)) (sym (row_at_key ∙ ap (option_map (shown_unit key suggested)) is_found))
+        (refl, (sym is_state, sym is_obsolete, inl (sym is_obsolete ∙ alike, none)))
+
+    pub none_moving : found ≡ None → HasMovingIf key obsolete (maps.get (project_at domain db).units (lang, key)) None
+    none_moving is_found = subst (λ o. HasMovingIf key obsolete o None) (sym (row_at_key ∙ ap (option_map (shown_unit key suggested)) is_found)) tt
 
   -- as many suggestions are on it as there are places
   places_seen : (rows : List Row) → ShowsPlaces domain lang (key_text key) db rows → length suggested ≡ length rows
@@ -90,6 +105,11 @@ module _ (db : Database) (ready : AreOfficeTablesOf by_domain db) (domain lang :
 
     pub none_shown : found ≡ None → ShowsValues domain lang key db None
     none_shown is_found = subst (λ o. HasValuesIf key o None) (sym (at_key ∙ ap (option_map (shown_unit key suggested)) is_found)) tt
+
+-- with all of its values, whatever takes its place
+pub values_moving : (key : Key) (obsolete : Bool) (there : Option Unit) (values : CountedValues) → HasValuesIf key there (Some values) → HasMovingIf key obsolete there (Some values)
+values_moving key obsolete (Some unit) values has = (has.0, (has.1.0, has.1.1, inr has.1.2))
+values_moving key obsolete None values has = has
 
 -- ---- for its new view
 
@@ -125,6 +145,11 @@ counts_nowhere source there tally is nothing template key None entry has = nothi
 
 -- ---- for its row alone
 
+-- tallies that move the same
+moved_alike : (domain lang : Text) (was is first second : Tally) → ((before : Tally) → moved before first second ≡ moved before was is) → (counts : Counts) (d l : Text)
+    → moved_at domain lang was is counts d l ≡ moved_at domain lang first second counts d l
+moved_alike domain lang was is first second alike counts d l = λ i. cond (same_domain d domain && text_eq l lang) (option_map (λ (before : Tally). sym (alike before) i) (counts d l)) (counts d l)
+
 -- a view is of the unit that is there, and of its key's entry
 pub view_parts : (project : Project) (lang : Text) (key : Key) (there : UnitView) → view_of project (lang, key) ≡ Some there
     → (maps.get project.units (lang, key) ≡ Some there.unit) × (there.source ≡ entry_of project.template key)
@@ -136,32 +161,52 @@ view_parts project lang key there is = by (maps.get project.units (lang, key)) i
         (ap (λ (v : UnitView). Some v.unit) same, sym (ap (λ (v : UnitView). v.source) same))
     by None e = absurd (let none : None ≡ Some there = e in cc)
 
+module _ (domain lang : Text) (view : UnitView) (values own : CountedValues) (was is : Tally) (old new : Database) (before : CountsSo view.source values was) (now : CountsSo view.source own is)
+    (is_own : own ≡ record { state = view.unit.state; obsolete = view.unit.obsolete; suggestions = values.suggestions }) (follows : FiguresFollow (moved_at domain lang was is) old new) where
+  -- from a unit with these values to the view's with as many suggestions
+  moves_so : (template : List Entry) (unit : Unit) → view.source ≡ entry_of template unit.key → unit.key ≡ view.unit.key → HasValues unit values
+      → FiguresFollow (moved_at domain lang (counted template unit) (counted template (record view.unit { suggestions = unit.suggestions }))) old new
+  moves_so template unit entry same has =
+      let left : Unit = record view.unit { suggestions = unit.suggestions } in
+      let first = before template unit entry has in
+      let second = now template left (entry ∙ ap (entry_of template) same) (subst (HasValues left) (sym is_own) (refl, refl, has.2)) in
+      subst (λ (x : Tally × Tally). FiguresFollow (moved_at domain lang x.0 x.1) old new) (λ i. (first i, second i)) follows
+
+  moves_from : (template : List Entry) (unit : Unit) → view.source ≡ entry_of template unit.key → unit.key ≡ view.unit.key → HasMoving view.unit.obsolete unit values
+      → FiguresFollow (moved_at domain lang (counted template unit) (counted template (record view.unit { suggestions = unit.suggestions }))) old new
+  moves_from template unit entry same has = by has.2
+    where
+      by : ((unit.obsolete ≡ view.unit.obsolete) × (values.suggestions ≡ 0)) ⊎ (length unit.suggestions ≡ values.suggestions)
+          → FiguresFollow (moved_at domain lang (counted template unit) (counted template (record view.unit { suggestions = unit.suggestions }))) old new
+      by (inr many) = moves_so template unit entry same (has.0, has.1, many)
+      by (inl aside) =
+          let without : Unit = record unit { suggestions = [] } in
+          let left : Unit = record view.unit { suggestions = unit.suggestions } in
+          let bare_left : Unit = record view.unit { suggestions = [] } in
+          let change = moved_at domain lang (counted template unit) (counted template left) in
+          follow_as (λ counts. ⊤) (moved_at domain lang (counted template without) (counted template bare_left)) change
+          (moved_alike domain lang (counted template unit) (counted template left) (counted template without) (counted template bare_left) (λ tally. suggestions_aside template unit view.unit tally aside.0))
+          (moves_so template without entry same (has.0, has.1, sym aside.1))
+
 pub moves_row_alone : (domain lang : Text) (view : UnitView) (values own : CountedValues) (was is : Tally) (old mid new : Database) → CountsSo view.source values was → CountsSo view.source own is
     → own ≡ record { state = view.unit.state; obsolete = view.unit.obsolete; suggestions = values.suggestions }
-    → (mid ≡ old) × ShowsValues domain lang view.unit.key old (Some values) → FiguresFollow (moved_at domain lang was is) mid new → FollowsOwnRow domain lang view old new
+    → (mid ≡ old) × ShowsMoving domain lang view.unit old (Some values) → FiguresFollow (moved_at domain lang was is) mid new → FollowsOwnRow domain lang view old new
 moves_row_alone domain lang view values own was is old mid new before now is_own shown follows key there found same source =
     let project = project_at domain old in
     let parts = view_parts project lang key there found in
     let entry : view.source ≡ entry_of project.template key = source ∙ parts.1 in
-    let has : (there.unit.key ≡ view.unit.key) × HasValues there.unit values =
-    subst (λ (o : Option Unit). HasValuesIf view.unit.key o (Some values)) (ap (λ (k : Key). maps.get project.units (lang, k)) same ∙ parts.0) shown.1 in
-    let first = before project.template there.unit (entry ∙ ap (entry_of project.template) (sym (has.0 ∙ same))) has.1 in
-    let left : Unit = record view.unit { suggestions = there.unit.suggestions } in
-    let second = now project.template left (entry ∙ ap (entry_of project.template) (sym same)) (subst (HasValues left) (sym is_own) (refl, refl, has.1.2)) in
-    subst (λ (x : Tally × Tally). FiguresFollow (moved_at domain lang x.0 x.1) old new) (λ i. (first i, second i)) (subst (λ (db : Database). FiguresFollow (moved_at domain lang was is) db new) shown.0 follows)
+    let has : (there.unit.key ≡ view.unit.key) × HasMoving view.unit.obsolete there.unit values =
+    subst (λ (o : Option Unit). HasMovingIf view.unit.key view.unit.obsolete o (Some values)) (ap (λ (k : Key). maps.get project.units (lang, k)) same ∙ parts.0) shown.1 in
+    moves_from domain lang view values own was is old new before now is_own (subst (λ (db : Database). FiguresFollow (moved_at domain lang was is) db new) shown.0 follows)
+    project.template there.unit (entry ∙ ap (entry_of project.template) (sym (has.0 ∙ same))) has.0 has.1
 
 -- where there is no unit, there is no view of it
-pub no_row_moved : (domain lang : Text) (view : UnitView) (old mid : Database) → (mid ≡ old) × ShowsValues domain lang view.unit.key old None → FollowsOwnRow domain lang view old mid
+pub no_row_moved : (domain lang : Text) (view : UnitView) (old mid : Database) → (mid ≡ old) × ShowsMoving domain lang view.unit old None → FollowsOwnRow domain lang view old mid
 no_row_moved domain lang view old mid shown key there found same source =
     let project = project_at domain old in
-    absurd (subst (λ (o : Option Unit). HasValuesIf view.unit.key o None) (ap (λ (k : Key). maps.get project.units (lang, k)) same ∙ (view_parts project lang key there found).0) shown.1)
+    absurd (subst (λ (o : Option Unit). HasMovingIf view.unit.key view.unit.obsolete o None) (ap (λ (k : Key). maps.get project.units (lang, k)) same ∙ (view_parts project lang key there found).0) shown.1)
 
 -- ---- for a suggestion more
-
--- tallies that move the same
-moved_alike : (domain lang : Text) (was is first second : Tally) → ((before : Tally) → moved before first second ≡ moved before was is) → (counts : Counts) (d l : Text)
-    → moved_at domain lang was is counts d l ≡ moved_at domain lang first second counts d l
-moved_alike domain lang was is first second alike counts d l = λ i. cond (same_domain d domain && text_eq l lang) (option_map (λ (before : Tally). sym (alike before) i) (counts d l)) (counts d l)
 
 module _ (domain lang : Text) (key : Key) (old mid : Database) (found : Option Row) (units : List Suggestion)
     (shown : (mid ≡ old) × (maps.get (project_at domain old).units (lang, key) ≡ option_map (shown_unit key units) found)) where

@@ -1,5 +1,5 @@
 -- What one unit counts, by the values that are read of it, and what a suggestion more on it does.
-use Rattle.std.proofs.Common.{◌≡◌, ℕ, ◌+◌, ◌-◌, [], ◌∷◌, ◌++◌, List, true, false, length, refl, sym, ap, ◌∙◌, zero-add, arith}
+use Rattle.std.proofs.Common.{◌≡◌, ℕ, ◌+◌, ◌-◌, [], ◌∷◌, ◌++◌, List, Bool, true, false, length, refl, sym, ap, ◌∙◌, zero-add, arith}
 use Rattle.std.proofs.lemmas.List.{length-append}
 use Rattle.po_text.specs.declared.entry.Entry.{Entry}
 use Rattle.units.specs.Project.{entry_of}
@@ -108,3 +108,51 @@ obsolete_counts template unit s before is =
       translated = again before.translated 0 i;
       untranslated = again before.untranslated 0 i;
     }) ∙ (λ i. moved before (was i) (now i))
+
+-- ---- suggestions that count the same before and behind
+
+with_suggestions : (state : ShownState) (n : ℕ) → one_more state (record none_counted { suggestions = n }) ≡ record (one_more state none_counted) { suggestions = n }
+with_suggestions Untranslated n = refl
+with_suggestions NeedsEditing n = refl
+with_suggestions Translated n = refl
+with_suggestions Approved n = refl
+with_suggestions ReadOnly n = refl
+
+shown_aside : (was is : ShownState) (n : ℕ) (before : Tally)
+    → moved before (one_more was (record none_counted { suggestions = 0 })) (one_more is (record none_counted { suggestions = 0 }))
+    ≡ moved before (one_more was (record none_counted { suggestions = n })) (one_more is (record none_counted { suggestions = n }))
+shown_aside was is n before =
+    (λ i. moved before (with_suggestions was 0 i) (with_suggestions is 0 i))
+    ∙ (λ i. record (moved before (one_more was none_counted) (one_more is none_counted)) { suggestions = again before.suggestions n i })
+    ∙ (λ i. moved before (sym (with_suggestions was n) i) (sym (with_suggestions is n) i))
+
+-- a tally moves from one unit to another that has its suggestions as it does without these, where both are obsolete or neither is
+pub suggestions_aside : (template : List Entry) (unit left : Unit) (before : Tally) → unit.obsolete ≡ left.obsolete
+    → moved before (counted template (record unit { suggestions = [] })) (counted template (record left { suggestions = [] }))
+    ≡ moved before (counted template unit) (counted template (record left { suggestions = unit.suggestions }))
+suggestions_aside template unit left before alike = by unit.obsolete refl
+  where
+    bare_unit : Unit
+    bare_unit = record unit { suggestions = [] }
+
+    bare_left : Unit
+    bare_left = record left { suggestions = [] }
+
+    suggested : Unit
+    suggested = record left { suggestions = unit.suggestions }
+
+    by : (b : Bool) → unit.obsolete ≡ b
+        → moved before (counted template (record unit { suggestions = [] })) (counted template (record left { suggestions = [] }))
+        ≡ moved before (counted template unit) (counted template (record left { suggestions = unit.suggestions }))
+    by true is =
+        let also : left.obsolete ≡ true = sym alike ∙ is in
+        (λ i. moved before (sym (obsolete_counted template bare_unit is) i) (sym (obsolete_counted template bare_left also) i))
+        ∙ (λ i. moved before (obsolete_counted template unit is i) (obsolete_counted template suggested also i))
+    by false is =
+        let neither : left.obsolete ≡ false = sym alike ∙ is in
+        let n = length unit.suggestions in
+        let was = shown_state (entry_of template unit.key) unit in
+        let now = shown_state (entry_of template left.key) left in
+        (λ i. moved before (sym (shown_counted template bare_unit 0 was is refl refl) i) (sym (shown_counted template bare_left 0 now neither refl refl) i))
+        ∙ shown_aside was now n before
+        ∙ (λ i. moved before (shown_counted template unit n was is refl refl i) (shown_counted template suggested n now neither refl refl i))

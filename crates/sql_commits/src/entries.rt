@@ -17,7 +17,7 @@ use sql_keepable::entry_key_fits;
 use sql_statements::domain_template::put_domain_entry;
 use sqlite::{Alter, Transaction};
 use std::alloc::{AllocError, Global};
-use units::Name;
+use units::{CONTEXT_GLUE, Name};
 
 /// Writes entries of a domain's template, from the first place on.
 pub fn put_entries<S: Alter>(
@@ -65,7 +65,7 @@ fn key_column(alloc: Global, entry: &Entry) -> Result<Text, AllocError>
     let mut text = String::new(alloc);
     if let Some(ctx) = &entry.ctx {
         text.push_str(ctx.as_str())?;
-        text.push('\u{4}')?;
+        text.push(CONTEXT_GLUE)?;
     }
     text.push_str(entry.id.as_str())?;
     Ok(Text::from_string(text))

@@ -6,12 +6,12 @@ ghost use Rattle.sql_schema.specs.Layouts.{by_domain};
 ghost use Rattle.sql_schema.specs.Inside.{IsSteadyOver, IsInsideOf, IsReadOf};
 ghost use Rattle.sql_changes.specs.OnDomains.{SparesDomains};
 ghost use Rattle.tables.specs.Tallies.{moved as moves};
-ghost use Rattle.sql_commits.specs.Counted.{ShowsValues};
+ghost use Rattle.sql_commits.specs.Counted.{ShowsMoving, ShowsValues};
 ghost use Rattle.sql_commits.specs.Figures.{PutsTally, FollowsView, FollowsOwnRow, FollowsOneMore};
 ghost use Rattle.sql_figures.specs.Figures.{with_tallies, moved_at, FiguresFollow};
 
 use crate::unit_counts::{
-    CountedValues, counted, counted_so, counted_there, one_suggestion, values_beside,
+    CountedValues, counted, counted_so, counted_there, one_suggestion, values_beside, values_of,
 };
 use deliveries::Tally;
 use sql_decoding::{Failure, tally_in, unit_numbers};
@@ -22,7 +22,7 @@ use sql_statements::tallies::{find_tally, put_tally};
 use sqlite::{Alter, Transaction};
 use std::alloc::Global;
 use tables::Lost;
-use units::{Key, Lang, Name, UnitView};
+use units::{Key, Lang, Name, Unit, UnitView};
 
 /// The last count that a column holds.
 const LAST_COUNT: usize = 9_223_372_036_854_775_807;
@@ -110,7 +110,7 @@ pub fn move_tally<S: Alter>(
 }
 
 /// Moves a language's tally by what the unit that is there counts, and what it does with the values of its new view and the suggestions that
-/// it has.
+/// it has. These are looked at only where they begin or cease to count.
 pub fn move_row_tally<S: Alter>(
     tx: &mut Transaction<'_, S>,
     alloc: Global,
@@ -123,7 +123,7 @@ pub fn move_row_tally<S: Alter>(
     ensures spares { IsInsideOf by_domain (state S.Store tx.old.conn.now) (state S.Store tx.new.conn.now) result SparesDomains }
     ensures figures { IsInsideOf by_domain (state S.Store tx.old.conn.now) (state S.Store tx.new.conn.now) result (FollowsOwnRow domain.now lang.now view.now) }
 {
-    let there = values_there(tx, alloc, domain, lang, &view.unit.key)?;
+    let there = values_to_move(tx, alloc, domain, lang, &view.unit)?;
     match there {
         Some(values) => {
             let was = counted_so(&view.source, &values);
@@ -229,11 +229,37 @@ fn values_there<S: Alter>(
     match found {
         Some(row) => {
             let numbers = unit_numbers(&row)?;
-            Ok(Some(CountedValues {
-                state: numbers.state,
-                obsolete: numbers.obsolete,
-                suggestions: places.len(),
-            }))
+            Ok(Some(values_of(&numbers, places.len())))
+        }
+        None => Ok(None),
+    }
+}
+
+/// What a tally counts of the unit that is there at a unit's key, if there is one. Where both are obsolete, or neither is, suggestions move no
+/// count: none is looked at then, and none counted.
+fn values_to_move<S: Alter>(
+    tx: &mut Transaction<'_, S>,
+    alloc: Global,
+    domain: &Name,
+    lang: &Lang,
+    unit: &Unit,
+) -> Result<Option<CountedValues>, Failure>
+    requires steady { IsSteadyOver by_domain (state S.Store tx.old.conn.now) }
+    ensures same_reference { tx.new.conn.ghost_name ≡ tx.old.conn.ghost_name }
+    ensures found { IsReadOf by_domain (state S.Store tx.old.conn.now) (state S.Store tx.new.conn.now) result (ShowsMoving domain.now lang.now unit.now) }
+{
+    key_fits(&unit.key);
+    let text = unit.key.text(alloc)?;
+    let found = find_domain_unit(tx, domain.as_str(), lang.as_str(), text.as_str())?;
+    match found {
+        Some(row) => {
+            let numbers = unit_numbers(&row)?;
+            if numbers.obsolete == unit.obsolete {
+                Ok(Some(values_of(&numbers, 0)))
+            } else {
+                let places = places_of(tx, domain.as_str(), lang.as_str(), text.as_str())?;
+                Ok(Some(values_of(&numbers, places.len())))
+            }
         }
         None => Ok(None),
     }

@@ -12,7 +12,7 @@ ghost use Rattle.po_text.specs.declared.entry.Entry.{Entry as EntryValue};
 
 use deliveries::Tally;
 use po_text::Entry;
-use sql_decoding::Failure;
+use sql_decoding::{Failure, UnitNumbers};
 use units::{ShownState, Unit, UnitState, is_read_only};
 
 /// What a tally counts of a unit.
@@ -22,6 +22,17 @@ pub struct CountedValues {
     pub obsolete: bool,
     /// How many suggestions it has.
     pub suggestions: usize,
+}
+
+/// The values of a unit whose row shows these numbers, and that has so many suggestions.
+pub fn values_of(numbers: &UnitNumbers, suggestions: usize) -> CountedValues
+    ensures { result ≡ record { state = numbers.now.state; obsolete = numbers.now.obsolete; suggestions = suggestions } }
+{
+    CountedValues {
+        state: numbers.state,
+        obsolete: numbers.obsolete,
+        suggestions,
+    }
 }
 
 /// The values of a unit that has so many suggestions.

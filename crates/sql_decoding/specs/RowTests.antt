@@ -137,6 +137,11 @@ is_vote (negsuc (suc n)) = false
 abbrev pub is_status : ℤ → Bool
 is_status = natural_passes (λ n. nat_lt n 65536)
 
+-- of nothing or more
+abbrev pub is_count : ℤ → Bool
+is_count (pos n) = true
+is_count (negsuc n) = false
+
 -- ---- rows
 
 -- name
@@ -210,6 +215,12 @@ is_record row = holds_text any_text 0 row && (holds_integer is_status 1 row && h
 -- with the number behind them
 abbrev pub is_record_row : Row → Bool
 is_record_row row = holds_text is_number 3 row && is_record row
+
+-- untranslated, needing editing, translated, approved, read-only, suggestions, obsolete
+abbrev pub is_tally : Row → Bool
+is_tally row =
+    holds_integer is_count 3 row && (holds_integer is_count 1 row && (holds_integer is_count 6 row
+    && (holds_integer is_count 4 row && (holds_integer is_count 5 row && (holds_integer is_count 2 row && holds_integer is_count 0 row)))))
 
 -- ---- whole tables
 

@@ -120,13 +120,13 @@ pub(crate) fn plural_at(alloc: Global, row: &Row, at: usize) -> Result<Option<Po
 }
 
 /// The text of the name in a column.
-pub fn name_text_at(alloc: Global, row: &Row, at: usize) -> Result<String, Failure>
+pub fn name_text_at(row: &Row, at: usize) -> Result<String, Failure>
     ensures shown { IfOk result (λ name. column row.now at ≡ Words (string_bytes name)) }
     ensures stands { OnOk result (holds_text is_name at row.now ≡ true) }
     ensures unread { IfErr result (IsUnread (holds_text is_name at row.now)) }
 {
     let column = text_in(row, at)?;
-    let name = name_from(alloc, column.as_str())?;
+    let name = name_from(column.as_str())?;
     drop(name);
     Ok(column)
 }

@@ -44,8 +44,8 @@ impl FromText for Name {
 
     ghost shown = { keys.text_at };
 
-    fn from_text(alloc: Global, text: &str) -> Result<Name, RowFault> {
-        name_from(alloc, text)
+    fn from_text(_alloc: Global, text: &str) -> Result<Name, RowFault> {
+        name_from(text)
     }
 }
 
@@ -54,8 +54,8 @@ impl FromText for Lang {
 
     ghost shown = { keys.text_at };
 
-    fn from_text(alloc: Global, text: &str) -> Result<Lang, RowFault> {
-        lang_from(alloc, text)
+    fn from_text(_alloc: Global, text: &str) -> Result<Lang, RowFault> {
+        lang_from(text)
     }
 }
 

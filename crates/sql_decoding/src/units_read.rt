@@ -8,7 +8,7 @@ ghost use Rattle.sql_meaning.specs.Shown.{shown_votes, shown_entry, shown_unit};
 ghost use Rattle.sql_decoding.specs.ShownFound.{suggestion_shown};
 ghost use Rattle.sql_decoding.specs.TablesRead.{with_votes};
 ghost use Rattle.sql_decoding.specs.RowTests.{is_entry, has_unit_texts, has_unit_numbers, is_unit, is_suggestion, is_suggestion_with_votes, is_vote_on, IsUnread, is_entry_row};
-ghost use Rattle.tables.specs.declared.faults.Lost.TheVariants.{Memory, Disk};
+ghost use Rattle.tables.specs.declared.faults.Lost.TheVariants.{Memory};
 ghost use Rattle.std.specs.FinMap as maps;
 ghost use Rattle.sql_meaning.specs.Values as values;
 ghost use Rattle.sql_meaning.specs.Meaning as meaning;
@@ -21,7 +21,6 @@ use po_text::{Duplicate, Entry, Forms, Items, PoString, Previous, Text};
 use sql_statements::unit_rows::SuggestionRows;
 use sqlite::Row;
 use std::alloc::Global;
-use tables::Lost;
 use units::{Key, Revision, Suggestion, Unit, UnitState, Votes, no_previous};
 
 // ---- the template's entry
@@ -57,29 +56,12 @@ fn entry_columns(alloc: Global, row: &Row) -> Result<EntryColumns, Failure>
     })
 }
 
-/// One form, which is empty.
-fn empty_form(alloc: Global) -> Result<Forms, Failure>
-    ensures shown { IfOk result (λ forms. forms ≡ [] ∷ []) }
-    ensures memory { IfErr result (λ failure. failure.lost ≡ Memory) }
-{
-    let Some(form) = PoString::try_new(alloc, "")? else {
-        return Err(Failure { lost: Lost::Disk });
-    };
-    let _ = form.as_str();
-    let mut forms = Vec::new(alloc);
-    forms.push(form)?;
-    match Forms::try_new(forms) {
-        Some(forms) => Ok(forms),
-        None => Err(Failure { lost: Lost::Disk }),
-    }
-}
-
 /// A key, and the forms of what nobody has translated.
 fn untranslated(alloc: Global, key: &Key) -> Result<(Key, Forms), Failure>
     ensures shown { IfOk result (λ v. v ≡ (key.now, [] ∷ [])) }
     ensures memory { IfErr result (λ failure. failure.lost ≡ Memory) }
 {
-    let forms = empty_form(alloc)?;
+    let forms = Forms::one(alloc, PoString::empty(alloc))?;
     Ok((key.duplicate()?, forms))
 }
 

@@ -1,14 +1,11 @@
 //! The entries of a domain's template, each with its unit, and the obsolete units' entries, each when the next was read.
 
-ghost use Rattle.std.specs.Prelude.{◌≡◌, ◌↔◌, ◌∷◌, ⊤, false, IsTrue, List};
+ghost use Rattle.std.specs.Prelude.{◌≡◌, ◌∷◌, ⊤, false, IsTrue, List};
 ghost use Rattle.std.specs.List.{filter_map};
 ghost use Rattle.sqlite.specs.Held.{state};
 ghost use Rattle.sqlite.specs.Order.{Row as RowValue};
 ghost use Rattle.sqlite.specs.State.{HasCleanDisk};
 ghost use Rattle.po_text.specs.declared.entry.Entry.{Entry as EntryValue};
-ghost use Rattle.sqlite.specs.declared.error.Error.TheVariants.{SqliteFailure};
-ghost use Rattle.sqlite.specs.declared.error.ErrorCode.TheVariants.{OutOfMemory};
-ghost use Rattle.tables.specs.declared.faults.Lost.TheVariants.{Memory};
 ghost use Rattle.sql_schema.specs.Whole.{IsIdleOver, IsLookUp};
 ghost use Rattle.sql_statements.specs.Queries.{AreUnits, ShowsMessagesIn, ShowsObsoleteIn};
 ghost use Rattle.sql_exports.specs.Handing.{GivesAllBut, IsTold};
@@ -17,27 +14,18 @@ ghost use Rattle.sql_schema.specs.Views.{seen_in};
 
 use crate::entry_rows::{EntryReader, EntryRows};
 use po_text::Entry;
+use sql_decoding::Failure;
 use sql_statements::domain_queries::{walk_domain_messages, walk_domain_obsolete};
 use sql_streams::WalkFault;
-use sqlite::{Alter, Connection, Error, ErrorCode};
-use tables::{EachFault, EntrySink, Lost};
-
-/// What a failed query comes to: want of memory is `Memory`, and anything else is `Disk`.
-fn lost_by(error: Error) -> Lost
-    ensures { (result ≡ Memory) ↔ (error ≡ SqliteFailure OutOfMemory) }
-{
-    match error {
-        Error::SqliteFailure(ErrorCode::OutOfMemory) => Lost::Memory,
-        _ => Lost::Disk,
-    }
-}
+use sqlite::{Alter, Connection};
+use tables::{EachFault, EntrySink};
 
 /// What a walk that was cut short comes to: the query's failure, or what was told of a row.
 fn told<R: Drop>(fault: WalkFault<EachFault<R>>) -> EachFault<R>
     ensures { IsTold fault result }
 {
     match fault {
-        WalkFault::NoRows(error) => EachFault::NoTables(lost_by(error)),
+        WalkFault::NoRows(error) => EachFault::NoTables(Failure::from(error).lost),
         WalkFault::NoSink(fault) => fault,
     }
 }

@@ -11,3 +11,4 @@ pub mod Upserts
 pub mod KeptCommits
 pub mod Transactions
 pub mod OrderedQueries
+pub mod DiskErrors

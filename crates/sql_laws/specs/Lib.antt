@@ -3,3 +3,4 @@ pub mod ApartRows
 pub mod PlainQueries
 pub mod Upserts
 pub mod OrderedQueries
+pub mod DiskErrors

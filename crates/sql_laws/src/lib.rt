@@ -7,4 +7,5 @@
 //! - Proofs `Columns`, `Comparisons`: what a column of a row holds, and how SQL compares
 //! - Proofs `Writes`, `PutRows`, `RemovedRows`, `RenewedRows`: what INSERT and DELETE make of trees and maps
 //! - Proofs `Transactions`, `KeptCommits`: what a crash leaves of a transaction, and which statements commit nothing
+//! - Specs and proofs `DiskErrors`: which errors tell of the disk, and that each comes of a failure of it
 #![tactic(auto)]

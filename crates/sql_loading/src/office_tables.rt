@@ -30,13 +30,13 @@ use units::{Name, Policy, Role};
 // ---- the team and the policy
 
 /// Puts in the member of a row.
-fn put_member(alloc: Global, team: &mut BTreeMap<String, Role>, row: &Row) -> Result<(), Failure>
+fn put_member(team: &mut BTreeMap<String, Role>, row: &Row) -> Result<(), Failure>
     ensures shown { OnOk result (maps_read.team_in team.new ≡ finite.insert (maps_read.team_in team.old) (text_at 1 row.now) (values.role_at 0 row.now)) }
     ensures stands { OnOk result (is_member_row row.now ≡ true) }
     ensures unread { IfErr result (IsUnread (is_member_row row.now)) }
 {
     let role = role_at(row, 0)?;
-    let name = name_text_at(alloc, row, 1)?;
+    let name = name_text_at(row, 1)?;
     team.insert(name, role)?;
     Ok(())
 }
@@ -49,7 +49,7 @@ fn team_in(alloc: Global, rows: &[Row]) -> Result<BTreeMap<String, Role>, Failur
 {
     let mut team = BTreeMap::new(alloc);
     for row in rows {
-        put_member(alloc, &mut team, row)?;
+        put_member(&mut team, row)?;
     }
     Ok(team)
 }

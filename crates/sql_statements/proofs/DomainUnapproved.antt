@@ -31,6 +31,7 @@ use Rattle.sql_schema.proofs.Layouts.{d_unit_placed, d_tally_placed}
 use Rattle.sql_schema.proofs.Insertions.{cast_int}
 use Rattle.sql_schema.proofs.TextKeys.{holds_text, holds_text_or_null, holds_int}
 use Rattle.sql_schema.proofs.DomainRows.{d_unit_texts, d_tally_texts}
+use Rattle.sql_statements.specs.Renewed.{translated_state, approved_state}
 use Rattle.sql_statements.specs.DomainRenewed.{is_approved_in_domain, unapproved_in_domain, HaveNextRevisionsInDomains, unapproved_tally, HaveTallySums}
 use Rattle.sql_statements.proofs.Untouched.{none_refers}
 use Rattle.sql_statements.proofs.Renewals.{IsRenewal, RenewsOf, RenewsAloneOf, renews_rows, renews_alone_rows}
@@ -43,11 +44,11 @@ abbrev units_text : List ℕ
 units_text = codes "UPDATE d_unit SET state = 2, revision = revision + 1 WHERE state = 3"
 
 abbrev units_terms : List Term
-units_terms = op2 (by.Compare compare.Eq Binary) (col 1 6) (lit (Int (pos 3))) ∷ []
+units_terms = op2 (by.Compare compare.Eq Binary) (col 1 6) (lit (Int approved_state)) ∷ []
 
 abbrev unit_becomes : List Term
 unit_becomes =
-    col 1 0 ∷ col 1 0 ∷ col 1 1 ∷ col 1 2 ∷ col 1 3 ∷ col 1 4 ∷ col 1 5 ∷ lit (Int (pos 2)) ∷ col 1 7 ∷ op2 (by.Arith arithmetic.Add) (col 1 8) (lit (Int (pos 1))) ∷ col 1 9 ∷ col 1 10 ∷ []
+    col 1 0 ∷ col 1 0 ∷ col 1 1 ∷ col 1 2 ∷ col 1 3 ∷ col 1 4 ∷ col 1 5 ∷ lit (Int translated_state) ∷ col 1 7 ∷ op2 (by.Arith arithmetic.Add) (col 1 8) (lit (Int (pos 1))) ∷ col 1 9 ∷ col 1 10 ∷ []
 
 units_are : (layout : Layout by_domain) → IsRenewal layout units_text d_unit_table units_terms unit_becomes
 unfolding understood same_name joined everything
@@ -87,16 +88,16 @@ module _ (db : Database) (has : HasLayoutOf by_domain db) (sound : IsDatabase db
 
   -- whether the text tests it is whether it is approved
   unit_tested : passes [] units_terms row ≡ is_approved_in_domain row
-  unit_tested = and-true _ ∙ ints_compared (column row 6) (Int (pos 3)) (subst (λ v. is_int v ≡ true) (sym state_is) refl) refl
+  unit_tested = and-true _ ∙ ints_compared (column row 6) (Int approved_state) (subst (λ v. is_int v ≡ true) (sym state_is) refl) refl
 
   -- the unit's row, column by column
   unit_becomes_it : (whole : is_int (rowid row) ≡ true) → fits_i64 (id_in (column row 8) +ℤ pos 1) ≡ true → cast_row d_unit_table (drop 1 (shows [] unit_becomes row)) ≡ unapproved_in_domain row
   unit_becomes_it whole fits =
       let plus : binary (by.Arith arithmetic.Add) (column row 8) (Int (pos 1)) ≡ Int (id_in (column row 8) +ℤ pos 1) = subst (λ v. binary (by.Arith arithmetic.Add) v (Int (pos 1)) ≡ Int (id_in (column row 8) +ℤ pos 1)) (sym revision_is) (summed _ (pos 1) fits) in
       let cells : unapproved_in_domain row
-      ≡ Int (id_in (rowid row)) ∷ d_unit_row (bytes (column row 1)) (bytes (column row 2)) (bytes (column row 3)) plural_is.0 (bytes (column row 5)) (pos 2) (id_in (column row 7)) (id_in (column row 8) +ℤ pos 1) (bytes (column row 9)) (bytes (column row 10)) =
-      λ i. int_is (rowid row) whole i ∷ d_unit_texts.0 db has sound row there i ∷ d_unit_texts.1.0 db has sound row there i ∷ d_unit_texts.1.1.0 db has sound row there i ∷ plural_is.1 i ∷ forms_are i ∷ Int (pos 2) ∷ obsolete_is i ∷ Int (id_in (column row 8) +ℤ pos 1) ∷ comment_is i ∷ previous_is i ∷ [] in
-      let given : drop 1 (shows [] unit_becomes row) ≡ unapproved_in_domain row = λ i. column row 0 ∷ column row 1 ∷ column row 2 ∷ column row 3 ∷ column row 4 ∷ column row 5 ∷ Int (pos 2) ∷ column row 7 ∷ plus i ∷ column row 9 ∷ column row 10 ∷ [] in
+      ≡ Int (id_in (rowid row)) ∷ d_unit_row (bytes (column row 1)) (bytes (column row 2)) (bytes (column row 3)) plural_is.0 (bytes (column row 5)) translated_state (id_in (column row 7)) (id_in (column row 8) +ℤ pos 1) (bytes (column row 9)) (bytes (column row 10)) =
+      λ i. int_is (rowid row) whole i ∷ d_unit_texts.0 db has sound row there i ∷ d_unit_texts.1.0 db has sound row there i ∷ d_unit_texts.1.1.0 db has sound row there i ∷ plural_is.1 i ∷ forms_are i ∷ Int translated_state ∷ obsolete_is i ∷ Int (id_in (column row 8) +ℤ pos 1) ∷ comment_is i ∷ previous_is i ∷ [] in
+      let given : drop 1 (shows [] unit_becomes row) ≡ unapproved_in_domain row = λ i. column row 0 ∷ column row 1 ∷ column row 2 ∷ column row 3 ∷ column row 4 ∷ column row 5 ∷ Int translated_state ∷ column row 7 ∷ plus i ∷ column row 9 ∷ column row 10 ∷ [] in
       ap (cast_row d_unit_table) (given ∙ cells) ∙ cast_unit _ _ _ plural_is.0 _ _ _ _ _ _ (Int (id_in (rowid row))) (cast_int (id_in (rowid row))) ∙ sym cells
 
 pub unapproves_units : RenewsOf by_domain units_text [] (codes "d_unit") is_approved_in_domain unapproved_in_domain HaveNextRevisionsInDomains

@@ -1,5 +1,5 @@
 -- What a query over one table answers inside a transaction, where its rows come by some of the columns that it shows.
-use Rattle.std.proofs.Common.{◌≡◌, ℕ, ◌+◌, ◌<◌, List, [], ◌∷◌, map, filter, length, get_or, Bool, false, refl, sym, ap, subst, ◌∙◌, arith}
+use Rattle.std.proofs.Common.{◌≡◌, ℕ, ◌+◌, ◌<◌, List, [], ◌∷◌, ◌++◌, map, filter, length, get_or, Bool, false, refl, sym, ap, subst, ◌∙◌, arith}
 use Rattle.std.proofs.Math.Path.{fun_ext}
 use Rattle.std.specs.declared.cmp.Ordering.{Ordering}
 use Rattle.std.specs.Ordering.{is_lt}
@@ -12,8 +12,9 @@ use Rattle.sqlite.specs.Term.{Term, col}
 use Rattle.sqlite.specs.Program.{overlay}
 use Rattle.sqlite.specs.Query.{Query, IsAnswer, Output, output, output_cmp}
 use Rattle.sqlite.specs.Tree.{Trees}
-use Rattle.sqlite.specs.State.{State, Shown}
-use Rattle.sqlite.proofs.Callers.{reads_as}
+use Rattle.sqlite.specs.State.{State, Begins, Shown}
+use Rattle.sqlite.specs.Listing.{understood}
+use Rattle.sqlite.proofs.Callers.{IsPlain, reads_as, begins_as}
 use Rattle.sqlite_rules.specs.Lists.{Has}
 use Rattle.sqlite_rules.proofs.ListLemmas.{has_at}
 use Rattle.sql_laws.specs.PlainQueries.{plain_query, passes}
@@ -119,18 +120,35 @@ module _ {form : Form} (text : List ℕ) (table : Table) (is_placed : (layout : 
 module _ {form : Form} (text : List ℕ) (table : Table) (is_placed : (layout : Layout form) → IsPlaced layout table) (places by order : List ℕ) (names : List (List ℕ)) (means : IsTableQueryOf form text table places by names)
     (alike : (tree : ℕ) (r s : Row) → output_cmp (table_query tree places by) (output (table_query tree places by) ([] ∷ r ∷ [])) (output (table_query tree places by) ([] ∷ s ∷ []))
     ≡ by_columns order (columns places r) (columns places s)) where
-  shows_table : (old new : State) (rows : List Row) → IsReadyFor form old → Shown text [] old new rows → ShowsTable table.name places order old.now rows
-  shows_table old new rows ready h =
+  answer_shows : (s : State) (ready : IsReadyFor form s) (rows : List Row) → IsAnswer (table_query (placed ready.schema.0 table).tree places by) (overlay s.now.trees []) [] rows
+      → ShowsTable table.name places order s.now rows
+  answer_shows s ready rows answer =
       let layout = ready.schema.0 in
       let tree = (placed layout table).tree in
-      let asks = means layout in
-      let read = reads_as text [] old new (schema_of layout) ready.schema.1 _ asks.command asks.plain asks.own_tables rows h in
-      let answer = read.answer Null in
       record {
-        all = subst (λ l. IsPermutation (map (columns places) l) rows) (all_pass (overlay old.now.trees [] tree) ∙ rows_read layout table (is_placed layout) old.now ready.schema.1)
-            (all_shown tree [] places by order [] (alike tree) (overlay old.now.trees []) rows answer);
-        in_order = in_order tree [] places by order [] (alike tree) (overlay old.now.trees []) rows answer;
+        all = subst (λ l. IsPermutation (map (columns places) l) rows) (all_pass (overlay s.now.trees [] tree) ∙ rows_read layout table (is_placed layout) s.now ready.schema.1)
+            (all_shown tree [] places by order [] (alike tree) (overlay s.now.trees []) rows answer);
+        in_order = in_order tree [] places by order [] (alike tree) (overlay s.now.trees []) rows answer;
       }
+
+  shows_table : (old new : State) (rows : List Row) → IsReadyFor form old → Shown text [] old new rows → ShowsTable table.name places order old.now rows
+  shows_table old new rows ready h =
+      let asks = means ready.schema.0 in
+      answer_shows old ready rows ((reads_as text [] old new (schema_of ready.schema.0) ready.schema.1 _ asks.command asks.plain asks.own_tables rows h).answer Null)
+
+  -- of a walk
+  pub table_shown : (s : State) → IsReadyFor form s → (rows : List Row) → Shown text [] s s rows → ShowsTable table.name places order s.now rows
+  table_shown s ready rows h = shows_table s s rows ready h
+
+  -- what rows that begin an answer are a part of
+  pub table_begun : (s : State) → IsReadyFor form s → (rows : List Row) → Begins text [] s rows → (tail : List Row) × ShowsTable table.name places order s.now (rows ++ tail)
+  table_begun s ready rows h =
+      let asks = means ready.schema.0 in
+      let read = begins_as text [] s s (schema_of ready.schema.0) ready.schema.1 _ asks.command asks.plain asks.own_tables rows h in
+      (read.1.0, answer_shows s ready (rows ++ read.1.0) (read.1.1 Null))
+
+  pub table_plain : (s : State) → IsReadyFor form s → IsPlain (understood s.now.schema text)
+  table_plain s ready = subst (λ t. IsPlain (understood t text)) (sym ready.schema.1) (means ready.schema.0).plain
 
   pub reads_table : ReadsAllOf form text [] (ShowsTable table.name places order)
   reads_table A rows_of old new r =

@@ -1,5 +1,5 @@
 -- Rows of a table become others where they stand: those of approved units under a policy without reviews.
-use Rattle.std.specs.Prelude.{◌≡◌, ◌⊎◌, ℕ, pos, ◌+ℤ◌, Bool, true, false, List, [], ◌∷◌}
+use Rattle.std.specs.Prelude.{◌≡◌, ◌⊎◌, ℕ, ℤ, pos, ◌+ℤ◌, Bool, true, false, List, [], ◌∷◌}
 use Rattle.std.specs.Ordering.{is_eq}
 use Rattle.sqlite.specs.declared.types.Value.TheVariants.{Int}
 use Rattle.sqlite.specs.Order.{Row, column, value_cmp}
@@ -20,11 +20,18 @@ pub record RenewsRows (name : List ℕ) (test : Row → Bool) (renewed : Row →
   pub others : SparesOthers name (rows_named old) (rows_named new)
   pub schema : new.schema ≡ old.schema
 
--- a unit's row whose state is 3: approved
-abbrev pub is_approved_row : Row → Bool
-is_approved_row row = is_eq (value_cmp (column row 5) (Int (pos 3)))
+-- two states of a unit, as its column has them
+abbrev pub translated_state : ℤ
+translated_state = pos 2
 
--- it becomes 2, translated, at the next revision
+abbrev pub approved_state : ℤ
+approved_state = pos 3
+
+-- the row of an approved unit
+abbrev pub is_approved_row : Row → Bool
+is_approved_row row = is_eq (value_cmp (column row 5) (Int approved_state))
+
+-- it becomes that of a translated one, at the next revision
 abbrev pub unapproved_row : Row → Row
 unapproved_row row =
-    column row 0 ∷ column row 1 ∷ column row 2 ∷ column row 3 ∷ column row 4 ∷ Int (pos 2) ∷ column row 6 ∷ Int (id_in (column row 7) +ℤ pos 1) ∷ column row 8 ∷ column row 9 ∷ []
+    column row 0 ∷ column row 1 ∷ column row 2 ∷ column row 3 ∷ column row 4 ∷ Int translated_state ∷ column row 6 ∷ Int (id_in (column row 7) +ℤ pos 1) ∷ column row 8 ∷ column row 9 ∷ []

@@ -1,6 +1,7 @@
 //! The table of the units of all domains.
 ghost use Rattle.std.specs.Prelude.{◌≡◌, codes};
 ghost use Rattle.sqlite.specs.Held.{state, state as state_of};
+ghost use Rattle.sql_laws.specs.DiskErrors.{BlamesTruly};
 ghost use Rattle.sql_schema.specs.Layouts.{by_domain, rows_named};
 ghost use Rattle.sql_schema.specs.Views.{seen_in};
 ghost use Rattle.sql_schema.specs.Inside.{IsSteadyOver, IsInsideOf, PutsRow, HoldsValues, IsReadOf};
@@ -25,6 +26,7 @@ pub fn find_domain_unit<'a, S: Alter>(
     ensures same_reference { tx.new.conn.ghost_name ≡ tx.old.conn.ghost_name }
     ensures found { IsReadOf by_domain (state S.Store tx.old.conn.now) (state S.Store tx.new.conn.now) result
         (ShowsDomainUnit domain.now lang.now key.now) }
+    ensures disk { BlamesTruly (state S.Store tx.old.conn.now) (state S.Store tx.new.conn.now) result }
 {
     let mut rows = tx.query_all(
         "SELECT plural, forms, state, obsolete, revision, comment, previous FROM d_unit WHERE domain = ?1 AND lang = ?2 AND key = ?3",
@@ -51,6 +53,7 @@ pub fn put_domain_unit<'a, S: Alter>(
     ensures same_reference { tx.new.conn.ghost_name ≡ tx.old.conn.ghost_name }
     ensures put { IsInsideOf by_domain (state_of S.Store tx.old.conn.now) (state_of S.Store tx.new.conn.now) result
         (PutsRow (codes "d_unit") first_three (HoldsValues (d_unit_row domain.now lang.now key.now (option_copied plural.entry) forms.now state obsolete revision comment.now previous.now))) }
+    ensures disk { BlamesTruly (state_of S.Store tx.old.conn.now) (state_of S.Store tx.new.conn.now) result }
 {
     tx.execute(
         "INSERT INTO d_unit (domain, lang, key, plural, forms, state, obsolete, revision, comment, previous) VALUES (?1, ?2, ?3, ?4, ?5, ?6, ?7, ?8, ?9, ?10) ON CONFLICT (domain, lang, key) DO UPDATE SET plural = excluded.plural, forms = excluded.forms, state = excluded.state, obsolete = excluded.obsolete, revision = excluded.revision, comment = excluded.comment, previous = excluded.previous",
@@ -71,6 +74,7 @@ pub(crate) fn all_domain_units<S: Alter>(
     ensures same_reference { tx.new.conn.ghost_name ≡ tx.old.conn.ghost_name }
     ensures found { IsReadOf by_domain (state S.Store tx.old.conn.now) (state S.Store tx.new.conn.now) result
         (λ db rows. ShowsUnitsIn (seen_in domain.now (rows_named db)) rows.items) }
+    ensures disk { BlamesTruly (state S.Store tx.old.conn.now) (state S.Store tx.new.conn.now) result }
 {
     tx.query_all(
         "SELECT plural, forms, state, obsolete, revision, comment, previous, lang, key FROM d_unit WHERE domain = ?1 ORDER BY lang, key",
@@ -89,6 +93,7 @@ pub fn units_of_language<'a, S: Alter>(
     ensures same_reference { tx.new.conn.ghost_name ≡ tx.old.conn.ghost_name }
     ensures found { IsReadOf by_domain (state S.Store tx.old.conn.now) (state S.Store tx.new.conn.now) result
         (λ db rows. ShowsLanguageUnits domain.now lang.now db rows.items) }
+    ensures disk { BlamesTruly (state S.Store tx.old.conn.now) (state S.Store tx.new.conn.now) result }
 {
     tx.query_all(
         "SELECT plural, forms, state, obsolete, revision, comment, previous, key FROM d_unit WHERE domain = ?1 AND lang = ?2 ORDER BY key",
@@ -102,6 +107,7 @@ pub fn unapprove_domain_units<S: Alter>(tx: &mut Transaction<'_, S>) -> Result<(
     requires steady { IsSteadyOver by_domain (state S.Store tx.old.conn.now) }
     ensures same_reference { tx.new.conn.ghost_name ≡ tx.old.conn.ghost_name }
     ensures unapproved { IsInsideOf by_domain (state S.Store tx.old.conn.now) (state S.Store tx.new.conn.now) result UnapprovesDomainUnits }
+    ensures disk { BlamesTruly (state S.Store tx.old.conn.now) (state S.Store tx.new.conn.now) result }
 {
     tx.execute(
         "UPDATE d_unit SET state = 2, revision = revision + 1 WHERE state = 3",

@@ -5,7 +5,7 @@
 //! - `domains`, `domain_template`, `domain_languages`, `domain_units`, `domain_suggestions`, `domain_votes`, `vote_sums`,
 //!   `tallies`: tables by domains, one each
 //! - `domain_queries`: the join that an export walks, and the obsolete units behind it
-//! - `record_queries`: the records in the order in which the office took them
+//! - `record_queries`: records, in the order in which the office took them, and by number with their contents
 //! - `unit_rows`: the rows that a look at a unit shows
 //! - `whole_office`: the rows of all tables without a column for a domain, read in one transaction
 //! - `domain_office`: what a domain sees of those by domains

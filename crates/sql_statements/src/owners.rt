@@ -1,6 +1,7 @@
 //! Of which domain each row is that has a column for one.
 ghost use Rattle.std.specs.Prelude.{◌≡◌, codes};
 ghost use Rattle.sqlite.specs.Held.{state};
+ghost use Rattle.sql_laws.specs.DiskErrors.{BlamesTruly};
 ghost use Rattle.sql_schema.specs.Layouts.{by_domain};
 ghost use Rattle.sql_schema.specs.Inside.{IsSteadyOver, IsReadOf};
 ghost use Rattle.sql_statements.specs.Owners.{ShowsOwners, ShowsAllOwners};
@@ -24,6 +25,7 @@ fn template_owners<S: Alter>(tx: &mut Transaction<'_, S>) -> Result<Vec<Row>, Er
     ensures same_reference { tx.new.conn.ghost_name ≡ tx.old.conn.ghost_name }
     ensures found { IsReadOf by_domain (state S.Store tx.old.conn.now) (state S.Store tx.new.conn.now) result
         (λ db rows. ShowsOwners (codes "d_template") 1 db rows.items) }
+    ensures disk { BlamesTruly (state S.Store tx.old.conn.now) (state S.Store tx.new.conn.now) result }
 {
     tx.query_all("SELECT domain FROM d_template ORDER BY domain", &[])
 }
@@ -34,6 +36,7 @@ fn language_owners<S: Alter>(tx: &mut Transaction<'_, S>) -> Result<Vec<Row>, Er
     ensures same_reference { tx.new.conn.ghost_name ≡ tx.old.conn.ghost_name }
     ensures found { IsReadOf by_domain (state S.Store tx.old.conn.now) (state S.Store tx.new.conn.now) result
         (λ db rows. ShowsOwners (codes "d_language") 1 db rows.items) }
+    ensures disk { BlamesTruly (state S.Store tx.old.conn.now) (state S.Store tx.new.conn.now) result }
 {
     tx.query_all("SELECT domain FROM d_language ORDER BY domain", &[])
 }
@@ -44,6 +47,7 @@ fn unit_owners<S: Alter>(tx: &mut Transaction<'_, S>) -> Result<Vec<Row>, Error>
     ensures same_reference { tx.new.conn.ghost_name ≡ tx.old.conn.ghost_name }
     ensures found { IsReadOf by_domain (state S.Store tx.old.conn.now) (state S.Store tx.new.conn.now) result
         (λ db rows. ShowsOwners (codes "d_unit") 1 db rows.items) }
+    ensures disk { BlamesTruly (state S.Store tx.old.conn.now) (state S.Store tx.new.conn.now) result }
 {
     tx.query_all("SELECT domain FROM d_unit ORDER BY domain", &[])
 }
@@ -54,6 +58,7 @@ fn suggestion_owners<S: Alter>(tx: &mut Transaction<'_, S>) -> Result<Vec<Row>, 
     ensures same_reference { tx.new.conn.ghost_name ≡ tx.old.conn.ghost_name }
     ensures found { IsReadOf by_domain (state S.Store tx.old.conn.now) (state S.Store tx.new.conn.now) result
         (λ db rows. ShowsOwners (codes "d_suggestion") 2 db rows.items) }
+    ensures disk { BlamesTruly (state S.Store tx.old.conn.now) (state S.Store tx.new.conn.now) result }
 {
     tx.query_all("SELECT domain FROM d_suggestion ORDER BY domain", &[])
 }

@@ -1,10 +1,11 @@
-//! The records in the order in which the office took them.
+//! Records, handed on one at a time: in the order in which the office took them, and by number with their contents.
 
 ghost use Rattle.std.specs.Prelude.{◌≡◌, ⊤, false, Some, None, IsTrue};
 ghost use Rattle.sqlite.specs.Held.{state};
 ghost use Rattle.sqlite.specs.State.{HasCleanDisk};
 ghost use Rattle.sql_schema.specs.Layouts.{Form};
 ghost use Rattle.sql_schema.specs.Whole.{IsIdleOver, IsLookUp};
+ghost use Rattle.sql_statements.specs.RecordTable.{ShowsRecords};
 ghost use Rattle.sql_statements.specs.RecordsInOrder.{ShowsBehind};
 ghost use Rattle.sql_streams.specs.Walks.{HandsOut};
 
@@ -49,6 +50,27 @@ pub fn walk_records_behind<S: Alter, K: RowSink>(
         connection,
         "SELECT number, status, rowid FROM record WHERE rowid > ?1 ORDER BY rowid",
         params![place],
+        sink,
+    )
+}
+
+/// Hands all records by number to a sink, each with its content, its reply's status and body, and its number, of a connection that is
+/// open.
+pub fn walk_contents<S: Alter, K: RowSink>(
+    connection: &mut Connection<S>,
+    sink: &mut K,
+) -> Result<(), WalkFault<K::Refusal>>
+    requires autocommit { connection.old.in_transaction ≡ false }
+    requires idle { (form : Form) × IsIdleOver form (state S.Store connection.old) }
+    requires is_open { HasCleanDisk (state S.Store connection.old) → IsTrue (state S.Store connection.old).is_open }
+    ensures handed { HasCleanDisk (state S.Store connection.new)
+        → HandsOut K.Took K.Refuses (ShowsRecords (state S.Store connection.old).now) sink.old sink.new result }
+    ensures looked { IsLookUp (state S.Store connection.old) (state S.Store connection.new) result (λ _ _. ⊤) }
+{
+    walk(
+        connection,
+        "SELECT content, status, body, number FROM record ORDER BY number",
+        &[],
         sink,
     )
 }

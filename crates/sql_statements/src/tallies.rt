@@ -2,6 +2,7 @@
 ghost use Rattle.std.specs.Prelude.{◌≡◌, ◌∷◌, [], codes};
 ghost use Rattle.sqlite.specs.Held.{state};
 ghost use Rattle.sqlite.specs.declared.types.Value.TheVariants.{Int, Text};
+ghost use Rattle.sql_laws.specs.DiskErrors.{BlamesTruly};
 ghost use Rattle.sql_schema.specs.Layouts.{by_domain};
 ghost use Rattle.sql_schema.specs.Inside.{IsSteadyOver, IsInsideOf, PutsRow, HoldsValues, IsReadOf};
 ghost use Rattle.sql_schema.specs.Keys.{key_texts};
@@ -21,6 +22,7 @@ pub fn find_tally<'a, S: Alter>(
     ensures same_reference { tx.new.conn.ghost_name ≡ tx.old.conn.ghost_name }
     ensures found { IsReadOf by_domain (state S.Store tx.old.conn.now) (state S.Store tx.new.conn.now) result
         (ShowsTally domain.now lang.now) }
+    ensures disk { BlamesTruly (state S.Store tx.old.conn.now) (state S.Store tx.new.conn.now) result }
 {
     let mut rows = tx.query_all(
         "SELECT untranslated, needs_editing, translated, approved, read_only, suggestions, obsolete FROM d_tally WHERE domain = ?1 AND lang = ?2",
@@ -46,6 +48,7 @@ pub fn put_tally<'a, S: Alter>(
     ensures same_reference { tx.new.conn.ghost_name ≡ tx.old.conn.ghost_name }
     ensures put { IsInsideOf by_domain (state S.Store tx.old.conn.now) (state S.Store tx.new.conn.now) result
         (PutsRow (codes "d_tally") (key_texts (1 ∷ 2 ∷ [])) (HoldsValues (Text domain.now ∷ Text lang.now ∷ Int untranslated ∷ Int needs_editing ∷ Int translated ∷ Int approved ∷ Int read_only ∷ Int suggestions ∷ Int obsolete ∷ []))) }
+    ensures disk { BlamesTruly (state S.Store tx.old.conn.now) (state S.Store tx.new.conn.now) result }
 {
     tx.execute(
         "INSERT INTO d_tally (domain, lang, untranslated, needs_editing, translated, approved, read_only, suggestions, obsolete) VALUES (?1, ?2, ?3, ?4, ?5, ?6, ?7, ?8, ?9) ON CONFLICT (domain, lang) DO UPDATE SET untranslated = excluded.untranslated, needs_editing = excluded.needs_editing, translated = excluded.translated, approved = excluded.approved, read_only = excluded.read_only, suggestions = excluded.suggestions, obsolete = excluded.obsolete",
@@ -71,6 +74,7 @@ pub fn all_tallies<S: Alter>(tx: &mut Transaction<'_, S>, domain: &str) -> Resul
     ensures same_reference { tx.new.conn.ghost_name ≡ tx.old.conn.ghost_name }
     ensures found { IsReadOf by_domain (state S.Store tx.old.conn.now) (state S.Store tx.new.conn.now) result
         (λ db rows. ShowsTallies domain.now db rows.items) }
+    ensures disk { BlamesTruly (state S.Store tx.old.conn.now) (state S.Store tx.new.conn.now) result }
 {
     tx.query_all(
         "SELECT untranslated, needs_editing, translated, approved, read_only, suggestions, obsolete, lang FROM d_tally WHERE domain = ?1 ORDER BY lang",
@@ -83,6 +87,7 @@ pub fn unapprove_tallies<S: Alter>(tx: &mut Transaction<'_, S>) -> Result<(), Er
     requires steady { IsSteadyOver by_domain (state S.Store tx.old.conn.now) }
     ensures same_reference { tx.new.conn.ghost_name ≡ tx.old.conn.ghost_name }
     ensures unapproved { IsInsideOf by_domain (state S.Store tx.old.conn.now) (state S.Store tx.new.conn.now) result UnapprovesTallies }
+    ensures disk { BlamesTruly (state S.Store tx.old.conn.now) (state S.Store tx.new.conn.now) result }
 {
     tx.execute(
         "UPDATE d_tally SET translated = translated + approved, approved = 0",

@@ -2,6 +2,7 @@
 ghost use Rattle.std.specs.Prelude.{◌≡◌, ◌∷◌, [], codes};
 ghost use Rattle.sqlite.specs.Held.{state};
 ghost use Rattle.sqlite.specs.declared.types.Value.TheVariants.{Int, Text};
+ghost use Rattle.sql_laws.specs.DiskErrors.{BlamesTruly};
 ghost use Rattle.sql_schema.specs.Layouts.{Form};
 ghost use Rattle.sql_schema.specs.Inside.{IsSteadyOver, IsInsideOf, PutsRow, HoldsValues, IsReadOf};
 ghost use Rattle.sql_schema.specs.Keys.{first_text, has_text};
@@ -16,6 +17,7 @@ pub fn set_member<S: Alter>(tx: &mut Transaction<'_, S>, name: &str, role: i64) 
     ensures same_reference { tx.new.conn.ghost_name ≡ tx.old.conn.ghost_name }
     ensures put { (form : Form) → IsSteadyOver form (state S.Store tx.old.conn.now) → IsInsideOf form (state S.Store tx.old.conn.now) (state S.Store tx.new.conn.now) result
         (PutsRow (codes "team") first_text (HoldsValues (Text name.now ∷ Int role ∷ []))) }
+    ensures disk { BlamesTruly (state S.Store tx.old.conn.now) (state S.Store tx.new.conn.now) result }
 {
     tx.execute(
         "INSERT INTO team (name, role) VALUES (?1, ?2) ON CONFLICT (name) DO UPDATE SET role = excluded.role",
@@ -28,6 +30,7 @@ pub fn set_member<S: Alter>(tx: &mut Transaction<'_, S>, name: &str, role: i64) 
 pub fn remove_member<S: Alter>(tx: &mut Transaction<'_, S>, name: &str) -> Result<(), Error>
     ensures same_reference { tx.new.conn.ghost_name ≡ tx.old.conn.ghost_name }
     ensures taken { (form : Form) → IsSteadyOver form (state S.Store tx.old.conn.now) → IsInsideOf form (state S.Store tx.old.conn.now) (state S.Store tx.new.conn.now) result (TakesRows (codes "team") (has_text 1 name.now)) }
+    ensures disk { BlamesTruly (state S.Store tx.old.conn.now) (state S.Store tx.new.conn.now) result }
 {
     tx.execute("DELETE FROM team WHERE name = ?1", params![name])
         .and(Ok(()))
@@ -38,6 +41,7 @@ pub(crate) fn all_members<S: Alter>(tx: &mut Transaction<'_, S>) -> Result<Vec<R
     ensures same_reference { tx.new.conn.ghost_name ≡ tx.old.conn.ghost_name }
     ensures found { (form : Form) → IsSteadyOver form (state S.Store tx.old.conn.now) → IsReadOf form (state S.Store tx.old.conn.now) (state S.Store tx.new.conn.now) result
         (λ db rows. ShowsTeam db rows.items) }
+    ensures disk { BlamesTruly (state S.Store tx.old.conn.now) (state S.Store tx.new.conn.now) result }
 {
     tx.query_all("SELECT role, name FROM team ORDER BY name", &[])
 }
@@ -47,6 +51,7 @@ pub fn find_member<S: Alter>(tx: &mut Transaction<'_, S>, name: &str) -> Result<
     ensures same_reference { tx.new.conn.ghost_name ≡ tx.old.conn.ghost_name }
     ensures found { (form : Form) → IsSteadyOver form (state S.Store tx.old.conn.now) → IsReadOf form (state S.Store tx.old.conn.now) (state S.Store tx.new.conn.now) result
         (ShowsMember name.now) }
+    ensures disk { BlamesTruly (state S.Store tx.old.conn.now) (state S.Store tx.new.conn.now) result }
 {
     let mut rows = tx.query_all("SELECT role FROM team WHERE name = ?1", params![name])?;
     Ok(rows.pop())

@@ -2,6 +2,7 @@
 //! connection is still open.
 ghost use Rattle.std.specs.Prelude.{◌≡◌, false, Bool};
 ghost use Rattle.sqlite.specs.Held.{state};
+ghost use Rattle.sql_laws.specs.DiskErrors.{BlamesTruly};
 ghost use Rattle.sql_schema.specs.Inside.{IsSteadyOver, IsReadOf};
 ghost use Rattle.sql_schema.specs.Layouts.{for_main};
 ghost use Rattle.sql_schema.specs.Whole.{IsIdleOver, IsLookUp};
@@ -41,6 +42,7 @@ fn all_entries<S: Alter>(tx: &mut Transaction<'_, S>) -> Result<Vec<Row>, Error>
     ensures same_reference { tx.new.conn.ghost_name ≡ tx.old.conn.ghost_name }
     ensures found { (figures : Bool) → IsSteadyOver (for_main figures) (state S.Store tx.old.conn.now)
         → IsReadOf (for_main figures) (state S.Store tx.old.conn.now) (state S.Store tx.new.conn.now) result (λ db rows. ShowsTemplate db rows.items) }
+    ensures disk { BlamesTruly (state S.Store tx.old.conn.now) (state S.Store tx.new.conn.now) result }
 {
     tx.query_all(
         "SELECT plural, extracted, refs, flags, key, place FROM template ORDER BY place",
@@ -53,6 +55,7 @@ fn all_languages<S: Alter>(tx: &mut Transaction<'_, S>) -> Result<Vec<Row>, Erro
     ensures same_reference { tx.new.conn.ghost_name ≡ tx.old.conn.ghost_name }
     ensures found { (figures : Bool) → IsSteadyOver (for_main figures) (state S.Store tx.old.conn.now)
         → IsReadOf (for_main figures) (state S.Store tx.old.conn.now) (state S.Store tx.new.conn.now) result (λ db rows. ShowsLanguages db rows.items) }
+    ensures disk { BlamesTruly (state S.Store tx.old.conn.now) (state S.Store tx.new.conn.now) result }
 {
     tx.query_all(
         "SELECT header, plural, lang FROM language ORDER BY lang",
@@ -66,6 +69,7 @@ fn all_units<S: Alter>(tx: &mut Transaction<'_, S>) -> Result<Vec<Row>, Error>
     ensures same_reference { tx.new.conn.ghost_name ≡ tx.old.conn.ghost_name }
     ensures found { (figures : Bool) → IsSteadyOver (for_main figures) (state S.Store tx.old.conn.now)
         → IsReadOf (for_main figures) (state S.Store tx.old.conn.now) (state S.Store tx.new.conn.now) result (λ db rows. ShowsUnits db rows.items) }
+    ensures disk { BlamesTruly (state S.Store tx.old.conn.now) (state S.Store tx.new.conn.now) result }
 {
     tx.query_all(
         "SELECT plural, forms, state, obsolete, revision, comment, previous, lang, key FROM unit ORDER BY lang, key",
@@ -78,6 +82,7 @@ fn all_suggestions<S: Alter>(tx: &mut Transaction<'_, S>) -> Result<Vec<Row>, Er
     ensures same_reference { tx.new.conn.ghost_name ≡ tx.old.conn.ghost_name }
     ensures found { (figures : Bool) → IsSteadyOver (for_main figures) (state S.Store tx.old.conn.now)
         → IsReadOf (for_main figures) (state S.Store tx.old.conn.now) (state S.Store tx.new.conn.now) result (λ db rows. ShowsSuggestions db rows.items) }
+    ensures disk { BlamesTruly (state S.Store tx.old.conn.now) (state S.Store tx.new.conn.now) result }
 {
     tx.query_all(
         "SELECT number, place, suggester, forms, lang, key FROM suggestion ORDER BY lang, key, place",
@@ -90,6 +95,7 @@ fn all_votes<S: Alter>(tx: &mut Transaction<'_, S>) -> Result<Vec<Row>, Error>
     ensures same_reference { tx.new.conn.ghost_name ≡ tx.old.conn.ghost_name }
     ensures found { (figures : Bool) → IsSteadyOver (for_main figures) (state S.Store tx.old.conn.now)
         → IsReadOf (for_main figures) (state S.Store tx.old.conn.now) (state S.Store tx.new.conn.now) result (λ db rows. ShowsVotes db rows.items) }
+    ensures disk { BlamesTruly (state S.Store tx.old.conn.now) (state S.Store tx.new.conn.now) result }
 {
     tx.query_all(
         "SELECT voter, value, number FROM vote ORDER BY number, voter",

@@ -1,4 +1,3 @@
-pub mod Empties
 pub mod Found
 pub mod Listed
 pub mod LoadLemmas

@@ -5,5 +5,5 @@ pub mod Units
 pub mod Updates
 pub mod Loads
 pub mod Moves
-pub mod Steps
+pub mod PlannedUnits
 pub mod Laws

@@ -8,7 +8,7 @@ use Rattle.po_text.specs.Valid.{fuzzy}
 use Rattle.units.specs.Units.{has_flag, no_previous}
 
 abbrev pub is_fuzzy : Entry → Bool
-is_fuzzy entry = has_flag fuzzy entry
+is_fuzzy entry = has_flag entry.flags fuzzy
 
 abbrev pub without_fuzzy : List Text → List Text
 without_fuzzy flags = filter (λ flag. not (text_eq fuzzy flag)) flags

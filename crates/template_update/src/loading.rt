@@ -71,7 +71,7 @@ fn unit_of(
 fn is_fuzzy(entry: &Entry) -> bool
     ensures { result ≡ is_fuzzy entry.now }
 {
-    has_flag("fuzzy", entry)
+    has_flag(entry.flags.as_slice(), "fuzzy")
 }
 
 fn editing_if(needs: bool) -> UnitState

@@ -9,7 +9,7 @@ ghost use Rattle.units.specs.Project.{entry_of};
 ghost use Rattle.template_update.specs.Units.{new_unit};
 ghost use Rattle.template_update.specs.Updates.{added, plan_of};
 ghost use Rattle.template_update.specs.Moves.{updated_within};
-ghost use Rattle.template_update.specs.Steps.{AreUpdated, HaveUpdates};
+ghost use Rattle.template_update.specs.PlannedUnits.{AreUpdated, HaveUpdates};
 ghost use Rattle.template_update.specs.Views.{IsIndexOf};
 
 use crate::index::KeyIndex;
@@ -20,10 +20,7 @@ use crate::updates::UpdatedUnits;
 use plural_expr::PluralForms;
 use po_text::{Catalogue, Entry, Items};
 use std::alloc::{AllocError, Global};
-use units::{Keyed, Memory, Unit};
-
-/// How many units a language has at most, obsolete ones included.
-const MAX_UNITS: usize = 150_000;
+use units::{Keyed, Memory, UNIT_LIMIT, Unit};
 
 /// What becomes of a unit and the unit afterwards, by the entries of its key.
 fn update_one<'a>(
@@ -89,7 +86,7 @@ fn add_new<'a>(
 pub(crate) fn within_limit(units: Vec<Unit>, stays: Items<bool>, counts: Counts) -> Option<Plan>
     ensures { result ≡ (if nat_le (length units.items) unit_limit then Some (record { units = units.items; stays = stays; counts = counts }) else None) }
 {
-    if units.len() <= MAX_UNITS {
+    if units.len() <= UNIT_LIMIT {
         Some(Plan {
             units: Items::from_vec(units),
             stays,

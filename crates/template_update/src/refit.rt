@@ -1,6 +1,6 @@
 //! Units under a template's msgid_plural.
 
-ghost use Rattle.std.specs.Prelude.{◌≡◌, ◌<◌, ◌≤◌, IfOk, Some, replicate, []};
+ghost use Rattle.std.specs.Prelude.{◌≡◌, ◌<◌, ◌≤◌, ◌∷◌, IfOk, Some, replicate, []};
 ghost use Rattle.std.specs.Option.{option_copied};
 ghost use Rattle.po_text.specs.Strings.{form_limit};
 ghost use Rattle.po_text.specs.Texts.{maybe_text_eq};
@@ -19,29 +19,24 @@ pub(crate) fn first_revision() -> Revision
     Revision::try_new(1).unwrap()
 }
 
-fn empty_string(alloc: Global) -> Result<PoString, AllocError>
-    ensures { IfOk result (λ string. string ≡ []) }
+/// One form, which is empty.
+pub(crate) fn empty_form(alloc: Global) -> Result<Forms, AllocError>
+    ensures { IfOk result (λ forms. forms ≡ [] ∷ []) }
 {
-    match PoString::try_new(alloc, "")? {
-        Some(string) => Ok(string),
-        None => unreachable!(),
-    }
+    Forms::one(alloc, PoString::empty(alloc))
 }
 
 /// Empty forms.
-pub(crate) fn forms_of(alloc: Global, count: u32) -> Result<Forms, AllocError>
+fn forms_of(alloc: Global, count: u32) -> Result<Forms, AllocError>
     requires some { 0 < count }
     requires most { count ≤ form_limit }
     ensures { IfOk result (λ forms. forms ≡ replicate count []) }
 {
-    let mut strings = Vec::new(alloc);
-    for _ in 0..count {
-        strings.push(empty_string(alloc)?)?;
+    let mut forms = empty_form(alloc)?;
+    for _ in 1..count {
+        forms.add(PoString::empty(alloc))?;
     }
-    match Forms::try_new(strings) {
-        Some(forms) => Ok(forms),
-        None => unreachable!(),
-    }
+    Ok(forms)
 }
 
 /// As many empty forms as a msgid_plural needs.
@@ -53,7 +48,7 @@ fn empty_forms(
     ensures { IfOk result (λ forms. forms ≡ spec.empty_forms rule.now (option_copied plural.entry)) }
 {
     match plural {
-        None => forms_of(alloc, 1),
+        None => empty_form(alloc),
         Some(_) => forms_of(alloc, rule.count()),
     }
 }

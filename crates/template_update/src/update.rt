@@ -34,7 +34,7 @@ fn is_read_only(entry: Option<&Entry>) -> bool
 {
     match entry {
         None => false,
-        Some(entry) => has_flag("read-only", entry),
+        Some(entry) => has_flag(entry.flags.as_slice(), "read-only"),
     }
 }
 
@@ -43,7 +43,7 @@ fn is_changed(present: Option<&Entry>, entry: &Entry, unit: &Unit) -> bool
     ensures { result ≡ spec.is_changed (option_copied present.entry) entry.now unit.now }
 {
     !is_same(entry.plural.as_ref(), unit.plural.as_ref())
-        || is_read_only(present) != has_flag("read-only", entry)
+        || is_read_only(present) != has_flag(entry.flags.as_slice(), "read-only")
 }
 
 /// What becomes of a unit, by its entries in the present template and in the new one.

@@ -22,9 +22,12 @@ abbrev pub starts : (ℕ → Bool) → Text → Bool
 starts p [] = false
 starts p (b ∷ bs) = p b
 
--- 1 to 32 of these, the first a letter
+abbrev pub name_limit : ℕ
+name_limit = 32
+
+-- 1 to so many of these, the first a letter
 abbrev pub is_name : Text → Bool
-is_name s = starts is_small_letter s && nat_le (length s) 32 && list_all is_name_byte s
+is_name s = starts is_small_letter s && nat_le (length s) name_limit && list_all is_name_byte s
 
 -- the name of the domain that is always there, and that a request is in if it names none
 abbrev pub main : Text
@@ -34,9 +37,12 @@ main = codes "main"
 abbrev pub is_lang_byte : ℕ → Bool
 is_lang_byte b = is_letter b || is_digit b || (b == 95) || (b == 45) || (b == 64)
 
--- 2 to 16 of these, the first a letter
+abbrev pub lang_limit : ℕ
+lang_limit = 16
+
+-- 2 to so many of these, the first a letter
 abbrev pub is_lang : Text → Bool
-is_lang s = starts is_letter s && nat_le 2 (length s) && nat_le (length s) 16 && list_all is_lang_byte s
+is_lang s = starts is_letter s && nat_le 2 (length s) && nat_le (length s) lang_limit && list_all is_lang_byte s
 
 abbrev pub revision_limit : ℕ
 revision_limit = 9000000000000000
@@ -44,9 +50,12 @@ revision_limit = 9000000000000000
 abbrev pub is_revision : ℕ → Bool
 is_revision n = nat_le 1 n && nat_le n revision_limit
 
+abbrev pub accept_at_limit : ℕ
+accept_at_limit = 100
+
 -- 0 where no suggestion is accepted by votes
 abbrev pub is_accept_at : ℕ → Bool
-is_accept_at n = (n == 0) || (nat_le 2 n && nat_le n 100)
+is_accept_at n = (n == 0) || (nat_le 2 n && nat_le n accept_at_limit)
 
 -- the lines of a comment that an act gives: how many at most, and how many bytes each
 abbrev pub comment_limit : ℕ
@@ -67,7 +76,7 @@ abbrev pub domain_limit : ℕ
 domain_limit = 8
 
 abbrev pub language_limit : ℕ
-language_limit = 32
+language_limit = 256
 
 abbrev pub team_limit : ℕ
 team_limit = 1000

@@ -24,9 +24,13 @@ use Rattle.po_text.specs.Texts.{Text, text_cmp, text_eq, is_empty}
 
 -- ---- keys
 
--- the msgid, or the context, U+0004 and the msgid
+-- U+0004, which parts a key's context from its msgid
+abbrev pub context_glue : ℕ
+context_glue = 4
+
+-- the msgid, or the context, that and the msgid
 abbrev pub key_text : Key → Text
-key_text key = option_map_or (λ ctx. ctx ++ 4 ∷ key.id) key.ctx key.id
+key_text key = option_map_or (λ ctx. ctx ++ context_glue ∷ key.id) key.ctx key.id
 
 -- by key text; at equal texts, which the keys of an office never have, by context and msgid
 abbrev pub key_cmp : Key → Key → Ordering
@@ -79,12 +83,12 @@ state_eq NeedsEditing s = is_needs_editing s
 state_eq Translated s = is_translated s
 state_eq Approved s = is_approved s
 
-abbrev pub has_flag : Text → Entry → Bool
-has_flag flag entry = list_any (text_eq flag) entry.flags
+abbrev pub has_flag : List Text → Text → Bool
+has_flag flags flag = list_any (text_eq flag) flags
 
 -- the template's entry has the flag `read-only`
 abbrev pub is_read_only : Option Entry → Bool
-is_read_only source = option_map_or (has_flag (codes "read-only")) source false
+is_read_only source = option_map_or (λ entry. has_flag entry.flags (codes "read-only")) source false
 
 abbrev pub stored_as_shown : UnitState → ShownState
 stored_as_shown Untranslated = shown.Untranslated

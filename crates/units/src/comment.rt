@@ -4,6 +4,7 @@ ghost use Rattle.std.specs.List.{list_all};
 ghost use Rattle.po_lex.specs.Lines.{is_comment_text};
 ghost use Rattle.units.specs.Limits as limits;
 
+use crate::limits::{COMMENT_LIMIT, COMMENT_LINE_LIMIT};
 use po_text::{Duplicate, Items, Text};
 use std::alloc::AllocError;
 use std::marker::Model;
@@ -28,7 +29,7 @@ impl CommentLines {
     pub fn try_new(lines: Items<Text>) -> Option<CommentLines>
         ensures { result ≡ (if limits.is_comment_lines lines then Some lines else None) }
     {
-        if lines.as_slice().len() <= 20 && each_is_comment_line(lines.as_slice()) {
+        if lines.as_slice().len() <= COMMENT_LIMIT && each_is_comment_line(lines.as_slice()) {
             Some(CommentLines { lines })
         } else {
             None
@@ -61,7 +62,7 @@ fn each_is_comment_line(lines: &[Text]) -> bool
 fn is_comment_line(line: &str) -> bool
     ensures { result ≡ limits.is_comment_line line.now }
 {
-    line.len() <= 1000 && are_comment_bytes(line.as_bytes())
+    line.len() <= COMMENT_LINE_LIMIT && are_comment_bytes(line.as_bytes())
 }
 
 fn are_comment_bytes(bytes: &[u8]) -> bool

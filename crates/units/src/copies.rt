@@ -1,20 +1,9 @@
 //! Copies of units and of their parts, each equal to what it is a copy of.
-ghost use Rattle.std.specs.Prelude.{◌≡◌, Ok, IfOk};
+ghost use Rattle.std.specs.Prelude.{◌≡◌, IfOk};
 
 use crate::unit::{Key, Suggestion, Unit, UnitAct, UnitAction, UnitView};
-use po_text::{Duplicate, Forms, Items, PoString, Previous, Text};
+use po_text::{Duplicate, Forms, Items, PoString, Previous, Text, both};
 use std::alloc::AllocError;
-
-/// Both values, where both are there.
-fn both<A: Drop, B: Drop>(
-    first: Result<A, AllocError>,
-    second: Result<B, AllocError>,
-) -> Result<(A, B), AllocError>
-    ensures first { IfOk result (λ both. first ≡ Ok both.0) }
-    ensures second { IfOk result (λ both. second ≡ Ok both.1) }
-{
-    Ok((first?, second?))
-}
 
 impl Duplicate for Key {
     fn duplicate(&self) -> Result<Key, AllocError> {

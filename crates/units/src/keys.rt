@@ -6,7 +6,7 @@ ghost use Rattle.std.specs.Ordering.{on, then_cmp, as_partial_cmp, eq_by_cmp};
 ghost use Rattle.std.specs.Cmp.{partial_equiv_from_equiv, eq_by_cmp_equiv, partial_order_from_total};
 ghost use Rattle.po_text.specs.Texts.{text_cmp};
 ghost use Rattle.units.specs.declared.unit.Key.{Key as KeyValue};
-ghost use Rattle.units.specs.Units.{key_text, key_cmp, key_of as entry_key};
+ghost use Rattle.units.specs.Units.{context_glue, key_text, key_cmp, key_of as entry_key};
 ghost use Rattle.units.specs.Orders.{key_total};
 ghost use Rattle.units.specs.KeyTexts.{HasStrings};
 
@@ -15,6 +15,12 @@ use po_text::{Entry, PoString, Text};
 use std::alloc::{AllocError, Global};
 use std::cmp::Ordering;
 use std::marker::Model;
+
+/// What parts a key's context from its msgid in its text: U+0004, as in compiled catalogues (GNU gettext manual, "The Format of GNU MO
+/// Files"), which no string of a catalogue has.
+pub const CONTEXT_GLUE: char = '\u{4}';
+
+const CONTEXT_GLUE_BYTE: u8 = CONTEXT_GLUE as u8;
 
 /// A key that is borrowed from what has it. Keys are ordered by their texts: the msgid, or the context, U+0004 and the msgid, as the
 /// GNU gettext manual has it of compiled catalogues ("The Format of GNU MO Files").
@@ -40,7 +46,7 @@ impl Key {
         let mut text = String::new(alloc);
         if let Some(ctx) = &self.ctx {
             text.push_str(ctx.as_str())?;
-            text.push('\u{4}')?;
+            text.push(CONTEXT_GLUE)?;
         }
         text.push_str(self.id.as_str())?;
         Ok(Text::from_string(text))
@@ -201,12 +207,12 @@ fn key_text_byte(key: &KeyRef<'_>, at: usize) -> Option<u8>
 }
 
 fn behind_context(ctx: &[u8], id: &[u8], at: usize) -> Option<u8>
-    ensures { result ≡ slice_get (ctx.now ++ 4 ∷ id.now) at }
+    ensures { result ≡ slice_get (ctx.now ++ context_glue ∷ id.now) at }
 {
     if at < ctx.len() {
         Some(ctx[at])
     } else if at == ctx.len() {
-        Some(4)
+        Some(CONTEXT_GLUE_BYTE)
     } else {
         id.get(at - ctx.len() - 1).copied()
     }

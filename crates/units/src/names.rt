@@ -1,14 +1,15 @@
 //! Names, languages, revisions and the threshold of votes. A clause sees each as its bytes or its number, and a value
 //! exists only within its limits.
-ghost use Rattle.std.specs.Prelude.{◌≡◌, ◌+◌, ◌==◌, ℕ, List, IfOk, Some, None, true, nat_eq, nat_lt, if◌then◌else◌, string_bytes};
+ghost use Rattle.std.specs.Prelude.{◌≡◌, ◌+◌, ◌==◌, ℕ, List, Some, None, true, nat_eq, nat_lt, if◌then◌else◌};
 ghost use Rattle.std.specs.List.{list_all};
 ghost use Rattle.std.specs.Cmp.{partial_equiv_from_equiv};
 ghost use Rattle.std.specs.Cmp.Lexicographic.{pointwise, nat_list_eq_equiv};
 ghost use Rattle.units.specs.Limits as limits;
 
+use crate::limits::{ACCEPT_AT_LIMIT, LANG_LIMIT, NAME_LIMIT, REVISION_LIMIT};
 use arrayvec::ArrayString;
 use po_text::Duplicate;
-use std::alloc::{AllocError, Global};
+use std::alloc::AllocError;
 use std::fmt;
 use std::marker::Model;
 
@@ -29,20 +30,20 @@ impl Model for Name {
 }
 
 impl Name {
-    /// The text as a name, where it is one. It takes no memory.
-    pub fn try_new(_alloc: Global, text: &str) -> Result<Option<Name>, AllocError>
-        ensures { IfOk result (λ o. o ≡ (if limits.is_name text.now then Some text.now else None)) }
+    /// The text as a name, where it is one.
+    pub fn try_new(text: &str) -> Option<Name>
+        ensures { result ≡ (if limits.is_name text.now then Some text.now else None) }
     {
         if !is_name(text) {
-            return Ok(None);
+            return None;
         }
         match ArrayString::from(text) {
-            Ok(name) => Ok(Some(Name { name })),
-            Err(_) => Ok(None),
+            Ok(name) => Some(Name { name }),
+            Err(_) => unreachable!(),
         }
     }
 
-    /// `main`, the domain that a request is in if it names none. It takes no memory.
+    /// `main`, the domain that a request is in if it names none.
     pub fn main_domain() -> Name
         ensures { result ≡ limits.main }
     {
@@ -94,28 +95,30 @@ impl Eq for Name {
 /// no codeset.)
 #[derive(Drop, Debug)]
 pub struct Lang {
-    code: String,
+    /// In the value itself, as a name is.
+    code: ArrayString<16>,
 }
 
 impl Model for Lang {
     ghost Value = { List ℕ };
 
-    ghost view = { λ a. string_bytes a.code };
+    ghost view = { λ a. a.code.bytes };
 
-    ghost invariant = { λ a. limits.is_lang (string_bytes a.code) ≡ true };
+    ghost invariant = { λ a. limits.is_lang a.code.bytes ≡ true };
 }
 
 impl Lang {
     /// The text as a language's code, where it is one.
-    pub fn try_new(alloc: Global, text: &str) -> Result<Option<Lang>, AllocError>
-        ensures { IfOk result (λ o. o ≡ (if limits.is_lang text.now then Some text.now else None)) }
+    pub fn try_new(text: &str) -> Option<Lang>
+        ensures { result ≡ (if limits.is_lang text.now then Some text.now else None) }
     {
         if !is_lang(text) {
-            return Ok(None);
+            return None;
         }
-        Ok(Some(Lang {
-            code: String::from_str(alloc, text)?,
-        }))
+        match ArrayString::from(text) {
+            Ok(code) => Some(Lang { code }),
+            Err(_) => unreachable!(),
+        }
     }
 
     /// The text of the code.
@@ -137,9 +140,7 @@ impl fmt::Display for Lang {
 
 impl Duplicate for Lang {
     fn duplicate(&self) -> Result<Lang, AllocError> {
-        Ok(Lang {
-            code: self.code.clone()?,
-        })
+        Ok(Lang { code: self.code })
     }
 }
 
@@ -178,7 +179,7 @@ impl Revision {
     pub fn try_new(number: u64) -> Option<Revision>
         ensures { result ≡ (if limits.is_revision number then Some number else None) }
     {
-        if 1 <= number && number <= 9_000_000_000_000_000 {
+        if 1 <= number && number <= REVISION_LIMIT {
             Some(Revision { number })
         } else {
             None
@@ -224,7 +225,7 @@ impl AcceptAt {
     pub fn try_new(sum: u8) -> Option<AcceptAt>
         ensures { result ≡ (if limits.is_accept_at sum then Some sum else None) }
     {
-        if sum == 0 || (2 <= sum && sum <= 100) {
+        if sum == 0 || (2 <= sum && sum <= ACCEPT_AT_LIMIT) {
             Some(AcceptAt { sum })
         } else {
             None
@@ -243,7 +244,7 @@ impl AcceptAt {
 fn is_name(text: &str) -> bool
     ensures { result ≡ limits.is_name text.now }
 {
-    starts_small(text.as_bytes()) && text.len() <= 32 && are_name_bytes(text.as_bytes())
+    starts_small(text.as_bytes()) && text.len() <= NAME_LIMIT && are_name_bytes(text.as_bytes())
 }
 
 fn starts_small(bytes: &[u8]) -> bool
@@ -284,7 +285,7 @@ fn is_lang(text: &str) -> bool
 {
     starts_with_letter(text.as_bytes())
         && 2 <= text.len()
-        && text.len() <= 16
+        && text.len() <= LANG_LIMIT
         && are_lang_bytes(text.as_bytes())
 }
 

@@ -5,7 +5,7 @@ ghost use Rattle.units.specs.Units as spec;
 
 use crate::unit::{Role, ShownState, Unit, UnitState, UnitView};
 use plural_expr::PluralForms;
-use po_text::{Entry, PoString, Previous};
+use po_text::{Entry, PoString, Previous, Text};
 
 impl Role {
     /// Whether this role has fewer rights than another: a guest has the fewest, then come translator, reviewer and
@@ -39,11 +39,10 @@ pub fn no_previous() -> Previous
     }
 }
 
-/// Whether an entry of the template has a flag.
-pub fn has_flag(flag: &str, entry: &Entry) -> bool
-    ensures { result ≡ spec.has_flag flag.now entry.now }
+/// Whether a flag is among these.
+pub fn has_flag(flags: &[Text], flag: &str) -> bool
+    ensures { result ≡ spec.has_flag flags.now flag.now }
 {
-    let flags = entry.flags.as_slice();
     flags.iter().any(|other| flag == other.as_str())
 }
 
@@ -78,7 +77,7 @@ pub fn is_read_only(source: &Option<Entry>) -> bool
 {
     match source {
         None => false,
-        Some(entry) => has_flag("read-only", entry),
+        Some(entry) => has_flag(entry.flags.as_slice(), "read-only"),
     }
 }
 

@@ -2,10 +2,9 @@
 ghost use Rattle.std.specs.Prelude.{◌≡◌, IfOk};
 ghost use Rattle.serde_json.specs.Data.{object, string};
 ghost use Rattle.serde_json.specs.View.{view, members_view};
-ghost use Rattle.request_book.specs.Words.{strings};
 ghost use Rattle.views.specs.Parts.{text_or_null, naturals};
 
-use po_text::{PoString, Text};
+use po_text::PoString;
 use serde_json::{Map, Value};
 use std::alloc::{AllocError, Global};
 
@@ -24,26 +23,6 @@ pub(crate) fn text_or_null(alloc: Global, text: &Option<PoString>) -> Result<Val
         Some(text) => Value::try_from_str(alloc, text.as_str()),
         None => Ok(Value::Null),
     }
-}
-
-pub(crate) fn texts_value(alloc: Global, texts: &[Text]) -> Result<Value, AllocError>
-    ensures { IfOk result (λ v. view v ≡ strings texts.now) }
-{
-    let mut list = Vec::new(alloc);
-    for text in texts {
-        list.push(Value::try_from_str(alloc, text.as_str())?)?;
-    }
-    Ok(Value::Array(list))
-}
-
-pub(crate) fn strings_value(alloc: Global, texts: &[PoString]) -> Result<Value, AllocError>
-    ensures { IfOk result (λ v. view v ≡ strings texts.now) }
-{
-    let mut list = Vec::new(alloc);
-    for text in texts {
-        list.push(Value::try_from_str(alloc, text.as_str())?)?;
-    }
-    Ok(Value::Array(list))
 }
 
 pub(crate) fn numbers_value(alloc: Global, numbers: &[u32]) -> Result<Value, AllocError>

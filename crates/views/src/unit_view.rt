@@ -2,18 +2,20 @@
 ghost use Rattle.std.specs.Prelude.{◌≡◌, IfOk, OnOk, codes, string_bytes};
 ghost use Rattle.serde_json.specs.Data.{put as with, boolean, string, object};
 ghost use Rattle.serde_json.specs.View.{view as view_of, members_view};
-ghost use Rattle.request_book.specs.Words.{object_of, natural, strings, number_data, state_text};
+ghost use Rattle.request_book.specs.Words.{object_of, natural, strings, number_data};
+ghost use Rattle.units.specs.Words.{state_text};
 ghost use Rattle.units.specs.Units.{shown_state};
 ghost use Rattle.views.specs.Parts.{text_or_null};
 ghost use Rattle.views.specs.UnitTexts.{checked_source, findings_of, findings_fields, suggestion_fields, suggestions_data, unit_fields, unit_text_of};
 
-use crate::parts::{numbers_value, object_value, strings_value, text_or_null, texts_value};
+use crate::parts::{numbers_value, object_value, text_or_null};
 use checks::{Findings, Source, findings};
 use plural_expr::PluralForms;
 use po_text::Text;
+use request_book::{strings_value, texts_value};
 use serde_json::{Map, Value, put};
 use std::alloc::{AllocError, Global};
-use units::{Memory, ShownState, Suggestion, Unit, UnitView};
+use units::{Memory, Suggestion, Unit, UnitView};
 use uuid::Uuid;
 
 /// A unit as callers see it, as compact JSON (RFC 8259), keys in byte order: its key, forms, comment and suggestions, its state,
@@ -88,7 +90,7 @@ fn put_state(map: &mut Map<String, Value>, alloc: Global, view: &UnitView) -> Re
         "revision",
         Value::from(view.unit.revision.number()),
     )?;
-    let state = state_name(view.shown_state());
+    let state = view.shown_state().word();
     put(map, alloc, "state", Value::try_from_str(alloc, state)?)
 }
 
@@ -141,18 +143,6 @@ fn findings_map(alloc: Global, found: &Findings) -> Result<Map<String, Value>, A
         numbers_value(alloc, found.placeholders.as_slice())?,
     )?;
     Ok(map)
-}
-
-fn state_name(state: ShownState) -> &'static str
-    ensures { result.now ≡ state_text state }
-{
-    match state {
-        ShownState::Untranslated => "untranslated",
-        ShownState::NeedsEditing => "needs-editing",
-        ShownState::Translated => "translated",
-        ShownState::Approved => "approved",
-        ShownState::ReadOnly => "read-only",
-    }
 }
 
 fn suggestions_value(alloc: Global, suggestions: &[Suggestion]) -> Result<Value, AllocError>

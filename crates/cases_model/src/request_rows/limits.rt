@@ -1,9 +1,9 @@
 //! Names, languages, numbers, roles, comments and refusals.
-use crate::words::{comment, role, word, yes_or_no};
+use crate::words::{comment, word, yes_or_no};
 use po_text::Duplicate;
 use std::alloc::Global;
 use std::fmt::Display;
-use units::{AcceptAt, Refusal, Revision};
+use units::{AcceptAt, Refusal, Revision, Role};
 
 const REFUSALS: [Refusal; 20] = [
     Refusal::NoLanguage,
@@ -64,7 +64,7 @@ pub(crate) fn tell_accept_at(told: &mut String, words: &str) -> Option<()> {
 }
 
 pub(crate) fn tell_below(told: &mut String, words: &str) -> Option<()> {
-    let is_below = role(word(words, 1))?.is_below(role(word(words, 2))?);
+    let is_below = Role::from_word(word(words, 1))?.is_below(Role::from_word(word(words, 2))?);
     told.push_str(yes_or_no(is_below)).ok()
 }
 

@@ -46,8 +46,8 @@ fn tell_of_texts(
     texts: &str,
 ) -> Option<()> {
     match word(words, 0) {
-        "name" => tell_made(told, Name::try_new(alloc, texts).ok()?),
-        "lang" => tell_made(told, Lang::try_new(alloc, texts).ok()?),
+        "name" => tell_made(told, Name::try_new(texts)),
+        "lang" => tell_made(told, Lang::try_new(texts)),
         "comment" => tell_comment(alloc, told, Some(texts)),
         "sink" => tell_sink(alloc, told, words, texts),
         "source" => tell_source(told, words, texts),

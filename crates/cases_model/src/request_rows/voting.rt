@@ -4,10 +4,6 @@ use po_text::Duplicate;
 use std::alloc::Global;
 use units::{Name, VoteValue, Votes};
 
-fn name(alloc: Global, text: &str) -> Option<Name> {
-    Name::try_new(alloc, text).ok().flatten()
-}
-
 /// A vote, which has no value where it is taken back.
 fn vote(word: &str) -> Option<Option<VoteValue>> {
     match word {
@@ -27,8 +23,8 @@ fn vote_word(vote: Option<VoteValue>) -> &'static str {
 }
 
 /// Shows how many votes there are, their sum, and that of `bea`.
-fn show(alloc: Global, text: &mut String, votes: &Votes) -> Option<()> {
-    let bea = vote_word(votes.get(&name(alloc, "bea")?));
+fn show(text: &mut String, votes: &Votes) -> Option<()> {
+    let bea = vote_word(votes.get(&Name::try_new("bea")?));
     write!(
         text,
         "{} votes, sum {}, bea {bea}",
@@ -38,9 +34,9 @@ fn show(alloc: Global, text: &mut String, votes: &Votes) -> Option<()> {
     .ok()
 }
 
-fn show_copy(alloc: Global, text: &mut String, votes: &Votes) -> Option<()> {
+fn show_copy(text: &mut String, votes: &Votes) -> Option<()> {
     match votes.duplicate() {
-        Ok(copy) => show(alloc, text, &copy),
+        Ok(copy) => show(text, &copy),
         Err(_) => None,
     }
 }
@@ -48,8 +44,8 @@ fn show_copy(alloc: Global, text: &mut String, votes: &Votes) -> Option<()> {
 /// Tells what the votes and their copy show.
 pub(crate) fn tell_votes(alloc: Global, told: &mut String, votes: &Votes) -> Option<()> {
     let mut copied = String::new(alloc);
-    show(alloc, told, votes)?;
-    show_copy(alloc, &mut copied, votes)?;
+    show(told, votes)?;
+    show_copy(&mut copied, votes)?;
     if told.as_str() == copied.as_str() {
         return Some(());
     }
@@ -63,7 +59,7 @@ pub(crate) fn tell_vote(
     votes: &mut Votes,
     words: &str,
 ) -> Option<()> {
-    let voter = name(alloc, word(words, 1))?;
+    let voter = Name::try_new(word(words, 1))?;
     match vote(word(words, 2))? {
         Some(value) => votes.insert(voter, value).ok()?,
         None => votes.remove(&voter),

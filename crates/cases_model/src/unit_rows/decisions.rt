@@ -5,7 +5,7 @@ mod unit_view;
 
 use crate::unit_rows::stage::Stage;
 use crate::unit_rows::words::TWO;
-use crate::words::{policy, role, word};
+use crate::words::{policy, word};
 use plural_expr::PluralForms;
 use requests::{Request, decision, read_request};
 use review::Decision;
@@ -31,7 +31,10 @@ pub(crate) fn tell(
 }
 
 fn put_actor(stage: &mut Stage, words: &str) -> Option<()> {
-    stage.actor = Some((role(word(words, 1))?, policy(words, word(words, 2))?));
+    stage.actor = Some((
+        Role::from_word(word(words, 1))?,
+        policy(words, word(words, 2))?,
+    ));
     Some(())
 }
 

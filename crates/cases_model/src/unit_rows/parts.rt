@@ -44,12 +44,11 @@ fn suggestion(ann: Name, forms: Forms, votes: Votes) -> Suggestion {
 
 /// Adds a suggestion of `ann`.
 pub(crate) fn put_suggestion(
-    alloc: Global,
     suggestions: &mut Items<Suggestion>,
     forms: Forms,
     votes: Votes,
 ) -> Option<()> {
-    match Name::try_new(alloc, "ann").ok().flatten() {
+    match Name::try_new("ann") {
         Some(ann) => suggestions.push(suggestion(ann, forms, votes)).ok(),
         None => {
             drop(forms);

@@ -72,7 +72,7 @@ pub(crate) fn tell_shown(
 /// Tells whether an entry with the flag has the other one.
 pub(crate) fn tell_flag(alloc: Global, told: &mut String, words: &str, flag: &str) -> Option<()> {
     let entry = flagged(alloc, flag)?;
-    let found = has_flag(word(words, 1), &entry);
+    let found = has_flag(entry.flags.as_slice(), word(words, 1));
     drop(entry);
     told.push_str(yes_or_no(found)).ok()
 }

@@ -100,14 +100,14 @@ pub(crate) fn unit_told<T: Tables>(
 ) -> Option<String> {
     let (place, key) = words.split_once('|')?;
     let key = key_of(alloc, key)?;
-    match Place::of(place).named(alloc) {
+    match Place::of(place).named() {
         Some((domain, lang)) => answer_told(alloc, desk.unit(&domain, &lang, &key)),
         None => None,
     }
 }
 
 fn stats_told<T: Tables>(alloc: Global, desk: &mut Desk<T>, place: Place<'_>) -> Option<String> {
-    match place.named(alloc) {
+    match place.named() {
         Some((domain, lang)) => answer_told(alloc, desk.stats(&domain, &lang)),
         None => None,
     }

@@ -83,7 +83,7 @@ pub(crate) fn exported<T: Tables>(
     place: Place<'_>,
     most: usize,
 ) -> Option<String> {
-    match place.named(alloc) {
+    match place.named() {
         Some((domain, lang)) => exported_into(alloc, desk, &domain, &lang, &mut sink(alloc, most)),
         None => None,
     }

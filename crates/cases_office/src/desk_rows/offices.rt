@@ -81,7 +81,7 @@ fn offices_of(alloc: Global, start: &Start) -> Option<Both> {
 
 impl Offices for Both {
     fn open(alloc: Global, who: &str) -> Option<Both> {
-        match start(alloc, who) {
+        match start(who) {
             Some(start) => offices_of(alloc, &start),
             None => None,
         }

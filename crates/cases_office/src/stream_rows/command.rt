@@ -33,11 +33,11 @@ pub(crate) fn status(
 }
 
 /// The domain and the language that a word names; the domain `main` where there is no word.
-pub(crate) fn domain_and_lang(alloc: Global, word: Option<&str>) -> Option<(Name, Option<Lang>)> {
+pub(crate) fn domain_and_lang(word: Option<&str>) -> Option<(Name, Option<Lang>)> {
     let Some(word) = word else {
         return Some((Name::main_domain(), None));
     };
-    let (domain, lang) = Place::of(word).named(alloc)?;
+    let (domain, lang) = Place::of(word).named()?;
     Some((domain, Some(lang)))
 }
 
@@ -47,7 +47,7 @@ fn deliver(
     office: &str,
     export: Option<&str>,
 ) -> Option<u8> {
-    let (domain, lang) = domain_and_lang(alloc, export)?;
+    let (domain, lang) = domain_and_lang(export)?;
     let mut desk = desk_opened(alloc, office)?;
     let status = deliver_lines(
         alloc,
@@ -64,7 +64,7 @@ fn deliver(
 }
 
 fn export(alloc: Global, streams: &mut Streams<'_>, office: &str, place: &[u8]) -> Option<u8> {
-    let (domain, lang) = Place::of(str::from_utf8(place).ok()?).named(alloc)?;
+    let (domain, lang) = Place::of(str::from_utf8(place).ok()?).named()?;
     let mut desk = desk_opened(alloc, office)?;
     let status = export_text(
         &mut desk,

@@ -20,7 +20,7 @@ pub(crate) struct Outcome {
 
 /// Makes an office in the file.
 fn init(alloc: Global, file: &[u8], streams: &mut Streams<'_>, who: &str) -> Option<(u8, Vec<u8>)> {
-    match start(alloc, who) {
+    match start(who) {
         Some(start) => in_file(alloc, file, Deed::Make(&start), streams),
         None => None,
     }
@@ -33,7 +33,7 @@ fn deliver_or_export(
     streams: &mut Streams<'_>,
     words: &str,
 ) -> Option<(u8, Vec<u8>)> {
-    let (domain, lang) = domain_and_lang(alloc, word_behind(words, "export"))?;
+    let (domain, lang) = domain_and_lang(word_behind(words, "export"))?;
     if has(words, "deliver") {
         in_file(alloc, file, Deed::Deliver(&domain, lang.as_ref()), streams)
     } else {

@@ -59,7 +59,7 @@ fn request_number(words: &str) -> Option<Uuid> {
 pub(super) fn read_request(alloc: Global, words: &str, texts: Option<&str>) -> Option<Request> {
     let number = request_number(words)?;
     let seen = revision(word(words, 1))?;
-    let caller = Name::try_new(alloc, word(words, 0)).ok().flatten()?;
+    let caller = Name::try_new(word(words, 0))?;
     let action = action(alloc, words, texts)?;
     Some(Request {
         caller,

@@ -38,7 +38,7 @@ fn unit_text(words: &str) -> &'static str {
 /// The voter of this number, as `v10000`.
 fn voter(alloc: Global, number: u16) -> Option<Name> {
     let name = format!(in alloc; "v{number}").ok()?;
-    Name::try_new(alloc, name.as_str()).ok().flatten()
+    Name::try_new(name.as_str())
 }
 
 /// Adds 10,000 votes against a suggestion, of the voters `v10000` to `v19999`.
@@ -53,7 +53,7 @@ fn put_crowd(alloc: Global, votes: &mut Votes) -> Option<()> {
 /// Adds the suggestion `Servus`.
 fn put_servus(alloc: Global, suggestions: &mut Items<Suggestion>, votes: Votes) -> Option<()> {
     let forms = forms(alloc, "Servus")?;
-    put_suggestion(alloc, suggestions, forms, votes)
+    put_suggestion(suggestions, forms, votes)
 }
 
 fn put_suggestions(alloc: Global, suggestions: &mut Items<Suggestion>, words: &str) -> Option<()> {

@@ -18,7 +18,7 @@ fn suggestions(alloc: Global, words: &str, entry: &Entry) -> Option<Items<Sugges
     let mut suggestions = Items::new(alloc);
     if has(words, "suggested") {
         let forms = entry.forms.duplicate().ok()?;
-        put_suggestion(alloc, &mut suggestions, forms, Votes::new(alloc))?;
+        put_suggestion(&mut suggestions, forms, Votes::new(alloc))?;
     }
     Some(suggestions)
 }

@@ -1,6 +1,6 @@
 use Rattle.std.proofs.Common.{◌≡◌, List, ℕ, length, replicate, subst, ◌∙◌}
 use Rattle.client.specs.Talks.{IsWithin}
-use Rattle.client.specs.Steps.{IsPaid}
+use Rattle.client.specs.TalkSteps.{IsPaid}
 use Rattle.client.proofs.TalkLemmas.{talked_so, all_within}
 use Rattle.client.proofs.sending.send_all.Goals as goal
 

@@ -1,7 +1,7 @@
 use Rattle.std.proofs.Common.{List, ℕ, length, refl, sym, subst, ◌∙◌}
 use Rattle.std.proofs.lemmas.Option.{slice_get_read}
 use Rattle.client.specs.Talks.{Talked}
-use Rattle.client.specs.Steps.{IsPaid}
+use Rattle.client.specs.TalkSteps.{IsPaid}
 use Rattle.client.proofs.TalkLemmas.{talked_keeps, talked_more, paid_more, sent_talked}
 use Rattle.client.proofs.sending.send_round.Goals as goal
 

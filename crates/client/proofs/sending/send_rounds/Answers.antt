@@ -1,6 +1,6 @@
 use Rattle.std.proofs.Common.{List, Option, sym, subst, ◌∙◌}
 use Rattle.client.specs.Talks.{Said, Talked}
-use Rattle.client.specs.Steps.{IsPaid}
+use Rattle.client.specs.TalkSteps.{IsPaid}
 use Rattle.client.proofs.TalkLemmas.{talked_keeps, talked_more, paid_more}
 use Rattle.client.proofs.sending.send_rounds.Goals as goal
 

@@ -1,6 +1,6 @@
 use Rattle.std.proofs.Common.{◌≡◌}
 use Rattle.client.specs.Talks.{Talked, requests_of}
-use Rattle.client.specs.Steps.{IsPaid}
+use Rattle.client.specs.TalkSteps.{IsPaid}
 use Rattle.client.proofs.sending.send_rounds.Given as goal
 
 abbrev pub invariant-loop-round : goal.invariant-loop-round

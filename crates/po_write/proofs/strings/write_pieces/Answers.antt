@@ -1,13 +1,16 @@
 use Rattle.std.proofs.Common.{refl}
 use Rattle.po_write.proofs.Sent.{begin, more, stopped, outcome}
-use Rattle.po_write.proofs.Pieces.{many_pieces, one_piece}
+use Rattle.po_write.proofs.Pieces.{many_behind_quote, one_behind_quote}
 use Rattle.po_write.proofs.strings.write_pieces.Goals as goal
 
-pub returns-in_err-write_piece : goal.returns-in_err-write_piece
-returns-in_err-write_piece g c = stopped _ _ c.from_residual.ensures.0 (begin _ _ (many_pieces c.args.mark.now c.args.string.now c.piece_len.result (record { some = c.piece_len.ensures.some; before = c.piece_len.ensures.before; last = c.piece_len.ensures.last; within = c.piece_len.ensures.within }) c.if-piece_len-string.true)) refl c.in_err-write_piece.ensures
+pub returns-in_err-send : goal.returns-in_err-send
+returns-in_err-send g c = stopped _ _ c.from_residual.ensures.0 (begin _ _ (many_behind_quote c.args.mark.now c.args.string.now c.piece_len.result (record { some = c.piece_len.ensures.some; before = c.piece_len.ensures.before; last = c.piece_len.ensures.last; within = c.piece_len.ensures.within }) c.if-piece_len-string.true)) refl c.in_err-send.ensures
 
-pub returns-in_ok-write_piece : goal.returns-in_ok-write_piece
-returns-in_ok-write_piece g c = outcome _ _ _ (more (begin _ _ (many_pieces c.args.mark.now c.args.string.now c.piece_len.result (record { some = c.piece_len.ensures.some; before = c.piece_len.ensures.before; last = c.piece_len.ensures.last; within = c.piece_len.ensures.within }) c.if-piece_len-string.true)) refl c.in_ok-write_piece.ensures) refl c.write_piece_lines.ensures
+pub returns-in_ok-send : goal.returns-in_ok-send
+returns-in_ok-send g c = outcome _ _ _ (more (begin _ _ (many_behind_quote c.args.mark.now c.args.string.now c.piece_len.result (record { some = c.piece_len.ensures.some; before = c.piece_len.ensures.before; last = c.piece_len.ensures.last; within = c.piece_len.ensures.within }) c.if-piece_len-string.true)) refl c.in_ok-send.ensures) refl c.write_piece_lines.ensures
 
-pub returns-else-piece_len-string : goal.returns-else-piece_len-string
-returns-else-piece_len-string g c = outcome _ _ _ (begin _ _ (one_piece c.args.mark.now c.args.string.now c.piece_len.result (record { some = c.piece_len.ensures.some; before = c.piece_len.ensures.before; last = c.piece_len.ensures.last; within = c.piece_len.ensures.within }) c.if-piece_len-string.false)) refl c.write_piece-else-piece_len-string.ensures
+pub returns-in_err-write_escaped : goal.returns-in_err-write_escaped
+returns-in_err-write_escaped g c = stopped _ _ c.from_residual-in_err-write_escaped.ensures.0 (begin _ _ (one_behind_quote c.args.mark.now c.args.string.now c.piece_len.result (record { some = c.piece_len.ensures.some; before = c.piece_len.ensures.before; last = c.piece_len.ensures.last; within = c.piece_len.ensures.within }) c.if-piece_len-string.false)) refl c.in_err-write_escaped.ensures
+
+pub returns-in_ok-write_escaped : goal.returns-in_ok-write_escaped
+returns-in_ok-write_escaped g c = outcome _ _ _ (more (begin _ _ (one_behind_quote c.args.mark.now c.args.string.now c.piece_len.result (record { some = c.piece_len.ensures.some; before = c.piece_len.ensures.before; last = c.piece_len.ensures.last; within = c.piece_len.ensures.within }) c.if-piece_len-string.false)) refl c.in_ok-write_escaped.ensures) refl c.send-in_ok-write_escaped.ensures

@@ -13,18 +13,17 @@ pub returns-clause-found : goal.returns-clause-found
 returns-clause-found g c =
     let old = state g.S.Store c.args.connection.now in
     let office = office_in c.args.read.now.maps in
-    λ form idle.
-    looked_on old (state g.S.Store c.read_statuses.new.connection) {E = OpenFault} c.in_ok-statuses.statuses c.keep_rules.result AreStatusesIn (λ db _. KeepsBook office db) (c.in_ok-statuses.ensures.found form idle)
+    looked_on old (state g.S.Store c.read_statuses.new.connection) {E = OpenFault} c.in_ok-statuses.statuses c.keep_rules.result AreStatusesIn (λ db _. KeepsBook office db) c.in_ok-statuses.ensures.found
     (λ early is_open are. book_is_kept c.keep_rules.result office old.now are.stand are.numbered are.contents (c.keep_rules.ensures.kept (book_in (rows_named old.now)) are.statuses_are))
 
 pub returns-clause-refused : goal.returns-clause-refused
 returns-clause-refused g c =
     let old = state g.S.Store c.args.connection.now in
     let office = office_in c.args.read.now.maps in
-    λ form idle. if_err_under _ c.keep_rules.result (λ clean. IfErr-weaker c.keep_rules.result _ (RefusesKept office old.now) (rules_refused office old.now)
-    (c.keep_rules.ensures.refused (book_in (rows_named old.now)) ((c.in_ok-statuses.ensures.found form idle).answer clean).statuses_are))
+    if_err_under _ c.keep_rules.result (λ clean. IfErr-weaker c.keep_rules.result _ (RefusesKept office old.now) (rules_refused office old.now)
+    (c.keep_rules.ensures.refused (book_in (rows_named old.now)) (c.in_ok-statuses.ensures.found.answer clean).statuses_are))
 
 pub returns-in_err-statuses-clause-refused : goal.returns-in_err-statuses-clause-refused
 returns-in_err-statuses-clause-refused g c =
     let p = err_from_is_err_and c.from_residual.result c.from_residual.ensures.1 in
-    λ form idle. rw (p.1, p.2) (λ clean. book_refused (office_in c.args.read.now.maps) (state g.S.Store c.args.connection.now).now c.in_err-statuses.field-0.0 (c.in_err-statuses.ensures.refused form idle clean))
+    rw (p.1, p.2) (λ clean. book_refused (office_in c.args.read.now.maps) (state g.S.Store c.args.connection.now).now c.in_err-statuses.field-0.0 (c.in_err-statuses.ensures.refused clean))

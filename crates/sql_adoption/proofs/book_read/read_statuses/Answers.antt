@@ -1,29 +1,29 @@
-use Rattle.std.proofs.Common.{rules, ◌≡◌, Ok, sym, subst}
-use Rattle.std.specs.Prelude.{All}
+use Rattle.std.proofs.Common.{Ok}
+use Rattle.std.specs.FinMap as maps
 use Rattle.sqlite.specs.Held.{state}
-use Rattle.sqlite.specs.declared.error.Error.{Error}
-use Rattle.sql_statements.specs.RecordTable.{ShowsRecords}
-use Rattle.office_rules.specs.Given.{AreStatusesOf}
-use Rattle.sql_adoption.specs.BookShown.{book_shown, IsRecordRow}
+use Rattle.sql_streams.specs.declared.walking.WalkFault.{WalkFault}
+use Rattle.sql_decoding.specs.declared.faults.Failure.{Failure}
+use Rattle.sql_adoption.specs.NotedRecords.{NotesRecords}
 use Rattle.sql_adoption.specs.Reading.{AreStatusesIn}
-use Rattle.sql_adoption.proofs.Looked.{looked_on}
-use Rattle.sql_adoption.proofs.Read.{statuses_are_read, book_unread}
+use Rattle.sql_adoption.proofs.Looked.{walked_on, looked_failed}
+use Rattle.sql_adoption.proofs.Read.{statuses_are_read, walk_refused}
 use Rattle.sql_adoption.proofs.book_read.read_statuses.Goals as goal
 
-pub returns-in-Ok-clause-found : goal.returns-in-Ok-clause-found
-returns-in-Ok-clause-found g c =
+pub returns-clause-found : goal.returns-clause-found
+returns-clause-found g c =
     let old = state g.S.Store c.args.connection.now in
-    let rows = c.in_ok-rows.rows.items in
-    let same : c.as_slice.result.now ≡ rows = search rules in
-    let stand = subst (All IsRecordRow) same c.in-Ok.ensures.stand in
-    let are = subst (λ rs. AreStatusesOf (book_shown rs) c.in-Ok.statuses) same c.in-Ok.ensures.statuses in
-    λ form idle. looked_on old (state g.S.Store c.look_up_records.new.connection) {E = Error} c.in_ok-rows.rows (Ok c.in-Ok.statuses) (λ db rows. ShowsRecords db rows.items) AreStatusesIn (c.in_ok-rows.ensures.found form idle)
-    (λ early is_open shows. statuses_are_read form old.now rows shows stand (idle.ready early is_open) c.in-Ok.statuses are)
+    let new = state g.S.Store c.walk_contents.new.connection in
+    let last = c.walk_contents.new.sink in
+    walked_on old new {E = WalkFault Failure} _ (Ok last.by_number) _ AreStatusesIn c.in_ok-walk_contents.ensures.looked (λ clean early is_open.
+    let gave = c.in_ok-walk_contents.ensures.handed clean in
+    statuses_are_read c.requires.idle.0 old.now gave.rows gave.answer gave.took.stand (c.requires.idle.1.ready early is_open) last.by_number
+    (gave.took.noted maps.empty c.new-statuses.ensures))
 
-pub returns-clause-refused : goal.returns-clause-refused
-returns-clause-refused g c =
-    let old = state g.S.Store c.args.connection.now in
-    let rows = c.in_ok-rows.rows.items in
-    let same : c.as_slice.result.now ≡ rows = search rules in
-    λ form idle. book_unread old.now rows c.in-Err.failure c.unread.result (λ clean. (c.in_ok-rows.ensures.found form idle).answer clean) c.unread.ensures
-    (λ disk all. c.in-Err.ensures.unread disk (subst (All IsRecordRow) (sym same) all))
+pub returns-in_err-walk_contents-clause-found : goal.returns-in_err-walk_contents-clause-found
+returns-in_err-walk_contents-clause-found g c =
+    looked_failed (state g.S.Store c.args.connection.now) (state g.S.Store c.walk_contents.new.connection) _ c.from_residual.result _ AreStatusesIn c.from_residual.ensures.0 c.in_err-walk_contents.ensures.looked
+
+pub returns-in_err-walk_contents-clause-refused : goal.returns-in_err-walk_contents-clause-refused
+returns-in_err-walk_contents-clause-refused g c =
+    walk_refused (state g.S.Store c.args.connection.now).now (λ a rows b. NotesRecords a.by_number rows b.by_number) c.new-statuses.result c.walk_contents.new.sink c.from_residual.result c.in_err-walk_contents.field-0.0
+    c.from_residual.ensures.1 c.in_err-walk_contents.ensures.handed

@@ -1,4 +1,4 @@
-use Rattle.std.proofs.Common.{◌≡◌, rules}
+use Rattle.std.proofs.Common.{◌≡◌, inl, rules}
 use Rattle.sqlite.specs.declared.types.Value.TheVariants.{Text as Words}
 use Rattle.sqlite.specs.Order.{column}
 use Rattle.units.specs.Limits.{is_lang}
@@ -19,4 +19,4 @@ returns-in_err-lang_from-clause-unread c =
     let t = c.as_str.result.now in
     let holds : column row 2 ≡ Words t = search rules in
     fault_tells c.from_residual-in_err-lang_from.result (is_language_row row) c.in_err-lang_from.field-0.0 c.from_residual-in_err-lang_from.ensures
-    (λ other. first_fails (holds_text is_lang 2 row) (is_language row) (text_falls 2 row t holds is_lang (unless (is_lang t) (λ fits. not_given c.in_err-lang_from.field-0.0 other t (c.in_err-lang_from.ensures.back fits)))))
+    (λ other. first_fails (holds_text is_lang 2 row) (is_language row) (text_falls 2 row t holds is_lang (unless (is_lang t) (λ fits. not_given c.in_err-lang_from.field-0.0 other t (inl (c.in_err-lang_from.ensures.back fits))))))

@@ -17,3 +17,6 @@ returns-clause-refused g c =
 
 pub keep_rows-kept-requires-clause-idle : goal.keep_rows-kept-requires-clause-idle
 keep_rows-kept-requires-clause-idle g c = read_idle c.args.form (state g.S.Store c.args.connection.now) (state g.S.Store c.read_office.new.connection) c.in_ok-read.read c.requires.idle c.in_ok-read.ensures.found
+
+pub keep_rows-kept-requires-clause-is_open : goal.keep_rows-kept-requires-clause-is_open
+keep_rows-kept-requires-clause-is_open g c = c.in_ok-read.ensures.found.is_open

@@ -1,4 +1,4 @@
-use Rattle.std.proofs.Common.{ap, rules, ◌∙◌, ◌≡◌}
+use Rattle.std.proofs.Common.{ap, inl, rules, ◌∙◌, ◌≡◌}
 use Rattle.sqlite.specs.declared.types.Value.TheVariants.{Text as Words}
 use Rattle.sqlite.specs.Order.{column}
 use Rattle.units.specs.Limits.{is_name}
@@ -14,7 +14,7 @@ pub returns-in_err-name-clause-unread : goal.returns-in_err-name-clause-unread
 returns-in_err-name-clause-unread c =
     let t = c.as_str.result.now in
     let holds : column c.args.row.now c.args.at ≡ Words t = search rules in
-    fault_tells c.from_residual-in_err-name.result (holds_text is_name c.args.at c.args.row.now) c.in_err-name.field-0.0 c.from_residual-in_err-name.ensures (λ other. text_falls c.args.at c.args.row.now t holds is_name (unless (is_name t) (λ fits. not_given c.in_err-name.field-0.0 other t (c.in_err-name.ensures.back fits))))
+    fault_tells c.from_residual-in_err-name.result (holds_text is_name c.args.at c.args.row.now) c.in_err-name.field-0.0 c.from_residual-in_err-name.ensures (λ other. text_falls c.args.at c.args.row.now t holds is_name (unless (is_name t) (λ fits. not_given c.in_err-name.field-0.0 other t (inl (c.in_err-name.ensures.back fits)))))
 
 pub returns-clause-stands : goal.returns-clause-stands
 returns-clause-stands c =

@@ -1,6 +1,7 @@
 use Rattle.std.proofs.Common.{w64}
 use Rattle.std.proofs.lemmas.Int.{to_z-of_z}
 use Rattle.sqlite.specs.Held.{state}
+use Rattle.sql_laws.proofs.DiskErrors.{execute_blames}
 use Rattle.sql_schema.proofs.Steps.{said}
 use Rattle.sql_statements.proofs.DomainSuggestions.{adds_suggestion}
 use Rattle.sql_statements.proofs.domain_suggestions.add_domain_suggestion.Goals as goal
@@ -11,3 +12,7 @@ returns-clause-added g c =
     adds_suggestion c.args.number.now c.args.domain.now c.args.lang.now c.args.key.now c.args.place c.args.suggester.now c.args.forms.now (state g.S.Store c.args.tx.now.conn.now) (state g.S.Store c.execute.new.self.conn.now) c.execute.result c.requires.steady
     (rw (c.params-to_sql.ensures, c.params-to_sql-2.ensures, c.params-to_sql-3.ensures, c.params-to_sql-4.ensures, c.params-to_sql-5.ensures, c.params-to_sql-6.ensures, c.params-to_sql-7.ensures, to_z-of_z w64 c.args.place c.ranges.place) at c.execute.ensures.runs) c.execute.ensures.survives
     )
+
+pub returns-clause-disk : goal.returns-clause-disk
+returns-clause-disk g c =
+    execute_blames _ _ (state g.S.Store c.args.tx.now.conn.now) (state g.S.Store c.execute.new.self.conn.now) c.execute.result c.and.result c.execute.ensures.ended c.execute.ensures.runs tt c.and.ensures

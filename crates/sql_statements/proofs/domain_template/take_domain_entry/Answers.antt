@@ -1,4 +1,5 @@
 use Rattle.sqlite.specs.Held.{state}
+use Rattle.sql_laws.proofs.DiskErrors.{execute_blames}
 use Rattle.sql_schema.proofs.Steps.{said}
 use Rattle.sql_statements.proofs.DomainTemplate.{takes_entry}
 use Rattle.sql_statements.proofs.domain_template.take_domain_entry.Goals as goal
@@ -9,3 +10,7 @@ returns-clause-taken g c =
     takes_entry c.args.domain.now c.args.key.now (state g.S.Store c.args.tx.now.conn.now) (state g.S.Store c.execute.new.self.conn.now) c.execute.result c.requires.steady
     (rw (c.params-to_sql.ensures, c.params-to_sql-2.ensures) at c.execute.ensures.runs) c.execute.ensures.survives
     )
+
+pub returns-clause-disk : goal.returns-clause-disk
+returns-clause-disk g c =
+    execute_blames _ _ (state g.S.Store c.args.tx.now.conn.now) (state g.S.Store c.execute.new.self.conn.now) c.execute.result c.and.result c.execute.ensures.ended c.execute.ensures.runs tt c.and.ensures

@@ -1,6 +1,6 @@
 use Rattle.std.proofs.Common.{◌∙◌, subst}
 use Rattle.template_update.specs.Updates.{plan_of}
-use Rattle.template_update.specs.Steps.{HaveUpdates}
+use Rattle.template_update.specs.PlannedUnits.{HaveUpdates}
 use Rattle.template_update.proofs.Updating.{no_plan}
 use Rattle.template_update.proofs.planning.plan.Goals as goal
 

@@ -1,5 +1,6 @@
 use Rattle.std.proofs.Common.{◌≡◌, Bool, true, false, ◌&&◌, List, [], ◌∷◌, Result, Ok, Err, OnOk, OnErr, string_bytes, refl, ap, ◌∙◌}
 use Rattle.std.specs.List.{list_all}
+use Rattle.std.proofs.lemmas.Result.{on_ok_weaker}
 use Rattle.std.specs.BTreeMap.{insert_entry}
 use Rattle.std.specs.Ordering.{match_ordering}
 use Rattle.std.specs.declared.cmp.Ordering.{Ordering}
@@ -35,13 +36,13 @@ all_keys-after {K = K} {X = X} p (Err x) old more new put same before after = ap
 
 pub invariant_of-self : goal.invariant_of-self
 invariant_of-self c = record {
-  coded = all_keys-after (λ k. is_lang (string_bytes k)) c.insert.result c.args.self.now.rows.entries
-      (insert_entry (λ x y. text_cmp (string_bytes x) (string_bytes y)) c.args.self.now.rows.entries c.args.own c.args.language) c.insert.new.self.entries
-      c.insert.ensures.entries c.insert.ensures.err c.args.self.now.coded
+  coded = all_keys-after (λ k. is_lang (string_bytes k)) c.put_in.result c.args.self.now.rows.entries
+      (insert_entry (λ x y. text_cmp (string_bytes x) (string_bytes y)) c.args.self.now.rows.entries c.args.own c.args.language) c.put_in.new.map.entries
+      c.put_in.ensures.ok c.put_in.ensures.err c.args.self.now.coded
       (all_keys-insert (λ k. is_lang (string_bytes k)) (λ x y. text_cmp (string_bytes x) (string_bytes y)) c.args.own c.args.language c.args.self.now.rows.entries
       c.requires c.args.self.now.coded);
 }
 
-pub returns-in-Ok-clause-ok : goal.returns-in-Ok-clause-ok
-returns-in-Ok-clause-ok c =
-    insert-viewed text_cmp string_bytes (λ language. language.header) text_total text_IsAntisymmetric c.args.self.now.rows c.insert.new.self c.args.own c.args.language c.in-Ok.ensures.entries
+pub returns-clause-ok : goal.returns-clause-ok
+returns-clause-ok c =
+    on_ok_weaker c.put_in.result (insert-viewed text_cmp string_bytes (λ language. language.header) text_total text_IsAntisymmetric c.args.self.now.rows c.put_in.new.map c.args.own c.args.language) c.put_in.ensures.ok

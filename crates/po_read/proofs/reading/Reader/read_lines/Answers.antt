@@ -38,7 +38,7 @@ loop-told-preserved c = record {
 pub returns-in-Ok-clause-ok : goal.returns-in-Ok-clause-ok
 returns-in-Ok-clause-ok c =
     let g = c.loop-told.invariant.going in
-    rw c.replace.ensures.value (read_whole c.args.text.now c.loop-told.self c.loop-told.lines.text c.loop-told.line c.finish.new.self.entries.items g c.in_default.ensures.none.0 (c.in-Ok.ensures.ok g.lines g.reads))
+    rw (c.into_vec.ensures ∙ c.replace.ensures.value) (read_whole c.args.text.now c.loop-told.self c.loop-told.lines.text c.loop-told.line c.finish.new.self.entries g c.in_default.ensures.none.0 (c.in-Ok.ensures.ok g.lines g.reads))
 
 pub returns-in-Err-finish-clause-err : goal.returns-in-Err-finish-clause-err
 returns-in-Err-finish-clause-err c = end_of_text c.args.text.now c.loop-told.self c.loop-told.lines.text c.loop-told.line c.in-Err-finish.kind c.loop-told.invariant.going c.in_default.ensures.none.0 c.in-Err-finish.ensures.err

@@ -15,4 +15,4 @@ returns-in_err-test_entry-clause-err c =
 
 pub returns-clause-ok : goal.returns-clause-ok
 returns-clause-ok c =
-    entry_read c.args.self.now c.close_before.new.self c.add.new.self (line_view c.args.line) c.in_ok-test_front.ensures c.in_ok-test_entry.ensures c.in_ok-close_before.ensures.reads c.requires.sound c.requires.some c.in_ok-add.ensures.added c.in_ok-add.ensures.entries c.in_ok-add.ensures.keys
+    entry_read c.args.self.now c.close_before.new.self c.add.new.self (line_view c.args.line) c.in_ok-test_front.ensures c.in_ok-test_entry.ensures c.in_ok-close_before.ensures.reads c.requires.sound c.requires.some c.in_ok-add.ensures.added c.in_ok-add.ensures.entries

@@ -1,4 +1,4 @@
-use Rattle.std.proofs.Common.{ap, sym, ◌∙◌}
+use Rattle.std.proofs.Common.{ap, sym, inl, ◌∙◌}
 use Rattle.std.proofs.lemmas.Result.{IfOk-weaker}
 use Rattle.units.specs.Limits.{is_name}
 use Rattle.sql_decoding.proofs.ColumnsRead.{holds_text}
@@ -12,4 +12,4 @@ pub returns-clause-stands : goal.returns-clause-stands
 returns-clause-stands c = both_tell c.name_from.result _ _ (λ v is fits. ap is_name is ∙ fits) c.name_from.ensures.ok c.name_from.ensures.fits
 
 pub returns-clause-falls : goal.returns-clause-falls
-returns-clause-falls c = read_fails c.name_from.result (is_name c.args.text.now) (λ never. unless (is_name c.args.text.now) (λ fits. never c.args.text.now (c.name_from.ensures.back fits)))
+returns-clause-falls c = read_fails c.name_from.result (is_name c.args.text.now) (λ never. unless (is_name c.args.text.now) (λ fits. never c.args.text.now (inl (c.name_from.ensures.back fits))))

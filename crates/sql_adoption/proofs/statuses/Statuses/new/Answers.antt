@@ -1,0 +1,5 @@
+use Rattle.office_rules.proofs.GivenLemmas.{none_noted}
+use Rattle.sql_adoption.proofs.statuses.Statuses.new.Goals as goal
+
+pub returns : goal.returns
+returns c = none_noted c.new.result c.new.ensures.empty

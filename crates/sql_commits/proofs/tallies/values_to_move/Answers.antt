@@ -1,0 +1,69 @@
+use Rattle.std.proofs.Common.{◌≡◌, Ok, rules, ap, ◌∙◌}
+use Rattle.sqlite.specs.Effect.{Database}
+use Rattle.sqlite.specs.Held.{state}
+use Rattle.sql_decoding.specs.declared.faults.Failure.{Failure}
+use Rattle.sql_decoding.specs.declared.units_read.UnitNumbers.{UnitNumbers}
+use Rattle.sql_schema.proofs.Sequences.{reads_both}
+use Rattle.sql_statements.specs.DomainAnswers.{ShowsDomainUnit, ShowsPlaces}
+use Rattle.sql_commits.specs.Counted.{ShowsMoving}
+use Rattle.sql_commits.specs.declared.unit_counts.CountedValues.{CountedValues}
+use Rattle.sql_commits.proofs.FiguresInTurn.{read_told}
+use Rattle.sql_commits.proofs.TalliesMoved.{row_moving, none_moving, values_moving, values_shown}
+use Rattle.sql_commits.proofs.tallies.values_to_move.Goals as goal
+
+-- one query, where suggestions move no count
+pub returns-then-numbers-unit-clause-found : goal.returns-then-numbers-unit-clause-found
+returns-then-numbers-unit-clause-found g c =
+    let old = state g.S.Store c.args.tx.now.conn.now in
+    let mid = state g.S.Store c.find_domain_unit.new.tx.conn.now in
+    let domain = c.args.domain.now in
+    let lang = c.args.lang.now in
+    let unit = c.args.unit.now in
+    let found = c.in_ok-found.found in
+    let values = c.values_of.result in
+    let alike : values.obsolete ≡ unit.obsolete = search rules in
+    let none : values.suggestions ≡ 0 = search rules in
+    read_told old mid found _ (λ (db : Database) shown. ShowsDomainUnit c.as_str.result.now c.as_str-2.result.now c.as_str-3.result.now db shown) (ShowsMoving domain lang unit) c.requires.steady
+    (λ ready shown. row_moving old.now ready domain lang unit.key c.key_fits.ensures.strings c.as_str.result.now c.as_str-2.result.now c.as_str-3.result.now found (search rules) (search rules) (search rules) shown unit.obsolete
+    c.in-Some.row values (search rules)
+    (ap (λ (v : CountedValues). v.state) c.values_of.ensures ∙ ap (λ (n : UnitNumbers). n.state) c.in_ok-numbers-in-Some.ensures.shown)
+    (ap (λ (v : CountedValues). v.obsolete) c.values_of.ensures ∙ ap (λ (n : UnitNumbers). n.obsolete) c.in_ok-numbers-in-Some.ensures.shown) alike none)
+    c.in_ok-found.ensures.found
+
+-- two queries, and what both show
+pub returns-in-Some-clause-found : goal.returns-in-Some-clause-found
+returns-in-Some-clause-found g c =
+    let old = state g.S.Store c.args.tx.now.conn.now in
+    let mid = state g.S.Store c.find_domain_unit.new.tx.conn.now in
+    let new = state g.S.Store c.places_of.new.tx.conn.now in
+    let domain = c.args.domain.now in
+    let lang = c.args.lang.now in
+    let unit = c.args.unit.now in
+    let found = c.in_ok-found.found in
+    let rows = c.in_ok-places-in-Some.places in
+    let values = c.values_of-else-numbers-unit.result in
+    let both = reads_both old mid new found (Ok rows) (ShowsDomainUnit c.as_str.result.now c.as_str-2.result.now c.as_str-3.result.now)
+    (λ (db : Database) shown. ShowsPlaces c.as_str-else-numbers-unit.result.now c.as_str-else-numbers-unit-2.result.now c.as_str-else-numbers-unit-3.result.now db shown.items)
+    c.in_ok-found.ensures.found c.in_ok-places-in-Some.ensures.found in
+    read_told old new rows _ (λ (db : Database) shown. ShowsDomainUnit c.as_str.result.now c.as_str-2.result.now c.as_str-3.result.now db found
+    × ShowsPlaces c.as_str-else-numbers-unit.result.now c.as_str-else-numbers-unit-2.result.now c.as_str-else-numbers-unit-3.result.now db shown.items)
+    (ShowsMoving domain lang unit) c.requires.steady
+    (λ ready shown. values_moving unit.key unit.obsolete _ values
+    (values_shown old.now ready domain lang unit.key c.key_fits.ensures.strings c.as_str.result.now c.as_str-2.result.now c.as_str-3.result.now
+    c.as_str-else-numbers-unit.result.now c.as_str-else-numbers-unit-2.result.now c.as_str-else-numbers-unit-3.result.now
+    (search rules) (search rules) (search rules) (search rules) (search rules) (search rules) found rows.items shown c.in-Some.row values (search rules)
+    (ap (λ (v : CountedValues). v.state) c.values_of-else-numbers-unit.ensures ∙ ap (λ (n : UnitNumbers). n.state) c.in_ok-numbers-in-Some.ensures.shown)
+    (ap (λ (v : CountedValues). v.obsolete) c.values_of-else-numbers-unit.ensures ∙ ap (λ (n : UnitNumbers). n.obsolete) c.in_ok-numbers-in-Some.ensures.shown)
+    (ap (λ (v : CountedValues). v.suggestions) c.values_of-else-numbers-unit.ensures ∙ c.len.ensures ∙ rows.ok.0))) both
+
+pub returns-clause-found : goal.returns-clause-found
+returns-clause-found g c =
+    let old = state g.S.Store c.args.tx.now.conn.now in
+    let mid = state g.S.Store c.find_domain_unit.new.tx.conn.now in
+    let domain = c.args.domain.now in
+    let lang = c.args.lang.now in
+    let unit = c.args.unit.now in
+    let found = c.in_ok-found.found in
+    read_told old mid found _ (λ (db : Database) shown. ShowsDomainUnit c.as_str.result.now c.as_str-2.result.now c.as_str-3.result.now db shown) (ShowsMoving domain lang unit) c.requires.steady
+    (λ ready shown. none_moving old.now ready domain lang unit.key c.key_fits.ensures.strings c.as_str.result.now c.as_str-2.result.now c.as_str-3.result.now found (search rules) (search rules) (search rules) shown unit.obsolete (search rules))
+    c.in_ok-found.ensures.found
