@@ -14,8 +14,8 @@ loop-code-init c =
       coded = ap are_codes start ∙ c.args.self.now.domain.now.languages.coded;
     }
 
-pub lang-requires : goal.lang-requires
-lang-requires c =
+pub lang_of-requires : goal.lang_of-requires
+lang_of-requires c =
     let step = rest_more deref_pair c.loop-code.code-iterator c.next.new.self c.next.result (c.in-Some.code, c.in-Some._language) c.in-Some.is c.next.ensures.steps in
     ap is_lang c.as_str.ensures.value ∙ (both_hold (is_lang (string_bytes c.in-Some.code.now)) (are_codes c.next.new.self) (sym (ap are_codes step) ∙ c.loop-code.invariant.coded)).0
 
