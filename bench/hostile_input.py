@@ -83,6 +83,11 @@ class Desk:
             raise SystemExit("%.200s was answered %.300s" % (line, answer))
         return seconds
 
+    def processor(self):
+        """The seconds of a processor that it has used."""
+        with open("/proc/%d/schedstat" % self.child.pid) as file:
+            return int(file.read().split()[0]) / 1e9
+
     def __enter__(self):
         return self
 
@@ -246,27 +251,30 @@ def of_many_votes(program, path):
 
 
 def of_few_rows(program, path):
-    """The seconds of the best of several votes, each on another suggestion, which have to be counted, of translations and comments; of one suggestion, and of its dismissal."""
+    """The seconds of the best of several votes, each on another suggestion, which have to be counted, and of a processor at each; of the best of several
+    translations and comments; of one suggestion, and of its dismissal."""
     with contextlib.closing(sqlite3.connect(path)) as db:
         own = [it for (it,) in db.execute("SELECT number FROM d_suggestion LIMIT ?", (ROUNDS,))]
     requests, votes, translations, comments = Requests(LATER), [], [], []
-    unit, state = {"id": "Hello", "lang": "de"}, "untranslated"
+    unit = {"id": "Hello", "lang": "de"}
     with Desk(program, path) as desk:
-        for turn, suggestion in enumerate(own):
+        used = desk.processor()
+        for suggestion in own:
+            line = requests.line("vote", "ann", seen=1, suggestion=suggestion, value=1, **unit)
+            votes.append(desk.ask(line, '200 {"accepted":false,"revision":1,"state":"untranslated","votes":%d}' % (2 + VOTES % 2)))
+        used = (desk.processor() - used) / ROUNDS
+        for turn in range(ROUNDS):
             seen = 2 * turn + 1
-            line = requests.line("vote", "ann", seen=seen, suggestion=suggestion, value=1, **unit)
-            votes.append(desk.ask(line, '200 {"accepted":false,"revision":%d,"state":"%s","votes":%d}' % (seen, state, 2 + VOTES % 2)))
-            state = "translated"
             line = requests.line("translate", "ann", seen=seen, forms=["Text of turn %d" % turn], **unit)
-            translations.append(desk.ask(line, '200 {"revision":%d,"state":"%s"}' % (seen + 1, state)))
+            translations.append(desk.ask(line, '200 {"revision":%d,"state":"translated"}' % (seen + 1)))
             line = requests.line("comment", "ann", seen=seen + 1, lines=["Turn %d" % turn], **unit)
-            comments.append(desk.ask(line, '200 {"revision":%d,"state":"%s"}' % (seen + 2, state)))
+            comments.append(desk.ask(line, '200 {"revision":%d,"state":"translated"}' % (seen + 2)))
         line = requests.line("suggest", "ann", seen=2 * ROUNDS + 1, forms=["Hallo"], **unit)
-        wanted = '200 {"revision":%d,"state":"%s","suggestion":"%s","votes":1}' % (2 * ROUNDS + 1, state, number(requests.count))
+        wanted = '200 {"revision":%d,"state":"translated","suggestion":"%s","votes":1}' % (2 * ROUNDS + 1, number(requests.count))
         suggestion = desk.ask(line, wanted)
         line = requests.line("dismiss", "ann", seen=2 * ROUNDS + 1, suggestion=number(requests.count), **unit)
-        dismissal = desk.ask(line, '200 {"revision":%d,"state":"%s"}' % (2 * ROUNDS + 1, state))
-    return [min(votes), min(translations), min(comments), suggestion, dismissal]
+        dismissal = desk.ask(line, '200 {"revision":%d,"state":"translated"}' % (2 * ROUNDS + 1))
+    return [min(votes), used, min(translations), min(comments), suggestion, dismissal]
 
 
 def of_long_suggestions(program, path):
@@ -324,10 +332,11 @@ def main():
     tell("a language's counts", counts, 0.01)
     tell("those of a language that isn't there", no_counts, 0.01)
     print("a unit of %d suggestions with %d votes each" % (SUGGESTIONS, VOTES))
-    look, opening, vote, translation, comment, suggestion, dismissal = beside(many_votes, of_many_votes)
+    look, opening, vote, used, translation, comment, suggestion, dismissal = beside(many_votes, of_many_votes)
     tell("a look", look, 0.6)
     tell("the opening", opening)
     tell("a vote", vote, 0.02)
+    tell("of a processor at each", used, 0.02)
     tell("a translation", translation, 0.02)
     tell("a comment", comment, 0.02)
     tell("a suggestion", suggestion, 0.02)

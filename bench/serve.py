@@ -23,7 +23,7 @@ from served import HEADER, TOP, answered, made, number, processor, talking
 
 FOLDER = sys.argv[1] if len(sys.argv) > 1 else None
 COUNT = int(sys.argv[2]) if len(sys.argv) > 2 else 2_000
-ROUNDS = int(sys.argv[3]) if len(sys.argv) > 3 else 5
+ROUNDS = int(sys.argv[3]) if len(sys.argv) > 3 else 15
 PROGRAM = pathlib.Path(sys.argv[4] if len(sys.argv) > 4 else TOP / "crates" / "cli" / "out" / "cli").resolve()
 
 
