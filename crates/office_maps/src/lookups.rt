@@ -3,7 +3,7 @@
 ghost use Rattle.std.specs.Prelude.{◌≡◌, true, Some, IfOk, option_map};
 ghost use Rattle.std.specs.FinMap as maps;
 ghost use Rattle.units.specs.Limits.{is_lang};
-ghost use Rattle.units.specs.Project.{units_of};
+ghost use Rattle.units.specs.Project.{languages, units_of};
 ghost use Rattle.units.specs.Rules.{rule_at};
 ghost use Rattle.template_update.specs.Updates.{plan_of};
 ghost use Rattle.deliveries.specs.ProjectActs.{plan_at, plans};
@@ -24,6 +24,18 @@ impl<'a> ProjectMaps<'a> {
         ensures { result ≡ maps.len (lent_project self.now).headers }
     {
         self.domain.languages.rows.len()
+    }
+
+    /// The languages, in the order of their codes.
+    pub fn languages(&self, alloc: Global) -> Result<Vec<Lang>, AllocError>
+        ensures { IfOk result (λ all. all.items ≡ languages (lent_project self.now)) }
+    {
+        let mut all = Vec::new(alloc);
+        for (code, _language) in self.domain.languages.rows.iter() {
+            let lang = lang_of(alloc, code.as_str())?;
+            all.push(lang)?;
+        }
+        Ok(all)
     }
 
     /// What a new template makes of a language.
