@@ -1,5 +1,5 @@
 //! The PO text of a language, and what is told of it on the second output.
-ghost use Rattle.std.specs.Prelude.{◌≡◌, ◌≤◌, ◌⊎◌, [], option_map, true, false, OnOk};
+ghost use Rattle.std.specs.Prelude.{◌≡◌, ◌≤◌, ◌⊎◌, option_map, true, false};
 ghost use Rattle.byte_streams.specs.Sending.{Sends};
 ghost use Rattle.office.specs.Writers.{writer_at, TakesAll, TakesPart};
 ghost use Rattle.commands.specs.ExportLines.{export_fault_line, receipt_line, Printed, IsToldBehind};

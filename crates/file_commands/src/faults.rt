@@ -1,5 +1,5 @@
 //! What is told where an office's tables can't be had.
-ghost use Rattle.std.specs.Prelude.{◌≡◌, false, [], codes, OnOk};
+ghost use Rattle.std.specs.Prelude.{◌≡◌};
 ghost use Rattle.byte_streams.specs.Sending.{Sends};
 ghost use Rattle.office.specs.Writers.{writer_at};
 ghost use Rattle.file_commands.specs.Faults.{store_fault_line, TellsLine};

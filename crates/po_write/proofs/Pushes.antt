@@ -4,6 +4,7 @@ use Rattle.std.specs.Prelude.{flat_map}
 use Rattle.std.proofs.lemmas.List.{append-nil}
 use Rattle.byte_streams.specs.Streams.{Took, TookBeginning, RoseOrStands}
 use Rattle.byte_streams.proofs.Taking.{append_known-nil, took_both, took_then_beginning, beginning_of_longer}
+use Rattle.byte_streams.proofs.Sent.{all_gone}
 use Rattle.po_text.specs.declared.entry.Entry.{Entry}
 use Rattle.po_text.specs.Texts.{is_empty}
 use Rattle.po_write.specs.Pushed.{HasPushed, HasBroken}
