@@ -1,5 +1,6 @@
 pub mod PluralLines
 pub mod CanonText
+pub mod CanonEntries
 pub mod TextLines
 pub mod ExportLines
 pub mod LostLines
