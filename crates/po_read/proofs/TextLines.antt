@@ -136,10 +136,12 @@ pub record Handing {S : Type 0} (Took : S → List Entry → S → Type 0) (firs
   pub took : Took first (map entry_of going.lines.whole) sink
 
 pub hand_none : {S : Type 0} (Took : S → List Entry → S → Type 0) → ((s : S) → Took s [] s) → (first : S) (text : List ℕ) (reader : Reader) → IsUtf8 text → Reads reader no_lines → Handing Took first text reader first text 1
+unfolding begin
 hand_none Took none first text reader u h = record { going = begin text reader u h; took = none first }
 
 pub token_next : {S : Type 0} (Took : S → List Entry → S → Type 0) (first sink sink' : S) (text : List ℕ) (reader reader' : Reader) (old new : Rest) (told : Result Token PoFault) (token : Token) (n : ℕ) → Handing Took first text reader sink old.text n → IsNext old new told → told ≡ Ok token
     → ((first : S) (lines : Lines) → HandsOn Took first reader sink lines → (line_fault limits lines (Ok (line_view token.line)) ≡ None) × HandsOn Took first reader' sink' (add_line lines (Ok (line_view token.line)))) → Handing Took first text reader' sink' new.text (n + 1)
+unfolding go_on
 token_next Took first sink sink' text reader reader' old new told token n w next e h =
     let g = w.going in
     let is = token_read old new told token next e in

@@ -1,6 +1,6 @@
 //! PO text to catalogue.
 
-ghost use Rattle.std.specs.Prelude.{◌≡◌, ◌∷◌, ◌++◌, ◌⊎◌, ◌&&◌, ◌||◌, [], List, true, false, not, None, Some, Ok, map, length, ◌<◌, ◌^◌, IfOk, IfErr, OnOk};
+ghost use Rattle.std.specs.Prelude.{◌≡◌, ◌∷◌, ◌++◌, ◌⊎◌, ◌&&◌, ◌||◌, [], List, true, false, not, None, Some, Ok, map, length, ◌<◌, ◌^◌, MatchResult, IfOk, IfErr, OnOk};
 ghost use Rattle.po_lex.specs.Lines.{lines_of, blank};
 ghost use Rattle.po_lex.specs.Views.{line_view};
 ghost use Rattle.po_lex.specs.declared.fault.FaultKind.TheVariants as kinds;

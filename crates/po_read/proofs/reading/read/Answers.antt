@@ -2,7 +2,7 @@ use Rattle.std.proofs.Common.{List, sym, ◌∙◌, subst}
 use Rattle.std.proofs.lemmas.Result.{err_from_is_err_and}
 use Rattle.po_text.specs.declared.entry.Entry.{Entry}
 use Rattle.po_read.specs.Spells.{Spells, IsWithin, limits}
-use Rattle.po_read.proofs.Answered.{memory_then, same_catalogue}
+use Rattle.po_read.proofs.Answered.{memory_then, same_catalogue, gathered}
 use Rattle.po_read.proofs.reading.read.Goals as goal
 
 pub returns-in_err-entries-clause-spelled : goal.returns-in_err-entries-clause-spelled
@@ -20,11 +20,15 @@ returns-in_err-entries-clause-memory c =
     let p = err_from_is_err_and c.from_residual.result c.from_residual.ensures.1 in
     rw (p.1, p.2) c.in_err-entries.ensures.memory
 
-pub new-requires : goal.new-requires
-new-requires c = ?
+pub new-2-requires : goal.new-2-requires
+new-2-requires c = (gathered c.args.bytes.now c.new.result.items c.in_ok-entries.entries.items c.new.ensures.items c.in_ok-entries.ensures.catalogue).0.valid
 
 pub returns-clause-catalogue : goal.returns-clause-catalogue
-returns-clause-catalogue c = ?
+returns-clause-catalogue c =
+    subst (λ (es : List Entry). Spells c.args.bytes.now es × IsWithin limits c.args.bytes.now es) (sym c.new-2.ensures)
+    (gathered c.args.bytes.now c.new.result.items c.in_ok-entries.entries.items c.new.ensures.items c.in_ok-entries.ensures.catalogue)
 
 pub returns-clause-spelled : goal.returns-clause-spelled
-returns-clause-spelled c = ?
+returns-clause-spelled c =
+    let read = gathered c.args.bytes.now c.new.result.items c.in_ok-entries.entries.items c.new.ensures.items c.in_ok-entries.ensures.catalogue in
+    λ other s w. c.new-2.ensures ∙ same_catalogue c.args.bytes.now c.in_ok-entries.entries.items other read.0 s

@@ -13,4 +13,4 @@ handed Took (Ok x) before after old new entry was rest keys took = record { entr
 handed Took (Err e) before after old new entry was rest keys took = tt
 
 pub returns : goal.returns
-returns g c = handed g.S.ReadSink.Took c.take-2.result c.args.sink.now c.take-2.new.self c.args.self.now (record { keys = c.push.new.self; current = c.take-entry.new.self; alloc = c.args.self.now.alloc }) c.in_ok-entry.entry c.in_ok-entry.ensures.was c.in_ok-entry.ensures.rest c.in_ok-push.ensures c.take-2.ensures
+returns g c = handed g.S.ReadSink.Took c.take-2.result c.args.sink.now c.take-2.new.self c.args.self.now (record { keys = c.push.new.self; current = c.take.new.self; alloc = c.args.self.now.alloc }) c.in_ok-entry.entry c.in_ok-entry.ensures.was c.in_ok-entry.ensures.rest c.in_ok-push.ensures c.take-2.ensures
