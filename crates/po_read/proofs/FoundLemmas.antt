@@ -38,6 +38,11 @@ same_place ks i j e d p q is = some_same (sym p ∙ ap (slice_get ks) is ∙ q)
     some_same : {x y : EntryKey} → Some x ≡ Some y → x ≡ y
     some_same s = cc
 
+pub read_at : (ks : List EntryKey) (i : ℕ) → i < length ks → (e : EntryKey) × (slice_get ks i ≡ Some e)
+read_at [] i h = absurd (omega (arith, h))
+read_at (k ∷ ks) zero h = (k, refl)
+read_at (k ∷ ks) (suc i) h = read_at ks i (omega (arith, h))
+
 -- a key of a list with one more
 old_or_new : (ks : List EntryKey) (new : EntryKey) (i : ℕ) (e : EntryKey) → slice_get (ks ++ new ∷ []) i ≡ Some e → (slice_get ks i ≡ Some e) ⊎ ((i ≡ length ks) × (e ≡ new))
 old_or_new [] new zero e h = inr (refl, cc)
@@ -54,11 +59,11 @@ not_there : (b : Bool) → (b ≡ true → ⊥) → false ≡ b
 not_there true never = absurd (never refl)
 not_there false _ = refl
 
-pub none_found : (ks : List EntryKey) (lasts : BTreeMap ℕ ℕ) (others : BTreeSet EntryKey) (ctx : Option Text) (id : Text) → AreFound ks lasts others → get nat_cmp lasts (key_hash ctx id) ≡ None → false ≡ has_key ctx id ks
-none_found ks lasts others ctx id h none = not_there (has_key ctx id ks) never
+pub none_found : (ks : List EntryKey) (firsts : BTreeMap ℕ ℕ) (others : BTreeSet EntryKey) (ctx : Option Text) (id : Text) → AreFound ks firsts others → get nat_cmp firsts (key_hash ctx id) ≡ None → false ≡ has_key ctx id ks
+none_found ks firsts others ctx id h none = not_there (has_key ctx id ks) never
   where
-    hashed : (e : EntryKey) → pair_of e ≡ (ctx, id) → get nat_cmp lasts (key_hash e.ctx e.id) ≡ None
-    hashed e is = ap (λ (k : Key). get nat_cmp lasts (key_hash k.0 k.1)) is ∙ none
+    hashed : (e : EntryKey) → pair_of e ≡ (ctx, id) → get nat_cmp firsts (key_hash e.ctx e.id) ≡ None
+    hashed e is = ap (λ (k : Key). get nat_cmp firsts (key_hash k.0 k.1)) is ∙ none
 
     never : has_key ctx id ks ≡ true → ⊥
     never found =
@@ -69,12 +74,12 @@ none_found ks lasts others ctx id h none = not_there (has_key ctx id ks) never
           | inr some ↦ false≢true (ap is_some (sym is) ∙ some.0)
         ]
 
-pub last_found : (ks : List EntryKey) (i : ℕ) (e : EntryKey) (ctx : Option Text) (id : Text) → slice_get ks i ≡ Some e → same_key (pair_of e) (ctx, id) ≡ true → true ≡ has_key ctx id ks
-last_found ks i e ctx id there is = sym (any_passes_from_place (with_key ctx id) ks i e there is)
+pub first_found : (ks : List EntryKey) (i : ℕ) (e : EntryKey) (ctx : Option Text) (id : Text) → slice_get ks i ≡ Some e → same_key (pair_of e) (ctx, id) ≡ true → true ≡ has_key ctx id ks
+first_found ks i e ctx id there is = sym (any_passes_from_place (with_key ctx id) ks i e there is)
 
-pub other_found : (ks : List EntryKey) (lasts : BTreeMap ℕ ℕ) (others : BTreeSet EntryKey) (ctx : Option Text) (id : Text) (i : ℕ) (e : EntryKey) → AreFound ks lasts others → get nat_cmp lasts (key_hash ctx id) ≡ Some i → slice_get ks i ≡ Some e
+pub other_found : (ks : List EntryKey) (firsts : BTreeMap ℕ ℕ) (others : BTreeSet EntryKey) (ctx : Option Text) (id : Text) (i : ℕ) (e : EntryKey) → AreFound ks firsts others → get nat_cmp firsts (key_hash ctx id) ≡ Some i → slice_get ks i ≡ Some e
     → same_key (pair_of e) (ctx, id) ≡ false → contains entry_key_cmp others (key_at_hand ctx id) ≡ has_key ctx id ks
-other_found ks lasts others ctx id i e h last there apart = by (contains entry_key_cmp others (key_at_hand ctx id)) (has_key ctx id ks) refl refl
+other_found ks firsts others ctx id i e h last there apart = by (contains entry_key_cmp others (key_at_hand ctx id)) (has_key ctx id ks) refl refl
   where
     among : has_key ctx id ks ≡ true → contains entry_key_cmp others (key_at_hand ctx id) ≡ true
     among found =
@@ -82,7 +87,7 @@ other_found ks lasts others ctx id i e h last there apart = by (contains entry_k
         let is = key_same (pair_of at.e) (ctx, id) at.passes in
         elim (h.each at.i at.e at.there) [
           | inl some ↦ (
-              let same : Some i ≡ Some at.i = sym last ∙ ap (λ (k : Key). get nat_cmp lasts (key_hash k.0 k.1)) (sym is) ∙ some in
+              let same : Some i ≡ Some at.i = sym last ∙ ap (λ (k : Key). get nat_cmp firsts (key_hash k.0 k.1)) (sym is) ∙ some in
               let here : i ≡ at.i = cc in
               let one : e ≡ at.e = same_place ks i at.i e at.e there at.there here in
               absurd (false≢true (sym apart ∙ ap (with_key ctx id) one ∙ at.passes))
@@ -98,12 +103,9 @@ other_found ks lasts others ctx id i e h last there apart = by (contains entry_k
 
 -- ---- one more
 
-abbrev Grows : BTreeSet EntryKey → BTreeSet EntryKey → Type 0
-Grows others new = (key : EntryKey) → contains entry_key_cmp others key ≡ true → contains entry_key_cmp new key ≡ true
-
--- the last of a hash is another
-abbrev pub IsLastNow : BTreeMap ℕ ℕ → BTreeMap ℕ ℕ → ℕ → ℕ → Type 0
-IsLastNow lasts new hash i = (q : ℕ) → get nat_cmp new q ≡ cond (is_eq (nat_cmp hash q)) (Some i) (get nat_cmp lasts q)
+-- the key of a hash stands at this place now, and those of other hashes stay
+abbrev pub IsPut : BTreeMap ℕ ℕ → BTreeMap ℕ ℕ → ℕ → ℕ → Type 0
+IsPut firsts new hash i = (q : ℕ) → get nat_cmp new q ≡ cond (is_eq (nat_cmp hash q)) (Some i) (get nat_cmp firsts q)
 
 hash_is : (hash q : ℕ) → is_eq (nat_cmp hash q) ≡ true → hash ≡ q
 hash_is hash q h = grind (arith, nat_tests)
@@ -114,109 +116,80 @@ hash_self hash = grind (arith, nat_tests)
 still_has : (ctx : Option Text) (id : Text) (ks : List EntryKey) (new : EntryKey) → has_key ctx id ks ≡ true → has_key ctx id (ks ++ new ∷ []) ≡ true
 still_has ctx id ks new h = list_any-append (with_key ctx id) ks (new ∷ []) ∙ ap (λ b. b || (with_key ctx id new || false)) h
 
-found_with : (ks : List EntryKey) (new : EntryKey) (lasts lasts' : BTreeMap ℕ ℕ) (others others' : BTreeSet EntryKey) → AreFound ks lasts others → IsLastNow lasts lasts' (key_hash new.ctx new.id) (length ks) → Grows others others'
-    → ((i : ℕ) (e : EntryKey) → slice_get ks i ≡ Some e → key_hash new.ctx new.id ≡ key_hash e.ctx e.id → contains entry_key_cmp others' (key_at_hand e.ctx e.id) ≡ true)
-    → ((key : EntryKey) → contains entry_key_cmp others' key ≡ true → has_key key.ctx key.id ks ≡ true)
-    → AreFound (ks ++ new ∷ []) lasts' others'
-found_with ks new lasts lasts' others others' h updated grown moved only = record {
-  each = λ i e there. elim (old_or_new ks new i e there) [ inl old ↦ kept i e old (is_eq (nat_cmp hash (key_hash e.ctx e.id))) refl | inr last ↦ subst (λ (x : EntryKey). IsFoundAt lasts' others' i x) (sym last.1) (inl (here ∙ ap Some (sym last.0))) ];
-  places = λ q i at. place q i (is_eq (nat_cmp hash q)) refl at;
-  known = λ key there. still_has key.ctx key.id ks new (only key there);
-}
-  where
-    hash : ℕ
-    hash = key_hash new.ctx new.id
+new_there : (ks : List EntryKey) (new : EntryKey) → slice_get (ks ++ new ∷ []) (length ks) ≡ Some new
+new_there [] new = refl
+new_there (k ∷ ks) new = new_there ks new
 
-    here : get nat_cmp lasts' hash ≡ Some (length ks)
-    here = updated hash ∙ ap (λ b. cond b (Some (length ks)) (get nat_cmp lasts hash)) (hash_self hash)
+module _ (ks all : List EntryKey) (new : EntryKey) (firsts : BTreeMap ℕ ℕ) (others : BTreeSet EntryKey) (hash : ℕ) (found : AreFound ks firsts others) (grown : all ≡ ks ++ new ∷ []) (is : hash ≡ key_hash new.ctx new.id) where
+  -- its hash is new
+  pub found_new : (firsts' : BTreeMap ℕ ℕ) (place : ℕ) → place ≡ length ks → IsPut firsts firsts' hash place → get nat_cmp firsts hash ≡ None → AreFound all firsts' others
+  found_new firsts' place at put none =
+      subst (λ (xs : List EntryKey). AreFound xs firsts' others) (sym grown) (record {
+        each = λ i e there. elim (old_or_new ks new i e there) [ inl old ↦ kept i e old | inr last ↦ subst (λ (x : EntryKey). IsFoundAt firsts' others i x) (sym last.1) (inl (here ∙ ap Some (at ∙ sym last.0))) ];
+        places = λ q i there. placed q i (is_eq (nat_cmp hash q)) refl there;
+        known = λ key there. still_has key.ctx key.id ks new (found.known key there);
+      })
+    where
+      here : get nat_cmp firsts' (key_hash new.ctx new.id) ≡ Some place
+      here = ap (get nat_cmp firsts') (sym is) ∙ put hash ∙ ap (λ b. cond b (Some place) (get nat_cmp firsts hash)) (hash_self hash)
 
-    kept : (i : ℕ) (e : EntryKey) → slice_get ks i ≡ Some e → (b : Bool) → is_eq (nat_cmp hash (key_hash e.ctx e.id)) ≡ b → IsFoundAt lasts' others' i e
-    kept i e old true is =
-        let now : get nat_cmp lasts' (key_hash e.ctx e.id) ≡ Some (length ks) = updated (key_hash e.ctx e.id) ∙ ap (λ b. cond b (Some (length ks)) (get nat_cmp lasts (key_hash e.ctx e.id))) is in
-        inr (ap is_some now, moved i e old (hash_is hash (key_hash e.ctx e.id) is))
-    kept i e old false is =
-        let now : get nat_cmp lasts' (key_hash e.ctx e.id) ≡ get nat_cmp lasts (key_hash e.ctx e.id) = updated (key_hash e.ctx e.id) ∙ ap (λ b. cond b (Some (length ks)) (get nat_cmp lasts (key_hash e.ctx e.id))) is in
-        elim (h.each i e old) [ inl some ↦ inl (now ∙ some) | inr some ↦ inr (ap is_some now ∙ some.0, grown (key_at_hand e.ctx e.id) some.1) ]
+      stays : (q : ℕ) (b : Bool) → is_eq (nat_cmp hash q) ≡ b → is_some (get nat_cmp firsts q) ≡ true → get nat_cmp firsts' q ≡ get nat_cmp firsts q
+      stays q true same some = absurd (false≢true (ap is_some (sym none ∙ ap (get nat_cmp firsts) (hash_is hash q same)) ∙ some))
+      stays q false other some = put q ∙ ap (λ b. cond b (Some place) (get nat_cmp firsts q)) other
 
-    place : (q i : ℕ) (b : Bool) → is_eq (nat_cmp hash q) ≡ b → get nat_cmp lasts' q ≡ Some i → i < length (ks ++ new ∷ [])
-    place q i true is at =
-        let same : Some (length ks) ≡ Some i = sym (updated q ∙ ap (λ b. cond b (Some (length ks)) (get nat_cmp lasts q)) is) ∙ at in
-        let last : length ks ≡ i = cc in
-        omega (arith, length-append ks (new ∷ []))
-    place q i false is at =
-        let before : i < length ks = h.places q i (sym (updated q ∙ ap (λ b. cond b (Some (length ks)) (get nat_cmp lasts q)) is) ∙ at) in
-        omega (arith, length-append ks (new ∷ []))
+      kept : (i : ℕ) (e : EntryKey) → slice_get ks i ≡ Some e → IsFoundAt firsts' others i e
+      kept i e old = elim (found.each i e old) [
+        | inl some ↦ inl (stays (key_hash e.ctx e.id) (is_eq (nat_cmp hash (key_hash e.ctx e.id))) refl (ap is_some some) ∙ some)
+        | inr some ↦ inr (ap is_some (stays (key_hash e.ctx e.id) (is_eq (nat_cmp hash (key_hash e.ctx e.id))) refl some.0) ∙ some.0, some.1)
+      ]
 
--- its hash is new
-new_hash : (ks : List EntryKey) (new : EntryKey) (lasts lasts' : BTreeMap ℕ ℕ) (others : BTreeSet EntryKey) → AreFound ks lasts others → IsLastNow lasts lasts' (key_hash new.ctx new.id) (length ks) → get nat_cmp lasts (key_hash new.ctx new.id) ≡ None
-    → AreFound (ks ++ new ∷ []) lasts' others
-new_hash ks new lasts lasts' others h updated none =
-    found_with ks new lasts lasts' others others h updated (λ key there. there)
-    (λ i e there is.
-    let gone : get nat_cmp lasts (key_hash e.ctx e.id) ≡ None = ap (get nat_cmp lasts) (sym is) ∙ none in
-    elim (h.each i e there) [
-      | inl some ↦ (let differs : None ≡ Some i = sym gone ∙ some in cc)
-      | inr some ↦ some.1
-    ])
-    h.known
+      placed : (q i : ℕ) (b : Bool) → is_eq (nat_cmp hash q) ≡ b → get nat_cmp firsts' q ≡ Some i → i < length (ks ++ new ∷ [])
+      placed q i true same there =
+          let e : Some place ≡ Some i = sym (put q ∙ ap (λ b. cond b (Some place) (get nat_cmp firsts q)) same) ∙ there in
+          let last : place ≡ i = cc in
+          omega (arith, at, length-append ks (new ∷ []))
+      placed q i false other there =
+          let before : i < length ks = found.places q i (sym (put q ∙ ap (λ b. cond b (Some place) (get nat_cmp firsts q)) other) ∙ there) in
+          omega (arith, length-append ks (new ∷ []))
 
--- another has its hash, and its key goes to the others
-same_hash : (ks : List EntryKey) (new other : EntryKey) (lasts lasts' : BTreeMap ℕ ℕ) (others others' : BTreeSet EntryKey) (before : ℕ) (key : EntryKey) → AreFound ks lasts others → IsLastNow lasts lasts' (key_hash new.ctx new.id) (length ks)
-    → get nat_cmp lasts (key_hash new.ctx new.id) ≡ Some before → slice_get ks before ≡ Some other → key ≡ key_at_hand other.ctx other.id → ((q : EntryKey) → contains entry_key_cmp others' q ≡ cond (is_eq (entry_key_cmp key q)) true (contains entry_key_cmp others q))
-    → AreFound (ks ++ new ∷ []) lasts' others'
-same_hash ks new other lasts lasts' others others' before key h updated last there is_key inserted =
-    found_with ks new lasts lasts' others others' h updated grown moved only
-  where
-    or_true : (a : Bool) → cond a true true ≡ true
-    or_true true = refl
-    or_true false = refl
+  -- another has its hash, and its key goes to the others
+  pub found_behind : (mid firsts' : BTreeMap ℕ ℕ) (others' : BTreeSet EntryKey) (place first : ℕ) (key : EntryKey) → IsPut firsts mid hash place → get nat_cmp firsts hash ≡ Some first → IsPut mid firsts' hash first → key ≡ new
+      → ((q : EntryKey) → contains entry_key_cmp others' q ≡ cond (is_eq (entry_key_cmp key q)) true (contains entry_key_cmp others q)) → AreFound all firsts' others'
+  found_behind mid firsts' others' place first key put was again is_key inserted =
+      subst (λ (xs : List EntryKey). AreFound xs firsts' others') (sym grown) (record {
+        each = λ i e there. elim (old_or_new ks new i e there) [ inl old ↦ kept i e old | inr last ↦ subst (λ (x : EntryKey). IsFoundAt firsts' others' i x) (sym last.1) (inr (ap is_some (same (key_hash new.ctx new.id) ∙ ap (get nat_cmp firsts) (sym is) ∙ was), key_in)) ];
+        places = λ q i there. let before : i < length ks = found.places q i (sym (same q) ∙ there) in omega (arith, length-append ks (new ∷ []));
+        known = λ q there. known q (is_eq (entry_key_cmp key q)) refl (sym (inserted q) ∙ there);
+      })
+    where
+      same : (q : ℕ) → get nat_cmp firsts' q ≡ get nat_cmp firsts q
+      same q = by (is_eq (nat_cmp hash q)) refl
+        where
+          by : (b : Bool) → is_eq (nat_cmp hash q) ≡ b → get nat_cmp firsts' q ≡ get nat_cmp firsts q
+          by true e = again q ∙ ap (λ b. cond b (Some first) (get nat_cmp mid q)) e ∙ sym was ∙ ap (get nat_cmp firsts) (hash_is hash q e)
+          by false e = again q ∙ ap (λ b. cond b (Some first) (get nat_cmp mid q)) e ∙ put q ∙ ap (λ b. cond b (Some place) (get nat_cmp firsts q)) e
 
-    grown : Grows others others'
-    grown q in_others = inserted q ∙ ap (λ b. cond (is_eq (entry_key_cmp key q)) true b) in_others ∙ or_true (is_eq (entry_key_cmp key q))
+      or_true : (a : Bool) → cond a true true ≡ true
+      or_true true = refl
+      or_true false = refl
 
-    key_in : contains entry_key_cmp others' (key_at_hand other.ctx other.id) ≡ true
-    key_in =
-        inserted (key_at_hand other.ctx other.id)
-        ∙ ap (λ b. cond b true (contains entry_key_cmp others (key_at_hand other.ctx other.id)))
-        (ap (λ (k : EntryKey). is_eq (entry_key_cmp k (key_at_hand other.ctx other.id))) is_key ∙ cmp_same (key_at_hand other.ctx other.id) (key_at_hand other.ctx other.id) ∙ same_key_self (other.ctx, other.id))
+      more : (q : EntryKey) → contains entry_key_cmp others q ≡ true → contains entry_key_cmp others' q ≡ true
+      more q there = inserted q ∙ ap (λ b. cond (is_eq (entry_key_cmp key q)) true b) there ∙ or_true (is_eq (entry_key_cmp key q))
 
-    moved : (i : ℕ) (e : EntryKey) → slice_get ks i ≡ Some e → key_hash new.ctx new.id ≡ key_hash e.ctx e.id → contains entry_key_cmp others' (key_at_hand e.ctx e.id) ≡ true
-    moved i e at is =
-        elim (h.each i e at) [
-          | inl some ↦ (
-              let same : Some before ≡ Some i = sym last ∙ ap (get nat_cmp lasts) is ∙ some in
-              let here : before ≡ i = cc in
-              let one : other ≡ e = same_place ks before i other e there at here in
-              ap (λ (x : EntryKey). contains entry_key_cmp others' (key_at_hand x.ctx x.id)) (sym one) ∙ key_in
-              )
-          | inr some ↦ grown (key_at_hand e.ctx e.id) some.1
-        ]
+      key_in : contains entry_key_cmp others' new ≡ true
+      key_in =
+          inserted new
+          ∙ ap (λ b. cond b true (contains entry_key_cmp others new))
+          (ap (λ (k : EntryKey). is_eq (entry_key_cmp k new)) is_key ∙ cmp_same new new ∙ same_key_self (new.ctx, new.id))
 
-    only : (q : EntryKey) → contains entry_key_cmp others' q ≡ true → has_key q.ctx q.id ks ≡ true
-    only q in_new = by (is_eq (entry_key_cmp key q)) refl (sym (inserted q) ∙ in_new)
-      where
-        by : (b : Bool) → is_eq (entry_key_cmp key q) ≡ b → cond b true (contains entry_key_cmp others q) ≡ true → has_key q.ctx q.id ks ≡ true
-        by false e in_old = h.known q in_old
-        by true e in_old =
-            any_passes_from_place (with_key q.ctx q.id) ks before other there
-            (sym (cmp_same (key_at_hand other.ctx other.id) q) ∙ ap (λ (k : EntryKey). is_eq (entry_key_cmp k q)) (sym is_key) ∙ e)
+      kept : (i : ℕ) (e : EntryKey) → slice_get ks i ≡ Some e → IsFoundAt firsts' others' i e
+      kept i e old = elim (found.each i e old) [
+        | inl some ↦ inl (same (key_hash e.ctx e.id) ∙ some)
+        | inr some ↦ inr (ap is_some (same (key_hash e.ctx e.id)) ∙ some.0, more e some.1)
+      ]
 
--- ---- the same, by the hash and the place that were computed
-
-hashed_last : (lasts lasts' : BTreeMap ℕ ℕ) (hash place h i : ℕ) → hash ≡ h → place ≡ i → IsLastNow lasts lasts' hash place → IsLastNow lasts lasts' h i
-hashed_last lasts lasts' hash place h i is at updated q = updated q ∙ (λ j. cond (is_eq (nat_cmp (is j) q)) (Some (at j)) (get nat_cmp lasts q))
-
-pub found_new : (ks all : List EntryKey) (new : EntryKey) (lasts lasts' : BTreeMap ℕ ℕ) (others : BTreeSet EntryKey) (hash place : ℕ) → AreFound ks lasts others → all ≡ ks ++ new ∷ [] → hash ≡ key_hash new.ctx new.id → place ≡ length ks
-    → IsLastNow lasts lasts' hash place → get nat_cmp lasts hash ≡ None → AreFound all lasts' others
-found_new ks all new lasts lasts' others hash place h grown is at updated none =
-    subst (λ (xs : List EntryKey). AreFound xs lasts' others) (sym grown)
-    (new_hash ks new lasts lasts' others h (hashed_last lasts lasts' hash place (key_hash new.ctx new.id) (length ks) is at updated) (ap (get nat_cmp lasts) (sym is) ∙ none))
-
-pub found_behind : (ks all : List EntryKey) (new other : EntryKey) (lasts lasts' : BTreeMap ℕ ℕ) (others others' : BTreeSet EntryKey) (hash place before : ℕ) (key : EntryKey) → AreFound ks lasts others → all ≡ ks ++ new ∷ [] → hash ≡ key_hash new.ctx new.id → place ≡ length ks
-    → IsLastNow lasts lasts' hash place → get nat_cmp lasts hash ≡ Some before → slice_get all before ≡ Some other → key ≡ key_at_hand other.ctx other.id
-    → ((q : EntryKey) → contains entry_key_cmp others' q ≡ cond (is_eq (entry_key_cmp key q)) true (contains entry_key_cmp others q)) → AreFound all lasts' others'
-found_behind ks all new other lasts lasts' others others' hash place before key h grown is at updated last there is_key inserted =
-    let within : before < length ks = h.places hash before last in
-    let old : slice_get ks before ≡ Some other = elim (old_or_new ks new before other (ap (λ (xs : List EntryKey). slice_get xs before) (sym grown) ∙ there)) [ inl old ↦ old | inr behind ↦ absurd (omega (arith, behind.0)) ] in
-    subst (λ (xs : List EntryKey). AreFound xs lasts' others') (sym grown)
-    (same_hash ks new other lasts lasts' others others' before key h (hashed_last lasts lasts' hash place (key_hash new.ctx new.id) (length ks) is at updated) (ap (get nat_cmp lasts) (sym is) ∙ last) old is_key inserted)
+      known : (q : EntryKey) (b : Bool) → is_eq (entry_key_cmp key q) ≡ b → cond b true (contains entry_key_cmp others q) ≡ true → has_key q.ctx q.id (ks ++ new ∷ []) ≡ true
+      known q false e there = still_has q.ctx q.id ks new (found.known q there)
+      known q true e there =
+          any_passes_from_place (with_key q.ctx q.id) (ks ++ new ∷ []) (length ks) new (new_there ks new)
+          (sym (cmp_same new q) ∙ ap (λ (k : EntryKey). is_eq (entry_key_cmp k q)) (sym is_key) ∙ e)

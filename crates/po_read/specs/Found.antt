@@ -31,13 +31,13 @@ abbrev pub key_hash : Option Text → Text → ℕ
 key_hash None id = folding.finish (folding.write folding.initial id)
 key_hash (Some ctx) id = folding.finish (folding.write (folding.write folding.initial id) ctx)
 
--- The key is the last of its hash, or there is a last one and it is among the others.
+-- The key is the first of its hash, or there is a first one and it is among the others.
 abbrev pub IsFoundAt : BTreeMap ℕ ℕ → BTreeSet EntryKey → ℕ → EntryKey → Type 0
-IsFoundAt lasts others i key =
-    (get nat_cmp lasts (key_hash key.ctx key.id) ≡ Some i) ⊎ (IsSome (get nat_cmp lasts (key_hash key.ctx key.id)) × (contains entry_key_cmp others key ≡ true))
+IsFoundAt firsts others i key =
+    (get nat_cmp firsts (key_hash key.ctx key.id) ≡ Some i) ⊎ (IsSome (get nat_cmp firsts (key_hash key.ctx key.id)) × (contains entry_key_cmp others key ≡ true))
 
-pub record AreFound (keys : List EntryKey) (lasts : BTreeMap ℕ ℕ) (others : BTreeSet EntryKey) : Type 0 where
-  pub each : (i : ℕ) (key : EntryKey) → slice_get keys i ≡ Some key → IsFoundAt lasts others i key
+pub record AreFound (keys : List EntryKey) (firsts : BTreeMap ℕ ℕ) (others : BTreeSet EntryKey) : Type 0 where
+  pub each : (i : ℕ) (key : EntryKey) → slice_get keys i ≡ Some key → IsFoundAt firsts others i key
   -- and nothing else is found
-  pub places : (hash i : ℕ) → get nat_cmp lasts hash ≡ Some i → i < length keys
+  pub places : (hash i : ℕ) → get nat_cmp firsts hash ≡ Some i → i < length keys
   pub known : (key : EntryKey) → contains entry_key_cmp others key ≡ true → has_key key.ctx key.id keys ≡ true

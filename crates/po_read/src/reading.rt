@@ -15,7 +15,7 @@ ghost use Rattle.po_text.specs.Entries.{is_header_key};
 ghost use Rattle.po_read.specs.Drafts.{IsSoundLine};
 ghost use Rattle.po_read.specs.Views.{told, ReadsOrMemory, IsMemory, PassesBefore, IsMemoryLine};
 
-use crate::keys::{Keys, count_in};
+use crate::keys::Keys;
 use crate::message::Message;
 use crate::sink::ReadSink;
 use crate::unfinished::Unfinished;
@@ -161,10 +161,7 @@ impl<'a> Reader<'a> {
     fn is_first(&self) -> bool
         ensures { result ≡ is_empty self.now.keys }
     {
-        match self.keys.as_slice() {
-            [] => true,
-            _ => false,
-        }
+        self.keys.is_empty()
     }
 
     /// Whether this is the header's key and not that of the first entry, or that of an obsolete one.
@@ -221,7 +218,7 @@ impl<'a> Reader<'a> {
     fn count(&self) -> usize
         ensures { result ≡ count_here self.now }
     {
-        count_in(self.keys.as_slice())
+        self.keys.count()
     }
 
     /// Ends the entry, which has a form, and hands it on.

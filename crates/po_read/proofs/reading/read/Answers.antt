@@ -20,8 +20,8 @@ returns-in_err-entries-clause-memory c =
     let p = err_from_is_err_and c.from_residual.result c.from_residual.ensures.1 in
     rw (p.1, p.2) c.in_err-entries.ensures.memory
 
-pub new-2-requires : goal.new-2-requires
-new-2-requires c = (gathered c.args.bytes.now c.new.result.items c.in_ok-entries.entries.items c.new.ensures.items c.in_ok-entries.ensures.catalogue).0.valid
+pub new-requires-2 : goal.new-requires-2
+new-requires-2 c = (gathered c.args.bytes.now c.new.result.items c.in_ok-entries.entries.items c.new.ensures.items c.in_ok-entries.ensures.catalogue).0.valid
 
 pub returns-clause-catalogue : goal.returns-clause-catalogue
 returns-clause-catalogue c =

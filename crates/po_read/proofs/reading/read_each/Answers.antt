@@ -35,7 +35,7 @@ returns-in_ok-read_text-in-Ok-clause-spelled g c =
     let small : length c.args.bytes.now ≤ 16777216 = omega arith in
     let told = c.in_ok-read_text-in-Ok.ensures.ok in
     let read = read_of c.args.bytes.now c.in-Ok.text.now (entries_of c.in-Ok.text.now) c.in-Ok.ensures.cases small (told.0, refl) in
-    λ other s w. subst (λ (es : List Entry). g.S.ReadSink.Took c.args.sink es c.read_text-in-Ok.new.sink) (same_catalogue c.args.bytes.now (entries_of c.in-Ok.text.now) other read.0 s) told.1
+    λ other s w. subst (λ (es : List Entry). g.S.ReadSink.Took c.args.sink es c.read_text.new.sink) (same_catalogue c.args.bytes.now (entries_of c.in-Ok.text.now) other read.0 s) told.1
 
 pub returns-in-Err-clause-fault : goal.returns-in-Err-clause-fault
 returns-in-Err-clause-fault g c =
