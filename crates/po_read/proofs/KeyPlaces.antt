@@ -1,5 +1,5 @@
 -- Keys keep their texts when more stands behind them.
-use Rattle.std.proofs.Common.{◌≡◌, ℕ, ◌+◌, ◌-◌, ◌<◌, ◌≤◌, List, [], ◌∷◌, ◌++◌, Bool, true, false, ◌&&◌, cond, map, length, take, drop, refl, sym, ◌∙◌, ap, subst, arith, zero, suc, Option, Some, None, is_none, nat_eq, append_assoc, append-nil, length-append}
+use Rattle.std.proofs.Common.{◌≡◌, ℕ, ◌+◌, ◌-◌, ◌<◌, ◌≤◌, List, [], ◌∷◌, ◌++◌, Bool, true, false, not, ◌&&◌, cond, map, length, take, drop, refl, sym, ◌∙◌, ap, subst, arith, zero, suc, Option, Some, None, is_none, is_some, nat_eq, append_assoc, append-nil, length-append}
 use Rattle.std.specs.List.{AllByRecursion, slice_get}
 use Rattle.std.proofs.lemmas.Bool.{false≢true}
 use Rattle.std.proofs.lemmas.Bool.Decides.{nat_tests}
@@ -126,3 +126,9 @@ headers_at bytes place h = by place.ctx_end (nat_eq place.start place.end) refl
     by None false e =
         let other : place.start < place.end = grind (arith, nat_tests, h.order) in
         no_header id (omega (arith, between_len place.start place.end bytes h.order h.within))
+
+pub is_none_is : (o : Option ℕ) (b : Bool) → is_some o ≡ not b → is_none o ≡ b
+is_none_is None true e = refl
+is_none_is None false e = cc
+is_none_is (Some x) true e = cc
+is_none_is (Some x) false e = refl

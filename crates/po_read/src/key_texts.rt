@@ -85,11 +85,7 @@ impl KeyTexts {
     }
 
     /// The keys with one more at the end.
-    pub(crate) fn with(
-        self,
-        ctx: &Option<PoString>,
-        id: &PoString,
-    ) -> Result<KeyTexts, AllocError>
+    pub(crate) fn with(self, ctx: &Option<PoString>, id: &PoString) -> Result<KeyTexts, AllocError>
         ensures { IfOk result (λ keys. keys ≡ self ++ key_at_hand ctx.now id.now ∷ []) }
     {
         let KeyTexts {

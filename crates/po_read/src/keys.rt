@@ -90,12 +90,7 @@ impl Keys {
     }
 
     /// The keys with one more at the end.
-    fn with(
-        self,
-        alloc: Global,
-        ctx: &Option<PoString>,
-        id: &PoString,
-    ) -> Result<Keys, AllocError>
+    fn with(self, alloc: Global, ctx: &Option<PoString>, id: &PoString) -> Result<Keys, AllocError>
         ensures { IfOk result (λ keys. keys ≡ self ++ key_at_hand ctx.now id.now ∷ []) }
     {
         let Keys {

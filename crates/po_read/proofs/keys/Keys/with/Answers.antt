@@ -1,7 +1,4 @@
-use Rattle.std.proofs.Common.{◌≡◌, ◌++◌, ◌∷◌, [], List, length, sym, ◌∙◌, ap, Some, arith}
-use Rattle.std.specs.BTreeMap.{get}
-use Rattle.std.specs.Ordering.{nat_cmp}
-use Rattle.po_text.specs.declared.key.EntryKey.{EntryKey}
+use Rattle.std.proofs.Common.{◌≡◌, sym, ◌∙◌}
 use Rattle.po_read.specs.Found.{key_at_hand}
 use Rattle.po_read.proofs.FoundLemmas.{found_new, found_behind}
 use Rattle.po_read.proofs.keys.Keys.with.Goals as goal

@@ -1,6 +1,6 @@
 use Rattle.std.proofs.Common.{sym, ◌∙◌}
 use Rattle.po_lex.specs.Views.{line_view}
-use Rattle.po_read.proofs.Tested.{closed_before, handed_before, closed_length, not_closed, none_handed}
+use Rattle.po_read.proofs.Tested.{closed_before, handed_before, closed_length}
 use Rattle.po_read.proofs.reading.Reader.close_before.Goals as goal
 
 pub returns-in_ok-close-clause-reads : goal.returns-in_ok-close-clause-reads
