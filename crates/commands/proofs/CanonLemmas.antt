@@ -1,7 +1,6 @@
 -- What comes of a text that was read.
 use Rattle.std.proofs.Common.{◌≡◌, ℕ, ◌<◌, ◌≤◌, List, [], ◌++◌, ◌⊎◌, inl, inr, Bool, true, false, Option, Some, None, Result, MatchResult, length, refl, sym, ap, subst, ◌∙◌, append-nil, arith, nat_lt, length-append}
 use Rattle.std.proofs.lemmas.Bool.Decides.{nat_tests}
-use Rattle.byte_streams.specs.Streams.{RoseOrStands}
 use Rattle.byte_streams.specs.declared.vec_sink.VecSink.{VecSink}
 use Rattle.po_lex.specs.declared.fault.FaultKind.{FaultKind}
 use Rattle.po_lex.specs.declared.fault.FaultKind.TheVariants.{Memory}
@@ -10,16 +9,20 @@ use Rattle.po_text.specs.declared.entry.Entry.{Entry}
 use Rattle.po_read.specs.Spells.{Spells, IsWithin, limits}
 use Rattle.po_read.specs.Faults.{IsFault, too_long, not_utf8, at_line, at_end}
 use Rattle.po_read.specs.Views.{IsMemory}
+use Rattle.po_write.specs.Pushed.{HasPushed}
 use Rattle.po_write.specs.Text.{text_of}
 use Rattle.po_write.specs.Views.{Writing}
 use Rattle.office.proofs.Streaming.{took_none, all_or_part}
-use Rattle.commands.specs.CanonEntries.{IsWritten}
+use Rattle.commands.specs.CanonEntries.{taken_in, failed_in, IsWritten}
 use Rattle.commands.specs.CanonText.{read_limit, WasGathered, po_fault_line, Writer, TakesAll, TakesPart, Canon, written, broke, told, unread}
 
 -- ---- writing
 
 nothing : (w : Writer) → TakesAll w w []
 nothing w = took_none w.taken w.failed
+
+pub none_written : (sink : VecSink) (writer : Writing VecSink) → sink.bytes.items ≡ [] → HasPushed taken_in failed_in sink writer [] → IsWritten writer []
+none_written sink writer empty h = record { sink = sink; empty = empty; pushed = h }
 
 -- the text of entries that were written into memory stands there
 pub written_text : (writer : Writing VecSink) (es : List Entry) → IsWritten writer es → writer.sink.bytes.items ≡ text_of es

@@ -104,17 +104,23 @@ impl ReadSink for Canonical {
     }
 }
 
-/// A canonical text without entries, with room for one that is little longer than the text that is read.
+/// Room for a text that is little longer than this, if there is so much.
+fn room_for(alloc: Global, len: usize) -> Vec<u8>
+    ensures { result.items ≡ [] }
+{
+    match Vec::with_capacity(alloc, len.saturating_add(len / 8)) {
+        Ok(room) => room,
+        Err(_) => Vec::new(alloc),
+    }
+}
+
+/// No entries, where the text that is read has this length.
 fn no_entries(alloc: Global, len: usize) -> Canonical
     ensures { IsWritten result.writer [] }
 {
-    let bytes = match Vec::with_capacity(alloc, len.saturating_add(len / 8)) {
-        Ok(bytes) => bytes,
-        Err(_) => Vec::new(alloc),
-    };
     Canonical {
         writer: CatalogueWriter::new(VecSink {
-            bytes,
+            bytes: room_for(alloc, len),
             piece: usize::MAX,
             room: usize::MAX,
             failed: 0,

@@ -9,7 +9,7 @@
 //! - `record`: the line of a record (`send_record`)
 //! - `streams`, `numbers`: readers and writers of std as streams of bytes (`Input`, `Output`); numbers in lines
 //!
-//! Specs: `DeliverLines`, `LostLines`, `TextLines`, `ExportLines`, `CanonText`, `PluralLines`, `RecordLines`; `Gathering` and `StdStreams` are the
+//! Specs: `DeliverLines`, `LostLines`, `TextLines`, `ExportLines`, `CanonText`, `PluralLines`, `RecordLines`; `Gathering`, `CanonEntries` and `StdStreams` are the
 //! code's own steps and streams.
 #![tactic(auto)]
 

@@ -1,5 +1,5 @@
-use Rattle.std.proofs.Common.{[], ℕ, refl}
+use Rattle.commands.proofs.CanonLemmas.{none_written}
 use Rattle.commands.proofs.canon.no_entries.Goals as goal
 
 pub returns : goal.returns
-returns c = record { sink = ?; empty = ?; pushed = c.new-2.ensures.pushed }
+returns c = none_written _ _ c.room_for.ensures c.new.ensures.pushed

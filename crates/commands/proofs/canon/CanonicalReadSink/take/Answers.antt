@@ -1,4 +1,3 @@
-use Rattle.std.proofs.Common.{refl}
 use Rattle.commands.proofs.canon.CanonicalReadSink.take.Goals as goal
 
 pub returns-in-Ok : goal.returns-in-Ok
