@@ -14,7 +14,7 @@ ghost use Rattle.sql_adoption.specs.Reading.{AreNames, AddsDomain, AreDomainsRea
 use crate::faults::{Mismatch, OpenFault};
 use crate::look_ups::look_up_domains;
 use crate::office_put::{ReadOffice, bare_office, put_told};
-use crate::office_tables::Form;
+use sql_layouts::Form;
 use office_maps::OfficeMaps;
 use sql_decoding::{Failure, domain_at};
 use sql_statements::domain_office::look_up_domain;
