@@ -13,9 +13,9 @@ ghost use Rattle.sql_layouts.specs.Tables.{form_told};
 
 use crate::faults::{Mismatch, OpenFault};
 use crate::langs_read::note_langs;
-use sql_layouts::Form;
 use office_maps::OfficeMaps;
 use sql_decoding::Failure;
+use sql_layouts::Form;
 use sql_loading::add_domain;
 use sql_statements::whole_office::WholeOffice;
 use sqlite::Row;

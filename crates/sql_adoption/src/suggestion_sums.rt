@@ -13,8 +13,8 @@ ghost use Rattle.sql_layouts.specs.RisingRows.{integer_in};
 
 use crate::figure_rows::FigureRows;
 use crate::own_domains::bytes_of;
-use sql_layouts::integer_of;
 use sql_decoding::{Failure, text_in};
+use sql_layouts::integer_of;
 use sql_loading::votes_by_number;
 use sqlite::Row;
 use std::alloc::{AllocError, Global};
