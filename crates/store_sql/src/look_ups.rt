@@ -1,5 +1,5 @@
-//! Whole transactions that read: a question, asked in a transaction of its own. It ends by a commit, since only that tells that the connection
-//! is still open.
+//! Whole transactions that read: a question, asked in a transaction of its own. It ends by a commit, since only that
+//! tells that the connection is still open.
 ghost use Rattle.std.specs.Prelude.{◌≡◌, ⊤, false};
 ghost use Rattle.sqlite.specs.Effect.{Database};
 ghost use Rattle.sqlite.specs.Held.{state};
