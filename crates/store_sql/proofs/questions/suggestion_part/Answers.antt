@@ -6,7 +6,8 @@ use Rattle.sql_schema.specs.Layouts.{by_domain}
 use Rattle.sql_schema.proofs.Sequences.{reads_both, read_mapped, fails_after}
 use Rattle.sql_statements.specs.DomainAnswers.{ShowsSuggestionOf}
 use Rattle.sql_statements.specs.DomainUnitRows.{ShowsOneDomainSuggestion, ShowsWithDomainVotes}
-use Rattle.store_sql.proofs.look_ups.suggestion_part.Goals as goal
+use Rattle.store_sql.proofs.PartsBlame.{first_blames, later_blames}
+use Rattle.store_sql.proofs.questions.suggestion_part.Goals as goal
 
 pub returns-in_err-with_votes-in-Some-clause-found : goal.returns-in_err-with_votes-in-Some-clause-found
 returns-in_err-with_votes-in-Some-clause-found g c =
@@ -36,3 +37,14 @@ returns-in-None-clause-found g c =
     let Shows = ShowsSuggestionOf c.args.domain.now c.args.lang.now c.args.key.now c.args.number.now in
     read_mapped old mid c.in_ok-found.found None Shows (ShowsOneDomainSuggestion c.args.domain.now c.args.lang.now c.args.key.now c.args.number.now)
     (λ db it. record { suggestion = subst (λ found. Shows db found) c.in-None.is it; votes = tt }) c.in_ok-found.ensures.found
+
+pub returns-in_err-found-clause-disk : goal.returns-in_err-found-clause-disk
+returns-in_err-found-clause-disk g c =
+    let first = state g.S.Store c.find_domain_suggestion.new.tx.conn.now in
+    first_blames (state g.S.Store c.args.tx.now.conn.now) first first c.in_err-found.field-0.0 c.from_residual.result c.from_residual.ensures.1 c.in_err-found.ensures.disk
+
+pub returns-in_err-with_votes-in-Some-clause-disk : goal.returns-in_err-with_votes-in-Some-clause-disk
+returns-in_err-with_votes-in-Some-clause-disk g c =
+    later_blames (state g.S.Store c.args.tx.now.conn.now) (state g.S.Store c.find_domain_suggestion.new.tx.conn.now) (state g.S.Store c.with_votes.new.tx.conn.now) _ _ _ _
+    c.in_err-with_votes-in-Some.field-0.0 c.from_residual-in_err-with_votes-in-Some.result c.from_residual-in_err-with_votes-in-Some.ensures.1 c.in_ok-found.ensures.found
+    c.in_err-with_votes-in-Some.ensures.found c.in_err-with_votes-in-Some.ensures.disk
