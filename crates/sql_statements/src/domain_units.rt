@@ -52,10 +52,7 @@ pub fn find_domain_unit<'a, S: Alter>(
 }
 
 /// Writes the row of a unit: anew if its domain's language has none of its key, and else in the place of the one that is there.
-pub fn put_domain_unit<S: Alter>(
-    tx: &mut Transaction<'_, S>,
-    row: UnitRow<'_>,
-) -> Result<(), Error>
+pub fn put_domain_unit<S: Alter>(tx: &mut Transaction<'_, S>, row: UnitRow<'_>) -> Result<(), Error>
     requires steady { IsSteadyOver by_domain (state_of S.Store tx.old.conn.now) }
     ensures same_reference { tx.new.conn.ghost_name ≡ tx.old.conn.ghost_name }
     ensures put { IsInsideOf by_domain (state_of S.Store tx.old.conn.now) (state_of S.Store tx.new.conn.now) result
