@@ -61,7 +61,7 @@ pub(crate) fn known<T: Tables>(
     ensures answer { T.is_honest tables.new → IfOk result
         (λ reply. reply ≡ option_map (λ recorded. reply_from recorded request.now) (maps.get (T.means tables.old).book request.now.number)) }
     ensures same { T.is_honest tables.new → T.is_whole tables.new → T.means tables.new ≡ T.means tables.old }
-    ensures kept { IsKept T.is_honest T.is_whole T.means T.may_leave T.is_stopped tables.old tables.new result Disk Nothing }
+    ensures kept { IsKept T.is_honest T.is_whole T.means T.may_leave T.faults T.is_stopped tables.old tables.new result Disk Nothing }
 {
     let recorded = tables.record_of(&request.number)?;
     let reply = reply_by(alloc, content, &recorded);
@@ -105,7 +105,7 @@ fn decide_suggestion<T: Tables>(
     requires found { T.is_honest tables.old → found ≡ without_suggestions (found_for (T.means tables.old).office asked.domain.now asked.lang.now asked.key.now asked.request.now) }
     ensures answer { T.is_honest tables.new → IfOk result (Decides (found_for (T.means tables.old).office asked.entry.domain.now asked.entry.lang.now asked.entry.key.now asked.entry.request.now) asked.entry.request.now asked.entry.act.now) }
     ensures same { T.is_honest tables.new → T.is_whole tables.new → T.means tables.new ≡ T.means tables.old }
-    ensures kept { IsKept T.is_honest T.is_whole T.means T.may_leave T.is_stopped tables.old tables.new result Disk Nothing }
+    ensures kept { IsKept T.is_honest T.is_whole T.means T.may_leave T.faults T.is_stopped tables.old tables.new result Disk Nothing }
 {
     let suggestions = tables.suggestions_of(asked.domain, asked.lang, asked.key)?;
     let outcome = suggested_outcome(alloc, found, suggestions, asked.request, asked.act);
@@ -126,7 +126,7 @@ fn decide_vote<T: Tables>(
     requires found { T.is_honest tables.old → found ≡ without_suggestions (found_for (T.means tables.old).office asked.domain.now asked.lang.now asked.key.now asked.request.now) }
     ensures answer { T.is_honest tables.new → IfOk result (λ outcome. IfSome outcome (Decides (found_for (T.means tables.old).office asked.entry.domain.now asked.entry.lang.now asked.entry.key.now asked.entry.request.now) asked.entry.request.now asked.entry.act.now)) }
     ensures same { T.is_honest tables.new → T.is_whole tables.new → T.means tables.new ≡ T.means tables.old }
-    ensures kept { IsKept T.is_honest T.is_whole T.means T.may_leave T.is_stopped tables.old tables.new result Disk Nothing }
+    ensures kept { IsKept T.is_honest T.is_whole T.means T.may_leave T.faults T.is_stopped tables.old tables.new result Disk Nothing }
 {
     let suggestion = tables.suggestion_of(asked.domain, asked.lang, asked.key, named)?;
     let outcome = voted_outcome(alloc, found, suggestion, asked.request, asked.act);
@@ -141,7 +141,7 @@ fn decide_whole<T: Tables>(
 ) -> Result<UnitOutcome, Lost>
     ensures answer { T.is_honest tables.new → IfOk result (Decides (found_for (T.means tables.old).office asked.entry.domain.now asked.entry.lang.now asked.entry.key.now asked.entry.request.now) asked.entry.request.now asked.entry.act.now) }
     ensures same { T.is_honest tables.new → T.is_whole tables.new → T.means tables.new ≡ T.means tables.old }
-    ensures kept { IsKept T.is_honest T.is_whole T.means T.may_leave T.is_stopped tables.old tables.new result Disk Nothing }
+    ensures kept { IsKept T.is_honest T.is_whole T.means T.may_leave T.faults T.is_stopped tables.old tables.new result Disk Nothing }
 {
     let found = tables.view_of(asked.domain, asked.lang, asked.key, &asked.request.caller)?;
     let outcome = whole_outcome(alloc, found, asked.request, asked.act);
@@ -161,7 +161,7 @@ fn decide_vote_or_acceptance<T: Tables>(
     requires found { T.is_honest tables.old → found ≡ without_suggestions (found_for (T.means tables.old).office asked.domain.now asked.lang.now asked.key.now asked.request.now) }
     ensures answer { T.is_honest tables.new → IfOk result (Decides (found_for (T.means tables.old).office asked.entry.domain.now asked.entry.lang.now asked.entry.key.now asked.entry.request.now) asked.entry.request.now asked.entry.act.now) }
     ensures same { T.is_honest tables.new → T.is_whole tables.new → T.means tables.new ≡ T.means tables.old }
-    ensures kept { IsKept T.is_honest T.is_whole T.means T.may_leave T.is_stopped tables.old tables.new result Disk Nothing }
+    ensures kept { IsKept T.is_honest T.is_whole T.means T.may_leave T.faults T.is_stopped tables.old tables.new result Disk Nothing }
 {
     match decide_vote(alloc, tables, asked, named, found)? {
         Some(outcome) => Ok(outcome),
@@ -179,7 +179,7 @@ fn decide_with_suggestions<T: Tables>(
     requires found { T.is_honest tables.old → found ≡ without_suggestions (found_for (T.means tables.old).office asked.domain.now asked.lang.now asked.key.now asked.request.now) }
     ensures answer { T.is_honest tables.new → IfOk result (Decides (found_for (T.means tables.old).office asked.entry.domain.now asked.entry.lang.now asked.entry.key.now asked.entry.request.now) asked.entry.request.now asked.entry.act.now) }
     ensures same { T.is_honest tables.new → T.is_whole tables.new → T.means tables.new ≡ T.means tables.old }
-    ensures kept { IsKept T.is_honest T.is_whole T.means T.may_leave T.is_stopped tables.old tables.new result Disk Nothing }
+    ensures kept { IsKept T.is_honest T.is_whole T.means T.may_leave T.faults T.is_stopped tables.old tables.new result Disk Nothing }
 {
     match &asked.act.action {
         UnitAction::Suggest(_) => decide_suggestion(alloc, tables, asked, found),
@@ -202,7 +202,7 @@ fn read_and_decide<T: Tables>(
 ) -> Result<UnitOutcome, Lost>
     ensures answer { T.is_honest tables.new → IfOk result (Decides (found_for (T.means tables.old).office asked.entry.domain.now asked.entry.lang.now asked.entry.key.now asked.entry.request.now) asked.entry.request.now asked.entry.act.now) }
     ensures same { T.is_honest tables.new → T.is_whole tables.new → T.means tables.new ≡ T.means tables.old }
-    ensures kept { IsKept T.is_honest T.is_whole T.means T.may_leave T.is_stopped tables.old tables.new result Disk Nothing }
+    ensures kept { IsKept T.is_honest T.is_whole T.means T.may_leave T.faults T.is_stopped tables.old tables.new result Disk Nothing }
 {
     let found = tables.unit_of(asked.domain, asked.lang, asked.key, &asked.request.caller)?;
     match row_outcome(alloc, &found, asked.request, asked.act)? {
@@ -232,7 +232,7 @@ fn commit_unit_act<T: Tables>(
     ensures done { T.is_honest tables.new → OnOk result
         (T.means tables.new ≡ record { office = with_write_in (T.means tables.old).office domain.now lang.now key.now write; book = with_record (T.means tables.old).book row }) }
     ensures same { T.is_honest tables.new → T.is_whole tables.new → OnErr result (T.means tables.new ≡ T.means tables.old) }
-    ensures kept { IsKept T.is_honest T.is_whole T.means T.may_leave T.is_stopped tables.old tables.new result Disk
+    ensures kept { IsKept T.is_honest T.is_whole T.means T.may_leave T.faults T.is_stopped tables.old tables.new result Disk
         (λ m. m ≡ record { office = with_write_in (T.means tables.old).office domain.now lang.now key.now write; book = with_record (T.means tables.old).book row }) }
 {
     tables.commit_unit(row, domain, lang, key, write)?;
@@ -253,7 +253,7 @@ fn deliver_unit_act<T: Tables>(
     ensures ok { T.is_honest tables.new → IfOk result
         (λ reply. (T.means tables.new, reply) ≡ first_delivered (T.means tables.old) asked.entry.request.now) }
     ensures lost { T.is_honest tables.new → T.is_whole tables.new → OnErr result (T.means tables.new ≡ T.means tables.old) }
-    ensures kept { IsKept T.is_honest T.is_whole T.means T.may_leave T.is_stopped tables.old tables.new result Disk
+    ensures kept { IsKept T.is_honest T.is_whole T.means T.may_leave T.faults T.is_stopped tables.old tables.new result Disk
         (λ m. m ≡ (first_delivered (T.means tables.old) asked.entry.request.now).0) }
 {
     let UnitOutcome { write, reply } = read_and_decide(alloc, tables, asked)?;
@@ -286,7 +286,7 @@ fn read_office_and_decide<T: Tables>(
     ensures answer { T.is_honest tables.new → IfOk result
         (λ outcome. IsSettled (T.means tables.old).office outcome (step (T.means tables.old).office request.now)) }
     ensures same { T.is_honest tables.new → T.is_whole tables.new → T.means tables.new ≡ T.means tables.old }
-    ensures kept { IsKept T.is_honest T.is_whole T.means T.may_leave T.is_stopped tables.old tables.new result Disk Nothing }
+    ensures kept { IsKept T.is_honest T.is_whole T.means T.may_leave T.faults T.is_stopped tables.old tables.new result Disk Nothing }
 {
     tables.office_rows()?;
     let outcome = office_outcome(alloc, tables.office(), request);
@@ -303,7 +303,7 @@ fn ask_role_and_decide<T: Tables>(
     ensures answer { T.is_honest tables.new → IfOk result
         (λ outcome. IsSettled (T.means tables.old).office outcome (step (T.means tables.old).office request.now)) }
     ensures same { T.is_honest tables.new → T.is_whole tables.new → T.means tables.new ≡ T.means tables.old }
-    ensures kept { IsKept T.is_honest T.is_whole T.means T.may_leave T.is_stopped tables.old tables.new result Disk Nothing }
+    ensures kept { IsKept T.is_honest T.is_whole T.means T.may_leave T.faults T.is_stopped tables.old tables.new result Disk Nothing }
 {
     let role = tables.role_of(&request.caller)?;
     if role.is_below(Role::Manager) {
@@ -328,7 +328,7 @@ fn commit_office_act<T: Tables>(
     ensures done { T.is_honest tables.new → OnOk result
         (T.means tables.new ≡ record { office = changed_by (T.means tables.old).office change; book = with_record (T.means tables.old).book row }) }
     ensures same { T.is_honest tables.new → T.is_whole tables.new → OnErr result (T.means tables.new ≡ T.means tables.old) }
-    ensures kept { IsKept T.is_honest T.is_whole T.means T.may_leave T.is_stopped tables.old tables.new result Disk
+    ensures kept { IsKept T.is_honest T.is_whole T.means T.may_leave T.faults T.is_stopped tables.old tables.new result Disk
         (λ m. m ≡ record { office = changed_by (T.means tables.old).office change; book = with_record (T.means tables.old).book row }) }
 {
     tables.commit_office(row, change)?;
@@ -349,7 +349,7 @@ fn deliver_office_act<T: Tables>(
     ensures ok { T.is_honest tables.new → IfOk result
         (λ reply. (T.means tables.new, reply) ≡ first_delivered (T.means tables.old) request.now) }
     ensures lost { T.is_honest tables.new → T.is_whole tables.new → OnErr result (T.means tables.new ≡ T.means tables.old) }
-    ensures kept { IsKept T.is_honest T.is_whole T.means T.may_leave T.is_stopped tables.old tables.new result Disk
+    ensures kept { IsKept T.is_honest T.is_whole T.means T.may_leave T.faults T.is_stopped tables.old tables.new result Disk
         (λ m. m ≡ (first_delivered (T.means tables.old) request.now).0) }
 {
     let OfficeOutcome { change, reply } = ask_role_and_decide(alloc, tables, request)?;
@@ -377,7 +377,7 @@ pub(crate) fn deliver_first<T: Tables>(
     ensures ok { T.is_honest tables.new → IfOk result
         (λ reply. (T.means tables.new, reply) ≡ first_delivered (T.means tables.old) request.now) }
     ensures lost { T.is_honest tables.new → T.is_whole tables.new → OnErr result (T.means tables.new ≡ T.means tables.old) }
-    ensures kept { IsKept T.is_honest T.is_whole T.means T.may_leave T.is_stopped tables.old tables.new result Disk
+    ensures kept { IsKept T.is_honest T.is_whole T.means T.may_leave T.faults T.is_stopped tables.old tables.new result Disk
         (λ m. m ≡ (first_delivered (T.means tables.old) request.now).0) }
 {
     match &request.act {

@@ -26,3 +26,7 @@ pub mod TalliesTold
 pub mod SumsTold
 pub mod FiguresTold
 pub mod FiguresKept
+pub mod RecordParents
+pub mod OwnNumbers
+pub mod Recorded
+pub mod KeptRecords

@@ -23,6 +23,10 @@ pub if_err_under : {X E : Type 0} {C : Type 0} (P : E → Type 0) (r : Result X 
 if_err_under P (Ok x) h = tt
 if_err_under P (Err e) h = h
 
+-- what follows from what is answered
+pub looked_weaker : (old new : State) {A E : Type 0} (r : Result A E) (P Q : Database → A → Type 0) → ((db : Database) (x : A) → P db x → Q db x) → IsLookUp old new r P → IsLookUp old new r Q
+looked_weaker old new r P Q less it = record { answer = λ clean. if_ok r (less old.now) (it.answer clean); same = it.same; is_open = it.is_open; ended = it.ended; survives = it.survives }
+
 module _ (old new : State) {A B E F : Type 0} where
   -- what is answered off the answer
   pub looked_on : (x : A) (s : Result B F) (P : Database → A → Type 0) (Q : Database → B → Type 0) → IsLookUp {E = E} old new (Ok x) P

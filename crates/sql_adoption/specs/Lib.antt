@@ -11,3 +11,4 @@ pub mod Tables
 pub mod RisingRows
 pub mod RowidQueries
 pub mod FigureRows
+pub mod OwnedRows

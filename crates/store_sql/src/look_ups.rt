@@ -1,6 +1,7 @@
 //! Whole transactions that read. Each ends by a commit, since only that tells that the connection is still open.
 ghost use Rattle.std.specs.Prelude.{◌≡◌, ⊤, false};
 ghost use Rattle.sqlite.specs.Held.{state};
+ghost use Rattle.sql_laws.specs.DiskErrors.{BlamesTruly};
 ghost use Rattle.sql_statements.specs.Answers.{ShowsMember, ShowsPolicy, ShowsRecord};
 ghost use Rattle.sql_statements.specs.DomainAnswers.{ShowsDomainSuggestions, ShowsTally};
 ghost use Rattle.sql_schema.specs.Inside.{IsSteadyOver, IsReadOf};
@@ -32,6 +33,7 @@ pub(crate) fn look_up_record<S: Alter>(
     requires idle { IsIdleOver by_domain (state S.Store connection.old) }
     ensures found { IsLookUp (state S.Store connection.old) (state S.Store connection.new) result
         (ShowsRecord number.now) }
+    ensures disk { BlamesTruly (state S.Store connection.old) (state S.Store connection.new) result }
 {
     let mut tx = connection.transaction();
     let found = find_record(&mut tx, number)?;
@@ -47,6 +49,7 @@ pub(crate) fn look_up_place<S: Alter>(
     requires idle { IsIdleOver by_domain (state S.Store connection.old) }
     ensures found { IsLookUp (state S.Store connection.old) (state S.Store connection.new) result
         (ShowsPlace number.now) }
+    ensures disk { BlamesTruly (state S.Store connection.old) (state S.Store connection.new) result }
 {
     let mut tx = connection.transaction();
     let found = find_place(&mut tx, number)?;
@@ -62,6 +65,7 @@ pub(crate) fn look_up_member<S: Alter>(
     requires idle { IsIdleOver by_domain (state S.Store connection.old) }
     ensures found { IsLookUp (state S.Store connection.old) (state S.Store connection.new) result
         (ShowsMember name.now) }
+    ensures disk { BlamesTruly (state S.Store connection.old) (state S.Store connection.new) result }
 {
     let mut tx = connection.transaction();
     let found = find_member(&mut tx, name)?;
@@ -74,6 +78,7 @@ fn look_up_policy<S: Alter>(connection: &mut Connection<S>) -> Result<Option<Row
     requires idle { IsIdleOver by_domain (state S.Store connection.old) }
     ensures found { IsLookUp (state S.Store connection.old) (state S.Store connection.new) result
         ShowsPolicy }
+    ensures disk { BlamesTruly (state S.Store connection.old) (state S.Store connection.new) result }
 {
     let mut tx = connection.transaction();
     let found = find_policy(&mut tx)?;
@@ -101,6 +106,7 @@ pub(crate) fn look_up_tally<'a, S: Alter>(
     requires idle { IsIdleOver by_domain (state S.Store connection.old) }
     ensures found { IsLookUp (state S.Store connection.old) (state S.Store connection.new) result
         (ShowsTally domain.now lang.now) }
+    ensures disk { BlamesTruly (state S.Store connection.old) (state S.Store connection.new) result }
 {
     let mut tx = connection.transaction();
     let found = find_tally(&mut tx, domain, lang)?;

@@ -1,6 +1,6 @@
 use Rattle.std.proofs.Common.{◌-◌, ◌≤◌, length, drop}
-use Rattle.po_write.specs.Sending.{SoFar}
-use Rattle.po_write.proofs.sending.send_rest.Given as goal
+use Rattle.byte_streams.specs.Sending.{SoFar}
+use Rattle.byte_streams.proofs.sending.send_rest.Given as goal
 
 abbrev pub invariant-loop-sent : goal.invariant-loop-sent
 invariant-loop-sent g l = record {

@@ -1,7 +1,6 @@
 use Rattle.std.proofs.Common.{rules}
-use Rattle.po_write.proofs.Pieces.{taken_by_write, fits_write}
-use Rattle.po_write.proofs.Sent.{more}
-use Rattle.po_write.proofs.sending.send_rest.Goals as goal
+use Rattle.byte_streams.proofs.Sent.{more, taken_by_write, fits_write}
+use Rattle.byte_streams.proofs.sending.send_rest.Goals as goal
 
 pub loop-sent-preserved : goal.loop-sent-preserved
 loop-sent-preserved g c = record {

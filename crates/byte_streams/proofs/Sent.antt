@@ -1,9 +1,11 @@
 -- Pieces that are sent one after another.
-use Rattle.std.proofs.Common.{◌≡◌, ℕ, List, [], ◌++◌, Option, refl, sym, subst, ◌∙◌, ap, append_assoc, MatchResult, Result, Ok, Err, IsErr, false, true}
-use Rattle.std.proofs.lemmas.List.{append-nil}
+use Rattle.std.proofs.lemmas.Bool.{eqb-true}
+use Rattle.std.proofs.lemmas.Grind.{common_steps}
+use Rattle.std.proofs.Common.{◌≡◌, ℕ, List, [], ◌++◌, Option, refl, sym, subst, ◌∙◌, ap, append_assoc, MatchResult, Result, Ok, Err, IsErr, false, true, ◌+◌, ◌-◌, ◌≤◌, ◌==◌, ◌∷◌, length, take, drop, arith, take_all}
+use Rattle.std.proofs.lemmas.List.{append-nil, take-append-drop, length-drop, drop-drop}
 use Rattle.byte_streams.specs.Streams.{Took, RoseOrStands}
 use Rattle.byte_streams.proofs.Taking.{append_known-nil, took_both, took_then_beginning, beginning_of_longer}
-use Rattle.po_write.specs.Sending.{TookAll, TookPart, SoFar}
+use Rattle.byte_streams.specs.Sending.{TookAll, TookPart, SoFar}
 
 -- nothing was sent yet
 pub begin : {whole rest : List ℕ} (s : Option (List ℕ)) (f : ℕ) → whole ≡ rest → SoFar s s f f whole rest
@@ -51,3 +53,26 @@ pub stopped : {T E : Type 0} {s0 s1 s2 : Option (List ℕ)} {f0 f1 f2 : ℕ} {wh
     → TookPart s1 s2 f1 f2 piece → MatchResult r (λ _. TookAll s0 s2 f0 f2 whole) (λ _. TookPart s0 s2 f0 f2 whole)
 stopped (Ok x) behind err so_far same part = let differs : false ≡ true = err in cc
 stopped (Err e) behind err so_far same part = broke behind so_far same part
+
+-- ---- one write
+
+-- a slice up to the end
+pub rest_slice : (bytes : List ℕ) (n : ℕ) → n ≤ length bytes → drop n bytes ≡ take (length bytes - n) (drop n bytes)
+rest_slice bytes n within = sym (take_all (length bytes - n) (drop n bytes) (omega (arith, length-drop n bytes)))
+
+-- the bytes that one write took, and those behind them
+pub taken_by_write : (bytes : List ℕ) (i n : ℕ) → i ≤ length bytes
+    → drop i bytes ≡ take n (take (length bytes - i) (drop i bytes)) ++ drop (i + n) bytes
+taken_by_write bytes i n within =
+    sym (take-append-drop n (drop i bytes)) ∙ ap (λ xs. take n (drop i bytes) ++ xs) (drop-drop n i bytes ∙ ap (λ k. drop k bytes) (omega arith))
+    ∙ ap (λ xs. take n xs ++ drop (i + n) bytes) (rest_slice bytes i within)
+
+pub fits_write : (bytes : List ℕ) (i n : ℕ) → i ≤ length bytes → n ≤ length (take (length bytes - i) (drop i bytes)) → i + n ≤ length bytes
+fits_write bytes i n within most = grind (arith, common_steps)
+
+pub all_gone : {X : Type 0} (xs : List X) (i : ℕ) → length xs ≤ i → drop i xs ≡ []
+all_gone xs i past = grind (arith, common_steps)
+
+pub none_there : {X : Type 0} (xs : List X) → true ≡ (length xs == 0) → xs ≡ []
+none_there [] none = refl
+none_there (x ∷ xs) none = let zero_long : length (x ∷ xs) ≡ 0 = eqb-true (length (x ∷ xs)) 0 (sym none) in absurd (omega arith)

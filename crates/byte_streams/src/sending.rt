@@ -1,8 +1,9 @@
 //! Whole pieces, sent to a sink.
 
-ghost use Rattle.po_write.specs.Sending.{Sends};
+ghost use Rattle.std.specs.Prelude.{◌≡◌, [], false, OnOk};
+ghost use Rattle.byte_streams.specs.Sending.{Sends};
 
-use byte_streams::{ByteSink, SinkFault};
+use crate::streams::{ByteSink, SinkFault};
 
 /// Writes all of the bytes, or a beginning of them where a write of the sink fails.
 #[inline]
@@ -30,4 +31,12 @@ fn send_rest<W: ByteSink>(w: &mut W, bytes: &[u8]) -> Result<(), SinkFault>
         sent += w.write(&bytes[sent..])?;
     }
     Ok(())
+}
+
+/// Hands on what the writer holds back: a client that waits for it gets it.
+pub fn hand_on<W: ByteSink>(w: &mut W) -> Result<(), SinkFault>
+    ensures sent { Sends W.taken W.failed w.old w.new [] result }
+    ensures handed_on { OnOk result (W.holds_back w.new ≡ false) }
+{
+    w.flush()
 }

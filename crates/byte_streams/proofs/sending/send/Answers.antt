@@ -1,8 +1,7 @@
 use Rattle.std.proofs.Common.{refl, sym}
 use Rattle.std.proofs.lemmas.List.{take-append-drop}
-use Rattle.po_write.proofs.Pieces.{none_there, all_gone, rest_slice}
-use Rattle.po_write.proofs.Sent.{begin, more, whole_sent, outcome}
-use Rattle.po_write.proofs.sending.send.Goals as goal
+use Rattle.byte_streams.proofs.Sent.{begin, more, whole_sent, outcome, none_there, all_gone, rest_slice}
+use Rattle.byte_streams.proofs.sending.send.Goals as goal
 
 pub returns-then-is_empty : goal.returns-then-is_empty
 returns-then-is_empty g c = whole_sent (begin _ _ refl) (none_there c.args.bytes.now c.if-is_empty.ensures)
