@@ -1,8 +1,7 @@
 -- What comes of a text that was read.
 use Rattle.std.proofs.Common.{◌≡◌, ℕ, ◌<◌, ◌≤◌, List, [], ◌++◌, ◌⊎◌, inl, inr, Bool, true, false, Option, Some, None, Result, MatchResult, length, refl, sym, ap, subst, ◌∙◌, append-nil, arith, nat_lt, length-append}
 use Rattle.std.proofs.lemmas.Bool.Decides.{nat_tests}
-use Rattle.byte_streams.specs.Streams.{RoseOrStands}
-use Rattle.byte_streams.specs.declared.vec_sink.VecSink.{VecSink}
+use Rattle.byte_streams.specs.Streams.{Took, TookBeginning, RoseOrStands}
 use Rattle.po_lex.specs.declared.fault.FaultKind.{FaultKind}
 use Rattle.po_lex.specs.declared.fault.FaultKind.TheVariants.{Memory}
 use Rattle.po_lex.specs.declared.fault.PoFault.{PoFault}
@@ -11,9 +10,7 @@ use Rattle.po_read.specs.Spells.{Spells, IsWithin, limits}
 use Rattle.po_read.specs.Faults.{IsFault, too_long, not_utf8, at_line, at_end}
 use Rattle.po_read.specs.Views.{IsMemory}
 use Rattle.po_write.specs.Text.{text_of}
-use Rattle.po_write.specs.Views.{Writing}
 use Rattle.office.proofs.Streaming.{took_none, all_or_part}
-use Rattle.commands.specs.CanonEntries.{IsWritten}
 use Rattle.commands.specs.CanonText.{read_limit, WasGathered, po_fault_line, Writer, TakesAll, TakesPart, Canon, written, broke, told, unread}
 
 -- ---- writing
@@ -21,17 +18,11 @@ use Rattle.commands.specs.CanonText.{read_limit, WasGathered, po_fault_line, Wri
 nothing : (w : Writer) → TakesAll w w []
 nothing w = took_none w.taken w.failed
 
--- the text of entries that were written into memory stands there
-pub written_text : (writer : Writing VecSink) (es : List Entry) → IsWritten writer es → writer.sink.bytes.items ≡ text_of es
-written_text writer es h =
-    let behind : writer.sink.bytes.items ≡ h.sink.bytes.items ++ text_of es = cc (h.pushed.text.taken) in
-    behind ∙ ap (λ (t : List ℕ). t ++ text_of es) h.empty
+pub spelled_is_written : (bytes : List ℕ) (c : List Entry) (f g : ℕ) (w0 w1 e : Writer) → Spells bytes c × IsWithin limits bytes c → Took w0.taken w1.taken (text_of c) → w1.failed ≡ w0.failed → Canon bytes f g w0 w1 e e 0
+spelled_is_written bytes c f g w0 w1 e s taken count = written c s.0 s.1 (record { taken = taken; count = count }) (nothing e) refl
 
-pub spelled_is_written : (bytes text : List ℕ) (c : List Entry) (f g : ℕ) (w0 w1 e : Writer) → Spells bytes c → IsWithin limits bytes c → text ≡ text_of c → TakesAll w0 w1 text → Canon bytes f g w0 w1 e e 0
-spelled_is_written bytes text c f g w0 w1 e s within is all = written c s within (subst (λ (t : List ℕ). TakesAll w0 w1 t) is all) (nothing e) refl
-
-pub spelled_is_broken : (bytes text : List ℕ) (c : List Entry) (f g : ℕ) (w0 w1 e : Writer) → Spells bytes c → IsWithin limits bytes c → text ≡ text_of c → TakesPart w0 w1 text → Canon bytes f g w0 w1 e e 1
-spelled_is_broken bytes text c f g w0 w1 e s within is part = broke c s within (subst (λ (t : List ℕ). TakesPart w0 w1 t) is part) (nothing e) refl
+pub spelled_is_broken : (bytes : List ℕ) (c : List Entry) (f g : ℕ) (w0 w1 e : Writer) → Spells bytes c × IsWithin limits bytes c → TookBeginning w0.taken w1.taken (text_of c) → RoseOrStands w0.failed w1.failed → Canon bytes f g w0 w1 e e 1
+spelled_is_broken bytes c f g w0 w1 e s part rose = broke c s.0 s.1 (record { beginning = part; count = rose }) (nothing e) refl
 
 pub fault_is_told : {T F : Type 0} (bytes : List ℕ) (fault : PoFault) (f g : ℕ) (w e0 e1 : Writer) (r : Result T F) → IsFault limits bytes (fault.line, fault.kind) ⊎ IsMemory fault
     → MatchResult r (λ _. TakesAll e0 e1 (po_fault_line fault.line fault.kind)) (λ _. TakesPart e0 e1 (po_fault_line fault.line fault.kind)) → Canon bytes f g w w e0 e1 1

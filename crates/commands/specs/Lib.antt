@@ -1,6 +1,5 @@
 pub mod PluralLines
 pub mod CanonText
-pub mod CanonEntries
 pub mod TextLines
 pub mod ExportLines
 pub mod LostLines

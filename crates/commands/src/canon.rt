@@ -4,15 +4,13 @@ ghost use Rattle.std.specs.Prelude.{◌≡◌, ◌<◌, ◌≤◌, ◌⊎◌, []
 ghost use Rattle.byte_streams.specs.Streams.{RoseOrStands, prepend_known, IsAtEnd, one_more};
 ghost use Rattle.byte_streams.specs.Sending.{Sends};
 ghost use Rattle.commands.specs.CanonText.{WasRead, WasGathered, Canon, writer_at, po_fault_line};
-ghost use Rattle.commands.specs.CanonEntries.{IsWritten};
 
 use crate::numbers::send_number;
-use byte_streams::{ByteSink, ByteSource, SinkFault, SourceFault, VecSink, send};
+use byte_streams::{ByteSink, ByteSource, SinkFault, SourceFault, send};
 use po_lex::{FaultKind, PoFault};
-use po_read::{ReadSink, read_each};
-use po_text::Entry;
-use po_write::CatalogueWriter;
-use std::alloc::{AllocError, Global};
+use po_read::read;
+use po_write::write_catalogue;
+use std::alloc::Global;
 use std::mem::forget;
 
 /// The most bytes that are read: one more than a PO text may have.
@@ -81,47 +79,6 @@ fn send_po_fault<E: ByteSink>(e: &mut E, fault: PoFault) -> Result<(), SinkFault
     send(e, b"\n")
 }
 
-/// Entries that are read, on their way into the canonical text.
-#[derive(Drop)]
-struct Canonical {
-    writer: CatalogueWriter<VecSink>,
-}
-
-impl ReadSink for Canonical {
-    ghost use Rattle.commands.specs.CanonEntries.{Writes, writes_none, writes_more};
-
-    ghost Took = { λ a entries b. Writes a.writer entries b.writer };
-
-    ghost none = { λ s. writes_none s.writer };
-
-    ghost more = { λ a b c xs ys p q. writes_more a.writer b.writer c.writer xs ys p q };
-
-    fn take(&mut self, entry: Entry) -> Result<(), AllocError> {
-        match self.writer.push(&entry) {
-            Ok(()) => Ok(()),
-            Err(_) => Err(AllocError),
-        }
-    }
-}
-
-/// A canonical text without entries, with room for one that is little longer than the text that is read.
-fn no_entries(alloc: Global, len: usize) -> Canonical
-    ensures { IsWritten result.writer [] }
-{
-    let bytes = match Vec::with_capacity(alloc, len.saturating_add(len / 8)) {
-        Ok(bytes) => bytes,
-        Err(_) => Vec::new(alloc),
-    };
-    Canonical {
-        writer: CatalogueWriter::new(VecSink {
-            bytes,
-            piece: usize::MAX,
-            room: usize::MAX,
-            failed: 0,
-        }),
-    }
-}
-
 /// Prints the canonical text of these bytes, or the line of their fault.
 fn canon_bytes<W: ByteSink, E: ByteSink>(alloc: Global, bytes: &[u8], w: &mut W, e: &mut E) -> u8
     ensures canon { (f g : ℕ) → Canon bytes.now f g
@@ -129,12 +86,11 @@ fn canon_bytes<W: ByteSink, E: ByteSink>(alloc: Global, bytes: &[u8], w: &mut W,
         (writer_at E.taken E.failed e.old) (writer_at E.taken E.failed e.new) result }
     ensures status { result ≤ 1 }
 {
-    match read_each(alloc, bytes, no_entries(alloc, bytes.len())) {
-        Ok(canonical) => {
-            let (text, _) = canonical.writer.finish();
-            let written = send(w, text.bytes.as_slice());
+    match read(alloc, bytes) {
+        Ok(catalogue) => {
+            let written = write_catalogue(w, &catalogue);
             // The program ends behind this, and its memory goes at once.
-            forget(text);
+            forget(catalogue);
             match written {
                 Ok(()) => 0,
                 Err(_) => 1,
