@@ -44,6 +44,7 @@ class Office:
         acts += [{"act": "language", "lang": lang, "po": catalogue(lang, text)} for lang, text in texts.items()]
         acts += [{"act": "domain", "name": "manual"}, {"act": "template", "domain": "manual", "po": template}]
         acts += [{"act": "language", "domain": "manual", "lang": lang, "po": catalogue(lang, "Manual", 3)} for lang in ("de", "eo")]
+        acts += [{"act": "domain", "name": "bare"}]
         lines = "".join(json.dumps({**it, "caller": "root", "number": number(n)}) + "\n" for n, it in enumerate(acts))
         same("init", looks.run(program, "init", "--store", path, "--manager", "root"), (0, "ready\n", ""))
         status, replies, _ = looks.run(program, "deliver", "--store", path, given=lines)
@@ -87,6 +88,19 @@ def equal_to_single(office, place, texts, lines):
     same("a domain", office.into(place / "manual", ["eo"], "--domain", "manual"), (0, "", line))
     same("its file", files_of(place / "manual"), filed({"eo": text}))
     same("printed, as ever", looks.run(office.program, "export", "--store", office.path, "--lang", "de")[1], texts["de"])
+
+
+def all_languages(office, place, texts, lines):
+    """With --all they are those of the domain, in the order of their codes."""
+    words = ["export", "--store", office.path, "--all", "--into"]
+    same("all languages", looks.run(office.program, *words, place / "all"), (0, "", "".join(lines[it] for it in sorted(LANGUAGES))))
+    same("their files", files_of(place / "all"), filed(texts))
+    own = {it: office.alone(it, "--domain", "manual") for it in ("de", "eo")}
+    same("all of a domain", looks.run(office.program, *words, place / "own", "--domain", "manual"), (0, "", own["de"][1] + own["eo"][1]))
+    same("their files", files_of(place / "own"), filed({it: text for it, (text, _) in own.items()}))
+    for domain in ("bare", "none"):
+        same(f"all of {domain}", looks.run(office.program, *words, place / domain, "--domain", domain), (1, "", "export fault 1\n"))
+        same("a folder for nothing", files_of(place / domain), None)
 
 
 def not_there(office, place, texts, lines):
@@ -204,6 +218,7 @@ def main():
         single = {it: office.alone(it) for it in LANGUAGES}
         texts, lines = {it: text for it, (text, _) in single.items()}, {it: line for it, (_, line) in single.items()}
         equal_to_single(office, place, texts, lines)
+        all_languages(office, place, texts, lines)
         not_there(office, place, texts, lines)
         taken_places(office, place, texts, lines)
         full_disk(program, place)

@@ -2,6 +2,7 @@
 ghost use Rattle.std.specs.Prelude.{◌≡◌, false};
 
 use crate::faults::Faults;
+use crate::words::Langs;
 use crate::{DONE, second_output, store_fault};
 use commands::{FAILED, Output, export_text};
 use file_commands::{Closed, Unopened, close_desk, open_desk};
@@ -9,7 +10,7 @@ use office::{Desk, ExportFault};
 use sqlite::{Alter, Connection};
 use std::fs::{self, File};
 use std::io::{self, BufWriter, Write};
-use tables::Tables;
+use tables::{Lost, Tables};
 use units::{Lang, Name};
 
 /// The file of a language's text. What is written stands beside its place till it is flushed: then it is on the disk, and in its place, where
@@ -125,19 +126,34 @@ fn export_each<T: Tables>(
     status
 }
 
+/// Exports the languages that a domain has, in the order of their codes.
+fn export_all<T: Tables>(rt: &HostRuntime, desk: &mut Desk<T>, domain: &Name, folder: &str) -> u8 {
+    match desk.languages(domain) {
+        Ok(langs) if langs.is_empty() => told(rt, ExportFault::NoLanguage),
+        Ok(langs) => export_each(rt, desk, domain, langs.as_slice(), folder),
+        Err(Lost::Memory) => told(rt, ExportFault::Memory),
+        Err(Lost::Disk) => told(rt, ExportFault::Disk),
+    }
+}
+
 /// Opens the office in a database, exports a domain's languages into files of a folder, and closes it.
 pub(crate) fn export_into<S: Alter + Drop>(
     rt: &HostRuntime,
     connection: Connection<S>,
     domain: &Name,
-    langs: &[Lang],
+    langs: &Langs,
     folder: &str,
 ) -> Closed<S>
     requires { connection.in_transaction ≡ false }
 {
     match open_desk(rt.alloc(), connection) {
         Ok(mut desk) => {
-            let status = export_each(rt, &mut desk, domain, langs, folder);
+            let status = match langs {
+                Langs::Named(langs) => {
+                    export_each(rt, &mut desk, domain, langs.as_slice(), folder)
+                }
+                Langs::All => export_all(rt, &mut desk, domain, folder),
+            };
             close_desk(desk, status)
         }
         Err(Unopened { fault, connection }) => Closed {

@@ -14,8 +14,8 @@ enum Value {
     TextOr(&'static str),
     /// The text of an option that has to be there.
     NeededText,
-    /// The same, of an option that may be there several times.
-    NeededTexts,
+    /// The texts of an option that may be there several times, or be left out.
+    Texts,
     /// The number of a port, of an option that has to be there.
     Port,
     /// A number from 1 on, of an option that has to be there.
@@ -145,8 +145,14 @@ pub(crate) const EXPORT: Subcommand = Subcommand {
         Argument {
             name: "lang",
             value_name: "LANG",
-            value: Value::NeededTexts,
+            value: Value::Texts,
             help: "The language; with --into, of several each",
+        },
+        Argument {
+            name: "all",
+            value_name: "",
+            value: Value::Flag,
+            help: "All languages of the domain, with --into, in the place of --lang",
         },
         Argument {
             name: "into",
@@ -264,9 +270,9 @@ const VERSION: &str = "0.2.0-dev";
 /// An option or an argument that isn't a flag, with its value.
 fn with_value<'a>(arg: Arg<'a>, value: Value) -> Arg<'a> {
     match value {
-        Value::Flag | Value::Text => arg,
+        Value::Flag | Value::Text | Value::Texts => arg,
         Value::TextOr(text) => arg.default_value(text),
-        Value::NeededText | Value::NeededTexts | Value::Argument => arg.required(true),
+        Value::NeededText | Value::Argument => arg.required(true),
         Value::Port => arg
             .required(true)
             .value_parser(value_parser!(u16).range(1..)),
@@ -283,7 +289,7 @@ fn with_value<'a>(arg: Arg<'a>, value: Value) -> Arg<'a> {
 /// What clap does with the text of an option that comes again: it is refused, or kept behind those before it.
 fn action_of(value: Value) -> ArgAction {
     match value {
-        Value::NeededTexts => ArgAction::Append,
+        Value::Texts => ArgAction::Append,
         _ => ArgAction::Set,
     }
 }

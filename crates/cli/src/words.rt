@@ -60,8 +60,17 @@ pub(crate) struct Export<'a> {
 pub(crate) enum Texts<'a> {
     /// That of one is printed.
     Printed(Lang),
-    /// Each is put into a file of this folder, in this order.
-    Filed(&'a str, Vec<Lang>),
+    /// Each is put into a file of this folder.
+    Filed(&'a str, Langs),
+}
+
+/// Languages of a domain.
+#[derive(Drop)]
+pub(crate) enum Langs {
+    /// These, in this order.
+    Named(Vec<Lang>),
+    /// All that it has.
+    All,
 }
 
 /// The options of `records`: the file, and the number of the record behind which the records are wanted.
@@ -223,8 +232,8 @@ const NO_NAME: &str =
 const NO_LANG: &str =
     "a LANG is 2 to 16 ASCII letters, digits, `_`, `-` and `@`, the first of them a letter";
 
-const NO_FOLDER: &str =
-    "several languages are written into a folder, which --into names, and not printed";
+const NO_LANGS: &str =
+    "one LANG is wanted, or with --into FOLDER several of them, or --all in their place";
 
 const NO_REQUEST: &str =
     "a NUMBER is that of a request: 36 characters, hyphenated and in lower case";
@@ -280,15 +289,34 @@ fn langs_of(alloc: Global, codes: &[&str]) -> Result<Vec<Lang>, Error> {
     Ok(langs)
 }
 
-/// What becomes of the texts of the languages that are named. clap has seen that one is.
-fn texts_of<'a>(alloc: Global, found: &ArgMatches<'a>) -> Result<Texts<'a>, Error> {
+fn no_langs(alloc: Global) -> Error {
+    or_memory(wrong_value(command_of(alloc, EXPORT), "office export", NO_LANGS))
+}
+
+/// The languages whose texts are put into files.
+fn filed_langs(alloc: Global, found: &ArgMatches<'_>) -> Result<Langs, Error> {
     let codes = found.get_strs("lang").unwrap_or(&[]);
-    match (found.get_str("into"), codes) {
-        (Some(folder), _) if !folder.is_empty() => {
-            Ok(Texts::Filed(folder, langs_of(alloc, codes)?))
+    match (found.get_flag("all"), codes.is_empty()) {
+        (true, true) => Ok(Langs::All),
+        (false, false) => Ok(Langs::Named(langs_of(alloc, codes)?)),
+        _ => Err(no_langs(alloc)),
+    }
+}
+
+/// What becomes of the texts of the languages that are wanted.
+fn texts_of<'a>(alloc: Global, found: &ArgMatches<'a>) -> Result<Texts<'a>, Error> {
+    match (
+        found.get_str("into"),
+        found.get_flag("all"),
+        found.get_strs("lang"),
+    ) {
+        (Some(folder), ..) if !folder.is_empty() => {
+            Ok(Texts::Filed(folder, filed_langs(alloc, found)?))
         }
-        (None, [code]) => Ok(Texts::Printed(lang_of(alloc, *code, EXPORT, "office export")?)),
-        _ => Err(or_memory(wrong_value(command_of(alloc, EXPORT), "office export", NO_FOLDER))),
+        (None, false, Some([code])) => {
+            Ok(Texts::Printed(lang_of(alloc, *code, EXPORT, "office export")?))
+        }
+        _ => Err(no_langs(alloc)),
     }
 }
 

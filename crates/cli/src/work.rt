@@ -108,7 +108,7 @@ fn export<S: Alter + Drop>(
     match &options.texts {
         Texts::Printed(lang) => print(rt, connection, &options.domain, lang),
         Texts::Filed(folder, langs) => {
-            export_into(rt, connection, &options.domain, langs.as_slice(), *folder)
+            export_into(rt, connection, &options.domain, langs, *folder)
         }
     }
 }

@@ -2,7 +2,7 @@
 
 ghost use Rattle.std.specs.Prelude.{◌≡◌, ◌⊎◌, IfOk, OnOk, IfErr, OnErr};
 ghost use Rattle.byte_streams.specs.Streams.{RoseOrStands};
-ghost use Rattle.po_write.specs.Sending.{TookAll, TookPart};
+ghost use Rattle.byte_streams.specs.Sending.{TookAll, TookPart};
 ghost use Rattle.client.specs.Talks.{Talked, IsWithin};
 ghost use Rattle.client.specs.SendLines.{IsFaultOf, WasSent, WasSentFrom, SentLines};
 ghost use Rattle.client.specs.TalkSteps.{IsListFault};

@@ -1,13 +1,12 @@
 //! What is told of a list that was sent, and of one that wasn't.
 
 ghost use Rattle.std.specs.Prelude.{◌≡◌, length, cond, option_map};
-ghost use Rattle.po_write.specs.Sending.{Sends, TookAll, TookPart};
+ghost use Rattle.byte_streams.specs.Sending.{Sends, TookAll, TookPart};
 ghost use Rattle.client.specs.SendLines.{reply_line, told_line, told_lines, malformed_line, fault_line, IsTold};
 
 use crate::fault::SendFault;
-use byte_streams::{ByteSink, SinkFault};
+use byte_streams::{ByteSink, SinkFault, send};
 use itoa::{Buffer, Integer};
-use po_write::send;
 use request_book::Reply;
 use sender::Sender;
 

@@ -7,7 +7,7 @@ use Rattle.plural_expr.specs.declared.fault.PluralFault.{PluralFault}
 use Rattle.plural_expr.specs.declared.fault.PluralFault.TheVariants as faults
 use Rattle.plural_expr.specs.Values.{Rule}
 use Rattle.plural_expr.specs.Faults.{reading_of}
-use Rattle.po_write.specs.Sending.{TookAll, TookPart}
+use Rattle.byte_streams.specs.Sending.{TookAll, TookPart}
 use Rattle.commands.specs.PluralLines.{Printed, plural_fault_line, index_fault_line, lines_of, fault_of, ended, refused, answered, printed}
 
 -- a sink's bytes and its count of failures, before and after

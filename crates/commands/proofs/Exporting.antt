@@ -5,7 +5,7 @@ use Rattle.po_text.specs.Texts.{Text}
 use Rattle.units.specs.Office.{Office, project_in}
 use Rattle.byte_streams.specs.Streams.{Took, TookBeginning, RoseOrStands}
 use Rattle.byte_streams.proofs.Taking.{append_known-nil, took_then_beginning}
-use Rattle.po_write.specs.Sending.{TookAll, TookPart}
+use Rattle.byte_streams.specs.Sending.{TookAll, TookPart}
 use Rattle.deliveries.specs.ExportText.{export_text}
 use Rattle.office.specs.declared.export.ExportReceipt.{ExportReceipt}
 use Rattle.office.specs.declared.faults.ExportFault.TheVariants.{Device, Disk}

@@ -2,14 +2,14 @@
 
 ghost use Rattle.std.specs.Prelude.{◌≡◌, ◌<◌, ◌≤◌, ◌⊎◌, [], ℕ, List, IfOk, OnErr, IfErr, OnOk, Some, length, take, Err};
 ghost use Rattle.byte_streams.specs.Streams.{RoseOrStands, prepend_known, IsAtEnd, one_more};
-ghost use Rattle.po_write.specs.Sending.{Sends};
+ghost use Rattle.byte_streams.specs.Sending.{Sends};
 ghost use Rattle.commands.specs.CanonText.{WasRead, WasGathered, Canon, writer_at, po_fault_line};
 
 use crate::numbers::send_number;
-use byte_streams::{ByteSink, ByteSource, SinkFault, SourceFault};
+use byte_streams::{ByteSink, ByteSource, SinkFault, SourceFault, send};
 use po_lex::{FaultKind, PoFault};
 use po_read::read;
-use po_write::{send, write_catalogue};
+use po_write::write_catalogue;
 use std::alloc::Global;
 use std::mem::forget;
 

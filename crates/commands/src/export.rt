@@ -1,15 +1,13 @@
 //! The PO text of a language, and what is told of it on the second output.
-ghost use Rattle.std.specs.Prelude.{◌≡◌, ◌≤◌, ◌⊎◌, [], option_map, true, false, OnOk};
-ghost use Rattle.hex.specs.Hex.{encode_lower};
-ghost use Rattle.po_write.specs.Sending.{Sends};
+ghost use Rattle.std.specs.Prelude.{◌≡◌, ◌≤◌, ◌⊎◌, option_map, true, false};
+ghost use Rattle.byte_streams.specs.Sending.{Sends};
 ghost use Rattle.office.specs.Writers.{writer_at, TakesAll, TakesPart};
 ghost use Rattle.commands.specs.ExportLines.{export_fault_line, receipt_line, Printed, IsToldBehind};
 ghost use Rattle.commands.specs.DeliverLines.{Exported};
 
 use crate::numbers::send_number;
-use byte_streams::{ByteSink, SinkFault};
+use byte_streams::{ByteSink, SinkFault, digest_digits, hand_on, send};
 use office::{Desk, ExportFault, ExportReceipt};
-use po_write::send;
 use tables::Tables;
 use units::{Lang, Name};
 
@@ -19,14 +17,6 @@ pub const DONE: u8 = 0;
 /// Exit status after a named fault, or after a stream that failed.
 pub const FAILED: u8 = 1;
 
-/// Hands on what the writer holds back: a client that waits for it gets it.
-pub(crate) fn flush<W: ByteSink>(w: &mut W) -> Result<(), SinkFault>
-    ensures sent { Sends W.taken W.failed w.old w.new [] result }
-    ensures handed_on { OnOk result (W.holds_back w.new ≡ false) }
-{
-    w.flush()
-}
-
 /// Writes the line of a fault.
 fn send_export_fault<E: ByteSink>(e: &mut E, fault: ExportFault) -> Result<(), SinkFault>
     ensures { Sends E.taken E.failed e.old e.new (export_fault_line fault) result }
@@ -34,7 +24,7 @@ fn send_export_fault<E: ByteSink>(e: &mut E, fault: ExportFault) -> Result<(), S
     send(e, b"export fault ")?;
     send_number(e, fault.number())?;
     send(e, b"\n")?;
-    flush(e)
+    hand_on(e)
 }
 
 /// Tells a fault, and answers the exit status.
@@ -71,16 +61,6 @@ pub(crate) fn export_named<T: Tables, W: ByteSink, E: ByteSink>(
     }
 }
 
-/// The digits of a digest.
-fn digest_digits(sha256: [u8; 32]) -> [u8; 64]
-    ensures { result ≡ encode_lower sha256 }
-{
-    let mut digits = [0u8; 64];
-    // There is room for them.
-    let _fits = hex::encode_to_slice(sha256, &mut digits);
-    digits
-}
-
 /// Writes the line of a receipt.
 fn send_receipt<E: ByteSink>(e: &mut E, receipt: ExportReceipt) -> Result<(), SinkFault>
     ensures { Sends E.taken E.failed e.old e.new (receipt_line receipt) result }
@@ -99,7 +79,7 @@ fn tell_written<W: ByteSink, E: ByteSink>(w: &mut W, e: &mut E, receipt: ExportR
     ensures status { result ≤ 1 }
     ensures handed_on { result ≡ 0 → W.holds_back w.new ≡ false }
 {
-    match flush(w) {
+    match hand_on(w) {
         Ok(()) => match send_receipt(e, receipt) {
             Ok(()) => DONE,
             Err(_) => FAILED,

@@ -1,9 +1,8 @@
 //! Numbers in lines.
-ghost use Rattle.po_write.specs.Sending.{Sends};
+ghost use Rattle.byte_streams.specs.Sending.{Sends};
 
-use byte_streams::{ByteSink, SinkFault};
+use byte_streams::{ByteSink, SinkFault, send};
 use itoa::{Buffer, Integer};
-use po_write::send;
 
 /// Writes a number in decimal digits.
 pub(crate) fn send_number<W: ByteSink, N: Integer>(w: &mut W, number: N) -> Result<(), SinkFault>

@@ -3,13 +3,12 @@
 ghost use Rattle.std.specs.Prelude.{◌≡◌, ◌⊎◌, ◌≤◌, IfOk, decimal};
 ghost use Rattle.plural_expr.specs.declared.fault.PluralFault.TheVariants.{Memory};
 ghost use Rattle.byte_streams.specs.Streams.{RoseOrStands};
-ghost use Rattle.po_write.specs.Sending.{Sends, TookAll};
+ghost use Rattle.byte_streams.specs.Sending.{Sends, TookAll};
 ghost use Rattle.commands.specs.PluralLines.{index_line, place, plural_fault_line, index_fault_line, lines_of, fault_of, printed, refused};
 
 use crate::numbers::send_number;
-use byte_streams::{ByteSink, SinkFault};
+use byte_streams::{ByteSink, SinkFault, send};
 use plural_expr::{EvalFault, PluralFault, PluralForms};
-use po_write::send;
 use std::alloc::Global;
 
 /// Writes the line of the form's number at n.

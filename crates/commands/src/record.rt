@@ -1,11 +1,10 @@
 //! What is printed of a record.
-ghost use Rattle.po_write.specs.Sending.{Sends};
+ghost use Rattle.byte_streams.specs.Sending.{Sends};
 ghost use Rattle.request_book.specs.Words.{number_text};
 ghost use Rattle.commands.specs.RecordLines.{record_line};
 
 use crate::numbers::send_number;
-use byte_streams::{ByteSink, SinkFault};
-use po_write::send;
+use byte_streams::{ByteSink, SinkFault, send};
 use uuid::Uuid;
 
 /// Writes the line of a record: its request's number and its reply's status, in JSON.

@@ -1,21 +1,12 @@
 //! What is told where an office's tables can't be had.
-ghost use Rattle.std.specs.Prelude.{◌≡◌, false, [], codes, OnOk};
-ghost use Rattle.po_write.specs.Sending.{Sends};
+ghost use Rattle.std.specs.Prelude.{◌≡◌};
+ghost use Rattle.byte_streams.specs.Sending.{Sends};
 ghost use Rattle.office.specs.Writers.{writer_at};
 ghost use Rattle.file_commands.specs.Faults.{store_fault_line, TellsLine};
 
-use byte_streams::{ByteSink, SinkFault};
+use byte_streams::{ByteSink, SinkFault, hand_on, send};
 use commands::FAILED;
-use po_write::send;
 use store_sql::OpenFault;
-
-/// Hands on what the writer holds back.
-pub(crate) fn hand_on<W: ByteSink>(w: &mut W) -> Result<(), SinkFault>
-    ensures sent { Sends W.taken W.failed w.old w.new [] result }
-    ensures handed_on { OnOk result (W.holds_back w.new ≡ false) }
-{
-    w.flush()
-}
 
 /// Writes a line, and hands it on.
 pub(crate) fn send_line<W: ByteSink>(w: &mut W, line: &[u8]) -> Result<(), SinkFault>

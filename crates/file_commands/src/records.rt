@@ -2,7 +2,7 @@
 ghost use Rattle.std.specs.Prelude.{◌≡◌, ◌≤◌, false, true, IfErr, OnOk, IsTrue};
 ghost use Rattle.sqlite.specs.Held.{state};
 ghost use Rattle.sqlite.specs.State.{HasCleanDisk};
-ghost use Rattle.po_write.specs.Sending.{Sends};
+ghost use Rattle.byte_streams.specs.Sending.{Sends};
 ghost use Rattle.office.specs.Writers.{writer_at};
 ghost use Rattle.store_sql.specs.Kept.{is_stopped};
 ghost use Rattle.store_sql.specs.Tables.{connection_of, held_by};
@@ -11,10 +11,10 @@ ghost use Rattle.file_commands.specs.Faults.{TellsLine};
 ghost use Rattle.file_commands.specs.Records.{ArePrinted, Printed, records_fault_line};
 ghost use Rattle.file_commands.specs.Runs.{Ran};
 
-use crate::faults::{hand_on, send_line, tell_store_fault};
+use crate::faults::{send_line, tell_store_fault};
 use crate::opening::{Closed, Unopened, close_desk, open_desk};
 use crate::record_lines::{RecordLines, told};
-use byte_streams::{ByteSink, SinkFault};
+use byte_streams::{ByteSink, SinkFault, hand_on};
 use commands::{DONE, FAILED};
 use office::Desk;
 use sqlite::{Alter, Connection};

@@ -9,9 +9,9 @@ ghost use Rattle.commands.specs.ExportLines.{Printed};
 ghost use Rattle.commands.specs.Gathering.{Finished};
 ghost use Rattle.file_commands.specs.Runs.{Ran};
 
-use crate::faults::{hand_on, tell_store_fault};
+use crate::faults::tell_store_fault;
 use crate::opening::{Closed, Unopened, close_desk, open_desk};
-use byte_streams::ByteSink;
+use byte_streams::{ByteSink, hand_on};
 use commands::{AtLost, FAILED, SourceBehind, deliver_lines, export_text};
 use office::Desk;
 use sqlite::{Alter, Connection};

@@ -1,15 +1,13 @@
 //! The bytes of an answer.
 ghost use Rattle.std.specs.Prelude.{◌≡◌, ◌++◌, flat_map};
-ghost use Rattle.hex.specs.Hex.{encode_lower};
-ghost use Rattle.po_write.specs.Sending.{Sends};
+ghost use Rattle.byte_streams.specs.Sending.{Sends};
 ghost use Rattle.http_api.specs.Answers.{line_end, media_type, digest_line, close_line, head_text, answer_text};
 ghost use Rattle.http_api.specs.declared.answer_bytes.Content.TheVariants.{Json};
 
 use crate::refusals::phrase;
-use byte_streams::{ByteSink, SinkFault};
+use byte_streams::{ByteSink, SinkFault, digest_digits, send};
 use http::StatusCode;
 use itoa::Buffer;
-use po_write::send;
 
 /// What a body is.
 #[derive(Clone, Copy, Drop)]
@@ -49,16 +47,6 @@ fn media_type(content: Content) -> &'static str
         Content::Json => "application/json",
         Content::PoText(_) => "text/plain; charset=utf-8",
     }
-}
-
-/// The digits of a digest.
-fn digest_digits(sha256: [u8; 32]) -> [u8; 64]
-    ensures { result ≡ encode_lower sha256 }
-{
-    let mut digits = [0u8; 64];
-    // There is room for them.
-    let _fits = hex::encode_to_slice(sha256, &mut digits);
-    digits
 }
 
 /// Writes the line of a digest, where a body has one.

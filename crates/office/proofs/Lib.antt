@@ -8,3 +8,4 @@ pub mod Exported
 pub mod Spelled
 pub mod Going
 pub mod Streaming
+pub mod NoLanguages

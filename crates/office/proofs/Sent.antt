@@ -3,7 +3,7 @@ use Rattle.std.proofs.Common.{◌≡◌, ℕ, ◌<◌, List, [], ◌++◌, lengt
 use Rattle.units.specs.Limits.{export_limit}
 use Rattle.byte_streams.specs.Streams.{TookBeginning, RoseOrStands}
 use Rattle.byte_streams.proofs.Taking.{append_known-nil, took_then_beginning, beginning_of_longer}
-use Rattle.po_write.specs.Sending.{TookAll, TookPart}
+use Rattle.byte_streams.specs.Sending.{TookAll, TookPart}
 use Rattle.office.specs.declared.checksum.Checksum.{Checksum}
 use Rattle.office.specs.declared.faults.SendFault.{SendFault}
 use Rattle.office.specs.declared.faults.SendFault.TheVariants as fault

@@ -4,7 +4,7 @@ use Rattle.std.proofs.lemmas.Bool.Decides.{nat_tests}
 use Rattle.std.specs.Prelude.{IfSome}
 use Rattle.byte_streams.specs.Streams.{prepend_known, IsAtEnd, one_more, RoseOrStands}
 use Rattle.byte_streams.proofs.Taking.{append_known-nil, took_both, took_then_beginning}
-use Rattle.po_write.specs.Sending.{TookAll, TookPart}
+use Rattle.byte_streams.specs.Sending.{TookAll, TookPart}
 use Rattle.office.specs.Writers.{Writer, TakesAll, TakesPart}
 
 -- ---- what a source gave

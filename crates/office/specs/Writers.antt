@@ -1,6 +1,6 @@
 -- A writer, by what it took, where that is known, and how often it failed. This project's own words.
 use Rattle.std.specs.Prelude.{ℕ, List, Option}
-use Rattle.po_write.specs.Sending.{TookAll, TookPart}
+use Rattle.byte_streams.specs.Sending.{TookAll, TookPart}
 
 pub record Writer : Type 0 where
   pub taken : Option (List ℕ)

@@ -67,7 +67,7 @@ pub(crate) fn export<T: Tables, W: ByteSink>(
     ensures device { IfErr result (λ e. e ≡ Device → RoseOrStands (W.failed w.old) (W.failed w.new)) }
     // That the language isn't there is told by tables that aren't shut.
     ensures open_still { T.is_honest tables.new → result ≡ Err NoLanguage → T.is_whole tables.new }
-    ensures kept { IsKept T.is_honest T.is_whole T.means T.may_leave T.is_stopped tables.old tables.new result Disk Nothing }
+    ensures kept { IsKept T.is_honest T.is_whole T.means T.may_leave T.faults T.is_stopped tables.old tables.new result Disk Nothing }
 {
     let before = w.failures();
     let mut text = text_writer(alloc);

@@ -8,9 +8,9 @@ ghost use Rattle.office.specs.Sendings.{SendsOn};
 use crate::checksum::Checksum;
 use crate::faults::SendFault;
 use crate::strings::has_strings;
-use byte_streams::{ByteSink, SinkFault, VecSink};
+use byte_streams::{ByteSink, SinkFault, VecSink, send};
 use po_text::Entry;
-use po_write::{CatalogueWriter, send};
+use po_write::CatalogueWriter;
 use std::alloc::Global;
 use tables::EntrySink;
 

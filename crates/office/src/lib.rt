@@ -1,7 +1,7 @@
 //! The desk: requests, each decided once, over the tables of one office.
 //!
 //! - `desk`: `Desk<T: Tables>`, with `deliver`, `run` and `export`
-//! - `questions`: what callers ask of a desk (`unit`, `stats`)
+//! - `questions`: what callers ask of a desk (`unit`, `stats`, `languages`)
 //! - `delivery`: one delivery over any tables: a look into the book, and for a new number the decision and its commit
 //! - `exchanges`: the bodies that tell of a malformed or a lost request
 //! - `export`, `export_sink`, `checksum`: a language's text, entry by entry, with its length and its digest

@@ -1,18 +1,22 @@
-//! What callers ask about the office, answered as JSON texts.
+//! What callers ask about the office: of units and counts, answered as JSON texts, and which languages there are.
 ghost use Rattle.std.specs.Prelude.{◌≡◌, ◌≢◌, ◌⊎◌, Err, Some, None, IfOk, IfErr, IsSome, option_map, string_bytes};
 ghost use Rattle.std.specs.FinMap as maps;
 ghost use Rattle.views.specs.UnitTexts.{unit_text_of, unit_text_at};
 ghost use Rattle.views.specs.CountsTexts.{counts_text_at};
 ghost use Rattle.units.specs.Office.{project_in};
+ghost use Rattle.units.specs.Project.{languages};
+ghost use Rattle.office_maps.specs.OfficeIn.{office_in};
 ghost use Rattle.tables.specs.Stops.{Nothing};
 ghost use Rattle.tables.specs.Kept.{IsKept};
 ghost use Rattle.office.specs.declared.faults.QueryFault.TheVariants.{NoLanguage, NoUnit, Disk};
+ghost use Rattle.tables.specs.declared.faults.Lost.TheVariants as lost;
 
 use crate::desk::Desk;
 use crate::faults::QueryFault;
 use deliveries::ActContext;
-use std::alloc::Global;
-use tables::Tables;
+use office_maps::OfficeMaps;
+use std::alloc::{AllocError, Global};
+use tables::{Lost, Tables};
 use units::{Key, Lang, Name};
 use views::{counts_text, unit_text};
 
@@ -53,7 +57,7 @@ fn unit_of<T: Tables>(
     // What isn't there is told by tables that aren't shut.
     ensures open_still { T.is_honest tables.new → (result ≡ Err NoLanguage) ⊎ (result ≡ Err NoUnit) → T.is_whole tables.new }
     ensures same { T.is_honest tables.new → T.is_whole tables.new → T.means tables.new ≡ T.means tables.old }
-    ensures kept { IsKept T.is_honest T.is_whole T.means T.may_leave T.is_stopped tables.old tables.new result Disk Nothing }
+    ensures kept { IsKept T.is_honest T.is_whole T.means T.may_leave T.faults T.is_stopped tables.old tables.new result Disk Nothing }
 {
     if tables.stopped() {
         return Err(QueryFault::Disk);
@@ -83,7 +87,7 @@ fn counts_of<T: Tables>(
     // What isn't there is told by tables that aren't shut.
     ensures open_still { T.is_honest tables.new → result ≡ Err NoLanguage → T.is_whole tables.new }
     ensures same { T.is_honest tables.new → T.is_whole tables.new → T.means tables.new ≡ T.means tables.old }
-    ensures kept { IsKept T.is_honest T.is_whole T.means T.may_leave T.is_stopped tables.old tables.new result Disk Nothing }
+    ensures kept { IsKept T.is_honest T.is_whole T.means T.may_leave T.faults T.is_stopped tables.old tables.new result Disk Nothing }
 {
     match tables.counts(domain, lang)? {
         None => Err(QueryFault::NoLanguage),
@@ -91,7 +95,42 @@ fn counts_of<T: Tables>(
     }
 }
 
+/// The languages of a domain of an office.
+fn languages_in(alloc: Global, office: &OfficeMaps, domain: &Name) -> Result<Vec<Lang>, AllocError>
+    ensures { IfOk result (λ all. all.items ≡ languages (project_in (office_in office.now) domain.now)) }
+{
+    match office.project(domain) {
+        Some(project) => project.languages(alloc),
+        None => Ok(Vec::new(alloc)),
+    }
+}
+
+/// The languages of a domain, of the office that is read for that.
+fn languages_of<T: Tables>(alloc: Global, tables: &mut T, domain: &Name) -> Result<Vec<Lang>, Lost>
+    ensures answer { T.is_honest tables.new → IfOk result (λ all. all.items ≡ languages (project_in (T.means tables.old).office domain.now)) }
+    ensures same { T.is_honest tables.new → T.is_whole tables.new → T.means tables.new ≡ T.means tables.old }
+    ensures kept { IsKept T.is_honest T.is_whole T.means T.may_leave T.faults T.is_stopped tables.old tables.new result lost.Disk Nothing }
+{
+    tables.office_rows()?;
+    let all = languages_in(alloc, tables.office(), domain);
+    Ok(all?)
+}
+
 impl<T: Tables> Desk<T> {
+    /// The languages of a domain, in the order of their codes; none where the domain isn't there. The whole office is read for that, as for an act on
+    /// it. The tables mean what they meant, unless a failure has shut them.
+    ///
+    /// `Memory`, as where a growth was refused, and `Disk`, as where the disk failed, after which the desk answers `Disk` until the tables are
+    /// opened again.
+    pub fn languages(&mut self, domain: &Name) -> Result<Vec<Lang>, Lost>
+        ensures answer { T.is_honest self.new → IfOk result (λ all. all.items ≡ languages (project_in (T.means self.old).office domain.now)) }
+        ensures same { T.is_honest self.new → T.is_whole self.new → T.means self.new ≡ T.means self.old }
+        // Nothing is written, and the tables are stopped just where `Disk` is answered.
+        ensures kept { IsKept T.is_honest T.is_whole T.means T.may_leave T.faults T.is_stopped self.old self.new result lost.Disk Nothing }
+    {
+        languages_of(self.alloc, &mut self.tables, domain)
+    }
+
     /// A domain's unit as callers see it, as compact JSON (RFC 8259): its key, forms, comment and suggestions, its state, and what the checks
     /// find in its forms. The tables mean what they meant, unless a failure has shut them.
     ///
@@ -107,7 +146,7 @@ impl<T: Tables> Desk<T> {
         ensures open_still { T.is_honest self.new → (result ≡ Err NoLanguage) ⊎ (result ≡ Err NoUnit) → T.is_whole self.new }
         ensures same { T.is_honest self.new → T.is_whole self.new → T.means self.new ≡ T.means self.old }
         // Nothing is written, and the tables are stopped just where `Disk` is answered.
-        ensures kept { IsKept T.is_honest T.is_whole T.means T.may_leave T.is_stopped self.old self.new result Disk Nothing }
+        ensures kept { IsKept T.is_honest T.is_whole T.means T.may_leave T.faults T.is_stopped self.old self.new result Disk Nothing }
     {
         unit_of(self.alloc, &mut self.tables, domain, lang, key)
     }
@@ -126,7 +165,7 @@ impl<T: Tables> Desk<T> {
         ensures open_still { T.is_honest self.new → result ≡ Err NoLanguage → T.is_whole self.new }
         ensures same { T.is_honest self.new → T.is_whole self.new → T.means self.new ≡ T.means self.old }
         // Nothing is written, and the tables are stopped just where `Disk` is answered.
-        ensures kept { IsKept T.is_honest T.is_whole T.means T.may_leave T.is_stopped self.old self.new result Disk Nothing }
+        ensures kept { IsKept T.is_honest T.is_whole T.means T.may_leave T.faults T.is_stopped self.old self.new result Disk Nothing }
     {
         counts_of(self.alloc, &mut self.tables, domain, lang)
     }

@@ -3,7 +3,7 @@
 ghost use Rattle.std.specs.Prelude.{◌≡◌, true, Some, IfOk, option_map};
 ghost use Rattle.std.specs.FinMap as maps;
 ghost use Rattle.units.specs.Limits.{is_lang};
-ghost use Rattle.units.specs.Project.{units_of};
+ghost use Rattle.units.specs.Project.{languages, units_of};
 ghost use Rattle.units.specs.Rules.{rule_at};
 ghost use Rattle.template_update.specs.Updates.{plan_of};
 ghost use Rattle.deliveries.specs.ProjectActs.{plan_at, plans};
@@ -12,9 +12,20 @@ use crate::project_maps::ProjectMaps;
 use crate::unit_rows::units_of;
 use deliveries::Language;
 use po_text::Catalogue;
-use std::alloc::Global;
+use std::alloc::{AllocError, Global};
 use template_update::{Plan, plan};
 use units::{Lang, Memory};
+
+/// The language of a code.
+fn lang_of(code: &str) -> Lang
+    requires { is_lang code.now ≡ true }
+    ensures { result ≡ code.now }
+{
+    match Lang::try_new(code) {
+        Some(lang) => lang,
+        None => unreachable!(),
+    }
+}
 
 impl<'a> ProjectMaps<'a> {
     ghost use Rattle.office_maps.specs.OfficeIn.{lent_project};
@@ -24,6 +35,17 @@ impl<'a> ProjectMaps<'a> {
         ensures { result ≡ maps.len (lent_project self.now).headers }
     {
         self.domain.languages.rows.len()
+    }
+
+    /// The languages, in the order of their codes.
+    pub fn languages(&self, alloc: Global) -> Result<Vec<Lang>, AllocError>
+        ensures { IfOk result (λ all. all.items ≡ languages (lent_project self.now)) }
+    {
+        let mut all = Vec::new(alloc);
+        for (code, _language) in self.domain.languages.rows.iter() {
+            all.push(lang_of(code.as_str()))?;
+        }
+        Ok(all)
     }
 
     /// What a new template makes of a language.
@@ -61,9 +83,7 @@ impl<'a> ProjectMaps<'a> {
         ensures { Some language.now.header ≡ maps.get (lent_project self.now).headers code.now
             → IfOk result (λ found. found ≡ plan_at (lent_project self.now) next.now code.now) }
     {
-        let Some(lang) = Lang::try_new(code) else {
-            unreachable!();
-        };
+        let lang = lang_of(code);
         match self.plan_at(alloc, &lang, language, next)? {
             Some(plan) => Ok(Some((lang, plan))),
             None => Ok(None),

@@ -29,7 +29,8 @@ pub fn note_status(statuses: &mut BTreeMap<Uuid, u16>, known: &Record) -> Result
     Ok(())
 }
 
-fn is_status(status: u16) -> bool
+/// Whether a reply may have this status.
+pub fn is_status(status: u16) -> bool
     ensures { result ≡ is_status status }
 {
     status == 200 || status == 403 || status == 404 || status == 409 || status == 422

@@ -3,8 +3,8 @@
 //!
 //! - `unit_rules`, `place_rules`: a unit, and a unit where it stands
 //! - `template_rules`, `language_rules`, `project_rules`: a template, the languages, and with these the project
-//! - `domain_rules`: an office's domains, each a project with the office's team and policy
-//! - `book_rules`: the numbers and statuses of the book, and with them the office (`keeps_rules`)
+//! - `domain_rules`: an office's domains, each a project with the office's team and policy (`is_office`)
+//! - `book_rules`: the numbers and statuses of the book, and with them the office (`keeps_rules`, `is_status`)
 //! - `contents`: the content of a request (`is_content`)
 //!
 //! Specs: `Given` (what callers bring beside the maps, shown row by row in `proofs/GivenLemmas`), `Parts` and `Books`
@@ -20,5 +20,6 @@ mod project_rules;
 mod template_rules;
 mod unit_rules;
 
-pub use book_rules::{keeps_rules, note_status};
+pub use book_rules::{is_status, keeps_rules, note_status};
 pub use contents::is_content;
+pub use domain_rules::is_office;

@@ -1,5 +1,5 @@
 -- What a reader answers, of what its lines gave.
-use Rattle.std.proofs.Common.{◌≡◌, ℕ, ◌<◌, ◌≤◌, List, Bool, true, false, length, refl, sym, ◌∙◌, subst, Option, Some, None, nat_lt, lit<, ◌⊎◌, inl, inr}
+use Rattle.std.proofs.Common.{◌≡◌, ℕ, ◌<◌, ◌≤◌, List, [], ◌++◌, Bool, true, false, length, refl, sym, ◌∙◌, ap, subst, Option, Some, None, nat_lt, lit<, ◌⊎◌, inl, inr}
 use Rattle.std.specs.Prelude.{IsUtf8}
 use Rattle.std.specs.Str.{is_utf8}
 use Rattle.std.proofs.lemmas.Bool.{le-ltb}
@@ -67,3 +67,7 @@ memory_line bytes text line same small h = record { within = small; utf8 = is_ut
 
 pub read_of : (bytes text : List ℕ) (entries : List Entry) → (text ≡ bytes) × IsUtf8 bytes → length bytes ≤ 16777216 → (fault_from limits 1 no_lines (lines_of text) ≡ None) × (entries ≡ entries_of text) → Spells bytes entries × IsWithin limits bytes entries
 read_of bytes text entries same small h = is_read bytes entries small same.1 (subst (λ (t : List ℕ). (fault_from limits 1 no_lines (lines_of t) ≡ None) × (entries ≡ entries_of t)) same.0 h)
+
+-- what stands behind no entries
+pub gathered : (bytes : List ℕ) (before after : List Entry) → before ≡ [] → (c : List Entry) × Spells bytes c × IsWithin limits bytes c × (after ≡ before ++ c) → Spells bytes after × IsWithin limits bytes after
+gathered bytes before after none h = subst (λ (es : List Entry). Spells bytes es × IsWithin limits bytes es) (sym (h.3 ∙ ap (λ (es : List Entry). es ++ h.0) none)) (h.1, h.2)

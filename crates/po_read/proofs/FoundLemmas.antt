@@ -1,8 +1,6 @@
--- Entries that are found by the hashes of their keys.
-use Rattle.std.proofs.Common.{◌≡◌, ◌⊎◌, inl, inr, ℕ, zero, suc, ◌+◌, ◌<◌, List, [], ◌∷◌, ◌++◌, Bool, true, false, ◌||◌, ◌&&◌, cond, length, refl, sym, ◌∙◌, ap, subst, arith, Option, Some, None, is_some, nat_eq}
+-- Keys that are found by their hashes.
+use Rattle.std.proofs.Common.{◌≡◌, ◌⊎◌, inl, inr, ℕ, zero, suc, ◌+◌, ◌<◌, List, [], ◌∷◌, ◌++◌, Bool, true, false, ◌||◌, cond, length, refl, sym, ◌∙◌, ap, subst, arith, Option, Some, None, is_some}
 use Rattle.std.specs.List.{list_any, slice_get}
-use Rattle.std.specs.Option.{option_eq}
-use Rattle.std.specs.Cmp.Lexicographic.{pointwise}
 use Rattle.std.specs.Ordering.{nat_cmp, is_eq}
 use Rattle.std.specs.BTreeMap.{BTreeMap, get}
 use Rattle.std.specs.BTreeSet.{BTreeSet, contains}
@@ -11,111 +9,103 @@ use Rattle.std.proofs.lemmas.Bool.Decides.{nat_tests}
 use Rattle.std.proofs.lemmas.Map.Keys.{any_passes_from_place}
 use Rattle.std.proofs.lemmas.List.{length-append}
 use Rattle.std.proofs.lemmas.List.Folds.{list_any-append}
-use Rattle.po_text.specs.Entries.{Key, key_of, same_context, same_key}
+use Rattle.po_text.specs.Entries.{Key, same_key}
 use Rattle.po_text.specs.Keys.{entry_key_cmp}
 use Rattle.po_text.specs.Texts.{Text}
-use Rattle.po_text.specs.declared.entry.Entry.{Entry}
 use Rattle.po_text.specs.declared.key.EntryKey.{EntryKey}
 use Rattle.po_text.proofs.EntryLists.{same_key_self, key_same, cmp_same}
-use Rattle.po_read.specs.Found.{key_at_hand, has_key, key_hash, IsFoundAt, AreFound}
+use Rattle.po_read.specs.Found.{key_at_hand, pair_of, has_key, key_hash, IsFoundAt, AreFound}
 
 -- ---- places
 
-record Place (p : Entry → Bool) (es : List Entry) : Type 0 where
+record Place (p : EntryKey → Bool) (ks : List EntryKey) : Type 0 where
   i : ℕ
-  e : Entry
-  there : slice_get es i ≡ Some e
+  e : EntryKey
+  there : slice_get ks i ≡ Some e
   passes : p e ≡ true
 
-behind_first : (p : Entry → Bool) (x : Entry) (es : List Entry) (b : Bool) → p x ≡ b → (b || list_any p es) ≡ true → (list_any p es ≡ true → Place p es) → Place p (x ∷ es)
-behind_first p x es true k h rest = record { i = 0; e = x; there = refl; passes = k }
-behind_first p x es false k h rest = let r = rest h in record { i = suc r.i; e = r.e; there = r.there; passes = r.passes }
+behind_first : (p : EntryKey → Bool) (x : EntryKey) (ks : List EntryKey) (b : Bool) → p x ≡ b → (b || list_any p ks) ≡ true → (list_any p ks ≡ true → Place p ks) → Place p (x ∷ ks)
+behind_first p x ks true k h rest = record { i = 0; e = x; there = refl; passes = k }
+behind_first p x ks false k h rest = let r = rest h in record { i = suc r.i; e = r.e; there = r.there; passes = r.passes }
 
-any_place : (p : Entry → Bool) (es : List Entry) → list_any p es ≡ true → Place p es
+any_place : (p : EntryKey → Bool) (ks : List EntryKey) → list_any p ks ≡ true → Place p ks
 any_place p [] h = absurd (false≢true h)
-any_place p (x ∷ es) h = behind_first p x es (p x) refl h (any_place p es)
+any_place p (x ∷ ks) h = behind_first p x ks (p x) refl h (any_place p ks)
 
-pub same_place : (es : List Entry) (i j : ℕ) (e d : Entry) → slice_get es i ≡ Some e → slice_get es j ≡ Some d → i ≡ j → e ≡ d
-same_place es i j e d p q is = some_same (sym p ∙ ap (slice_get es) is ∙ q)
+pub same_place : (ks : List EntryKey) (i j : ℕ) (e d : EntryKey) → slice_get ks i ≡ Some e → slice_get ks j ≡ Some d → i ≡ j → e ≡ d
+same_place ks i j e d p q is = some_same (sym p ∙ ap (slice_get ks) is ∙ q)
   where
-    some_same : {x y : Entry} → Some x ≡ Some y → x ≡ y
+    some_same : {x y : EntryKey} → Some x ≡ Some y → x ≡ y
     some_same s = cc
 
--- an entry of a list with one more
-old_or_new : (es : List Entry) (new : Entry) (i : ℕ) (e : Entry) → slice_get (es ++ new ∷ []) i ≡ Some e → (slice_get es i ≡ Some e) ⊎ ((i ≡ length es) × (e ≡ new))
+pub read_at : (ks : List EntryKey) (i : ℕ) → i < length ks → (e : EntryKey) × (slice_get ks i ≡ Some e)
+read_at [] i h = absurd (omega (arith, h))
+read_at (k ∷ ks) zero h = (k, refl)
+read_at (k ∷ ks) (suc i) h = read_at ks i (omega (arith, h))
+
+-- a key of a list with one more
+old_or_new : (ks : List EntryKey) (new : EntryKey) (i : ℕ) (e : EntryKey) → slice_get (ks ++ new ∷ []) i ≡ Some e → (slice_get ks i ≡ Some e) ⊎ ((i ≡ length ks) × (e ≡ new))
 old_or_new [] new zero e h = inr (refl, cc)
 old_or_new [] new (suc i) e h = cc
-old_or_new (x ∷ es) new zero e h = inl h
-old_or_new (x ∷ es) new (suc i) e h = elim (old_or_new es new i e h) [ inl old ↦ inl old | inr last ↦ inr (ap suc last.0, last.1) ]
+old_or_new (x ∷ ks) new zero e h = inl h
+old_or_new (x ∷ ks) new (suc i) e h = elim (old_or_new ks new i e h) [ inl old ↦ inl old | inr last ↦ inr (ap suc last.0, last.1) ]
 
 -- ---- looked up
 
-pub context_same : (a b : Option Text) → option_eq (pointwise nat_eq) a b ≡ same_context a b
-context_same None None = refl
-context_same None (Some y) = refl
-context_same (Some x) None = refl
-context_same (Some x) (Some y) = refl
-
-pub keys_same : (e : Entry) (ctx : Option Text) (id : Text) (both same_ctx same_id : Bool) → same_ctx ≡ option_eq (pointwise nat_eq) e.ctx ctx → same_id ≡ pointwise nat_eq e.id id → both ≡ (same_ctx && same_id) → both ≡ same_key (key_of e) (ctx, id)
-keys_same e ctx id both same_ctx same_id c i b = b ∙ (λ j. (c ∙ context_same e.ctx ctx) j && i j)
-
-abbrev with_key : Option Text → Text → Entry → Bool
-with_key ctx id e = same_key (key_of e) (ctx, id)
+abbrev with_key : Option Text → Text → EntryKey → Bool
+with_key ctx id e = same_key (pair_of e) (ctx, id)
 
 not_there : (b : Bool) → (b ≡ true → ⊥) → false ≡ b
 not_there true never = absurd (never refl)
 not_there false _ = refl
 
-pub none_found : (es : List Entry) (lasts : BTreeMap ℕ ℕ) (others : BTreeSet EntryKey) (ctx : Option Text) (id : Text) → AreFound es lasts others → get nat_cmp lasts (key_hash ctx id) ≡ None → false ≡ has_key ctx id es
-none_found es lasts others ctx id h none = not_there (has_key ctx id es) never
+pub none_found : (ks : List EntryKey) (firsts : BTreeMap ℕ ℕ) (others : BTreeSet EntryKey) (ctx : Option Text) (id : Text) → AreFound ks firsts others → get nat_cmp firsts (key_hash ctx id) ≡ None → false ≡ has_key ctx id ks
+none_found ks firsts others ctx id h none = not_there (has_key ctx id ks) never
   where
-    hashed : (e : Entry) → key_of e ≡ (ctx, id) → get nat_cmp lasts (key_hash e.ctx e.id) ≡ None
-    hashed e is = ap (λ (k : Key). get nat_cmp lasts (key_hash k.0 k.1)) is ∙ none
+    hashed : (e : EntryKey) → pair_of e ≡ (ctx, id) → get nat_cmp firsts (key_hash e.ctx e.id) ≡ None
+    hashed e is = ap (λ (k : Key). get nat_cmp firsts (key_hash k.0 k.1)) is ∙ none
 
-    never : has_key ctx id es ≡ true → ⊥
+    never : has_key ctx id ks ≡ true → ⊥
     never found =
-        let at = any_place (with_key ctx id) es found in
-        let is = hashed at.e (key_same (key_of at.e) (ctx, id) at.passes) in
+        let at = any_place (with_key ctx id) ks found in
+        let is = hashed at.e (key_same (pair_of at.e) (ctx, id) at.passes) in
         elim (h.each at.i at.e at.there) [
           | inl some ↦ (let differs : None ≡ Some at.i = sym is ∙ some in cc)
           | inr some ↦ false≢true (ap is_some (sym is) ∙ some.0)
         ]
 
-pub last_found : (es : List Entry) (i : ℕ) (e : Entry) (ctx : Option Text) (id : Text) → slice_get es i ≡ Some e → same_key (key_of e) (ctx, id) ≡ true → true ≡ has_key ctx id es
-last_found es i e ctx id there is = sym (any_passes_from_place (with_key ctx id) es i e there is)
+pub first_found : (ks : List EntryKey) (i : ℕ) (e : EntryKey) (ctx : Option Text) (id : Text) → slice_get ks i ≡ Some e → same_key (pair_of e) (ctx, id) ≡ true → true ≡ has_key ctx id ks
+first_found ks i e ctx id there is = sym (any_passes_from_place (with_key ctx id) ks i e there is)
 
-pub other_found : (es : List Entry) (lasts : BTreeMap ℕ ℕ) (others : BTreeSet EntryKey) (ctx : Option Text) (id : Text) (i : ℕ) (e : Entry) → AreFound es lasts others → get nat_cmp lasts (key_hash ctx id) ≡ Some i → slice_get es i ≡ Some e
-    → same_key (key_of e) (ctx, id) ≡ false → contains entry_key_cmp others (key_at_hand ctx id) ≡ has_key ctx id es
-other_found es lasts others ctx id i e h last there apart = by (contains entry_key_cmp others (key_at_hand ctx id)) (has_key ctx id es) refl refl
+pub other_found : (ks : List EntryKey) (firsts : BTreeMap ℕ ℕ) (others : BTreeSet EntryKey) (ctx : Option Text) (id : Text) (i : ℕ) (e : EntryKey) → AreFound ks firsts others → get nat_cmp firsts (key_hash ctx id) ≡ Some i → slice_get ks i ≡ Some e
+    → same_key (pair_of e) (ctx, id) ≡ false → contains entry_key_cmp others (key_at_hand ctx id) ≡ has_key ctx id ks
+other_found ks firsts others ctx id i e h last there apart = by (contains entry_key_cmp others (key_at_hand ctx id)) (has_key ctx id ks) refl refl
   where
-    among : has_key ctx id es ≡ true → contains entry_key_cmp others (key_at_hand ctx id) ≡ true
+    among : has_key ctx id ks ≡ true → contains entry_key_cmp others (key_at_hand ctx id) ≡ true
     among found =
-        let at = any_place (with_key ctx id) es found in
-        let is = key_same (key_of at.e) (ctx, id) at.passes in
+        let at = any_place (with_key ctx id) ks found in
+        let is = key_same (pair_of at.e) (ctx, id) at.passes in
         elim (h.each at.i at.e at.there) [
           | inl some ↦ (
-              let same : Some i ≡ Some at.i = sym last ∙ ap (λ (k : Key). get nat_cmp lasts (key_hash k.0 k.1)) (sym is) ∙ some in
+              let same : Some i ≡ Some at.i = sym last ∙ ap (λ (k : Key). get nat_cmp firsts (key_hash k.0 k.1)) (sym is) ∙ some in
               let here : i ≡ at.i = cc in
-              let one : e ≡ at.e = same_place es i at.i e at.e there at.there here in
+              let one : e ≡ at.e = same_place ks i at.i e at.e there at.there here in
               absurd (false≢true (sym apart ∙ ap (with_key ctx id) one ∙ at.passes))
               )
           | inr some ↦ ap (λ (k : Key). contains entry_key_cmp others (key_at_hand k.0 k.1)) (sym is) ∙ some.1
         ]
 
-    by : (a b : Bool) → contains entry_key_cmp others (key_at_hand ctx id) ≡ a → has_key ctx id es ≡ b → a ≡ b
+    by : (a b : Bool) → contains entry_key_cmp others (key_at_hand ctx id) ≡ a → has_key ctx id ks ≡ b → a ≡ b
     by true true p q = refl
     by false false p q = refl
-    by true false p q = sym (h.keys (key_at_hand ctx id) p) ∙ q
+    by true false p q = sym (h.known (key_at_hand ctx id) p) ∙ q
     by false true p q = sym p ∙ among q
 
 -- ---- one more
 
-abbrev Grows : BTreeSet EntryKey → BTreeSet EntryKey → Type 0
-Grows others new = (key : EntryKey) → contains entry_key_cmp others key ≡ true → contains entry_key_cmp new key ≡ true
-
--- the last of a hash is another
-abbrev pub IsLastNow : BTreeMap ℕ ℕ → BTreeMap ℕ ℕ → ℕ → ℕ → Type 0
-IsLastNow lasts new hash i = (q : ℕ) → get nat_cmp new q ≡ cond (is_eq (nat_cmp hash q)) (Some i) (get nat_cmp lasts q)
+-- the key of a hash stands at this place now, and those of other hashes stay
+abbrev pub IsPut : BTreeMap ℕ ℕ → BTreeMap ℕ ℕ → ℕ → ℕ → Type 0
+IsPut firsts new hash i = (q : ℕ) → get nat_cmp new q ≡ cond (is_eq (nat_cmp hash q)) (Some i) (get nat_cmp firsts q)
 
 hash_is : (hash q : ℕ) → is_eq (nat_cmp hash q) ≡ true → hash ≡ q
 hash_is hash q h = grind (arith, nat_tests)
@@ -123,112 +113,83 @@ hash_is hash q h = grind (arith, nat_tests)
 hash_self : (hash : ℕ) → is_eq (nat_cmp hash hash) ≡ true
 hash_self hash = grind (arith, nat_tests)
 
-still_has : (ctx : Option Text) (id : Text) (es : List Entry) (new : Entry) → has_key ctx id es ≡ true → has_key ctx id (es ++ new ∷ []) ≡ true
-still_has ctx id es new h = list_any-append (with_key ctx id) es (new ∷ []) ∙ ap (λ b. b || (with_key ctx id new || false)) h
+still_has : (ctx : Option Text) (id : Text) (ks : List EntryKey) (new : EntryKey) → has_key ctx id ks ≡ true → has_key ctx id (ks ++ new ∷ []) ≡ true
+still_has ctx id ks new h = list_any-append (with_key ctx id) ks (new ∷ []) ∙ ap (λ b. b || (with_key ctx id new || false)) h
 
-found_with : (es : List Entry) (new : Entry) (lasts lasts' : BTreeMap ℕ ℕ) (others others' : BTreeSet EntryKey) → AreFound es lasts others → IsLastNow lasts lasts' (key_hash new.ctx new.id) (length es) → Grows others others'
-    → ((i : ℕ) (e : Entry) → slice_get es i ≡ Some e → key_hash new.ctx new.id ≡ key_hash e.ctx e.id → contains entry_key_cmp others' (key_at_hand e.ctx e.id) ≡ true)
-    → ((key : EntryKey) → contains entry_key_cmp others' key ≡ true → has_key key.ctx key.id es ≡ true)
-    → AreFound (es ++ new ∷ []) lasts' others'
-found_with es new lasts lasts' others others' h updated grown moved only = record {
-  each = λ i e there. elim (old_or_new es new i e there) [ inl old ↦ kept i e old (is_eq (nat_cmp hash (key_hash e.ctx e.id))) refl | inr last ↦ subst (λ (x : Entry). IsFoundAt lasts' others' i x) (sym last.1) (inl (here ∙ ap Some (sym last.0))) ];
-  places = λ q i at. place q i (is_eq (nat_cmp hash q)) refl at;
-  keys = λ key there. still_has key.ctx key.id es new (only key there);
-}
-  where
-    hash : ℕ
-    hash = key_hash new.ctx new.id
+new_there : (ks : List EntryKey) (new : EntryKey) → slice_get (ks ++ new ∷ []) (length ks) ≡ Some new
+new_there [] new = refl
+new_there (k ∷ ks) new = new_there ks new
 
-    here : get nat_cmp lasts' hash ≡ Some (length es)
-    here = updated hash ∙ ap (λ b. cond b (Some (length es)) (get nat_cmp lasts hash)) (hash_self hash)
+module _ (ks all : List EntryKey) (new : EntryKey) (firsts : BTreeMap ℕ ℕ) (others : BTreeSet EntryKey) (hash : ℕ) (found : AreFound ks firsts others) (grown : all ≡ ks ++ new ∷ []) (is : hash ≡ key_hash new.ctx new.id) where
+  -- its hash is new
+  pub found_new : (firsts' : BTreeMap ℕ ℕ) (place : ℕ) → place ≡ length ks → IsPut firsts firsts' hash place → get nat_cmp firsts hash ≡ None → AreFound all firsts' others
+  found_new firsts' place at put none =
+      subst (λ (xs : List EntryKey). AreFound xs firsts' others) (sym grown) (record {
+        each = λ i e there. elim (old_or_new ks new i e there) [ inl old ↦ kept i e old | inr last ↦ subst (λ (x : EntryKey). IsFoundAt firsts' others i x) (sym last.1) (inl (here ∙ ap Some (at ∙ sym last.0))) ];
+        places = λ q i there. placed q i (is_eq (nat_cmp hash q)) refl there;
+        known = λ key there. still_has key.ctx key.id ks new (found.known key there);
+      })
+    where
+      here : get nat_cmp firsts' (key_hash new.ctx new.id) ≡ Some place
+      here = ap (get nat_cmp firsts') (sym is) ∙ put hash ∙ ap (λ b. cond b (Some place) (get nat_cmp firsts hash)) (hash_self hash)
 
-    kept : (i : ℕ) (e : Entry) → slice_get es i ≡ Some e → (b : Bool) → is_eq (nat_cmp hash (key_hash e.ctx e.id)) ≡ b → IsFoundAt lasts' others' i e
-    kept i e old true is =
-        let now : get nat_cmp lasts' (key_hash e.ctx e.id) ≡ Some (length es) = updated (key_hash e.ctx e.id) ∙ ap (λ b. cond b (Some (length es)) (get nat_cmp lasts (key_hash e.ctx e.id))) is in
-        inr (ap is_some now, moved i e old (hash_is hash (key_hash e.ctx e.id) is))
-    kept i e old false is =
-        let now : get nat_cmp lasts' (key_hash e.ctx e.id) ≡ get nat_cmp lasts (key_hash e.ctx e.id) = updated (key_hash e.ctx e.id) ∙ ap (λ b. cond b (Some (length es)) (get nat_cmp lasts (key_hash e.ctx e.id))) is in
-        elim (h.each i e old) [ inl some ↦ inl (now ∙ some) | inr some ↦ inr (ap is_some now ∙ some.0, grown (key_at_hand e.ctx e.id) some.1) ]
+      stays : (q : ℕ) (b : Bool) → is_eq (nat_cmp hash q) ≡ b → is_some (get nat_cmp firsts q) ≡ true → get nat_cmp firsts' q ≡ get nat_cmp firsts q
+      stays q true same some = absurd (false≢true (ap is_some (sym none ∙ ap (get nat_cmp firsts) (hash_is hash q same)) ∙ some))
+      stays q false other some = put q ∙ ap (λ b. cond b (Some place) (get nat_cmp firsts q)) other
 
-    place : (q i : ℕ) (b : Bool) → is_eq (nat_cmp hash q) ≡ b → get nat_cmp lasts' q ≡ Some i → i < length (es ++ new ∷ [])
-    place q i true is at =
-        let same : Some (length es) ≡ Some i = sym (updated q ∙ ap (λ b. cond b (Some (length es)) (get nat_cmp lasts q)) is) ∙ at in
-        let last : length es ≡ i = cc in
-        omega (arith, length-append es (new ∷ []))
-    place q i false is at =
-        let before : i < length es = h.places q i (sym (updated q ∙ ap (λ b. cond b (Some (length es)) (get nat_cmp lasts q)) is) ∙ at) in
-        omega (arith, length-append es (new ∷ []))
+      kept : (i : ℕ) (e : EntryKey) → slice_get ks i ≡ Some e → IsFoundAt firsts' others i e
+      kept i e old = elim (found.each i e old) [
+        | inl some ↦ inl (stays (key_hash e.ctx e.id) (is_eq (nat_cmp hash (key_hash e.ctx e.id))) refl (ap is_some some) ∙ some)
+        | inr some ↦ inr (ap is_some (stays (key_hash e.ctx e.id) (is_eq (nat_cmp hash (key_hash e.ctx e.id))) refl some.0) ∙ some.0, some.1)
+      ]
 
--- its hash is new
-new_hash : (es : List Entry) (new : Entry) (lasts lasts' : BTreeMap ℕ ℕ) (others : BTreeSet EntryKey) → AreFound es lasts others → IsLastNow lasts lasts' (key_hash new.ctx new.id) (length es) → get nat_cmp lasts (key_hash new.ctx new.id) ≡ None
-    → AreFound (es ++ new ∷ []) lasts' others
-new_hash es new lasts lasts' others h updated none =
-    found_with es new lasts lasts' others others h updated (λ key there. there)
-    (λ i e there is.
-    let gone : get nat_cmp lasts (key_hash e.ctx e.id) ≡ None = ap (get nat_cmp lasts) (sym is) ∙ none in
-    elim (h.each i e there) [
-      | inl some ↦ (let differs : None ≡ Some i = sym gone ∙ some in cc)
-      | inr some ↦ some.1
-    ])
-    h.keys
+      placed : (q i : ℕ) (b : Bool) → is_eq (nat_cmp hash q) ≡ b → get nat_cmp firsts' q ≡ Some i → i < length (ks ++ new ∷ [])
+      placed q i true same there =
+          let e : Some place ≡ Some i = sym (put q ∙ ap (λ b. cond b (Some place) (get nat_cmp firsts q)) same) ∙ there in
+          let last : place ≡ i = cc in
+          omega (arith, at, length-append ks (new ∷ []))
+      placed q i false other there =
+          let before : i < length ks = found.places q i (sym (put q ∙ ap (λ b. cond b (Some place) (get nat_cmp firsts q)) other) ∙ there) in
+          omega (arith, length-append ks (new ∷ []))
 
--- another has its hash, and its key goes to the others
-same_hash : (es : List Entry) (new other : Entry) (lasts lasts' : BTreeMap ℕ ℕ) (others others' : BTreeSet EntryKey) (before : ℕ) (key : EntryKey) → AreFound es lasts others → IsLastNow lasts lasts' (key_hash new.ctx new.id) (length es)
-    → get nat_cmp lasts (key_hash new.ctx new.id) ≡ Some before → slice_get es before ≡ Some other → key ≡ key_at_hand other.ctx other.id → ((q : EntryKey) → contains entry_key_cmp others' q ≡ cond (is_eq (entry_key_cmp key q)) true (contains entry_key_cmp others q))
-    → AreFound (es ++ new ∷ []) lasts' others'
-same_hash es new other lasts lasts' others others' before key h updated last there is_key inserted =
-    found_with es new lasts lasts' others others' h updated grown moved only
-  where
-    or_true : (a : Bool) → cond a true true ≡ true
-    or_true true = refl
-    or_true false = refl
+  -- another has its hash, and its key goes to the others
+  pub found_behind : (mid firsts' : BTreeMap ℕ ℕ) (others' : BTreeSet EntryKey) (place first : ℕ) (key : EntryKey) → IsPut firsts mid hash place → get nat_cmp firsts hash ≡ Some first → IsPut mid firsts' hash first → key ≡ new
+      → ((q : EntryKey) → contains entry_key_cmp others' q ≡ cond (is_eq (entry_key_cmp key q)) true (contains entry_key_cmp others q)) → AreFound all firsts' others'
+  found_behind mid firsts' others' place first key put was again is_key inserted =
+      subst (λ (xs : List EntryKey). AreFound xs firsts' others') (sym grown) (record {
+        each = λ i e there. elim (old_or_new ks new i e there) [ inl old ↦ kept i e old | inr last ↦ subst (λ (x : EntryKey). IsFoundAt firsts' others' i x) (sym last.1) (inr (ap is_some (same (key_hash new.ctx new.id) ∙ ap (get nat_cmp firsts) (sym is) ∙ was), key_in)) ];
+        places = λ q i there. let before : i < length ks = found.places q i (sym (same q) ∙ there) in omega (arith, length-append ks (new ∷ []));
+        known = λ q there. known q (is_eq (entry_key_cmp key q)) refl (sym (inserted q) ∙ there);
+      })
+    where
+      same : (q : ℕ) → get nat_cmp firsts' q ≡ get nat_cmp firsts q
+      same q = by (is_eq (nat_cmp hash q)) refl
+        where
+          by : (b : Bool) → is_eq (nat_cmp hash q) ≡ b → get nat_cmp firsts' q ≡ get nat_cmp firsts q
+          by true e = again q ∙ ap (λ b. cond b (Some first) (get nat_cmp mid q)) e ∙ sym was ∙ ap (get nat_cmp firsts) (hash_is hash q e)
+          by false e = again q ∙ ap (λ b. cond b (Some first) (get nat_cmp mid q)) e ∙ put q ∙ ap (λ b. cond b (Some place) (get nat_cmp firsts q)) e
 
-    grown : Grows others others'
-    grown q in_others = inserted q ∙ ap (λ b. cond (is_eq (entry_key_cmp key q)) true b) in_others ∙ or_true (is_eq (entry_key_cmp key q))
+      or_true : (a : Bool) → cond a true true ≡ true
+      or_true true = refl
+      or_true false = refl
 
-    key_in : contains entry_key_cmp others' (key_at_hand other.ctx other.id) ≡ true
-    key_in =
-        inserted (key_at_hand other.ctx other.id)
-        ∙ ap (λ b. cond b true (contains entry_key_cmp others (key_at_hand other.ctx other.id)))
-        (ap (λ (k : EntryKey). is_eq (entry_key_cmp k (key_at_hand other.ctx other.id))) is_key ∙ cmp_same (key_at_hand other.ctx other.id) (key_at_hand other.ctx other.id) ∙ same_key_self (other.ctx, other.id))
+      more : (q : EntryKey) → contains entry_key_cmp others q ≡ true → contains entry_key_cmp others' q ≡ true
+      more q there = inserted q ∙ ap (λ b. cond (is_eq (entry_key_cmp key q)) true b) there ∙ or_true (is_eq (entry_key_cmp key q))
 
-    moved : (i : ℕ) (e : Entry) → slice_get es i ≡ Some e → key_hash new.ctx new.id ≡ key_hash e.ctx e.id → contains entry_key_cmp others' (key_at_hand e.ctx e.id) ≡ true
-    moved i e at is =
-        elim (h.each i e at) [
-          | inl some ↦ (
-              let same : Some before ≡ Some i = sym last ∙ ap (get nat_cmp lasts) is ∙ some in
-              let here : before ≡ i = cc in
-              let one : other ≡ e = same_place es before i other e there at here in
-              ap (λ (x : Entry). contains entry_key_cmp others' (key_at_hand x.ctx x.id)) (sym one) ∙ key_in
-              )
-          | inr some ↦ grown (key_at_hand e.ctx e.id) some.1
-        ]
+      key_in : contains entry_key_cmp others' new ≡ true
+      key_in =
+          inserted new
+          ∙ ap (λ b. cond b true (contains entry_key_cmp others new))
+          (ap (λ (k : EntryKey). is_eq (entry_key_cmp k new)) is_key ∙ cmp_same new new ∙ same_key_self (new.ctx, new.id))
 
-    only : (q : EntryKey) → contains entry_key_cmp others' q ≡ true → has_key q.ctx q.id es ≡ true
-    only q in_new = by (is_eq (entry_key_cmp key q)) refl (sym (inserted q) ∙ in_new)
-      where
-        by : (b : Bool) → is_eq (entry_key_cmp key q) ≡ b → cond b true (contains entry_key_cmp others q) ≡ true → has_key q.ctx q.id es ≡ true
-        by false e in_old = h.keys q in_old
-        by true e in_old =
-            any_passes_from_place (with_key q.ctx q.id) es before other there
-            (sym (cmp_same (key_at_hand other.ctx other.id) q) ∙ ap (λ (k : EntryKey). is_eq (entry_key_cmp k q)) (sym is_key) ∙ e)
+      kept : (i : ℕ) (e : EntryKey) → slice_get ks i ≡ Some e → IsFoundAt firsts' others' i e
+      kept i e old = elim (found.each i e old) [
+        | inl some ↦ inl (same (key_hash e.ctx e.id) ∙ some)
+        | inr some ↦ inr (ap is_some (same (key_hash e.ctx e.id)) ∙ some.0, more e some.1)
+      ]
 
--- ---- the same, by the hash and the place that were computed
-
-hashed_last : (lasts lasts' : BTreeMap ℕ ℕ) (hash place h i : ℕ) → hash ≡ h → place ≡ i → IsLastNow lasts lasts' hash place → IsLastNow lasts lasts' h i
-hashed_last lasts lasts' hash place h i is at updated q = updated q ∙ (λ j. cond (is_eq (nat_cmp (is j) q)) (Some (at j)) (get nat_cmp lasts q))
-
-pub found_new : (es all : List Entry) (new : Entry) (lasts lasts' : BTreeMap ℕ ℕ) (others : BTreeSet EntryKey) (hash place : ℕ) → AreFound es lasts others → all ≡ es ++ new ∷ [] → hash ≡ key_hash new.ctx new.id → place ≡ length es
-    → IsLastNow lasts lasts' hash place → get nat_cmp lasts hash ≡ None → AreFound all lasts' others
-found_new es all new lasts lasts' others hash place h grown is at updated none =
-    subst (λ (xs : List Entry). AreFound xs lasts' others) (sym grown)
-    (new_hash es new lasts lasts' others h (hashed_last lasts lasts' hash place (key_hash new.ctx new.id) (length es) is at updated) (ap (get nat_cmp lasts) (sym is) ∙ none))
-
-pub found_behind : (es all : List Entry) (new other : Entry) (lasts lasts' : BTreeMap ℕ ℕ) (others others' : BTreeSet EntryKey) (hash place before : ℕ) (key : EntryKey) → AreFound es lasts others → all ≡ es ++ new ∷ [] → hash ≡ key_hash new.ctx new.id → place ≡ length es
-    → IsLastNow lasts lasts' hash place → get nat_cmp lasts hash ≡ Some before → slice_get all before ≡ Some other → key ≡ key_at_hand other.ctx other.id
-    → ((q : EntryKey) → contains entry_key_cmp others' q ≡ cond (is_eq (entry_key_cmp key q)) true (contains entry_key_cmp others q)) → AreFound all lasts' others'
-found_behind es all new other lasts lasts' others others' hash place before key h grown is at updated last there is_key inserted =
-    let within : before < length es = h.places hash before last in
-    let old : slice_get es before ≡ Some other = elim (old_or_new es new before other (ap (λ (xs : List Entry). slice_get xs before) (sym grown) ∙ there)) [ inl old ↦ old | inr behind ↦ absurd (omega (arith, behind.0)) ] in
-    subst (λ (xs : List Entry). AreFound xs lasts' others') (sym grown)
-    (same_hash es new other lasts lasts' others others' before key h (hashed_last lasts lasts' hash place (key_hash new.ctx new.id) (length es) is at updated) (ap (get nat_cmp lasts) (sym is) ∙ last) old is_key inserted)
+      known : (q : EntryKey) (b : Bool) → is_eq (entry_key_cmp key q) ≡ b → cond b true (contains entry_key_cmp others q) ≡ true → has_key q.ctx q.id (ks ++ new ∷ []) ≡ true
+      known q false e there = still_has q.ctx q.id ks new (found.known q there)
+      known q true e there =
+          any_passes_from_place (with_key q.ctx q.id) (ks ++ new ∷ []) (length ks) new (new_there ks new)
+          (sym (cmp_same new q) ∙ ap (λ (k : EntryKey). is_eq (entry_key_cmp k q)) (sym is_key) ∙ e)

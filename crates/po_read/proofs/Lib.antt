@@ -13,6 +13,7 @@ pub mod Least
 pub mod Rows
 pub mod Following
 pub mod FoundLemmas
+pub mod KeyPlaces
 pub mod Tested
 pub mod TextLines
 pub mod Answered

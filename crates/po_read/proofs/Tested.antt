@@ -14,9 +14,9 @@ use Rattle.po_read.specs.Spells.{limits}
 use Rattle.po_text.specs.Flags.{with_fuzzy_first}
 use Rattle.po_read.specs.Faults.{Lines, strings_in, previous_in, last_string, key_at, has_header_key, when, key_fault, header_fault, ended_fault, count_of, entries_fault, has_form, begins_entry, before, after, fault_at, fault_at_end, or_else, string_fault, goes_on, order_fault, last_with, is_long}
 use Rattle.po_read.specs.Plain.{groups_of, entry_of, string_with, forms_in}
-use Rattle.po_read.specs.Found.{has_key}
+use Rattle.po_read.specs.Found.{key_at_hand, has_key, count_in}
 use Rattle.po_read.specs.Drafts.{Draft, nothing, context, named, counted, single, draft_of, draft_strings, draft_last, draft_key, whole_of, previous_end, IsSoundLine}
-use Rattle.po_read.specs.SoFar.{SoFar, so_far, IsEntry, IsSoFar, Reads, key_fault_here, header_fault_here, ended_draft, ended_here, count_in, entries_here, IsClosed, end_fault, front_fault, length_fault, order_fault_here, with_line, marked, has_strings, has_previous}
+use Rattle.po_read.specs.SoFar.{SoFar, so_far, IsEntry, IsSoFar, key_in_hand, Reads, HandsOn, key_fault_here, header_fault_here, ended_draft, ended_here, entries_here, IsClosed, IsHanded, end_fault, front_fault, length_fault, order_fault_here, with_line, marked, has_strings, has_previous}
 use Rattle.po_text.specs.declared.entry.Entry.{Entry}
 use Rattle.po_text.specs.declared.entry.Previous.{Previous}
 use Rattle.po_read.specs.declared.reading.Reader.{Reader}
@@ -25,16 +25,15 @@ use Rattle.po_text.proofs.EntryLists.{both_true}
 use Rattle.po_read.proofs.Growing.{closed}
 use Rattle.po_read.proofs.Following.{key_is, form_is, length_is, goes_is, order_is, with_line_is}
 
-empty_map : (groups : List (List Line)) → is_empty (map entry_of groups) ≡ is_empty groups
+empty_map : (groups : List (List Line)) → is_empty (map key_in_hand groups) ≡ is_empty groups
 empty_map [] = refl
 empty_map (g ∷ groups) = refl
 
-first_is : (r : Reader) (s : Lines) → Reads r s → is_empty r.entries ≡ is_empty s.whole
-first_is r s h = ap is_empty h.entries ∙ empty_map s.whole
+first_is : (r : Reader) (s : Lines) → Reads r s → is_empty r.keys ≡ is_empty s.whole
+first_is r s h = ap is_empty h.keys ∙ empty_map s.whole
 
 -- the keys of whole entries are those of their lines
-keys_are : (groups : List (List Line)) (ctx : Option Text) (id : Text) → has_key ctx id (map entry_of groups) ≡ list_any (λ lines. same_key (key_at lines) (ctx, id)) groups
-unfolding entry_of
+keys_are : (groups : List (List Line)) (ctx : Option Text) (id : Text) → has_key ctx id (map key_in_hand groups) ≡ list_any (λ lines. same_key (key_at lines) (ctx, id)) groups
 keys_are [] ctx id = refl
 keys_are (g ∷ groups) ctx id = ap (λ b. same_key (key_at g) (ctx, id) || b) (keys_are groups ctx id)
 
@@ -82,7 +81,7 @@ key_tested : (r : Reader) (s : Lines) (ctx : Option Text) (id : Text) → Reads 
 key_tested r s ctx id h e =
     let key : (let k : Key = (ctx, id) in k) ≡ key_at s.current = ap draft_key (sym e) ∙ key_is (so_far r.current) s.current h.current in
     let header : is_header_key ctx id ≡ has_header_key s.current = ap (λ (k : Key). is_header_key k.0 k.1) key in
-    let found : has_key ctx id r.entries ≡ list_any (λ lines. same_key (key_at lines) (key_at s.current)) s.whole = ap (has_key ctx id) h.entries ∙ keys_are s.whole ctx id ∙ ap (λ (k : Key). list_any (λ lines. same_key (key_at lines) k) s.whole) key in
+    let found : has_key ctx id r.keys ≡ list_any (λ lines. same_key (key_at lines) (key_at s.current)) s.whole = ap (has_key ctx id) h.keys ∙ keys_are s.whole ctx id ∙ ap (λ (k : Key). list_any (λ lines. same_key (key_at lines) k) s.whole) key in
     λ i. cond (header i && (not (first_is r s h i) || h.current.obsolete i)) (Some kinds.Order) (when (found i) kinds.Duplicate)
 
 header_tested : (r : Reader) (s : Lines) (ctx : Option Text) (id form : Text) → Reads r s → draft_of r.current.message ≡ single ctx id form → header_fault_here r ctx id form ≡ header_fault s form
@@ -110,17 +109,16 @@ ended_is r s b h = by (draft_of r.current.message) refl b ∙ ap (λ ss. ended_f
 
 -- ---- the number of entries
 
-count_is : (groups : List (List Line)) → count_in (map entry_of groups) ≡ count_of groups
-unfolding entry_of
+count_is : (groups : List (List Line)) → count_in (map key_in_hand groups) ≡ count_of groups
 count_is [] = refl
 count_is (g ∷ groups) = by (has_header_key g)
   where
-    by : (b : Bool) → cond b (length (map entry_of groups)) (length (map entry_of groups) + 1) ≡ suc (length groups) - cond b 1 0
-    by true = let n : length (map entry_of groups) ≡ length groups = length-map groups entry_of in omega arith
-    by false = let n : length (map entry_of groups) ≡ length groups = length-map groups entry_of in omega arith
+    by : (b : Bool) → cond b (length (map key_in_hand groups)) (length (map key_in_hand groups) + 1) ≡ suc (length groups) - cond b 1 0
+    by true = let n : length (map key_in_hand groups) ≡ length groups = length-map groups key_in_hand in omega arith
+    by false = let n : length (map key_in_hand groups) ≡ length groups = length-map groups key_in_hand in omega arith
 
-entries_at : (r : Reader) (s : Lines) → Reads r s → when (nat_le 50000 (count_in r.entries)) kinds.Limit ≡ when (nat_le 50000 (count_of s.whole)) kinds.Limit
-entries_at r s h = ap (λ n. when (nat_le 50000 n) kinds.Limit) (ap count_in h.entries ∙ count_is s.whole)
+entries_at : (r : Reader) (s : Lines) → Reads r s → when (nat_le 50000 (count_in r.keys)) kinds.Limit ≡ when (nat_le 50000 (count_of s.whole)) kinds.Limit
+entries_at r s h = ap (λ n. when (nat_le 50000 n) kinds.Limit) (ap count_in h.keys ∙ count_is s.whole)
 
 pub entries_is : (r : Reader) (s : Lines) (line : Line) → Reads r s → entries_here r line ≡ entries_fault 50000 s line
 entries_is r s blank h = refl
@@ -207,12 +205,29 @@ entry_is s lines e h w form =
 
 -- ---- an entry that has ended
 
-pub closed_is : (old new : Reader) (s : Lines) → Reads old s → IsClosed old new → is_form (draft_last (draft_of old.current.message)) ≡ true → Reads new (closed s)
-closed_is old new s h c form =
-    let e : c.entry ≡ entry_of s.current = entry_is (so_far old.current) s.current c.entry h.current c.was form in
+key_of_lines : (lines : List Line) → key_at_hand (entry_of lines).ctx (entry_of lines).id ≡ key_in_hand lines
+unfolding entry_of
+key_of_lines lines = refl
+
+pub closed_is : (old new : Reader) (entry : Entry) (s : Lines) → Reads old s → IsClosed old new entry → is_form (draft_last (draft_of old.current.message)) ≡ true → Reads new (closed s)
+closed_is old new entry s h c form =
+    let e : entry ≡ entry_of s.current = entry_is (so_far old.current) s.current entry h.current c.was form in
+    let key : key_at_hand entry.ctx entry.id ≡ key_in_hand s.current = ap (λ (x : Entry). key_at_hand x.ctx x.id) e ∙ key_of_lines s.current in
     record {
-      entries = c.entries ∙ (λ i. h.entries i ++ e i ∷ []) ∙ sym (map-append entry_of s.whole (s.current ∷ []));
+      keys = c.keys ∙ (λ i. h.keys i ++ key i ∷ []) ∙ sym (map-append key_in_hand s.whole (s.current ∷ []));
       current = c.current;
+    }
+
+-- what a sink takes in two parts it takes
+abbrev pub TakesMore : (S : Type 0) → (S → List Entry → S → Type 0) → Type 0
+TakesMore S Took = (a b c : S) (xs ys : List Entry) → Took a xs b → Took b ys c → Took a (xs ++ ys) c
+
+pub closed_hands : {S : Type 0} (Took : S → List Entry → S → Type 0) → TakesMore S Took → (first sink sink' : S) (old new : Reader) (s : Lines) → HandsOn Took first old sink s → IsHanded Took old new sink sink' → is_form (draft_last (draft_of old.current.message)) ≡ true → HandsOn Took first new sink' (closed s)
+closed_hands Took more first sink sink' old new s h c form =
+    let e : c.entry ≡ entry_of s.current = entry_is (so_far old.current) s.current c.entry h.reads.current c.closed.was form in
+    record {
+      reads = closed_is old new c.entry s h.reads c.closed form;
+      took = subst (λ (es : List Entry). Took first es sink') ((λ i. map entry_of s.whole ++ e i ∷ []) ∙ sym (map-append entry_of s.whole (s.current ∷ []))) (more first sink sink' (map entry_of s.whole) (c.entry ∷ []) h.took c.took);
     }
 
 -- ---- a line
@@ -241,24 +256,39 @@ first_length new old (previous m (continues text)) h f b =
 first_length new old (message m (begins keyword text)) h f b = refl
 first_length new old (message m (continues text)) h f b = cc
 
-pub closed_length : (old new : Reader) (line : Line) → IsClosed old new → is_form (draft_last (draft_of old.current.message)) ≡ true → begins_entry line ≡ true → length_fault (so_far new.current) line ≡ length_fault (so_far old.current) line
-closed_length old new line c f b = first_length (so_far new.current) (so_far old.current) line c.current f b
+pub closed_length : (old new : Reader) (entry : Entry) (line : Line) → IsClosed old new entry → is_form (draft_last (draft_of old.current.message)) ≡ true → begins_entry line ≡ true → length_fault (so_far new.current) line ≡ length_fault (so_far old.current) line
+closed_length old new entry line c f b = first_length (so_far new.current) (so_far old.current) line c.current f b
 
-pub closed_before : (old new : Reader) (line : Line) → IsClosed old new → is_form (draft_last (draft_of old.current.message)) ≡ true → begins_entry line ≡ true → (s : Lines) → Reads old s → Reads new (before s line)
-closed_before old new line c f b s h =
-    let form : has_form s.current ≡ true = sym (form_is (so_far old.current) s.current h.current) ∙ f in
-    subst (λ (x : Lines). Reads new x) (sym (ap (λ t. cond (t && begins_entry line) (closed s) s) form ∙ ap (λ t. cond t (closed s) s) b)) (closed_is old new s h c f)
+-- the lines where an entry ends
+closes : (r : Reader) (s : Lines) (line : Line) → Reads r s → is_form (draft_last (draft_of r.current.message)) ≡ true → begins_entry line ≡ true → closed s ≡ before s line
+closes r s line h f b =
+    let form : has_form s.current ≡ true = sym (form_is (so_far r.current) s.current h.current) ∙ f in
+    sym (ap (λ t. cond (t && begins_entry line) (closed s) s) form ∙ ap (λ t. cond t (closed s) s) b)
 
-pub not_closed : (r : Reader) (line : Line) → (begins_entry line && is_form (draft_last (draft_of r.current.message))) ≡ false → (s : Lines) → Reads r s → Reads r (before s line)
-not_closed r line apart s h =
+pub closed_before : (old new : Reader) (entry : Entry) (line : Line) → IsClosed old new entry → is_form (draft_last (draft_of old.current.message)) ≡ true → begins_entry line ≡ true → (s : Lines) → Reads old s → Reads new (before s line)
+closed_before old new entry line c f b s h = subst (λ (x : Lines). Reads new x) (closes old s line h f b) (closed_is old new entry s h c f)
+
+pub handed_before : {S : Type 0} (Took : S → List Entry → S → Type 0) → TakesMore S Took → (sink sink' : S) (old new : Reader) (line : Line) → IsHanded Took old new sink sink' → is_form (draft_last (draft_of old.current.message)) ≡ true → begins_entry line ≡ true
+    → (first : S) (s : Lines) → HandsOn Took first old sink s → HandsOn Took first new sink' (before s line)
+handed_before Took more sink sink' old new line c f b first s h = subst (λ (x : Lines). HandsOn Took first new sink' x) (closes old s line h.reads f b) (closed_hands Took more first sink sink' old new s h c f)
+
+-- and where none does
+goes_before : (r : Reader) (line : Line) (s : Lines) → (begins_entry line && is_form (draft_last (draft_of r.current.message))) ≡ false → Reads r s → s ≡ before s line
+goes_before r line s apart h =
     let form : has_form s.current ≡ is_form (draft_last (draft_of r.current.message)) = sym (form_is (so_far r.current) s.current h.current) in
-    subst (λ (x : Lines). Reads r x) (sym (ap (λ t. cond (t && begins_entry line) (closed s) s) form ∙ ap (λ t. cond t (closed s) s) (and_swap (is_form (draft_last (draft_of r.current.message))) (begins_entry line) ∙ apart))) h
+    sym (ap (λ t. cond (t && begins_entry line) (closed s) s) form ∙ ap (λ t. cond t (closed s) s) (and_swap (is_form (draft_last (draft_of r.current.message))) (begins_entry line) ∙ apart))
   where
     and_swap : (a b : Bool) → (a && b) ≡ (b && a)
     and_swap true true = refl
     and_swap true false = refl
     and_swap false true = refl
     and_swap false false = refl
+
+pub not_closed : (r : Reader) (line : Line) → (begins_entry line && is_form (draft_last (draft_of r.current.message))) ≡ false → (s : Lines) → Reads r s → Reads r (before s line)
+not_closed r line apart s h = subst (λ (x : Lines). Reads r x) (goes_before r line s apart h) h
+
+pub none_handed : {S : Type 0} (Took : S → List Entry → S → Type 0) (sink : S) (r : Reader) (line : Line) → (begins_entry line && is_form (draft_last (draft_of r.current.message))) ≡ false → (first : S) (s : Lines) → HandsOn Took first r sink s → HandsOn Took first r sink (before s line)
+none_handed Took sink r line apart first s h = subst (λ (x : Lines). HandsOn Took first r sink x) (goes_before r line s apart h.reads) h
 
 front_is : (r : Reader) (s : Lines) (line : Line) → Reads r s → front_fault r line ≡ or_else (string_fault 262144 s.current line) (cond (goes_on s.current line) None (ended_fault s (begins_entry line) (last_string (strings_in s.current))))
 front_is r s line h = λ i. or_else (length_is (so_far r.current) s.current line h.current i) (cond (goes_is (so_far r.current) s.current line h.current i) None (ended_is r s (begins_entry line) h i))
@@ -286,9 +316,9 @@ or_assoc : (a b c : Option FaultKind) → or_else (or_else a b) c ≡ or_else a 
 or_assoc None b c = refl
 or_assoc (Some k) b c = refl
 
-pub added : (here new : Reader) (s : Lines) (line : Line) → Reads here (before s line) → IsSoundLine line → (line ≡ blank → ⊥) → order_fault_here (so_far here.current) line ≡ None → so_far new.current ≡ with_line (so_far here.current) line → new.entries ≡ here.entries → Reads new (after s line)
+pub added : (here new : Reader) (s : Lines) (line : Line) → Reads here (before s line) → IsSoundLine line → (line ≡ blank → ⊥) → order_fault_here (so_far here.current) line ≡ None → so_far new.current ≡ with_line (so_far here.current) line → new.keys ≡ here.keys → Reads new (after s line)
 added here new s line h sound nb f c e = record {
-  entries = e ∙ h.entries;
+  keys = e ∙ h.keys;
   current = subst (λ (x : SoFar). IsSoFar x ((before s line).current ++ line ∷ [])) (sym c) (with_line_is (so_far here.current) (before s line).current line h.current sound nb f);
 }
 
@@ -318,11 +348,13 @@ pub entry_told : (old here : Reader) (line : Line) (kind : FaultKind) → front_
     → (s : Lines) → Reads old s → (fault_at limits s line ≡ Some kind) ⊎ (kind ≡ kinds.Memory)
 entry_told old here line kind none e f s h = inl (back_is old here line (Some kind) none e f s h)
 
-pub entry_read : (old here new : Reader) (line : Line) → front_fault old line ≡ None → None ≡ or_else (order_fault_here (so_far here.current) line) (entries_here here line) → ((s : Lines) → Reads old s → Reads here (before s line)) → IsSoundLine line → (line ≡ blank → ⊥)
-    → so_far new.current ≡ with_line (so_far here.current) line → new.entries ≡ here.entries → (s : Lines) → Reads old s → (fault_at limits s line ≡ None) × Reads new (after s line)
-entry_read old here new line none e f sound nb c es s h =
+pub entry_read : {S : Type 0} (Took : S → List Entry → S → Type 0) (sink sink' : S) (old here new : Reader) (line : Line) → front_fault old line ≡ None → None ≡ or_else (order_fault_here (so_far here.current) line) (entries_here here line) → ((s : Lines) → Reads old s → Reads here (before s line))
+    → ((first : S) (s : Lines) → HandsOn Took first old sink s → HandsOn Took first here sink' (before s line)) → IsSoundLine line → (line ≡ blank → ⊥)
+    → so_far new.current ≡ with_line (so_far here.current) line → new.keys ≡ here.keys → (first : S) (s : Lines) → HandsOn Took first old sink s → (fault_at limits s line ≡ None) × HandsOn Took first new sink' (after s line)
+entry_read Took sink sink' old here new line none e f hands sound nb c ks first s h =
     let passes : order_fault_here (so_far here.current) line ≡ None = first_none (order_fault_here (so_far here.current) line) (entries_here here line) (sym e) in
-    (back_is old here line None none e f s h, added here new s line (f s h) sound nb passes c es)
+    let now = hands first s h in
+    (back_is old here line None none e f s h.reads, record { reads = added here new s line now.reads sound nb passes c ks; took = now.took })
   where
     first_none : (a b : Option FaultKind) → or_else a b ≡ None → a ≡ None
     first_none None b g = refl
@@ -358,16 +390,18 @@ some_form s f = by s.current f
     by [] g = cc
     by (l ∷ ls) g = refl
 
-pub end_closed : (r new : Reader) → ended_here r true ≡ None → None ≡ end_fault (so_far r.current) → IsClosed r new → is_form (draft_last (draft_of r.current.message)) ≡ true → (s : Lines) → Reads r s → (fault_at_end s ≡ None) × (new.entries ≡ map entry_of (groups_of s))
-end_closed r new none e c f s h =
-    let some : is_empty s.current ≡ false = some_form s (sym (form_is (so_far r.current) s.current h.current) ∙ f) in
-    (end_passes r none e s h, (closed_is r new s h c f).entries ∙ ap (λ b. map entry_of (cond b s.whole (s.whole ++ s.current ∷ []))) (sym some))
+pub end_closed : {S : Type 0} (Took : S → List Entry → S → Type 0) → TakesMore S Took → (sink sink' : S) (r new : Reader) → ended_here r true ≡ None → None ≡ end_fault (so_far r.current) → IsHanded Took r new sink sink' → is_form (draft_last (draft_of r.current.message)) ≡ true
+    → (first : S) (s : Lines) → HandsOn Took first r sink s → (fault_at_end s ≡ None) × Took first (map entry_of (groups_of s)) sink'
+end_closed Took more sink sink' r new none e c f first s h =
+    let some : is_empty s.current ≡ false = some_form s (sym (form_is (so_far r.current) s.current h.reads.current) ∙ f) in
+    (end_passes r none e s h.reads, subst (λ (es : List Entry). Took first es sink') (ap (λ b. map entry_of (cond b s.whole (s.whole ++ s.current ∷ []))) (sym some)) (closed_hands Took more first sink sink' r new s h c f).took)
 
-pub end_open : (r : Reader) → ended_here r true ≡ None → None ≡ end_fault (so_far r.current) → is_form (draft_last (draft_of r.current.message)) ≡ false → (s : Lines) → Reads r s → (fault_at_end s ≡ None) × (r.entries ≡ map entry_of (groups_of s))
-end_open r none e f s h =
+pub end_open : {S : Type 0} (Took : S → List Entry → S → Type 0) (sink : S) (r : Reader) → ended_here r true ≡ None → None ≡ end_fault (so_far r.current) → is_form (draft_last (draft_of r.current.message)) ≡ false
+    → (first : S) (s : Lines) → HandsOn Took first r sink s → (fault_at_end s ≡ None) × Took first (map entry_of (groups_of s)) sink
+end_open Took sink r none e f first s h =
     let begun : r.current.begun ≡ false = by r.current.begun (is_form (draft_last (draft_of r.current.message))) f (sym e) in
-    let nothing : is_empty s.current ≡ true = flip (is_empty s.current) (sym h.current.begun ∙ begun) in
-    (end_passes r none e s h, h.entries ∙ ap (λ b. map entry_of (cond b s.whole (s.whole ++ s.current ∷ []))) (sym nothing))
+    let nothing : is_empty s.current ≡ true = flip (is_empty s.current) (sym h.reads.current.begun ∙ begun) in
+    (end_passes r none e s h.reads, subst (λ (es : List Entry). Took first es sink) (ap (λ b. map entry_of (cond b s.whole (s.whole ++ s.current ∷ []))) (sym nothing)) h.took)
   where
     by : (b t : Bool) → t ≡ false → cond b (when (not t) kinds.Order) None ≡ None → b ≡ false
     by false t g k = refl

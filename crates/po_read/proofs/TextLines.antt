@@ -15,7 +15,7 @@ use Rattle.po_read.specs.Spells.{limits}
 use Rattle.po_read.specs.Faults.{Lines, no_lines, add_line, lines_behind, line_fault, Passes, fault_at_end, or_later, fault_from}
 use Rattle.po_read.specs.Plain.{entry_of, groups_of, entries_of}
 use Rattle.po_read.specs.Drafts.{IsSoundLine}
-use Rattle.po_read.specs.SoFar.{Reads}
+use Rattle.po_read.specs.SoFar.{Reads, HandsOn}
 use Rattle.po_read.proofs.Leaves.{lines_utf8, line_sound}
 
 -- there are no more lines than bytes
@@ -130,9 +130,34 @@ line_told text reader old new told token n kind g next e h = by (h g.lines g.rea
     by (inl f) = inl (fault_here text reader old.text next.line new.text n kind g next.cut (ap (line_fault limits g.lines) (token_read old new told token next e) ∙ f))
     by (inr m) = inr m
 
-pub token_next : (text : List ℕ) (reader reader' : Reader) (old new : Rest) (told : Result Token PoFault) (token : Token) (n : ℕ) → Going text reader old.text n → IsNext old new told → told ≡ Ok token
-    → ((lines : Lines) → Reads reader lines → (line_fault limits lines (Ok (line_view token.line)) ≡ None) × Reads reader' (add_line lines (Ok (line_view token.line)))) → Going text reader' new.text (n + 1)
-token_next text reader reader' old new told token n g next e h = go_on text reader reader' old.text next.line new.text n (line_view token.line) g next.cut (token_read old new told token next e) (h g.lines g.reads)
+-- and a sink took the entries of the lines so far
+pub record Handing {S : Type 0} (Took : S → List Entry → S → Type 0) (first : S) (text : List ℕ) (reader : Reader) (sink : S) (rest : List ℕ) (line : ℕ) : Type 0 where
+  pub going : Going text reader rest line
+  pub took : Took first (map entry_of going.lines.whole) sink
+
+pub hand_none : {S : Type 0} (Took : S → List Entry → S → Type 0) → ((s : S) → Took s [] s) → (first : S) (text : List ℕ) (reader : Reader) → IsUtf8 text → Reads reader no_lines → Handing Took first text reader first text 1
+unfolding begin
+hand_none Took none first text reader u h = record { going = begin text reader u h; took = none first }
+
+pub token_next : {S : Type 0} (Took : S → List Entry → S → Type 0) (first sink sink' : S) (text : List ℕ) (reader reader' : Reader) (old new : Rest) (told : Result Token PoFault) (token : Token) (n : ℕ) → Handing Took first text reader sink old.text n → IsNext old new told → told ≡ Ok token
+    → ((first : S) (lines : Lines) → HandsOn Took first reader sink lines → (line_fault limits lines (Ok (line_view token.line)) ≡ None) × HandsOn Took first reader' sink' (add_line lines (Ok (line_view token.line)))) → Handing Took first text reader' sink' new.text (n + 1)
+unfolding go_on
+token_next Took first sink sink' text reader reader' old new told token n w next e h =
+    let g = w.going in
+    let is = token_read old new told token next e in
+    let now = h first g.lines (record { reads = g.reads; took = w.took }) in
+    record {
+      going = go_on text reader reader' old.text next.line new.text n (line_view token.line) g next.cut is (now.0, now.1.reads);
+      took = subst (λ (o : Result Line FaultKind). Took first (map entry_of (add_line g.lines o).whole) sink') (sym is) now.1.took;
+    }
+
+pub handed_whole : {S : Type 0} (Took : S → List Entry → S → Type 0) (first sink sink' : S) (text : List ℕ) (reader : Reader) (rest : List ℕ) (n : ℕ) → Handing Took first text reader sink rest n → lines_of rest ≡ []
+    → ((first : S) (lines : Lines) → HandsOn Took first reader sink lines → (fault_at_end lines ≡ None) × Took first (map entry_of (groups_of lines)) sink') → (fault_from limits 1 no_lines (lines_of text) ≡ None) × Took first (entries_of text) sink'
+handed_whole Took first sink sink' text reader rest n w none h =
+    let g = w.going in
+    let now = h first g.lines (record { reads = g.reads; took = w.took }) in
+    let whole = read_whole text reader rest n (map entry_of (groups_of g.lines)) g none (now.0, refl) in
+    (whole.0, subst (λ (es : List Entry). Took first es sink') whole.1 now.1)
 
 pub end_of_text : (text : List ℕ) (reader : Reader) (rest : List ℕ) (n : ℕ) (kind : FaultKind) → Going text reader rest n → lines_of rest ≡ [] → ((lines : Lines) → Reads reader lines → (fault_at_end lines ≡ Some kind) ⊎ (kind ≡ kinds.Memory))
     → (fault_from limits 1 no_lines (lines_of text) ≡ Some (n, kind)) ⊎ (kind ≡ kinds.Memory)

@@ -11,12 +11,13 @@ use Rattle.po_lex.specs.declared.line.Keyword.TheVariants.{Msgid}
 use Rattle.po_text.specs.Header.{has_charset}
 use Rattle.po_read.specs.Spells.{translator_text, extracted_text, reference_text, flag_items, limits}
 use Rattle.po_text.specs.Flags.{add_once, with_fuzzy_first}
-use Rattle.po_read.specs.Faults.{Lines, strings_in, previous_in, last_keyword, has_mark, is_long, when, part_fault, previous_fault, or_else, begins_entry}
+use Rattle.po_read.specs.Faults.{Lines, strings_in, previous_in, last_keyword, key_at, has_mark, is_long, when, part_fault, previous_fault, or_else, begins_entry}
 use Rattle.po_read.specs.Plain.{entry_of}
-use Rattle.po_read.specs.Found.{has_key}
+use Rattle.po_read.specs.Found.{key_at_hand, has_key, count_in}
 use Rattle.po_read.specs.Drafts.{Draft, named, single, draft_of, draft_strings, draft_last, draft_header, draft_end, draft_with, previous_end, previous_with, whole_of}
 use Rattle.po_text.specs.declared.entry.Entry.{Entry}
 use Rattle.po_text.specs.declared.entry.Previous.{Previous}
+use Rattle.po_text.specs.declared.key.EntryKey.{EntryKey}
 use Rattle.po_read.specs.declared.unfinished.Unfinished.{Unfinished}
 use Rattle.po_read.specs.declared.reading.Reader.{Reader}
 
@@ -108,9 +109,17 @@ pub record IsSoFar (s : SoFar) (lines : List Line) : Type 0 where
   pub unmarked : s.unmarked ≡ has_mark false lines
   pub obsolete : s.obsolete ≡ has_mark true lines
 
+abbrev pub key_in_hand : List Line → EntryKey
+key_in_hand lines = key_at_hand (key_at lines).0 (key_at lines).1
+
 pub record Reads (reader : Reader) (lines : Lines) : Type 0 where
-  pub entries : reader.entries ≡ map entry_of lines.whole
+  pub keys : reader.keys ≡ map key_in_hand lines.whole
   pub current : IsSoFar (so_far reader.current) lines.current
+
+-- and a sink took the whole entries, by this relation, since it was the first
+pub record HandsOn {S : Type 0} (Took : S → List Entry → S → Type 0) (first : S) (reader : Reader) (sink : S) (lines : Lines) : Type 0 where
+  pub reads : Reads reader lines
+  pub took : Took first (map entry_of lines.whole) sink
 
 -- ---- the tests of a reader
 
@@ -121,11 +130,11 @@ Tells (Err kind) fault = (fault ≡ Some kind) ⊎ (kind ≡ kinds.Memory)
 
 abbrev pub key_fault_here : Reader → Option Text → Text → Option FaultKind
 key_fault_here r ctx id =
-    if is_header_key ctx id && (not (is_empty r.entries) || r.current.obsolete) then Some kinds.Order
-    else when (has_key ctx id r.entries) kinds.Duplicate
+    if is_header_key ctx id && (not (is_empty r.keys) || r.current.obsolete) then Some kinds.Order
+    else when (has_key ctx id r.keys) kinds.Duplicate
 
 abbrev pub header_fault_here : Reader → Option Text → Text → Text → Option FaultKind
-header_fault_here r ctx id form = when (is_empty r.entries && is_header_key ctx id && not (has_charset form)) kinds.Charset
+header_fault_here r ctx id form = when (is_empty r.keys && is_header_key ctx id && not (has_charset form)) kinds.Charset
 
 abbrev pub ended_draft : Reader → Bool → Draft → Option FaultKind
 ended_draft r ends (named ctx id) = key_fault_here r ctx id
@@ -139,12 +148,8 @@ ended_here r ends = ended_draft r ends (draft_of r.current.message)
 abbrev pub front_fault : Reader → Line → Option FaultKind
 front_fault r line = or_else (length_fault (so_far r.current) line) (if goes_on_here (so_far r.current) line then None else ended_here r (begins_entry line))
 
-abbrev pub count_in : List Entry → ℕ
-count_in [] = 0
-count_in (e ∷ es) = if is_header_key e.ctx e.id then length es else length es + 1
-
 abbrev pub count_here : Reader → ℕ
-count_here r = count_in r.entries
+count_here r = count_in r.keys
 
 abbrev pub entries_here : Reader → Line → Option FaultKind
 entries_here r (message obsolete (begins Msgid text)) = when (nat_le limits.entries (count_here r)) kinds.Limit
@@ -153,9 +158,14 @@ entries_here r _ = None
 abbrev pub has_form_here : Reader → Bool
 has_form_here r = is_form (draft_last (draft_of r.current.message))
 
--- the entry that went on is the last whole one
-pub record IsClosed (old new : Reader) : Type 0 where
-  pub entry : Entry
+-- the entry that went on is this one, and its key is the last
+pub record IsClosed (old new : Reader) (entry : Entry) : Type 0 where
   pub was : IsEntry (so_far old.current) entry
-  pub entries : new.entries ≡ old.entries ++ entry ∷ []
+  pub keys : new.keys ≡ old.keys ++ key_at_hand entry.ctx entry.id ∷ []
   pub current : IsSoFar (so_far new.current) []
+
+-- and a sink took it
+pub record IsHanded {S : Type 0} (Took : S → List Entry → S → Type 0) (old new : Reader) (before after : S) : Type 0 where
+  pub entry : Entry
+  pub closed : IsClosed old new entry
+  pub took : Took before (entry ∷ []) after

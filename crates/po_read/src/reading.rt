@@ -1,6 +1,6 @@
 //! PO text to catalogue.
 
-ghost use Rattle.std.specs.Prelude.{◌≡◌, ◌∷◌, ◌++◌, ◌⊎◌, ◌&&◌, ◌||◌, [], List, true, false, not, None, Some, Ok, map, length, ◌<◌, ◌^◌, IfOk, IfErr, OnOk};
+ghost use Rattle.std.specs.Prelude.{◌≡◌, ◌∷◌, ◌++◌, ◌⊎◌, ◌&&◌, ◌||◌, [], List, true, false, not, None, Some, Ok, map, length, ◌<◌, ◌^◌, MatchResult, IfOk, IfErr, OnOk};
 ghost use Rattle.po_lex.specs.Lines.{lines_of, blank};
 ghost use Rattle.po_lex.specs.Views.{line_view};
 ghost use Rattle.po_lex.specs.declared.fault.FaultKind.TheVariants as kinds;
@@ -15,13 +15,13 @@ ghost use Rattle.po_text.specs.Entries.{is_header_key};
 ghost use Rattle.po_read.specs.Drafts.{IsSoundLine};
 ghost use Rattle.po_read.specs.Views.{told, ReadsOrMemory, IsMemory, PassesBefore, IsMemoryLine};
 
-use crate::entries::Entries;
+use crate::keys::Keys;
 use crate::message::Message;
+use crate::sink::ReadSink;
 use crate::unfinished::Unfinished;
 use po_lex::{FaultKind, Keyword, Line, Part, PoFault, lex};
-use po_text::{Catalogue, Entry, PoString, has_charset, is_header_key};
+use po_text::{Catalogue, PoString, has_charset, is_header_key};
 use std::alloc::{AllocError, Global};
-use std::mem::replace;
 
 /// The most bytes that a text may have.
 const TEXT_LIMIT: usize = 16_777_216;
@@ -29,49 +29,49 @@ const TEXT_LIMIT: usize = 16_777_216;
 /// The most entries that a catalogue may have besides the header.
 const ENTRY_LIMIT: usize = 50_000;
 
-/// What was read so far: whole entries, and the entry that may go on.
+/// What was read so far: the keys of whole entries, which a sink has taken, and the entry that may go on.
 #[derive(Drop)]
 pub(crate) struct Reader<'a> {
-    entries: Entries,
+    keys: Keys,
     current: Unfinished<'a>,
     alloc: Global,
 }
 
 impl<'a> Reader<'a> {
-    ghost use Rattle.po_read.specs.SoFar.{so_far, goes_on_here, Reads, Tells, ended_here, entries_here, key_fault_here, header_fault_here, front_fault, length_fault, order_fault_here, with_line, count_here, has_form_here, IsClosed};
+    ghost use Rattle.po_read.specs.SoFar.{so_far, goes_on_here, Reads, HandsOn, Tells, ended_here, entries_here, key_fault_here, header_fault_here, front_fault, length_fault, order_fault_here, with_line, count_here, has_form_here, IsHanded};
 
     /// Nothing was read.
     fn new(alloc: Global) -> Reader<'a>
         ensures { Reads result no_lines }
     {
         Reader {
-            entries: Entries::new(alloc),
+            keys: Keys::new(alloc),
             current: Unfinished::new(alloc),
             alloc,
         }
     }
 
-    /// Reads a line.
-    fn read_line(&mut self, line: Line<'a>) -> Result<(), FaultKind>
+    /// Reads a line, and hands on the entry that has ended in front of it.
+    fn read_line<S: ReadSink>(&mut self, sink: &mut S, line: Line<'a>) -> Result<(), FaultKind>
         requires sound { IsSoundLine (line_view line) }
-        ensures ok { OnOk result ((lines : Lines) → Reads self.old lines → (line_fault limits lines (Ok (line_view line.entry)) ≡ None) × Reads self.new (add_line lines (Ok (line_view line.entry)))) }
+        ensures ok { OnOk result ((first : S) (lines : Lines) → HandsOn S.Took first self.old sink.old lines → (line_fault limits lines (Ok (line_view line.entry)) ≡ None) × HandsOn S.Took first self.new sink.new (add_line lines (Ok (line_view line.entry)))) }
         ensures err { IfErr result (λ kind. (lines : Lines) → Reads self.old lines → (line_fault limits lines (Ok (line_view line.entry)) ≡ Some kind) ⊎ (kind ≡ kinds.Memory)) }
     {
         match line {
             Line::Blank => Ok(()),
-            line => self.read_more(line),
+            line => self.read_more(sink, line),
         }
     }
 
     /// Reads a line that isn't blank.
-    fn read_more(&mut self, line: Line<'a>) -> Result<(), FaultKind>
+    fn read_more<S: ReadSink>(&mut self, sink: &mut S, line: Line<'a>) -> Result<(), FaultKind>
         requires sound { IsSoundLine (line_view line) }
         requires some { line_view line ≡ blank → ⊥ }
-        ensures ok { OnOk result ((lines : Lines) → Reads self.old lines → (fault_at limits lines (line_view line.entry) ≡ None) × Reads self.new (after lines (line_view line.entry))) }
+        ensures ok { OnOk result ((first : S) (lines : Lines) → HandsOn S.Took first self.old sink.old lines → (fault_at limits lines (line_view line.entry) ≡ None) × HandsOn S.Took first self.new sink.new (after lines (line_view line.entry))) }
         ensures err { IfErr result (λ kind. (lines : Lines) → Reads self.old lines → (fault_at limits lines (line_view line.entry) ≡ Some kind) ⊎ (kind ≡ kinds.Memory)) }
     {
         self.test_front(&line)?;
-        self.close_before(&line)?;
+        self.close_before(sink, &line)?;
         self.test_entry(&line)?;
         self.add(line)?;
         Ok(())
@@ -89,12 +89,13 @@ impl<'a> Reader<'a> {
     }
 
     /// Ends the entry, if it has a form and the line begins another.
-    fn close_before(&mut self, line: &Line<'a>) -> Result<(), AllocError>
+    fn close_before<S: ReadSink>(&mut self, sink: &mut S, line: &Line<'a>) -> Result<(), AllocError>
         ensures reads { OnOk result ((lines : Lines) → Reads self.old lines → Reads self.new (before lines (line_view line.now))) }
+        ensures hands { OnOk result ((first : S) (lines : Lines) → HandsOn S.Took first self.old sink.old lines → HandsOn S.Took first self.new sink.new (before lines (line_view line.now))) }
         ensures length { OnOk result (length_fault (so_far self.new.current) (line_view line.now) ≡ length_fault (so_far self.old.current) (line_view line.now)) }
     {
         if begins_entry(line) && self.current.message.has_form() {
-            self.close()?;
+            self.close(sink)?;
         }
         Ok(())
     }
@@ -113,20 +114,20 @@ impl<'a> Reader<'a> {
         requires short { length_fault (so_far self.old.current) (line_view line) ≡ None }
         requires follows { order_fault_here (so_far self.old.current) (line_view line) ≡ None }
         ensures added { OnOk result (so_far self.new.current ≡ with_line (so_far self.old.current) (line_view line.entry)) }
-        ensures entries { OnOk result (self.new.entries ≡ self.old.entries) }
+        ensures keys { OnOk result (self.new.keys ≡ self.old.keys) }
     {
         self.current.add(self.alloc, line)
     }
 
     /// Ends the last entry, at the end of the text.
-    fn finish(&mut self) -> Result<(), FaultKind>
-        ensures ok { OnOk result ((lines : Lines) → Reads self.old lines → (fault_at_end lines ≡ None) × (self.new.entries ≡ map entry_of (groups_of lines))) }
+    fn finish<S: ReadSink>(&mut self, sink: &mut S) -> Result<(), FaultKind>
+        ensures ok { OnOk result ((first : S) (lines : Lines) → HandsOn S.Took first self.old sink.old lines → (fault_at_end lines ≡ None) × S.Took first (map entry_of (groups_of lines)) sink.new) }
         ensures err { IfErr result (λ kind. (lines : Lines) → Reads self.old lines → (fault_at_end lines ≡ Some kind) ⊎ (kind ≡ kinds.Memory)) }
     {
         self.test_ended(true)?;
         self.current.test_end()?;
         if self.current.message.has_form() {
-            self.close()?;
+            self.close(sink)?;
         }
         Ok(())
     }
@@ -158,26 +159,23 @@ impl<'a> Reader<'a> {
 
     /// Whether there is no whole entry.
     fn is_first(&self) -> bool
-        ensures { result ≡ is_empty self.now.entries }
+        ensures { result ≡ is_empty self.now.keys }
     {
-        match self.entries.as_slice() {
-            [] => true,
-            _ => false,
-        }
+        self.keys.is_empty()
     }
 
     /// Whether this is the header's key and not that of the first entry, or that of an obsolete one.
     fn is_misplaced(&self, ctx: &Option<PoString>, id: &PoString) -> bool
-        ensures { result ≡ (is_header_key ctx.now id.now && (not (is_empty self.now.entries) || self.now.current.obsolete)) }
+        ensures { result ≡ (is_header_key ctx.now id.now && (not (is_empty self.now.keys) || self.now.current.obsolete)) }
     {
         is_header_key(ctx, id) && (!self.is_first() || self.current.obsolete)
     }
 
     /// Whether a whole entry has this key.
     fn has_key(&self, ctx: &Option<PoString>, id: &PoString) -> Result<bool, AllocError>
-        ensures { IfOk result (λ has. has ≡ has_key ctx.now id.now self.now.entries) }
+        ensures { IfOk result (λ has. has ≡ has_key ctx.now id.now self.now.keys) }
     {
-        self.entries.has(self.alloc, ctx, id)
+        self.keys.has(self.alloc, ctx, id)
     }
 
     /// `Charset` if this is the header, with another charset.
@@ -198,7 +196,7 @@ impl<'a> Reader<'a> {
 
     /// Whether this is the header, with another charset.
     fn is_foreign(&self, ctx: &Option<PoString>, id: &PoString, form: &PoString) -> bool
-        ensures { result ≡ (is_empty self.now.entries && is_header_key ctx.now id.now && not (has_charset form.now)) }
+        ensures { result ≡ (is_empty self.now.keys && is_header_key ctx.now id.now && not (has_charset form.now)) }
     {
         self.is_first() && is_header_key(ctx, id) && !has_charset(form.as_str())
     }
@@ -220,31 +218,24 @@ impl<'a> Reader<'a> {
     fn count(&self) -> usize
         ensures { result ≡ count_here self.now }
     {
-        match self.entries.as_slice() {
-            [] => 0,
-            [first, others @ ..] => {
-                if is_header_key(&first.ctx, &first.id) {
-                    others.len()
-                } else {
-                    others.len() + 1
-                }
-            }
-        }
+        self.keys.count()
     }
 
-    /// Ends the entry, which has a form.
-    fn close(&mut self) -> Result<(), AllocError>
+    /// Ends the entry, which has a form, and hands it on.
+    fn close<S: ReadSink>(&mut self, sink: &mut S) -> Result<(), AllocError>
         requires { has_form_here self.old ≡ true }
-        ensures { OnOk result (IsClosed self.old self.new) }
+        ensures { OnOk result (IsHanded S.Took self.old self.new sink.old sink.new) }
     {
-        self.current.move_to(self.alloc, &mut self.entries)
+        let entry = self.current.take(self.alloc)?;
+        self.keys.push(self.alloc, &entry.ctx, &entry.id)?;
+        sink.take(entry)
     }
 
-    /// Reads the lines of a text, and takes out the entries that they spell.
-    fn read_lines(&mut self, text: &'a str) -> Result<Vec<Entry>, PoFault>
+    /// Reads the lines of a text, and hands on the entries that they spell.
+    fn read_lines<S: ReadSink>(&mut self, sink: &mut S, text: &'a str) -> Result<(), PoFault>
         requires first { Reads self.old no_lines }
         requires fits { length text.now < 2 ^ 63 }
-        ensures ok { IfOk result (λ entries. (fault_from limits 1 no_lines (lines_of text.now) ≡ None) × (entries.items ≡ entries_of text.now)) }
+        ensures ok { OnOk result ((fault_from limits 1 no_lines (lines_of text.now) ≡ None) × S.Took sink.old (entries_of text.now) sink.new) }
         ensures err { IfErr result (λ fault. (fault_from limits 1 no_lines (lines_of text.now) ≡ Some (fault.line, fault.kind)) ⊎ IsMemory fault) }
         ensures memory { IfErr result (λ fault. IsMemory fault → PassesBefore limits (lines_of text.now) fault.line) }
     {
@@ -252,13 +243,13 @@ impl<'a> Reader<'a> {
         let mut line = 1;
         while let Some(told) = lines.next() {
             let token = told?;
-            if let Err(kind) = self.read_line(token.line) {
+            if let Err(kind) = self.read_line(sink, token.line) {
                 return Err(PoFault { line, kind });
             }
             line += 1;
         }
-        match self.finish() {
-            Ok(()) => Ok(replace(&mut self.entries, Entries::new(self.alloc)).into_vec()),
+        match self.finish(sink) {
+            Ok(()) => Ok(()),
             Err(kind) => Err(PoFault { line, kind }),
         }
     }
@@ -282,17 +273,49 @@ fn begins_entry(line: &Line<'_>) -> bool
     )
 }
 
-/// The entries that a text spells.
-fn read_text(alloc: Global, text: &str) -> Result<Vec<Entry>, PoFault>
+/// Hands on the entries that a text spells.
+fn read_text<S: ReadSink>(alloc: Global, sink: &mut S, text: &str) -> Result<(), PoFault>
     requires { length text.now < 2 ^ 63 }
-    ensures ok { IfOk result (λ entries. (fault_from limits 1 no_lines (lines_of text.now) ≡ None) × (entries.items ≡ entries_of text.now)) }
+    ensures ok { OnOk result ((fault_from limits 1 no_lines (lines_of text.now) ≡ None) × S.Took sink.old (entries_of text.now) sink.new) }
     ensures err { IfErr result (λ fault. (fault_from limits 1 no_lines (lines_of text.now) ≡ Some (fault.line, fault.kind)) ⊎ IsMemory fault) }
     ensures memory { IfErr result (λ fault. IsMemory fault → PassesBefore limits (lines_of text.now) fault.line) }
 {
     let mut reader = Reader::new(alloc);
-    let told = reader.read_lines(text);
+    let told = reader.read_lines(sink, text);
     drop(reader);
     told
+}
+
+/// Hands on the entries of the catalogue that the bytes spell, in order and each as soon as it is whole: what `read` gives, but
+/// for the entries themselves no more memory is taken than for the one that may go on. Where there is a fault the sink has taken
+/// some of the entries in front of it, and goes.
+pub fn read_each<S: ReadSink + Drop>(alloc: Global, bytes: &[u8], sink: S) -> Result<S, PoFault>
+    // What is handed on is what the bytes spell, within the limits.
+    ensures catalogue { IfOk result (λ full. (c : List Entry) × Spells bytes.now c × IsWithin limits bytes.now c × S.Took sink c full) }
+    // What the bytes spell within the limits is handed on, unless memory ran out.
+    ensures spelled { (c : List Entry) → Spells bytes.now c → IsWithin limits bytes.now c → MatchResult result (S.Took sink c) IsMemory }
+    // Else the first fault is told, unless memory ran out.
+    ensures fault { IfErr result (λ fault. IsFault limits bytes.now (fault.line, fault.kind) ⊎ IsMemory fault) }
+    // Where memory ran out, no line before the one that is told has a fault.
+    ensures memory { IfErr result (λ fault. IsMemory fault → IsMemoryLine limits bytes.now fault.line) }
+{
+    if bytes.len() > TEXT_LIMIT {
+        return Err(PoFault {
+            line: 0,
+            kind: FaultKind::Limit,
+        });
+    }
+    match str::from_utf8(bytes) {
+        Ok(text) => {
+            let mut full = sink;
+            read_text(alloc, &mut full, text)?;
+            Ok(full)
+        }
+        Err(_) => Err(PoFault {
+            line: 0,
+            kind: FaultKind::NotUtf8,
+        }),
+    }
 }
 
 /// The catalogue that the bytes spell, as "The Format of PO Files" of the GNU gettext manual has it, within the limits: a text of
@@ -308,17 +331,6 @@ pub fn read(alloc: Global, bytes: &[u8]) -> Result<Catalogue, PoFault>
     // Where memory ran out, no line before the one that is told has a fault.
     ensures memory { IfErr result (λ fault. IsMemory fault → IsMemoryLine limits bytes.now fault.line) }
 {
-    if bytes.len() > TEXT_LIMIT {
-        return Err(PoFault {
-            line: 0,
-            kind: FaultKind::Limit,
-        });
-    }
-    match str::from_utf8(bytes) {
-        Ok(text) => Ok(Catalogue::new(read_text(alloc, text)?)),
-        Err(_) => Err(PoFault {
-            line: 0,
-            kind: FaultKind::NotUtf8,
-        }),
-    }
+    let entries = read_each(alloc, bytes, Vec::new(alloc))?;
+    Ok(Catalogue::new(entries))
 }

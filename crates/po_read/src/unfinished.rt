@@ -1,6 +1,6 @@
 //! The entry that may go on.
 
-ghost use Rattle.std.specs.Prelude.{◌≡◌, ◌≤◌, ◌+◌, ◌++◌, ◌∷◌, [], not, true, None, nat_lt, IfOk, OnOk, length};
+ghost use Rattle.std.specs.Prelude.{◌≡◌, ◌≤◌, ◌+◌, [], not, true, None, nat_lt, IfOk, OnOk, length};
 ghost use Rattle.std.specs.List.{list_all};
 ghost use Rattle.po_lex.specs.Lines.{is_form, items_of, translator, extracted, reference, flags, previous, message};
 ghost use Rattle.po_lex.specs.Escapes.{unescaped};
@@ -9,10 +9,8 @@ ghost use Rattle.po_lex.specs.declared.fault.FaultKind.TheVariants as kinds;
 ghost use Rattle.po_text.specs.Strings.{string_limit, is_string_byte};
 ghost use Rattle.po_read.specs.Faults.{when, part_fault};
 ghost use Rattle.po_read.specs.Drafts.{draft_of, draft_last, draft_header, draft_end, nothing, previous_end, part_text, part_more, IsDigitPart, IsSoundLine};
-ghost use Rattle.po_text.specs.declared.entry.Entry.{Entry};
 ghost use Rattle.po_read.specs.Views.{told};
 
-use crate::entries::Entries;
 use crate::message::{Message, in_order};
 use crate::previous::{add_previous, has_no_previous, previous_len, test_previous};
 use po_lex::{FaultKind, Line, Part};
@@ -236,15 +234,15 @@ impl<'a> Unfinished<'a> {
         }
     }
 
-    /// Moves the entry, which has a form, to the end of these: then there are no lines.
-    pub(crate) fn move_to(&mut self, alloc: Global, entries: &mut Entries) -> Result<(), AllocError>
+    /// Takes out the entry, which has a form: then there are no lines.
+    pub(crate) fn take(&mut self, alloc: Global) -> Result<Entry, AllocError>
         requires { is_form (draft_last (draft_of self.old.message)) ≡ true }
-        ensures moved { OnOk result ((entry : Entry) × IsEntry (so_far self.old) entry × (entries.new ≡ entries.old ++ entry ∷ [])) }
+        ensures was { IfOk result (λ entry. IsEntry (so_far self.old) entry) }
         ensures rest { OnOk result (IsSoFar (so_far self.new) []) }
     {
         let message = replace(&mut self.message, Message::Nothing);
         let (flags, strings) = both(self.flags.to_items(alloc), message.into_strings(alloc))?;
-        entries.push(alloc, self.take_rest(alloc, flags, strings))
+        Ok(self.take_rest(alloc, flags, strings))
     }
 
     /// Takes the entry out, with these flags and strings, where its own strings were taken.

@@ -4,6 +4,5 @@ pub mod Pieces
 pub mod Pushes
 mod ReadRows
 mod Rows
-pub mod Sent
 pub mod Spelled
 pub mod Written

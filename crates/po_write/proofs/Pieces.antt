@@ -8,6 +8,7 @@ use Rattle.std.proofs.lemmas.List.Sums.{prefix_len_passes}
 use Rattle.std.proofs.lemmas.Bool.{eq-eqb, eqb-true, ne_eqb, lt-ltb, le-ltb}
 use Rattle.std.proofs.Math.Seq.{drop-cons}
 use Rattle.memchr.specs.Find.{IsFirstByte, is_byte}
+use Rattle.byte_streams.proofs.Sent.{none_there, all_gone}
 use Rattle.po_lex.specs.declared.line.Keyword.TheVariants.{Msgstr, MsgstrAt}
 use Rattle.po_lex.specs.Escapes.{letter_of, escaped_byte, escaped, quoted, is_bare}
 use Rattle.po_lex.proofs.EscapeLemmas.{bare_letter}
@@ -15,20 +16,6 @@ use Rattle.po_lex.specs.Lines.{with_byte}
 use Rattle.po_text.specs.Entries.{Keyed, keyed_forms, numbered, previous_strings, entry_strings}
 use Rattle.po_text.specs.declared.entry.Entry.{Entry}
 use Rattle.po_write.specs.Text.{ended, spaced, comment, flags_line, further, pieces_of, piece_lines, string_pieces, string_lines, message_mark, previous_mark, entry_text}
-
--- a slice up to the end
-pub rest_slice : (bytes : List ℕ) (n : ℕ) → n ≤ length bytes → drop n bytes ≡ take (length bytes - n) (drop n bytes)
-rest_slice bytes n within = sym (take_all (length bytes - n) (drop n bytes) (omega (arith, length-drop n bytes)))
-
--- the bytes that one write took, and those behind them
-pub taken_by_write : (bytes : List ℕ) (i n : ℕ) → i ≤ length bytes
-    → drop i bytes ≡ take n (take (length bytes - i) (drop i bytes)) ++ drop (i + n) bytes
-taken_by_write bytes i n within =
-    sym (take-append-drop n (drop i bytes)) ∙ ap (λ xs. take n (drop i bytes) ++ xs) (drop-drop n i bytes ∙ ap (λ k. drop k bytes) (omega arith))
-    ∙ ap (λ xs. take n xs ++ drop (i + n) bytes) (rest_slice bytes i within)
-
-pub fits_write : (bytes : List ℕ) (i n : ℕ) → i ≤ length bytes → n ≤ length (take (length bytes - i) (drop i bytes)) → i + n ≤ length bytes
-fits_write bytes i n within most = grind (arith, common_steps)
 
 -- ---- loops over items
 
@@ -41,9 +28,6 @@ pub next_item : {X : Type 0} (f : X → List ℕ) (xs : List X) (i : ℕ) (x ite
     → flat_map f (drop i xs) ≡ f x ++ flat_map f (drop (i + 1) xs)
 next_item f xs i x item within is same = ap (flat_map f) (next_left xs i x item within is same)
 
-pub all_gone : {X : Type 0} (xs : List X) (i : ℕ) → length xs ≤ i → drop i xs ≡ []
-all_gone xs i past = grind (arith, common_steps)
-
 pub none_left : {X : Type 0} (f : X → List ℕ) (xs : List X) (i : ℕ) → length xs ≤ i → flat_map f (drop i xs) ≡ []
 none_left f xs i past = ap (flat_map f) (all_gone xs i past)
 
@@ -52,10 +36,6 @@ none_left f xs i past = ap (flat_map f) (all_gone xs i past)
 pub some_left : {X : Type 0} (xs : List X) → false ≡ (length xs == 0) → 0 < length xs
 some_left [] some = let differs : false ≡ true = some in cc
 some_left (x ∷ xs) some = omega arith
-
-pub none_there : {X : Type 0} (xs : List X) → true ≡ (length xs == 0) → xs ≡ []
-none_there [] none = refl
-none_there (x ∷ xs) none = let zero_long : length (x ∷ xs) ≡ 0 = eqb-true (length (x ∷ xs)) 0 (sym none) in absurd (omega arith)
 
 pub spaced_some : (text : List ℕ) → false ≡ (length text == 0) → spaced text ≡ 32 ∷ text
 spaced_some [] some = let differs : false ≡ true = some in cc

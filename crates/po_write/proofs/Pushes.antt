@@ -4,13 +4,14 @@ use Rattle.std.specs.Prelude.{flat_map}
 use Rattle.std.proofs.lemmas.List.{append-nil}
 use Rattle.byte_streams.specs.Streams.{Took, TookBeginning, RoseOrStands}
 use Rattle.byte_streams.proofs.Taking.{append_known-nil, took_both, took_then_beginning, beginning_of_longer}
+use Rattle.byte_streams.proofs.Sent.{all_gone}
 use Rattle.po_text.specs.declared.entry.Entry.{Entry}
 use Rattle.po_text.specs.Texts.{is_empty}
 use Rattle.po_write.specs.Pushed.{HasPushed, HasBroken}
-use Rattle.po_write.specs.Sending.{TookAll, TookPart}
+use Rattle.byte_streams.specs.Sending.{TookAll, TookPart}
 use Rattle.po_write.specs.Text.{entry_text, text_of, separated}
 use Rattle.po_write.specs.Views.{Writing}
-use Rattle.po_write.proofs.Pieces.{next_left, all_gone}
+use Rattle.po_write.proofs.Pieces.{next_left}
 
 -- The text of a list with one more entry is the text, a blank line where there was an entry, and the entry.
 pub text_of-snoc : (es : List Entry) (e : Entry) → text_of (es ++ e ∷ []) ≡ text_of es ++ separated (not (is_empty es)) (entry_text e)

@@ -1,6 +1,5 @@
 pub mod Keywords
 pub mod Numbers
 pub mod Pushed
-pub mod Sending
 pub mod Text
 pub mod Views

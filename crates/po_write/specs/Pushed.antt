@@ -2,7 +2,7 @@
 use Rattle.std.specs.Prelude.{◌≡◌, ℕ, List, Option, true, false, not}
 use Rattle.po_text.specs.declared.entry.Entry.{Entry}
 use Rattle.po_text.specs.Texts.{is_empty}
-use Rattle.po_write.specs.Sending.{TookAll, TookPart}
+use Rattle.byte_streams.specs.Sending.{TookAll, TookPart}
 use Rattle.po_write.specs.Text.{text_of}
 use Rattle.po_write.specs.Views.{Writing}
 

@@ -4,7 +4,7 @@ ghost use Rattle.std.specs.Prelude.{◌≡◌, List, OnOk, OnErr, Err};
 ghost use Rattle.byte_streams.specs.Streams.{Took, TookBeginning, RoseOrStands};
 ghost use Rattle.po_text.specs.declared.entry.Entry.{Entry as EntryValue};
 ghost use Rattle.po_read.specs.Spells.{Spells};
-ghost use Rattle.po_write.specs.Sending.{Sends};
+ghost use Rattle.byte_streams.specs.Sending.{Sends};
 ghost use Rattle.po_write.specs.Text.{text_of};
 
 use crate::fault::WriteFault;

@@ -1,11 +1,10 @@
 //! Comment lines and flags.
 
 ghost use Rattle.std.specs.Prelude.{flat_map};
-ghost use Rattle.po_write.specs.Sending.{Sends};
+ghost use Rattle.byte_streams.specs.Sending.{Sends};
 ghost use Rattle.po_write.specs.Text.{comment, flags_line, further, spaced};
 
-use crate::sending::send;
-use byte_streams::{ByteSink, SinkFault};
+use byte_streams::{ByteSink, SinkFault, send};
 use po_text::Text;
 
 /// Writes a text behind one space, if it isn't empty.

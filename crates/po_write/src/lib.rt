@@ -4,18 +4,17 @@
 //! - `catalogue`: a whole catalogue (`write_catalogue`)
 //! - `writer`: entries that are pushed one by one onto a sink (`CatalogueWriter`)
 //! - `writing`, `comments`, `strings`: one entry (`write_entry`), its comments and flags, its strings behind keywords
-//! - `sending`, `fault`: a whole piece sent to a sink (`send`), and why a text was not written (`WriteFault`)
+//! - `fault`: why a text was not written (`WriteFault`)
 //! - `laws`: a canonical text of a valid catalogue spells that catalogue, and no other
 //!
-//! Specs: `Text` is the canonical text, `Keywords` which keywords can be written; `Sending` and `Pushed` what a sink
-//! took.
+//! Specs: `Text` is the canonical text, `Keywords` which keywords can be written; `Pushed` what a sink took
+//! of the entries that were pushed.
 #![tactic(auto)]
 
 mod catalogue;
 mod comments;
 mod fault;
 mod laws;
-mod sending;
 mod strings;
 mod writer;
 mod writing;
@@ -23,6 +22,5 @@ mod writing;
 pub use catalogue::write_catalogue;
 pub use fault::WriteFault;
 pub use laws::one_spelled;
-pub use sending::send;
 pub use writer::CatalogueWriter;
 pub use writing::write_entry;

@@ -6,11 +6,10 @@ ghost use Rattle.po_lex.specs.Lines.{keyword_text};
 ghost use Rattle.po_text.specs.Entries.{optional, keyed_forms, numbered, previous_strings, entry_strings};
 ghost use Rattle.po_text.specs.Strings.{form_limit};
 ghost use Rattle.po_write.specs.Keywords.{HasDigit};
-ghost use Rattle.po_write.specs.Sending.{Sends};
+ghost use Rattle.byte_streams.specs.Sending.{Sends};
 ghost use Rattle.po_write.specs.Text.{ended, front_of, pieces_of, piece_lines, string_lines, string_pieces};
 
-use crate::sending::send;
-use byte_streams::{ByteSink, SinkFault};
+use byte_streams::{ByteSink, SinkFault, send};
 use memchr::memchr;
 use po_lex::{Keyword, bare_len};
 use po_text::{Entry, PoString, Previous};

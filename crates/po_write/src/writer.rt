@@ -4,7 +4,7 @@ ghost use Rattle.std.specs.Prelude.{◌≡◌, ◌≢◌, ◌↔◌, List, [], �
 ghost use Rattle.byte_streams.specs.Streams.{Took, TookBeginning, RoseOrStands};
 ghost use Rattle.po_text.specs.declared.entry.Entry.{Entry as EntryValue};
 ghost use Rattle.po_write.specs.Pushed.{HasPushed, HasBroken};
-ghost use Rattle.po_write.specs.Sending.{Sends};
+ghost use Rattle.byte_streams.specs.Sending.{Sends};
 ghost use Rattle.po_write.specs.Text.{entry_text, separated, text_of};
 ghost use Rattle.po_write.specs.Views.{Writing};
 

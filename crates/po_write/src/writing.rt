@@ -2,14 +2,13 @@
 
 ghost use Rattle.std.specs.Prelude.{◌≡◌, OnOk, OnErr, Err};
 ghost use Rattle.byte_streams.specs.Streams.{Took, TookBeginning, RoseOrStands};
-ghost use Rattle.po_write.specs.Sending.{Sends};
+ghost use Rattle.byte_streams.specs.Sending.{Sends};
 ghost use Rattle.po_write.specs.Text.{entry_text, message_mark, previous_mark, separated};
 
 use crate::comments::{write_comments, write_flags};
 use crate::fault::WriteFault;
-use crate::sending::send;
 use crate::strings::{write_messages, write_previous};
-use byte_streams::{ByteSink, SinkFault};
+use byte_streams::{ByteSink, SinkFault, send};
 use po_text::Entry;
 
 fn message_mark(obsolete: bool) -> &'static [u8]

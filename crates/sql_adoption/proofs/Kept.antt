@@ -17,12 +17,12 @@ use Rattle.sql_adoption.specs.declared.faults.OpenFault.TheVariants.{Memory, Dis
 use Rattle.sql_adoption.specs.declared.faults.Mismatch.TheVariants.{OtherTables, OtherForm, UnreadRow, OtherFigures, BrokenRules}
 use Rattle.sql_adoption.specs.declared.office_put.ReadOffice.{ReadOffice}
 use Rattle.sql_adoption.specs.Adoption.{KeepsFigures, AreContents, StandForBook, IsAdoptedAs, Lacks, Refuses}
-use Rattle.sql_adoption.proofs.LaidOut.{one_form}
-use Rattle.sql_adoption.specs.Tables.{form_told}
-use Rattle.sql_adoption.specs.declared.office_tables.Form as told
+use Rattle.sql_layouts.proofs.LaidOut.{one_form}
+use Rattle.sql_layouts.specs.Tables.{form_told}
+use Rattle.sql_layouts.specs.declared.office_tables.Form as told
 use Rattle.sql_adoption.specs.declared.tested.Adopted.{Adopted}
 use Rattle.sql_adoption.specs.Reading.{HoldsAll, IsReadOf, KeepsBook, KeepsRows, FiguresOf, RefusesWith, RefusesOf, RefusesBook, RefusesKept, RefusesFigures, RefusesKeptRows}
-use Rattle.sql_adoption.proofs.Looked.{idle_still, if_ok, looked_on, looked_in_vain, both_looked, looked_same}
+use Rattle.sql_layouts.proofs.Looked.{idle_still, if_ok, looked_on, looked_in_vain, looked_weaker, both_looked, looked_same}
 use Rattle.sql_schema.specs.Layouts.{Form, for_main, by_domain, HasLayoutOf, NamedRows, rows_named}
 
 -- where the rules were tested
@@ -94,34 +94,39 @@ figures_refused form office db kept Memory h = tt
 figures_refused form office db kept Disk h = tt
 
 -- where none are kept
-pub book_alone_kept : {U V : Type 0} (u : U) (v : V) (office : Office) (old new : State) → IsLookUp {E = OpenFault} old new (Ok u) (λ db _. KeepsBook office db)
-    → IsLookUp {E = OpenFault} old new (Ok v) (λ db _. KeepsRows (for_main false) office db)
-book_alone_kept u v office old new it =
-    looked_on old new {E = OpenFault} u (Ok v) (λ db _. KeepsBook office db) (λ db _. KeepsRows (for_main false) office db) it (λ early is_open book. record { book = book; figures = tt })
+pub book_alone_kept : {U : Type 0} (office : Office) (Given : Database → Type 0) (old new : State) (r : Result U OpenFault) → IsLookUp old new r (λ db _. KeepsBook office db)
+    → IsLookUp old new r (λ db _. Given db → KeepsRows (for_main false) office db)
+book_alone_kept office Given old new r it =
+    looked_weaker old new r (λ db _. KeepsBook office db) (λ db _. Given db → KeepsRows (for_main false) office db) (λ db u book given. record { book = book; figures = tt }) it
 
-module _ {U V : Type 0} (form : Form) (u : U) (office : Office) (old mid new : State) (r : Result V OpenFault) (one : IsLookUp {E = OpenFault} old mid (Ok u) (λ db _. KeepsBook office db))
+pub kept_anyway : {U : Type 0} (office : Office) (Given : Database → Type 0) (old new : State) (r : Result U OpenFault) → IsLookUp old new r (λ db _. KeepsBook office db)
+    → IsLookUp old new r (λ db _. Given db → KeepsBook office db)
+kept_anyway office Given old new r it = looked_weaker old new r (λ db _. KeepsBook office db) (λ db _. Given db → KeepsBook office db) (λ db u book given. book) it
+
+-- with the figures, where something is given
+module _ {U V : Type 0} (form : Form) (u : U) (office : Office) (Given : Database → Type 0) (old mid new : State) (r : Result V OpenFault) (one : IsLookUp {E = OpenFault} old mid (Ok u) (λ db _. Given db → KeepsBook office db))
     (two : IsLookUp mid new r (λ db _. IsOffice office → FiguresOf form office db)) where
-  pub rows_are_kept : IsLookUp old new r (λ db _. KeepsRows form office db)
+  pub rows_are_kept : IsLookUp old new r (λ db _. Given db → KeepsRows form office db)
   rows_are_kept =
-      let both = both_looked old mid new u r (λ db _. KeepsBook office db) (λ db _. IsOffice office → FiguresOf form office db) one two in
+      let both = both_looked old mid new u r (λ db _. Given db → KeepsBook office db) (λ db _. IsOffice office → FiguresOf form office db) one two in
       record {
-        answer = λ clean. if_ok r (λ v it. record { book = it.0; figures = it.1 it.0.rules.office }) (both.answer clean);
+        answer = λ clean. if_ok r (λ v it given. record { book = it.0 given; figures = it.1 (it.0 given).rules.office }) (both.answer clean);
         same = both.same;
         is_open = both.is_open;
         ended = both.ended;
         survives = both.survives;
       }
 
-  pub rows_refused : IfErr r (λ fault. HasCleanDisk new → RefusesFigures form office mid.now fault) → IfErr r (λ fault. HasCleanDisk new → RefusesKeptRows form office old.now fault)
+  pub rows_refused : IfErr r (λ fault. HasCleanDisk new → RefusesFigures form office mid.now fault) → IfErr r (λ fault. HasCleanDisk new → Given old.now → RefusesKeptRows form office old.now fault)
   rows_refused h = by r two h
     where
       by : (s : Result V OpenFault) → IsLookUp mid new s (λ db _. IsOffice office → FiguresOf form office db) → IfErr s (λ fault. HasCleanDisk new → RefusesFigures form office mid.now fault)
-          → IfErr s (λ fault. HasCleanDisk new → RefusesKeptRows form office old.now fault)
+          → IfErr s (λ fault. HasCleanDisk new → Given old.now → RefusesKeptRows form office old.now fault)
       by (Ok v) looked k = tt
-      by (Err fault) looked k = λ clean.
+      by (Err fault) looked k = λ clean given.
           let before : HasCleanDisk mid = omega (arith, clean, looked.survives.clean) in
-          let same = looked_same old mid new u (Err fault) (λ db _. KeepsBook office db) (λ db _. IsOffice office → FiguresOf form office db) one looked clean in
-          figures_refused form office old.now (one.answer before) fault (subst (λ db. RefusesFigures form office db fault) same (k clean))
+          let same = looked_same old mid new u (Err fault) (λ db _. Given db → KeepsBook office db) (λ db _. IsOffice office → FiguresOf form office db) one looked clean in
+          figures_refused form office old.now (one.answer before given) fault (subst (λ db. RefusesFigures form office db fault) same (k clean))
 
 -- the rows stay those of a form's tables
 pub read_idle : (form : told.Form) (old mid : State) (read : ReadOffice) → IsIdleOver (form_told form) old → IsLookUp {E = OpenFault} old mid (Ok read) (IsReadOf (form_told form))
@@ -166,15 +171,19 @@ module _ (form : told.Form) (old mid new : State) (read : ReadOffice) (all : Hol
     },
   )
 
-  pub office_adopted : {U : Type 0} (kept : Result U OpenFault) (r : Result Adopted OpenFault) → IsLookUp mid new kept (λ db _. KeepsRows (form_told form) (office_in read.maps) db)
+  -- what is asked of the rows behind the read of the office
+  abbrev pub KeepsRead : Database → Type 0
+  KeepsRead db = IsReadOf (form_told form) db read → KeepsRows (form_told form) (office_in read.maps) db
+
+  pub office_adopted : {U : Type 0} (kept : Result U OpenFault) (r : Result Adopted OpenFault) → IsLookUp mid new kept (λ db _. KeepsRead db)
       → MatchResult kept (λ _. r ≡ Ok Answered) (λ fault. r ≡ Err fault) → IsLookUp old new r IsAnswer
   office_adopted (Ok u) r two is =
       subst (λ s. IsLookUp old new s IsAnswer) (sym is)
-      (looked_on old new {E = OpenFault} u (Ok Answered) _ IsAnswer (both_looked old mid new read (Ok u) (IsReadOf (form_told form)) (λ db _. KeepsRows (form_told form) (office_in read.maps) db) one two)
-      (λ early was_open both. adopted_as old.now both.0 both.1))
+      (looked_on old new {E = OpenFault} u (Ok Answered) _ IsAnswer (both_looked old mid new read (Ok u) (IsReadOf (form_told form)) (λ db _. KeepsRead db) one two)
+      (λ early was_open both. adopted_as old.now both.0 (both.1 both.0)))
   office_adopted (Err f) r two is =
       subst (λ s. IsLookUp old new s IsAnswer) (sym is)
-      (looked_in_vain old new (Err f) f _ IsAnswer (both_looked old mid new read (Err f) (IsReadOf (form_told form)) (λ db _. KeepsRows (form_told form) (office_in read.maps) db) one two))
+      (looked_in_vain old new (Err f) f _ IsAnswer (both_looked old mid new read (Err f) (IsReadOf (form_told form)) (λ db _. KeepsRead db) one two))
 
   refused_with : (db : Database) → IsReadOf (form_told form) db read → (fault : OpenFault) → RefusesKeptRows (form_told form) (office_in read.maps) db fault → RefusesOf (form_told form) db fault
   refused_with db is (Foreign UnreadRow) h = h
@@ -186,14 +195,14 @@ module _ (form : told.Form) (old mid new : State) (read : ReadOffice) (all : Hol
   refused_with db is Memory h = tt
   refused_with db is Disk h = tt
 
-  pub office_refused : {U : Type 0} (kept : Result U OpenFault) (r : Result Adopted OpenFault) → IsLookUp mid new kept (λ db _. KeepsRows (form_told form) (office_in read.maps) db)
-      → IfErr kept (λ fault. HasCleanDisk new → RefusesKeptRows (form_told form) (office_in read.maps) mid.now fault)
+  pub office_refused : {U : Type 0} (kept : Result U OpenFault) (r : Result Adopted OpenFault) → IsLookUp mid new kept (λ db _. KeepsRead db)
+      → IfErr kept (λ fault. HasCleanDisk new → IsReadOf (form_told form) mid.now read → RefusesKeptRows (form_told form) (office_in read.maps) mid.now fault)
       → MatchResult kept (λ _. r ≡ Ok Answered) (λ fault. r ≡ Err fault) → IfErr r (λ fault. HasCleanDisk new → RefusesOf (form_told form) old.now fault)
   office_refused (Ok u) r two h is = subst (λ s. IfErr s (λ fault. HasCleanDisk new → RefusesOf (form_told form) old.now fault)) (sym is) tt
   office_refused (Err f) r two h is = subst (λ s. IfErr s (λ fault. HasCleanDisk new → RefusesOf (form_told form) old.now fault)) (sym is) (λ clean.
       let before : HasCleanDisk mid = omega (arith, clean, two.survives.clean) in
-      let same = looked_same old mid new read (Err f) (IsReadOf (form_told form)) (λ db _. KeepsRows (form_told form) (office_in read.maps) db) one two clean in
-      refused_with old.now (one.answer before) f (subst (λ db. RefusesKeptRows (form_told form) (office_in read.maps) db f) same (h clean)))
+      let same = looked_same old mid new read (Err f) (IsReadOf (form_told form)) (λ db _. KeepsRead db) one two clean in
+      refused_with old.now (one.answer before) f (subst (λ db. RefusesKeptRows (form_told form) (office_in read.maps) db f) same (h clean (subst (λ db. IsReadOf (form_told form) db read) (sym same) (one.answer before)))))
 
 -- why tables of a form are refused, whatever their form
 pub refused_so : (form : Form) (db : Database) → HasLayoutOf form db → (fault : OpenFault) → RefusesOf form db fault → Refuses db fault

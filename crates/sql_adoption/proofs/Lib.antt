@@ -1,18 +1,10 @@
 pub mod RecordRows
 pub mod WholeBook
-pub mod Looked
 pub mod Langs
 pub mod Stand
 pub mod Read
 pub mod Kept
 pub mod AsItWas
-pub mod Parts
-pub mod Looks
-pub mod RowidTests
-pub mod RowidQueries
-pub mod WholeTest
-pub mod LaidOut
-pub mod LayoutsTold
 pub mod OwnDomains
 pub mod PutDomains
 pub mod DomainsRead
@@ -26,3 +18,7 @@ pub mod TalliesTold
 pub mod SumsTold
 pub mod FiguresTold
 pub mod FiguresKept
+pub mod RecordParents
+pub mod OwnNumbers
+pub mod Recorded
+pub mod KeptRecords

@@ -1,22 +1,20 @@
 -- The office of tables by domains is read where each row is of a domain that there is, and refused where some aren't.
-use Rattle.std.proofs.Common.{◌≡◌, Bool, true, false, Result, Ok, Err, IfOk, IfErr, refl, sym, subst, ◌∙◌}
-use Rattle.std.specs.Prelude.{◌↔◌, IsTrue}
-use Rattle.std.proofs.lemmas.Bool.{false≢true}
+use Rattle.std.proofs.Common.{◌≡◌, Bool, true, false, Result, Ok, Err, IfErr, refl, subst}
 use Rattle.sqlite.specs.Effect.{Database}
 use Rattle.sqlite.specs.State.{State, HasCleanDisk}
-use Rattle.sqlite.specs.declared.error.Error.{Error}
 use Rattle.po_text.specs.Texts.{Text}
 use Rattle.sql_schema.specs.Layouts.{by_domain, rows_named}
 use Rattle.sql_schema.specs.Views.{seen_in}
 use Rattle.sql_schema.specs.Whole.{IsLookUp}
 use Rattle.sql_meaning.specs.Domains.{is_domain, HoldsOwnDomains}
-use Rattle.sql_adoption.specs.Adoption.{StandForOffice, StandInDomains}
+use Rattle.sql_adoption.specs.Adoption.{StandForOffice}
 use Rattle.sql_adoption.specs.Reading.{AreDomainsRead, IsReadOf, RefusesOf}
 use Rattle.sql_adoption.specs.declared.faults.OpenFault.{OpenFault}
-use Rattle.sql_adoption.specs.declared.faults.OpenFault.TheVariants.{Foreign}
-use Rattle.sql_adoption.specs.declared.faults.Mismatch.TheVariants.{UnreadRow}
+use Rattle.sql_adoption.specs.declared.faults.OpenFault.TheVariants.{Memory, Disk, Foreign, Exists}
+use Rattle.sql_adoption.specs.declared.faults.Mismatch.TheVariants.{OtherTables, OtherForm, UnreadRow, OtherFigures, BrokenRules}
 use Rattle.sql_adoption.specs.declared.office_put.ReadOffice.{ReadOffice}
-use Rattle.sql_adoption.proofs.Looked.{if_ok, looked_in_vain, both_looked, looked_same}
+use Rattle.sql_adoption.specs.OwnedRows.{RefusesUnless}
+use Rattle.sql_layouts.proofs.Looked.{if_ok, both_looked, looked_same}
 use Rattle.sql_adoption.proofs.Unseen.{unseen_stands}
 
 module _ (db : Database) (read : ReadOffice) (own : HoldsOwnDomains (rows_named db)) (are : AreDomainsRead db read) where
@@ -31,29 +29,35 @@ module _ (db : Database) (read : ReadOffice) (own : HoldsOwnDomains (rows_named 
     office = are.office;
   }
 
-abbrev TellsOwn : Database → Bool → Type 0
-TellsOwn db told = (told ≡ true) ↔ HoldsOwnDomains (rows_named db)
+abbrev HoldsOwn : Database → Type 0
+HoldsOwn db = HoldsOwnDomains (rows_named db)
 
-module _ (old mid : State) (own : Bool) (one : IsLookUp {E = Error} old mid (Ok own) TellsOwn) where
-  pub own_read : own ≡ true → (new : State) (r : Result ReadOffice OpenFault) → IsLookUp mid new r AreDomainsRead → IsLookUp old new r (IsReadOf by_domain)
-  own_read is new r two =
-      let both = both_looked old mid new own r TellsOwn AreDomainsRead one two in
+module _ {U : Type 0} (old mid new : State) (u : U) (r : Result ReadOffice OpenFault) (one : IsLookUp {E = OpenFault} old mid (Ok u) (λ db _. HoldsOwn db)) (two : IsLookUp mid new r AreDomainsRead) where
+  pub own_read : IsLookUp old new r (IsReadOf by_domain)
+  own_read =
+      let both = both_looked old mid new u r (λ db _. HoldsOwn db) AreDomainsRead one two in
       record {
-        answer = λ clean. if_ok r (λ read it. domains_read old.now read (it.0.0 is) it.1) (both.answer clean);
+        answer = λ clean. if_ok r (λ read it. domains_read old.now read it.0 it.1) (both.answer clean);
         same = both.same;
         is_open = both.is_open;
         ended = both.ended;
         survives = both.survives;
       }
 
-  pub own_refused : (new : State) (r : Result ReadOffice OpenFault) → IsLookUp mid new r AreDomainsRead → IfErr r (λ fault. HasCleanDisk new → RefusesOf by_domain mid.now fault)
-      → IfErr r (λ fault. HasCleanDisk new → RefusesOf by_domain old.now fault)
-  own_refused new (Ok read) two h = tt
-  own_refused new (Err fault) two h = λ clean. subst (λ db. RefusesOf by_domain db fault) (looked_same old mid new own (Err fault) TellsOwn AreDomainsRead one two clean) (h clean)
+  pub own_refused : IfErr r (λ fault. HasCleanDisk new → RefusesOf by_domain mid.now fault) → IfErr r (λ fault. HasCleanDisk new → RefusesOf by_domain old.now fault)
+  own_refused h = by r two h
+    where
+      by : (s : Result ReadOffice OpenFault) → IsLookUp mid new s AreDomainsRead → IfErr s (λ fault. HasCleanDisk new → RefusesOf by_domain mid.now fault) → IfErr s (λ fault. HasCleanDisk new → RefusesOf by_domain old.now fault)
+      by (Ok read) looked k = tt
+      by (Err fault) looked k = λ clean. subst (λ db. RefusesOf by_domain db fault) (looked_same old mid new u (Err fault) (λ db _. HoldsOwn db) AreDomainsRead one looked clean) (k clean)
 
-  -- rows of another domain are there
-  pub others_there : own ≡ false → HasCleanDisk mid → RefusesOf by_domain old.now (Foreign UnreadRow)
-  others_there is clean = λ it. false≢true (sym is ∙ (one.answer clean).1 it.0.own)
-
-  pub others_unread : (fault : OpenFault) → IsLookUp old mid (Err fault) (IsReadOf by_domain)
-  others_unread fault = looked_in_vain old mid (Ok own) fault TellsOwn (IsReadOf by_domain) one
+-- rows of a domain that isn't there
+pub others_there : (db : Database) (fault : OpenFault) → RefusesUnless (HoldsOwn db) fault → RefusesOf by_domain db fault
+others_there db (Foreign UnreadRow) h = λ it. h it.0.own
+others_there db (Foreign OtherFigures) h = absurd h
+others_there db (Foreign BrokenRules) h = absurd h
+others_there db (Foreign OtherForm) h = absurd h
+others_there db (Foreign OtherTables) h = absurd h
+others_there db Exists h = absurd h
+others_there db Memory h = tt
+others_there db Disk h = tt

@@ -33,7 +33,7 @@ some_number : (p : Text → Bool) (o : Option Text) → option_map_or p o false 
 some_number p (Some number) passes = refl
 some_number p None passes = absurd cc
 
-holds_number : (v : Value) → text_passes is_number v ≡ true → IsSome (number_read (bytes v))
+pub holds_number : (v : Value) → text_passes is_number v ≡ true → IsSome (number_read (bytes v))
 unfolding is_number
 holds_number Null holds = absurd cc
 holds_number (Int n) holds = absurd cc
@@ -48,7 +48,7 @@ own : (o : Option Text) → IsSome o → o ≡ Some (unwrap_or o [])
 own (Some x) h = refl
 own None h = absurd (let e = h in cc)
 
-named : (row : Row) → IsSome (number_read (first_text row)) → first_text row ≡ number_text (number_at 1 row)
+pub named : (row : Row) → IsSome (number_read (first_text row)) → first_text row ≡ number_text (number_at 1 row)
 named row some = number_written (first_text row) (number_at 1 row) (own (number_read (first_text row)) some)
 
 -- as it is shown
@@ -61,7 +61,7 @@ module _ (tables : NamedRows) (rows : List Row) (shows : ShowsRecordsIn tables r
       is_numbered (shown row) (all_has IsRecordRow rows (shown row) (recursion_from_All IsRecordRow rows stand)
       (has_permuted rows (map shown (tables (codes "record"))) (shown row) (IsPermutation-sym (map shown (tables (codes "record"))) rows shows.all) (to_mapped shown (tables (codes "record")) row there)))
 
-  one_number : AreOfficeRows tables → OneEach (number_at 1) (tables (codes "record"))
+  pub one_number : AreOfficeRows tables → OneEach (number_at 1) (tables (codes "record"))
   one_number office r s in_r in_s e =
       office.keyed.one_record r s in_r in_s
       (named r (all_numbered r in_r) ∙ (ap number_text e ∙ sym (named s (all_numbered s in_s))))

@@ -1,6 +1,9 @@
--- What a walk over records notes: the statuses of their replies, by their numbers. This project's own words.
-use Rattle.std.proofs.Common.{ℕ, List, [], ◌∷◌, ◌++◌, All, sym, subst}
+-- What a walk over records notes: the statuses of their replies, by their numbers, or whether all are such that a reply may have. This project's own words.
+use Rattle.std.proofs.Common.{◌≡◌, ℕ, Bool, true, false, ◌&&◌, List, [], ◌∷◌, ◌++◌, All, refl, sym, ap, subst, ◌∙◌}
 use Rattle.std.specs.Prelude.{fold}
+use Rattle.std.specs.List.{list_all}
+use Rattle.std.proofs.Math.Bool.{and-true}
+use Rattle.std.proofs.lemmas.List.Folds.{list_all-append}
 use Rattle.std.specs.BTreeMap.{BTreeMap}
 use Rattle.std.specs.FinMap as maps
 use Rattle.std.proofs.lemmas.List.Elements.{All-nil, All-cons, All-append}
@@ -9,8 +12,10 @@ use Rattle.sqlite.specs.Order.{Row}
 use Rattle.po_text.specs.Texts.{Text}
 use Rattle.request_book.specs.Book.{Book}
 use Rattle.sql_meaning.specs.Meaning.{number_at}
+use Rattle.sql_meaning.specs.Values.{natural_at}
 use Rattle.sql_meaning.specs.Shown.{shown_record}
 use Rattle.office_rules.specs.Given.{AreStatusesOf}
+use Rattle.office_rules.specs.Books.{is_status}
 use Rattle.sql_adoption.specs.BookShown.{IsRecordRow}
 
 -- content, status, body, number: a book with the record of a row
@@ -32,4 +37,34 @@ pub notes_more : (a b c : BTreeMap Text ℕ) (xs ys : List Row) → NotesRecords
 notes_more a b c xs ys one two = record {
   stand = All-append IsRecordRow xs ys one.stand two.stand;
   noted = λ book are. subst (λ more. AreStatusesOf more c) (sym (fold-append with_record_shown book xs ys)) (two.noted (fold with_record_shown book xs) (one.noted book are));
+}
+
+-- ---- without a book
+
+-- the status of a row's record is one that a reply may have
+abbrev pub has_status : Row → Bool
+has_status row = is_status (natural_at 1 row)
+
+-- Each row is a record's with a request's content, and it is told whether all have such a status, also those before.
+pub record TestsRecords (before : Bool) (rows : List Row) (after : Bool) : Type 0 where
+  pub stand : All IsRecordRow rows
+  pub told : after ≡ (before && list_all has_status rows)
+
+pub tests_none : (answered : Bool) → TestsRecords answered [] answered
+tests_none answered = record { stand = All-nil IsRecordRow; told = sym (and-true answered) }
+
+pub tests_one : (row : Row) (before after : Bool) → IsRecordRow row → after ≡ (before && has_status row) → TestsRecords before (row ∷ []) after
+tests_one row before after stands told = record {
+  stand = All-cons IsRecordRow row [] stands (All-nil IsRecordRow);
+  told = told ∙ ap (λ b. before && b) (sym (and-true (has_status row)));
+}
+
+both : (a b c : Bool) → ((a && b) && c) ≡ (a && (b && c))
+both true b c = refl
+both false b c = refl
+
+pub tests_more : (a b c : Bool) (xs ys : List Row) → TestsRecords a xs b → TestsRecords b ys c → TestsRecords a (xs ++ ys) c
+tests_more a b c xs ys one two = record {
+  stand = All-append IsRecordRow xs ys one.stand two.stand;
+  told = two.told ∙ ap (λ d. d && list_all has_status ys) one.told ∙ both a (list_all has_status xs) (list_all has_status ys) ∙ ap (λ d. a && d) (sym (list_all-append has_status xs ys));
 }

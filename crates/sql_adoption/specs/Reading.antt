@@ -1,6 +1,6 @@
 -- What the readers of rows that are to be adopted answer. Only inner clauses and proofs cite this file.
 use Rattle.std.specs.Prelude.{◌≡◌, ◌⊎◌, ◌↔◌, ⊤, ℕ, Bool, true, false, List, [], ◌∷◌, map, Contains, Option, Some, IsTrue, codes}
-use Rattle.std.specs.List.{list_any, list_all}
+use Rattle.std.specs.List.{list_any}
 use Rattle.std.specs.BTreeMap.{BTreeMap}
 use Rattle.std.specs.FinMap as maps
 use Rattle.sqlite.specs.declared.error.Error.{Error}
@@ -25,13 +25,13 @@ use Rattle.sql_schema.specs.Views.{seen_in}
 use Rattle.sql_meaning.specs.Meaning.{team_in, policy_in, book_in, AreNumbered}
 use Rattle.sql_meaning.specs.Domains.{domain_of_rows, office_of_rows, is_domain, meaning_for}
 use Rattle.sql_statements.specs.Tables.{ShowsTableIn}
-use Rattle.sql_statements.specs.declared.owners.Owners.{Owners}
 use Rattle.sql_statements.specs.declared.whole_office.WholeOffice.{WholeOffice}
 use Rattle.sql_meaning.specs.OfficeShown.{project_shown, with_shown}
 use Rattle.sql_decoding.specs.RowTests.{is_domain_row, AreOfficeRows}
 use Rattle.sql_decoding.specs.declared.faults.Failure.{Failure}
 use Rattle.sql_streams.specs.declared.walking.WalkFault.{WalkFault}
 use Rattle.sql_streams.specs.declared.walking.WalkFault.TheVariants.{NoRows, NoSink}
+use Rattle.office_rules.specs.Books.{HasStatuses}
 use Rattle.office_rules.specs.Given.{AreAll, AreAllDomains, AreAllLangs, AreStatusesOf}
 use Rattle.sql_adoption.specs.declared.faults.OpenFault.{OpenFault}
 use Rattle.sql_adoption.specs.declared.faults.OpenFault.TheVariants.{Memory, Disk, Foreign, Exists}
@@ -67,13 +67,6 @@ IsOfWalk (NoSink failure) fault = fault ≡ unread failure.lost
 -- rows that show one column show these names
 abbrev pub is_shown_among : List Row → Row → Bool
 is_shown_among domains row = list_any (λ d. text_eq (text_at 0 d) (text_at 0 row)) domains
-
--- each row's domain is shown as one that there is
-pub record ShowOwnDomains (owners : Owners) : Type 0 where
-  pub template : list_all (is_shown_among owners.domains.items) owners.template.items ≡ true
-  pub languages : list_all (is_shown_among owners.domains.items) owners.languages.items ≡ true
-  pub units : list_all (is_shown_among owners.domains.items) owners.units.items ≡ true
-  pub suggestions : list_all (is_shown_among owners.domains.items) owners.suggestions.items ≡ true
 
 -- what the policy's row shows
 abbrev pub ShowsForm : Form → Option Row → Type 0
@@ -178,6 +171,23 @@ pub record AreStatusesIn (db : Database) (statuses : BTreeMap Text ℕ) : Type 0
   pub stand : StandForBook (rows_named db)
   pub numbered : AreNumbered (rows_named db)
   pub contents : AreContents (rows_named db)
+
+-- all records are some's, and their replies have statuses that replies may have
+pub record KeepsRecords (db : Database) : Type 0 where
+  pub stand : StandForBook (rows_named db)
+  pub numbered : AreNumbered (rows_named db)
+  pub contents : AreContents (rows_named db)
+  pub statuses : HasStatuses (book_in (rows_named db))
+
+-- what is true of records that are refused so
+abbrev pub RefusesRecords : Database → OpenFault → Type 0
+RefusesRecords db (Foreign UnreadRow) = ¬ StandForBook (rows_named db)
+RefusesRecords db (Foreign BrokenRules) = ¬ HasStatuses (book_in (rows_named db))
+RefusesRecords db (Foreign OtherFigures) = ⊥
+RefusesRecords db (Foreign OtherForm) = ⊥
+RefusesRecords db (Foreign OtherTables) = ⊥
+RefusesRecords db Exists = ⊥
+RefusesRecords db _ = ⊤
 
 -- an office keeps the rules with the book of the rows
 pub record KeepsBook (office : Office) (db : Database) : Type 0 where

@@ -5,15 +5,15 @@ ghost use Rattle.sqlite.specs.State.{HasCleanDisk};
 ghost use Rattle.request_book.specs.Book.{Book};
 ghost use Rattle.deliveries.specs.OfficeRules.{KeepsRules};
 ghost use Rattle.office_maps.specs.OfficeIn.{office_in};
-ghost use Rattle.sql_schema.specs.Layouts.{Form};
+ghost use Rattle.sql_schema.specs.Layouts.{Form, by_domain};
 ghost use Rattle.sql_schema.specs.Whole.{IsIdleOver, IsLookUp};
 ghost use Rattle.office_rules.specs.Given.{AreStatusesOf};
-ghost use Rattle.sql_adoption.specs.Reading.{AreStatusesIn, HoldsAll, KeepsBook, RefusesWith, RefusesBook, RefusesKept};
+ghost use Rattle.sql_adoption.specs.Reading.{AreStatusesIn, HoldsAll, IsReadOf, KeepsBook, KeepsRecords, RefusesWith, RefusesBook, RefusesKept, RefusesRecords};
 
 use crate::faults::{Mismatch, OpenFault};
 use crate::office_put::ReadOffice;
-use crate::statuses::Statuses;
-use office_rules::keeps_rules;
+use crate::statuses::{Contents, Statuses};
+use office_rules::{is_office, keeps_rules};
 use sql_statements::record_queries::walk_contents;
 use sqlite::{Alter, Connection};
 use std::alloc::Global;
@@ -68,4 +68,49 @@ pub fn keep_book<S: Alter>(
 {
     let statuses = read_statuses(connection, alloc)?;
     keep_rules(alloc, read, &statuses)
+}
+
+// ---- of tables by domains
+
+/// Tests all records, whose rows are read one at a time, of a connection that is open: each row stands for a record, its content is a request's,
+/// and its reply has a status that one may have.
+fn keep_records<S: Alter>(connection: &mut Connection<S>, alloc: Global) -> Result<(), OpenFault>
+    requires autocommit { connection.old.in_transaction ≡ false }
+    requires idle { IsIdleOver by_domain (state S.Store connection.old) }
+    requires is_open { HasCleanDisk (state S.Store connection.old) → IsTrue (state S.Store connection.old).is_open }
+    ensures found { IsLookUp (state S.Store connection.old) (state S.Store connection.new) result (λ db _. KeepsRecords db) }
+    ensures refused { IfErr result (λ fault. HasCleanDisk (state S.Store connection.new) → RefusesRecords (state S.Store connection.old).now fault) }
+{
+    let mut contents = Contents {
+        alloc,
+        answered: true,
+    };
+    walk_contents(connection, &mut contents)?;
+    if contents.answered {
+        Ok(())
+    } else {
+        Err(OpenFault::Foreign(Mismatch::BrokenRules))
+    }
+}
+
+/// Tests the rules of the office of tables by domains, which was read, with the book of the rows, of a connection that is open. That numbers of
+/// suggestions are recorded, and shared by none, the tables' keys say.
+pub fn keep_recorded<S: Alter>(
+    connection: &mut Connection<S>,
+    alloc: Global,
+    read: &ReadOffice,
+) -> Result<(), OpenFault>
+    requires autocommit { connection.old.in_transaction ≡ false }
+    requires idle { IsIdleOver by_domain (state S.Store connection.old) }
+    requires is_open { HasCleanDisk (state S.Store connection.old) → IsTrue (state S.Store connection.old).is_open }
+    requires holds { HoldsAll read.now }
+    ensures found { IsLookUp (state S.Store connection.old) (state S.Store connection.new) result (λ db _. IsReadOf by_domain db read.now → KeepsBook (office_in read.now.maps) db) }
+    ensures refused { IfErr result (λ fault. HasCleanDisk (state S.Store connection.new) → RefusesKept (office_in read.now.maps) (state S.Store connection.old).now fault) }
+{
+    keep_records(connection, alloc)?;
+    if is_office(alloc, &read.maps, read.langs.as_slice())? {
+        Ok(())
+    } else {
+        Err(OpenFault::Foreign(Mismatch::BrokenRules))
+    }
 }

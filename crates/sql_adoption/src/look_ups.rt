@@ -1,14 +1,11 @@
-//! What is read in one transaction, which ends by a commit, since only that tells that the connection is still open: the names of the domains,
-//! and of which domain each row of tables by domains is.
+//! The names of the domains, read in one transaction, which ends by a commit, since only that tells that the connection is still open.
 ghost use Rattle.std.specs.Prelude.{◌≡◌, false};
 ghost use Rattle.sqlite.specs.Held.{state};
 ghost use Rattle.sql_schema.specs.Whole.{IsIdleOver, IsLookUp};
 ghost use Rattle.sql_schema.specs.Layouts.{by_domain};
 ghost use Rattle.sql_statements.specs.DomainAnswers.{ShowsDomains};
-ghost use Rattle.sql_statements.specs.Owners.{ShowsAllOwners};
 
 use sql_statements::domains::all_domains;
-use sql_statements::owners::{Owners, all_owners};
 use sqlite::{Alter, Connection, Error, Row};
 
 /// The domains by name: each one's name. On an error nothing is known of them, and the rows are as before.
@@ -22,16 +19,4 @@ pub(crate) fn look_up_domains<S: Alter>(connection: &mut Connection<S>) -> Resul
     let rows = all_domains(&mut tx)?;
     tx.commit()?;
     Ok(rows)
-}
-
-/// Of which domain each row of tables by domains is.
-pub(crate) fn look_up_owners<S: Alter>(connection: &mut Connection<S>) -> Result<Owners, Error>
-    requires autocommit { connection.old.in_transaction ≡ false }
-    requires idle { IsIdleOver by_domain (state S.Store connection.old) }
-    ensures found { IsLookUp (state S.Store connection.old) (state S.Store connection.new) result ShowsAllOwners }
-{
-    let mut tx = connection.transaction();
-    let owners = all_owners(&mut tx)?;
-    tx.commit()?;
-    Ok(owners)
 }

@@ -1,18 +1,18 @@
 //! The statuses of records, as the rows of a walk over them all show them.
 ghost use Rattle.std.specs.Prelude.{◌≡◌, true, Some, IfOk, IfErr, OnOk};
 ghost use Rattle.std.specs.FinMap as maps;
-ghost use Rattle.request_book.specs.Book.{Book, row_of, with_record};
+ghost use Rattle.request_book.specs.Book.{Book, row_of};
 ghost use Rattle.sql_columns.specs.Readings.{number_read};
 ghost use Rattle.sql_schema.specs.Keys.{text_at};
 ghost use Rattle.sql_meaning.specs.Meaning.{number_at};
 ghost use Rattle.sql_meaning.specs.Shown.{shown_record};
-ghost use Rattle.request_book.specs.Contents.{IsContent};
 ghost use Rattle.office_rules.specs.Given.{AreStatusesOf};
 ghost use Rattle.sql_decoding.specs.RowTests.{holds_text, is_number, is_record_row, IsUnread};
 ghost use Rattle.tables.specs.declared.faults.Lost.TheVariants.{Disk};
 ghost use Rattle.sql_adoption.specs.BookShown.{IsRecordRow};
+ghost use Rattle.sql_adoption.specs.NotedRecords.{has_status};
 
-use office_rules::{is_content, note_status};
+use office_rules::{is_content, is_status, note_status};
 use request_book::{Record, bytes_fit};
 use sql_columns::number_from;
 use sql_decoding::{Failure, record_in};
@@ -45,21 +45,19 @@ fn record_of(row: &Row) -> Result<Record, Failure>
     record_in(number, row)
 }
 
-/// Notes a record's status, where its content is a request's.
-fn note_record(
-    alloc: Global,
-    statuses: &mut BTreeMap<Uuid, u16>,
-    known: &Record,
-) -> Result<(), Failure>
-    ensures noted { (book : Book) → AreStatusesOf book statuses.old → OnOk result (AreStatusesOf (with_record book known.now) statuses.new) }
-    ensures content { OnOk result (IsContent known.now.content) }
-    ensures refused { IfErr result (λ failure. failure.lost ≡ Disk → ¬ IsContent known.now.content) }
+/// The record of a row, where its content is a request's.
+fn known_record(alloc: Global, row: &Row) -> Result<Record, Failure>
+    ensures value { IfOk result (λ r. r ≡ row_of (number_at 3 row.now) (shown_record row.now)) }
+    ensures stands { OnOk result (IsRecordRow row.now) }
+    ensures unread { IfErr result (λ failure. failure.lost ≡ Disk → ¬ IsRecordRow row.now) }
 {
-    if !is_content(alloc, known.content.as_str())? {
-        return Err(Failure { lost: Lost::Disk });
+    let record = record_of(row)?;
+    if is_content(alloc, record.content.as_str())? {
+        Ok(record)
+    } else {
+        drop(record);
+        Err(Failure { lost: Lost::Disk })
     }
-    note_status(statuses, known)?;
-    Ok(())
 }
 
 /// Notes the status of a row's record.
@@ -69,10 +67,22 @@ fn note_row(alloc: Global, statuses: &mut BTreeMap<Uuid, u16>, row: &Row) -> Res
     ensures stands { OnOk result (IsRecordRow row.now) }
     ensures unread { IfErr result (λ failure. failure.lost ≡ Disk → ¬ IsRecordRow row.now) }
 {
-    let record = record_of(row)?;
-    let done = note_record(alloc, statuses, &record);
+    let record = known_record(alloc, row)?;
+    note_status(statuses, &record)?;
     drop(record);
-    done
+    Ok(())
+}
+
+/// Whether the reply of a row's record has a status that one may have.
+fn has_status(alloc: Global, row: &Row) -> Result<bool, Failure>
+    ensures told { IfOk result (λ has. has ≡ has_status row.now) }
+    ensures stands { OnOk result (IsRecordRow row.now) }
+    ensures unread { IfErr result (λ failure. failure.lost ≡ Disk → ¬ IsRecordRow row.now) }
+{
+    let record = known_record(alloc, row)?;
+    let has = is_status(record.reply.status());
+    drop(record);
+    Ok(has)
 }
 
 /// Takes rows of records, and notes the status of each one's reply under its number.
@@ -114,5 +124,37 @@ impl RowSink for Statuses {
 
     fn take(&mut self, row: &Row) -> Result<(), Failure> {
         note_row(self.alloc, &mut self.by_number, row)
+    }
+}
+
+/// Takes rows of records, and tells whether the reply of each has a status that one may have.
+///
+/// A row is refused as `Statuses` refuses it.
+#[derive(Drop)]
+pub(crate) struct Contents {
+    pub(crate) alloc: Global,
+    pub(crate) answered: bool,
+}
+
+impl RowSink for Contents {
+    ghost use Rattle.std.specs.Prelude.{◌≡◌};
+    ghost use Rattle.tables.specs.declared.faults.Lost.TheVariants.{Disk};
+    ghost use Rattle.sql_adoption.specs.BookShown.{IsRecordRow};
+    ghost use Rattle.sql_adoption.specs.NotedRecords.{TestsRecords, tests_none, tests_more};
+
+    type Refusal = Failure;
+
+    ghost Took = { λ a rows b. TestsRecords a.answered rows b.answered };
+
+    ghost Refuses = { λ a row failure b. failure.lost ≡ Disk → ¬ IsRecordRow row };
+
+    ghost none = { λ s. tests_none s.answered };
+
+    ghost more = { λ a b c xs ys one two. tests_more a.answered b.answered c.answered xs ys one two };
+
+    fn take(&mut self, row: &Row) -> Result<(), Failure> {
+        let has = has_status(self.alloc, row)?;
+        self.answered = self.answered && has;
+        Ok(())
     }
 }

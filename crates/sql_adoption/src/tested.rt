@@ -5,17 +5,16 @@ ghost use Rattle.sqlite.specs.State.{HasCleanDisk};
 ghost use Rattle.sql_schema.specs.Whole.{IsIdleOver, IsLookUp};
 ghost use Rattle.sql_adoption.specs.Adoption.{IsAdoptedAs, IsAdoptedIn, StaysAsItWas, Refuses};
 ghost use Rattle.office_maps.specs.OfficeIn.{office_in};
-ghost use Rattle.sql_adoption.specs.Reading.{HoldsAll, KeepsRows, RefusesKeptRows, RefusesOf};
-ghost use Rattle.sql_adoption.specs.Tables.{form_told};
+ghost use Rattle.sql_adoption.specs.Reading.{HoldsAll, IsReadOf, KeepsRows, RefusesKeptRows, RefusesOf};
+ghost use Rattle.sql_layouts.specs.Tables.{form_told};
 
-use crate::book_read::keep_book;
+use crate::book_read::{keep_book, keep_recorded};
 use crate::faults::{Mismatch, OpenFault};
 use crate::figures_kept::{keep_figures, keep_main_figures};
 use crate::office_put::ReadOffice;
 use crate::office_read::read_office;
-use crate::office_tables::Form;
-use crate::offices::office_form;
 use office_maps::OfficeMaps;
+use sql_layouts::{Form, office_form};
 use sqlite::{Alter, Connection};
 use std::alloc::Global;
 use units::Lang;
@@ -63,14 +62,20 @@ fn keep_rows<S: Alter>(
     requires idle { IsIdleOver (form_told form) (state S.Store connection.old) }
     requires is_open { HasCleanDisk (state S.Store connection.old) → IsTrue (state S.Store connection.old).is_open }
     requires holds { HoldsAll read.now }
-    ensures found { IsLookUp (state S.Store connection.old) (state S.Store connection.new) result (λ db _. KeepsRows (form_told form) (office_in read.now.maps) db) }
-    ensures refused { IfErr result (λ fault. HasCleanDisk (state S.Store connection.new) → RefusesKeptRows (form_told form) (office_in read.now.maps) (state S.Store connection.old).now fault) }
+    ensures found { IsLookUp (state S.Store connection.old) (state S.Store connection.new) result (λ db _. IsReadOf (form_told form) db read.now → KeepsRows (form_told form) (office_in read.now.maps) db) }
+    ensures refused { IfErr result (λ fault. HasCleanDisk (state S.Store connection.new) → IsReadOf (form_told form) (state S.Store connection.old).now read.now
+        → RefusesKeptRows (form_told form) (office_in read.now.maps) (state S.Store connection.old).now fault) }
 {
-    keep_book(connection, alloc, read)?;
     match form {
-        Form::ForMain => Ok(()),
-        Form::WithFigures => keep_main_figures(connection, alloc, read),
-        Form::ByDomain => keep_figures(connection, alloc, read),
+        Form::ForMain => keep_book(connection, alloc, read),
+        Form::WithFigures => {
+            keep_book(connection, alloc, read)?;
+            keep_main_figures(connection, alloc, read)
+        }
+        Form::ByDomain => {
+            keep_recorded(connection, alloc, read)?;
+            keep_figures(connection, alloc, read)
+        }
     }
 }
 

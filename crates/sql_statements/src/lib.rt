@@ -9,7 +9,7 @@
 //! - `unit_rows`: the rows that a look at a unit shows
 //! - `whole_office`: the rows of all tables without a column for a domain, read in one transaction
 //! - `domain_office`: what a domain sees of those by domains
-//! - `owners`: of which domain each row is
+//! - `owners`: of which domain each row of a table is
 //!
 //! Specs: `Answers`, `DomainAnswers`, `UnitRows`, `Queries`, `Tables`, `RecordTable`, `RecordsInOrder`, `WholeOffice`, `Owners` are what reads show; `Added`,
 //! `Taken`, `Renewed`, `DomainCleared`, `DomainVotes` what becomes of rows. A lemma about one table's texts stands in `proofs/` under the
@@ -17,7 +17,7 @@
 //! any table of the office in `Additions`, `Upserts`, `Removals`, `Renewals`.
 //!
 //! A function takes a transaction that is open and leaves it open, but those of `domain_queries`,
-//! `record_queries`, `whole_office` and `look_up_domain`. What is said of values is said while the disk returns what was written.
+//! `record_queries`, `owners`, `whole_office` and `look_up_domain`. What is said of values is said while the disk returns what was written.
 #![tactic(auto)]
 
 pub mod domain_languages;

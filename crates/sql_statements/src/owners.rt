@@ -1,84 +1,50 @@
 //! Of which domain each row is that has a column for one.
-ghost use Rattle.std.specs.Prelude.{◌≡◌, codes};
+
+ghost use Rattle.std.specs.Prelude.{◌≡◌, ⊤, false, IsTrue};
 ghost use Rattle.sqlite.specs.Held.{state};
-ghost use Rattle.sql_laws.specs.DiskErrors.{BlamesTruly};
+ghost use Rattle.sqlite.specs.State.{HasCleanDisk};
 ghost use Rattle.sql_schema.specs.Layouts.{by_domain};
-ghost use Rattle.sql_schema.specs.Inside.{IsSteadyOver, IsReadOf};
-ghost use Rattle.sql_statements.specs.Owners.{ShowsOwners, ShowsAllOwners};
+ghost use Rattle.sql_schema.specs.Whole.{IsIdleOver, IsLookUp};
+ghost use Rattle.sql_statements.specs.Owners as spec;
+ghost use Rattle.sql_statements.specs.Owners.{owned_name, owned_place, ShowsOwners};
+ghost use Rattle.sql_streams.specs.Walks.{HandsOut};
 
-use crate::domains::all_domains;
-use sqlite::{Alter, Error, Row, Transaction};
+use sql_streams::{RowSink, WalkFault, walk};
+use sqlite::{Alter, Connection};
 
-/// The domains that there are, and the domain of each row that has a column for one.
-#[derive(Drop)]
-pub struct Owners {
-    pub domains: Vec<Row>,
-    pub template: Vec<Row>,
-    pub languages: Vec<Row>,
-    pub units: Vec<Row>,
-    pub suggestions: Vec<Row>,
+/// A table by domains whose rows have a column for their domain.
+#[derive(Clone, Copy)]
+pub enum Owned {
+    Template,
+    Languages,
+    Units,
+    Suggestions,
 }
 
-/// Of which domain each entry of a template is, in the order of these names.
-fn template_owners<S: Alter>(tx: &mut Transaction<'_, S>) -> Result<Vec<Row>, Error>
-    requires steady { IsSteadyOver by_domain (state S.Store tx.old.conn.now) }
-    ensures same_reference { tx.new.conn.ghost_name ≡ tx.old.conn.ghost_name }
-    ensures found { IsReadOf by_domain (state S.Store tx.old.conn.now) (state S.Store tx.new.conn.now) result
-        (λ db rows. ShowsOwners (codes "d_template") 1 db rows.items) }
-    ensures disk { BlamesTruly (state S.Store tx.old.conn.now) (state S.Store tx.new.conn.now) result }
+/// The text that asks for the domain of each row of a table, in the order of these names.
+fn owners_text(table: Owned) -> &'static str
+    ensures { result.now ≡ spec.owners_text table }
 {
-    tx.query_all("SELECT domain FROM d_template ORDER BY domain", &[])
+    match table {
+        Owned::Template => "SELECT domain FROM d_template ORDER BY domain",
+        Owned::Languages => "SELECT domain FROM d_language ORDER BY domain",
+        Owned::Units => "SELECT domain FROM d_unit ORDER BY domain",
+        Owned::Suggestions => "SELECT domain FROM d_suggestion ORDER BY domain",
+    }
 }
 
-/// Of which domain each language is, in the order of these names.
-fn language_owners<S: Alter>(tx: &mut Transaction<'_, S>) -> Result<Vec<Row>, Error>
-    requires steady { IsSteadyOver by_domain (state S.Store tx.old.conn.now) }
-    ensures same_reference { tx.new.conn.ghost_name ≡ tx.old.conn.ghost_name }
-    ensures found { IsReadOf by_domain (state S.Store tx.old.conn.now) (state S.Store tx.new.conn.now) result
-        (λ db rows. ShowsOwners (codes "d_language") 1 db rows.items) }
-    ensures disk { BlamesTruly (state S.Store tx.old.conn.now) (state S.Store tx.new.conn.now) result }
+/// Hands the domain of each row of a table to a sink, in the order of these names, of a connection that is open.
+pub fn walk_owners<S: Alter, K: RowSink>(
+    connection: &mut Connection<S>,
+    table: Owned,
+    sink: &mut K,
+) -> Result<(), WalkFault<K::Refusal>>
+    requires autocommit { connection.old.in_transaction ≡ false }
+    requires idle { IsIdleOver by_domain (state S.Store connection.old) }
+    requires is_open { HasCleanDisk (state S.Store connection.old) → IsTrue (state S.Store connection.old).is_open }
+    ensures handed { HasCleanDisk (state S.Store connection.new)
+        → HandsOut K.Took K.Refuses (ShowsOwners (owned_name table) (owned_place table) (state S.Store connection.old).now) sink.old sink.new result }
+    ensures looked { IsLookUp (state S.Store connection.old) (state S.Store connection.new) result (λ _ _. ⊤) }
 {
-    tx.query_all("SELECT domain FROM d_language ORDER BY domain", &[])
-}
-
-/// Of which domain each unit is, in the order of these names.
-fn unit_owners<S: Alter>(tx: &mut Transaction<'_, S>) -> Result<Vec<Row>, Error>
-    requires steady { IsSteadyOver by_domain (state S.Store tx.old.conn.now) }
-    ensures same_reference { tx.new.conn.ghost_name ≡ tx.old.conn.ghost_name }
-    ensures found { IsReadOf by_domain (state S.Store tx.old.conn.now) (state S.Store tx.new.conn.now) result
-        (λ db rows. ShowsOwners (codes "d_unit") 1 db rows.items) }
-    ensures disk { BlamesTruly (state S.Store tx.old.conn.now) (state S.Store tx.new.conn.now) result }
-{
-    tx.query_all("SELECT domain FROM d_unit ORDER BY domain", &[])
-}
-
-/// Of which domain each suggestion is, in the order of these names.
-fn suggestion_owners<S: Alter>(tx: &mut Transaction<'_, S>) -> Result<Vec<Row>, Error>
-    requires steady { IsSteadyOver by_domain (state S.Store tx.old.conn.now) }
-    ensures same_reference { tx.new.conn.ghost_name ≡ tx.old.conn.ghost_name }
-    ensures found { IsReadOf by_domain (state S.Store tx.old.conn.now) (state S.Store tx.new.conn.now) result
-        (λ db rows. ShowsOwners (codes "d_suggestion") 2 db rows.items) }
-    ensures disk { BlamesTruly (state S.Store tx.old.conn.now) (state S.Store tx.new.conn.now) result }
-{
-    tx.query_all("SELECT domain FROM d_suggestion ORDER BY domain", &[])
-}
-
-/// The domains that there are, and the domain of each row that has a column for one.
-pub fn all_owners<S: Alter>(tx: &mut Transaction<'_, S>) -> Result<Owners, Error>
-    requires steady { IsSteadyOver by_domain (state S.Store tx.old.conn.now) }
-    ensures same_reference { tx.new.conn.ghost_name ≡ tx.old.conn.ghost_name }
-    ensures found { IsReadOf by_domain (state S.Store tx.old.conn.now) (state S.Store tx.new.conn.now) result ShowsAllOwners }
-{
-    let domains = all_domains(tx)?;
-    let template = template_owners(tx)?;
-    let languages = language_owners(tx)?;
-    let units = unit_owners(tx)?;
-    let suggestions = suggestion_owners(tx)?;
-    Ok(Owners {
-        domains,
-        template,
-        languages,
-        units,
-        suggestions,
-    })
+    walk(connection, owners_text(table), &[], sink)
 }

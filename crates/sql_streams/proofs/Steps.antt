@@ -1,14 +1,16 @@
 -- One step of a walk after another.
-use Rattle.std.proofs.Common.{◌≡◌, ◌⊎◌, inl, inr, false, ℕ, List, [], ◌∷◌, ◌++◌, None, Some, IsTrue, refl, arith}
+use Rattle.std.proofs.Common.{◌≡◌, ◌⊎◌, inl, inr, true, false, ℕ, List, [], ◌∷◌, ◌++◌, None, Some, IsTrue, refl, arith}
 use Rattle.sqlite.specs.Order.{Row}
 use Rattle.sqlite.specs.Held.{Held, state}
-use Rattle.sqlite.specs.Given.{HasGiven, HasBegun, Advances}
+use Rattle.sqlite.specs.Given.{HasGiven, HasBegun, Advances, FailsToAdvance}
 use Rattle.sqlite.specs.Listing.{understood}
 use Rattle.sqlite.specs.State.{HasCleanDisk, Survives, IsUnchanged, Fails, CommitsShowing}
 use Rattle.sqlite.specs.declared.error.Error.{Error}
 use Rattle.sqlite.proofs.Callers.{IsPlain, unchanged_then, begun_plain, given_begin, never_commits}
 use Rattle.sqlite.proofs.StateLemmas.{survives_then, survives_weaker}
 use Rattle.sqlite_trees.specs.declared.store.Store as store
+use Rattle.sql_laws.specs.DiskErrors.{is_of_disk, HasFailed}
+use Rattle.sql_laws.proofs.DiskErrors.{failed_behind, query_of_disk}
 use Rattle.sql_streams.specs.Walks.{TookAll, TookSome, RefusedOne, StaysPut}
 use Rattle.sql_streams.proofs.Connections.{unchanged_stays, undone_stays, stays_then, begins_before, shown_before}
 
@@ -86,6 +88,12 @@ module _ {S K : Type 0} (g : store.Ghosts S) (Took : K → List Row → K → Ty
         let was = walked.reads (early clean) in
         stays_then (state g old) (state g mid) (state g new) was.1
         (elim (kept clean) [ inl failed ↦ undone_stays _ (state g mid) (state g new) e failed is_open | inr same ↦ unchanged_stays (state g mid) (state g new) same ])
+
+    -- the next row could not be read
+    pub failed_truly : (e : Error) → (HasCleanDisk (state g new) → FailsToAdvance g mid new e) → HasCleanDisk (state g new) → is_of_disk e ≡ true → HasFailed (state g old) (state g new)
+    failed_truly e fails clean blamed =
+        failed_behind (state g old) (state g mid) (state g new) (λ _. ⊥) (λ _. ⊥) walked.survives step clean
+        (query_of_disk (state g mid) (state g new) e sql params (inl (fails clean sql params walked.given (walked.reads (early clean)).0)) blamed)
 
     pub open_still : (HasCleanDisk (state g new) → IsUnchanged (state g mid) (state g new)) → HasCleanDisk (state g new) → IsTrue (state g new).is_open
     open_still same clean = (same clean).0.is_open

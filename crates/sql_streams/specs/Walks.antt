@@ -1,7 +1,8 @@
 -- What a walk over the rows of a query hands on, and what it leaves of the connection.
-use Rattle.std.specs.Prelude.{◌≡◌, ◌⊎◌, ℕ, List, [], ◌∷◌, ◌++◌, IsTrue, Result, Ok, Err}
+use Rattle.std.specs.Prelude.{◌≡◌, ◌⊎◌, ⊤, true, ℕ, List, [], ◌∷◌, ◌++◌, IsTrue, Result, Ok, Err}
 use Rattle.sqlite.specs.Order.{Row}
 use Rattle.sqlite.specs.State.{State, Begins, Shown}
+use Rattle.sql_laws.specs.DiskErrors.{is_of_disk, HasFailed}
 use Rattle.sql_streams.specs.declared.walking.WalkFault.{WalkFault}
 use Rattle.sql_streams.specs.declared.walking.WalkFault.TheVariants.{NoRows, NoSink}
 
@@ -33,6 +34,11 @@ pub record RefusedOne {K R : Type 0} (Took : K → List Row → K → Type 0) (R
 abbrev pub TookFront : {K R : Type 0} → (K → List Row → K → Type 0) → (K → Row → R → K → Type 0) → List ℕ → Row → State → K → K → WalkFault R → Type 0
 TookFront Took Refuses sql params old first last (NoRows error) = TookSome Took sql params old first last
 TookFront Took Refuses sql params old first last (NoSink refusal) = RefusedOne Took Refuses sql params old first last refusal
+
+-- a query that tells of the disk failed for it
+abbrev pub FailsTruly : {R : Type 0} → State → State → WalkFault R → Type 0
+FailsTruly old new (NoRows error) = is_of_disk error ≡ true → HasFailed old new
+FailsTruly old new (NoSink refusal) = ⊤
 
 -- What a connection that is open shows is what it showed before, or what was committed then: with no transaction open they are one.
 pub record StaysPut (old new : State) : Type 0 where

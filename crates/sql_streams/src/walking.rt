@@ -7,7 +7,7 @@ ghost use Rattle.sqlite.specs.Held.{state};
 ghost use Rattle.sqlite.specs.Listing.{understood};
 ghost use Rattle.sqlite.specs.State.{HasCleanDisk, Survives};
 ghost use Rattle.sqlite.specs.Values.{bound};
-ghost use Rattle.sql_streams.specs.Walks.{TookAll, TookFront, StaysPut};
+ghost use Rattle.sql_streams.specs.Walks.{TookAll, TookFront, StaysPut, FailsTruly};
 
 use crate::sink::RowSink;
 use sqlite::types::ValueRef;
@@ -39,6 +39,7 @@ pub fn walk<S: Alter, K: RowSink>(
     ensures is_open { HasCleanDisk (state S.Store connection.new) → OnOk result (IsTrue (state S.Store connection.new).is_open) }
     ensures mode { connection.old.in_transaction ≡ false → connection.new.in_transaction ≡ false }
     ensures survives { Survives (state S.Store connection.old) (state S.Store connection.new) (λ _. ⊥) }
+    ensures disk { HasCleanDisk (state S.Store connection.new) → IfErr result (FailsTruly (state S.Store connection.old) (state S.Store connection.new)) }
 {
     let mut rows = match connection.query(sql, params) {
         Ok(rows) => rows,

@@ -13,7 +13,7 @@ use Rattle.tables.specs.declared.faults.Lost.TheVariants.{Disk}
 use Rattle.sql_schema.specs.Whole.{IsLookUp}
 use Rattle.office_maps.specs.OfficeIn.{office_in}
 use Rattle.sql_meaning.specs.Domains.{office_of_rows}
-use Rattle.store_sql.specs.Kept.{KeepsOffice, IsAtHand, is_honest, is_whole, means, may_leave, is_stopped}
+use Rattle.store_sql.specs.Kept.{KeepsOffice, IsAtHand, is_honest, is_whole, means, may_leave, faults, is_stopped}
 use Rattle.store_sql.proofs.StillKept.{left_means, IsSettled}
 use Rattle.sql_schema.specs.Layouts.{rows_named}
 
@@ -51,10 +51,12 @@ at_hand_is s office maps is h clean = subst (IsAtHand s) is h clean
 module _ {S : Type 0} (g : store.Ghosts S) where
   -- a call that asks nothing of the connection, since the office is at hand
   pub kept_at_hand : {A : Type 0} (tables : Held S × (Bool × Bool)) (x : A) → IsSettled g → KeepsOffice (state g tables.0) → (is_honest g tables → is_whole g tables) → is_stopped g tables ≡ false
-      → IsKept {E = Lost} (is_honest g) (is_whole g) (means g) (may_leave g) (is_stopped g) tables tables (Ok x) Disk Nothing
+      → IsKept {E = Lost} (is_honest g) (is_whole g) (means g) (may_leave g) (faults g) (is_stopped g) tables tables (Ok x) Disk Nothing
   kept_at_hand tables x settled keeps whole ran = record {
     honest = λ clean. clean;
     whole = λ clean is_open. is_open;
+    counts = omega arith;
+    closes = λ clean is_open. inl is_open;
     open_still = whole;
     stops = λ clean m left. inl left;
     only = λ clean other left. left_means g tables.0 settled keeps.idle clean (whole clean) other left;

@@ -18,7 +18,7 @@ use Rattle.sql_meaning.specs.Meaning.{AreNumbered}
 use Rattle.sql_meaning.specs.Domains.{meaning_by_domain, meaning_for, TreesMean}
 use Rattle.sql_files.specs.Files.{IsOfficeFile, MakesFiles}
 use Rattle.sql_files.proofs.Stops.{look_up_keeps, look_up_leaves, commit_keeps, commit_leaves}
-use Rattle.store_sql.specs.Kept.{KeepsOffice, LeavesItsOwn, LeavesOwnTrees, LeavesReadable, is_honest, is_whole, means, may_leave, is_stopped}
+use Rattle.store_sql.specs.Kept.{KeepsOffice, LeavesItsOwn, LeavesOwnTrees, LeavesReadable, is_honest, is_whole, means, may_leave, faults, is_stopped}
 use Rattle.sql_schema.specs.Layouts.{by_domain, schema_of, rows_named}
 use Rattle.sql_files.proofs.Listed.{database_means, database_means_only}
 
@@ -63,10 +63,12 @@ module _ {S : Type 0} (g : store.Ghosts S) where
 
   -- stopped tables answer Disk, and nothing is asked of them
   pub kept_stopped : {A : Type 0} (tables : Held S × (Bool × Bool)) → IsSettled → is_stopped g tables ≡ true
-      → IsKept {A = A} (is_honest g) (is_whole g) (means g) (may_leave g) (is_stopped g) tables tables (Err Disk) Disk Nothing
+      → IsKept {A = A} (is_honest g) (is_whole g) (means g) (may_leave g) (faults g) (is_stopped g) tables tables (Err Disk) Disk Nothing
   kept_stopped tables settled stopped = record {
     honest = λ clean. clean;
     whole = λ clean is_open. is_open;
+    counts = omega arith;
+    closes = λ clean is_open. inl is_open;
     open_still = λ clean. tt;
     stops = λ clean m left. inl left;
     only = λ clean. tt;
@@ -103,10 +105,12 @@ module _ {S : Type 0} (g : store.Ghosts S) where
     -- the result of the call is that of the look-up, or says less; `gone` is its fault where the disk failed
     pub kept_looked_up_or : {B F : Type 0} (gone : F) (s : Result B F) (before after : Bool × Bool) → IsSettled → IsLeft → before.0 ≡ false
         → (OnOk r (IsTrue (state g new).is_open) → OnOk s (IsTrue (state g new).is_open)) → IfErr s (λ e. e ≡ gone → after.0 ≡ true) → (after.0 ≡ true → s ≡ Err gone)
-        → IsKept (is_honest g) (is_whole g) (means g) (may_leave g) (is_stopped g) (old, before) (new, after) s gone Nothing
+        → IsKept (is_honest g) (is_whole g) (means g) (may_leave g) (faults g) (is_stopped g) (old, before) (new, after) s gone Nothing
     kept_looked_up_or gone s before after settled left ran passes disk runs = record {
       honest = early;
       whole = λ clean is_open. (looked.same clean is_open).was_open;
+      counts = looked.survives.counts;
+      closes = looked.survives.closes;
       open_still = λ clean. passes (looked.is_open clean);
       stops = λ clean m it. elim (looked.survives.crash clean it.0 it.1) [
         | inl was ↦ inl (it.0, was, it.2)
@@ -120,7 +124,7 @@ module _ {S : Type 0} (g : store.Ghosts S) where
 
     pub kept_looked_up : {B : Type 0} (s : Result B Lost) (before after : Bool × Bool) → IsSettled → IsLeft → before.0 ≡ false → (OnOk r (IsTrue (state g new).is_open) → OnOk s (IsTrue (state g new).is_open))
         → IfErr s (λ e. e ≡ Disk → after.0 ≡ true) → (after.0 ≡ true → s ≡ Err Disk)
-        → IsKept (is_honest g) (is_whole g) (means g) (may_leave g) (is_stopped g) (old, before) (new, after) s Disk Nothing
+        → IsKept (is_honest g) (is_whole g) (means g) (may_leave g) (faults g) (is_stopped g) (old, before) (new, after) s Disk Nothing
     kept_looked_up s before after = kept_looked_up_or Disk s before after
 
   -- ---- a transaction that writes
@@ -172,10 +176,12 @@ module _ {S : Type 0} (g : store.Ghosts S) where
 
     pub kept_committed : {B : Type 0} (s : Result B Lost) (before after : Bool × Bool) → IsSettled → before.0 ≡ false → (OnOk r (IsTrue (state g new).is_open) → OnOk s (IsTrue (state g new).is_open))
         → IfErr s (λ e. e ≡ Disk → after.0 ≡ true) → (after.0 ≡ true → s ≡ Err Disk)
-        → IsKept (is_honest g) (is_whole g) (means g) (may_leave g) (is_stopped g) (old, before) (new, after) s Disk (λ m. m ≡ meaning)
+        → IsKept (is_honest g) (is_whole g) (means g) (may_leave g) (faults g) (is_stopped g) (old, before) (new, after) s Disk (λ m. m ≡ meaning)
     kept_committed s before after settled ran passes disk runs = record {
       honest = clean_before;
       whole = commits.was_open;
+      counts = commits.survives.counts;
+      closes = commits.survives.closes;
       open_still = λ clean. passes (commits.is_open clean);
       stops = λ clean m it. elim (commits.survives.crash clean it.0 it.1) [
         | inl was ↦ inl (it.0, was, it.2)

@@ -30,7 +30,7 @@ ghost use Rattle.sql_files.specs.Files.{IsOfficeFile, IsLost, KeepsFile, LeavesF
 ghost use Rattle.sqlite.specs.Effect.{IsDatabase};
 ghost use Rattle.store_sql.specs.Adopting.{AreAdopted};
 ghost use Rattle.store_sql.specs.Faults.{RefusesIn};
-ghost use Rattle.store_sql.specs.Kept.{KeepsOffice, KeepsOwnRules, LeavesItsOwn, LeavesOwnTrees, LeavesReadable, IsAtHand, is_honest, is_whole, means, may_leave, is_stopped, is_loaded};
+ghost use Rattle.store_sql.specs.Kept.{KeepsOffice, KeepsOwnRules, LeavesItsOwn, LeavesOwnTrees, LeavesReadable, IsAtHand, is_honest, is_whole, means, may_leave, faults, is_stopped, is_loaded};
 ghost use Rattle.store_sql.specs.Making.{AreMade, IsHandedBack};
 ghost use Rattle.store_sql.specs.RecordsBehind.{WereHanded};
 ghost use Rattle.store_sql.specs.declared.recorded.HandingFault.TheVariants.{NoTables as Unreadable};
@@ -203,7 +203,7 @@ impl<S: Alter> Rows<S> {
     pub(crate) fn record_of(&mut self, number: &Uuid) -> Result<Option<Record>, Lost>
         ensures answer { is_honest S.Store self.new → IfOk result (λ r. r ≡ option_map (row_of number.now) (maps.get (means S.Store self.old).book number.now)) }
         ensures same { is_honest S.Store self.new → is_whole S.Store self.new → means S.Store self.new ≡ means S.Store self.old }
-        ensures kept { IsKept (is_honest S.Store) (is_whole S.Store) (means S.Store) (may_leave S.Store) (is_stopped S.Store) self.old self.new result Disk Nothing }
+        ensures kept { IsKept (is_honest S.Store) (is_whole S.Store) (means S.Store) (may_leave S.Store) (faults S.Store) (is_stopped S.Store) self.old self.new result Disk Nothing }
     {
         if self.stopped {
             return Err(Lost::Disk);
@@ -221,7 +221,7 @@ impl<S: Alter> Rows<S> {
     pub(crate) fn role_of(&mut self, name: &Name) -> Result<Role, Lost>
         ensures answer { is_honest S.Store self.new → IfOk result (λ role. role ≡ role_in (means S.Store self.old).office.team name.now) }
         ensures same { is_honest S.Store self.new → is_whole S.Store self.new → means S.Store self.new ≡ means S.Store self.old }
-        ensures kept { IsKept (is_honest S.Store) (is_whole S.Store) (means S.Store) (may_leave S.Store) (is_stopped S.Store) self.old self.new result Disk Nothing }
+        ensures kept { IsKept (is_honest S.Store) (is_whole S.Store) (means S.Store) (may_leave S.Store) (faults S.Store) (is_stopped S.Store) self.old self.new result Disk Nothing }
     {
         if self.stopped {
             return Err(Lost::Disk);
@@ -246,7 +246,7 @@ impl<S: Alter> Rows<S> {
     ) -> Result<Option<ActContext>, Lost>
         ensures answer { is_honest S.Store self.new → IfOk result (λ r. r ≡ found_of (project_in (means S.Store self.old).office domain.now) lang.now key.now name.now) }
         ensures same { is_honest S.Store self.new → is_whole S.Store self.new → means S.Store self.new ≡ means S.Store self.old }
-        ensures kept { IsKept (is_honest S.Store) (is_whole S.Store) (means S.Store) (may_leave S.Store) (is_stopped S.Store) self.old self.new result Disk Nothing }
+        ensures kept { IsKept (is_honest S.Store) (is_whole S.Store) (means S.Store) (may_leave S.Store) (faults S.Store) (is_stopped S.Store) self.old self.new result Disk Nothing }
     {
         if self.stopped {
             return Err(Lost::Disk);
@@ -278,7 +278,7 @@ impl<S: Alter> Rows<S> {
     ) -> Result<Option<ActContext>, Lost>
         ensures answer { is_honest S.Store self.new → IfOk result (λ r. r ≡ without_suggestions (found_of (project_in (means S.Store self.old).office domain.now) lang.now key.now name.now)) }
         ensures same { is_honest S.Store self.new → is_whole S.Store self.new → means S.Store self.new ≡ means S.Store self.old }
-        ensures kept { IsKept (is_honest S.Store) (is_whole S.Store) (means S.Store) (may_leave S.Store) (is_stopped S.Store) self.old self.new result Disk Nothing }
+        ensures kept { IsKept (is_honest S.Store) (is_whole S.Store) (means S.Store) (may_leave S.Store) (faults S.Store) (is_stopped S.Store) self.old self.new result Disk Nothing }
     {
         if self.stopped {
             return Err(Lost::Disk);
@@ -309,7 +309,7 @@ impl<S: Alter> Rows<S> {
     ) -> Result<Items<Suggestion>, Lost>
         ensures answer { is_honest S.Store self.new → IfOk result (λ r. r ≡ suggestions_at (project_in (means S.Store self.old).office domain.now) lang.now key.now) }
         ensures same { is_honest S.Store self.new → is_whole S.Store self.new → means S.Store self.new ≡ means S.Store self.old }
-        ensures kept { IsKept (is_honest S.Store) (is_whole S.Store) (means S.Store) (may_leave S.Store) (is_stopped S.Store) self.old self.new result Disk Nothing }
+        ensures kept { IsKept (is_honest S.Store) (is_whole S.Store) (means S.Store) (may_leave S.Store) (faults S.Store) (is_stopped S.Store) self.old self.new result Disk Nothing }
     {
         if self.stopped {
             return Err(Lost::Disk);
@@ -333,7 +333,7 @@ impl<S: Alter> Rows<S> {
     ) -> Result<Option<Suggestion>, Lost>
         ensures answer { is_honest S.Store self.new → IfOk result (λ r. r ≡ suggestion_at (project_in (means S.Store self.old).office domain.now) lang.now key.now number.now) }
         ensures same { is_honest S.Store self.new → is_whole S.Store self.new → means S.Store self.new ≡ means S.Store self.old }
-        ensures kept { IsKept (is_honest S.Store) (is_whole S.Store) (means S.Store) (may_leave S.Store) (is_stopped S.Store) self.old self.new result Disk Nothing }
+        ensures kept { IsKept (is_honest S.Store) (is_whole S.Store) (means S.Store) (may_leave S.Store) (faults S.Store) (is_stopped S.Store) self.old self.new result Disk Nothing }
     {
         if self.stopped {
             return Err(Lost::Disk);
@@ -351,7 +351,7 @@ impl<S: Alter> Rows<S> {
     pub(crate) fn office_rows(&mut self) -> Result<(), Lost>
         ensures loaded { OnOk result (is_loaded S.Store self.new) }
         ensures same { is_honest S.Store self.new → is_whole S.Store self.new → means S.Store self.new ≡ means S.Store self.old }
-        ensures kept { IsKept (is_honest S.Store) (is_whole S.Store) (means S.Store) (may_leave S.Store) (is_stopped S.Store) self.old self.new result Disk Nothing }
+        ensures kept { IsKept (is_honest S.Store) (is_whole S.Store) (means S.Store) (may_leave S.Store) (faults S.Store) (is_stopped S.Store) self.old self.new result Disk Nothing }
     {
         if self.stopped {
             return Err(Lost::Disk);
@@ -393,7 +393,7 @@ impl<S: Alter> Rows<S> {
         ensures all { is_honest S.Store self.new → OnOk result (K.Took sink.old (entries_of (project_in (means S.Store self.old).office domain.now) lang.now) sink.new) }
         ensures cut { is_honest S.Store self.new → IfErr result (WasCutShort K.Took K.Refuses sink.old sink.new (entries_of (project_in (means S.Store self.old).office domain.now) lang.now)) }
         ensures same { is_honest S.Store self.new → is_whole S.Store self.new → means S.Store self.new ≡ means S.Store self.old }
-        ensures kept { IsKept (is_honest S.Store) (is_whole S.Store) (means S.Store) (may_leave S.Store) (is_stopped S.Store) self.old self.new result (NoTables Disk) Nothing }
+        ensures kept { IsKept (is_honest S.Store) (is_whole S.Store) (means S.Store) (may_leave S.Store) (faults S.Store) (is_stopped S.Store) self.old self.new result (NoTables Disk) Nothing }
     {
         if self.stopped {
             return Err(EachFault::NoTables(Lost::Disk));
@@ -435,7 +435,7 @@ impl<S: Alter> Rows<S> {
     pub(crate) fn counts(&mut self, domain: &Name, lang: &Lang) -> Result<Option<Tally>, Lost>
         ensures answer { is_honest S.Store self.new → IfOk result (λ r. r ≡ counts_of (project_in (means S.Store self.old).office domain.now) lang.now) }
         ensures same { is_honest S.Store self.new → is_whole S.Store self.new → means S.Store self.new ≡ means S.Store self.old }
-        ensures kept { IsKept (is_honest S.Store) (is_whole S.Store) (means S.Store) (may_leave S.Store) (is_stopped S.Store) self.old self.new result Disk Nothing }
+        ensures kept { IsKept (is_honest S.Store) (is_whole S.Store) (means S.Store) (may_leave S.Store) (faults S.Store) (is_stopped S.Store) self.old self.new result Disk Nothing }
     {
         if self.stopped {
             return Err(Lost::Disk);
@@ -464,7 +464,7 @@ impl<S: Alter> Rows<S> {
         requires rules { is_honest S.Store self.old → KeepsRules (record { office = with_write_in (means S.Store self.old).office domain.now lang.now key.now write.now; book = with_record (means S.Store self.old).book row.now }) }
         ensures done { is_honest S.Store self.new → OnOk result (means S.Store self.new ≡ record { office = with_write_in (means S.Store self.old).office domain.now lang.now key.now write.now; book = with_record (means S.Store self.old).book row.now }) }
         ensures same { is_honest S.Store self.new → is_whole S.Store self.new → OnErr result (means S.Store self.new ≡ means S.Store self.old) }
-        ensures kept { IsKept (is_honest S.Store) (is_whole S.Store) (means S.Store) (may_leave S.Store) (is_stopped S.Store) self.old self.new result Disk
+        ensures kept { IsKept (is_honest S.Store) (is_whole S.Store) (means S.Store) (may_leave S.Store) (faults S.Store) (is_stopped S.Store) self.old self.new result Disk
             (λ m. m ≡ record { office = with_write_in (means S.Store self.old).office domain.now lang.now key.now write.now; book = with_record (means S.Store self.old).book row.now }) }
     {
         if self.stopped {
@@ -500,7 +500,7 @@ impl<S: Alter> Rows<S> {
         requires rules { is_honest S.Store self.old → KeepsRules (record { office = changed_by (means S.Store self.old).office change.now; book = with_record (means S.Store self.old).book row.now }) }
         ensures done { is_honest S.Store self.new → OnOk result (means S.Store self.new ≡ record { office = changed_by (means S.Store self.old).office change.now; book = with_record (means S.Store self.old).book row.now }) }
         ensures same { is_honest S.Store self.new → is_whole S.Store self.new → OnErr result (means S.Store self.new ≡ means S.Store self.old) }
-        ensures kept { IsKept (is_honest S.Store) (is_whole S.Store) (means S.Store) (may_leave S.Store) (is_stopped S.Store) self.old self.new result Disk
+        ensures kept { IsKept (is_honest S.Store) (is_whole S.Store) (means S.Store) (may_leave S.Store) (faults S.Store) (is_stopped S.Store) self.old self.new result Disk
             (λ m. m ≡ record { office = changed_by (means S.Store self.old).office change.now; book = with_record (means S.Store self.old).book row.now }) }
     {
         if self.stopped {

@@ -1,5 +1,5 @@
 //! Tables of an office with its book.
-ghost use Rattle.std.specs.Prelude.{◌≡◌, Bool, IfOk, OnOk, OnErr, IfErr, IsTrue, option_map, is_none};
+ghost use Rattle.std.specs.Prelude.{◌≡◌, ℕ, Bool, IfOk, OnOk, OnErr, IfErr, IsTrue, option_map, is_none};
 ghost use Rattle.std.specs.FinMap as maps;
 ghost use Rattle.request_book.specs.Book.{OfficeWithBook, row_of, with_record};
 ghost use Rattle.units.specs.Project.{role_in};
@@ -54,6 +54,9 @@ pub trait Tables: Drop {
     /// What an opening reads of what is left.
     ghost reads: { Left → OfficeWithBook → Type 0 };
 
+    /// How many times the disk has failed or refused.
+    ghost faults: { Self → ℕ };
+
     /// Whether they answer `Disk` until they are opened again.
     ghost is_stopped: { Self → Bool };
 
@@ -68,13 +71,13 @@ pub trait Tables: Drop {
     fn record_of(&mut self, number: &Uuid) -> Result<Option<Record>, Lost>
         ensures answer { is_honest self.new → IfOk result (λ r. r ≡ option_map (row_of number.now) (maps.get (means self.old).book number.now)) }
         ensures same { is_honest self.new → is_whole self.new → means self.new ≡ means self.old }
-        ensures kept { IsKept is_honest is_whole means may_leave is_stopped self.old self.new result Disk Nothing };
+        ensures kept { IsKept is_honest is_whole means may_leave faults is_stopped self.old self.new result Disk Nothing };
 
     /// A caller's role: who isn't in the team is a guest.
     fn role_of(&mut self, name: &Name) -> Result<Role, Lost>
         ensures answer { is_honest self.new → IfOk result (λ role. role ≡ role_in (means self.old).office.team name.now) }
         ensures same { is_honest self.new → is_whole self.new → means self.new ≡ means self.old }
-        ensures kept { IsKept is_honest is_whole means may_leave is_stopped self.old self.new result Disk Nothing };
+        ensures kept { IsKept is_honest is_whole means may_leave faults is_stopped self.old self.new result Disk Nothing };
 
     /// What an act on a unit needs to know: the language's plural rule, the policy, the caller's role, and the unit's view, if there
     /// is one. Nothing where the domain or its language isn't there.
@@ -87,7 +90,7 @@ pub trait Tables: Drop {
     ) -> Result<Option<ActContext>, Lost>
         ensures answer { is_honest self.new → IfOk result (λ r. r ≡ found_of (project_in (means self.old).office domain.now) lang.now key.now name.now) }
         ensures same { is_honest self.new → is_whole self.new → means self.new ≡ means self.old }
-        ensures kept { IsKept is_honest is_whole means may_leave is_stopped self.old self.new result Disk Nothing };
+        ensures kept { IsKept is_honest is_whole means may_leave faults is_stopped self.old self.new result Disk Nothing };
 
     /// The same but for the unit's suggestions, which aren't read: the view has none.
     fn unit_of(
@@ -99,7 +102,7 @@ pub trait Tables: Drop {
     ) -> Result<Option<ActContext>, Lost>
         ensures answer { is_honest self.new → IfOk result (λ r. r ≡ without_suggestions (found_of (project_in (means self.old).office domain.now) lang.now key.now name.now)) }
         ensures same { is_honest self.new → is_whole self.new → means self.new ≡ means self.old }
-        ensures kept { IsKept is_honest is_whole means may_leave is_stopped self.old self.new result Disk Nothing };
+        ensures kept { IsKept is_honest is_whole means may_leave faults is_stopped self.old self.new result Disk Nothing };
 
     /// The suggestions on a unit, in their order, without the votes on them, which aren't read. None where the unit isn't there.
     fn suggestions_of(
@@ -110,7 +113,7 @@ pub trait Tables: Drop {
     ) -> Result<Items<Suggestion>, Lost>
         ensures answer { is_honest self.new → IfOk result (λ r. r ≡ suggestions_at (project_in (means self.old).office domain.now) lang.now key.now) }
         ensures same { is_honest self.new → is_whole self.new → means self.new ≡ means self.old }
-        ensures kept { IsKept is_honest is_whole means may_leave is_stopped self.old self.new result Disk Nothing };
+        ensures kept { IsKept is_honest is_whole means may_leave faults is_stopped self.old self.new result Disk Nothing };
 
     /// The suggestion of a number on a unit, with the votes on it; nothing where the unit or the suggestion isn't there.
     fn suggestion_of(
@@ -122,13 +125,13 @@ pub trait Tables: Drop {
     ) -> Result<Option<Suggestion>, Lost>
         ensures answer { is_honest self.new → IfOk result (λ r. r ≡ suggestion_at (project_in (means self.old).office domain.now) lang.now key.now number.now) }
         ensures same { is_honest self.new → is_whole self.new → means self.new ≡ means self.old }
-        ensures kept { IsKept is_honest is_whole means may_leave is_stopped self.old self.new result Disk Nothing };
+        ensures kept { IsKept is_honest is_whole means may_leave faults is_stopped self.old self.new result Disk Nothing };
 
     /// Reads what acts on the office need: team, policy, and each domain's template, headers and units. `office` then shows it.
     fn office_rows(&mut self) -> Result<(), Lost>
         ensures loaded { OnOk result (is_loaded self.new) }
         ensures same { is_honest self.new → is_whole self.new → means self.new ≡ means self.old }
-        ensures kept { IsKept is_honest is_whole means may_leave is_stopped self.old self.new result Disk Nothing };
+        ensures kept { IsKept is_honest is_whole means may_leave faults is_stopped self.old self.new result Disk Nothing };
 
     /// The office that was read, in maps; it isn't copied.
     fn office(&self) -> &OfficeMaps
@@ -151,7 +154,7 @@ pub trait Tables: Drop {
         requires rules { is_honest self.old → KeepsRules (record { office = with_write_in (means self.old).office domain.now lang.now key.now write; book = with_record (means self.old).book row }) }
         ensures done { is_honest self.new → OnOk result (means self.new ≡ record { office = with_write_in (means self.old).office domain.now lang.now key.now write; book = with_record (means self.old).book row }) }
         ensures same { is_honest self.new → is_whole self.new → OnErr result (means self.new ≡ means self.old) }
-        ensures kept { IsKept is_honest is_whole means may_leave is_stopped self.old self.new result Disk
+        ensures kept { IsKept is_honest is_whole means may_leave faults is_stopped self.old self.new result Disk
             (λ m. m ≡ record { office = with_write_in (means self.old).office domain.now lang.now key.now write; book = with_record (means self.old).book row }) };
 
     /// Writes a request's record and what its act changes, if it changes anything; or neither. The number must be new, the content a
@@ -163,7 +166,7 @@ pub trait Tables: Drop {
         requires rules { is_honest self.old → KeepsRules (record { office = changed_by (means self.old).office change; book = with_record (means self.old).book row }) }
         ensures done { is_honest self.new → OnOk result (means self.new ≡ record { office = changed_by (means self.old).office change; book = with_record (means self.old).book row }) }
         ensures same { is_honest self.new → is_whole self.new → OnErr result (means self.new ≡ means self.old) }
-        ensures kept { IsKept is_honest is_whole means may_leave is_stopped self.old self.new result Disk
+        ensures kept { IsKept is_honest is_whole means may_leave faults is_stopped self.old self.new result Disk
             (λ m. m ≡ record { office = changed_by (means self.old).office change; book = with_record (means self.old).book row }) };
 
     /// Hands the entries of a domain's language to a sink: its header, the template's entries in order, each with its unit, and the obsolete
@@ -178,13 +181,13 @@ pub trait Tables: Drop {
         ensures all { is_honest self.new → OnOk result (S.Took sink.old (entries_of (project_in (means self.old).office domain.now) lang.now) sink.new) }
         ensures cut { is_honest self.new → IfErr result (WasCutShort S.Took S.Refuses sink.old sink.new (entries_of (project_in (means self.old).office domain.now) lang.now)) }
         ensures same { is_honest self.new → is_whole self.new → means self.new ≡ means self.old }
-        ensures kept { IsKept is_honest is_whole means may_leave is_stopped self.old self.new result (NoTables Disk) Nothing };
+        ensures kept { IsKept is_honest is_whole means may_leave faults is_stopped self.old self.new result (NoTables Disk) Nothing };
 
     /// How many units of a domain's language callers see in each state; nothing where the domain or its language isn't there.
     fn counts(&mut self, domain: &Name, lang: &Lang) -> Result<Option<Tally>, Lost>
         ensures answer { is_honest self.new → IfOk result (λ r. r ≡ counts_of (project_in (means self.old).office domain.now) lang.now) }
         ensures same { is_honest self.new → is_whole self.new → means self.new ≡ means self.old }
-        ensures kept { IsKept is_honest is_whole means may_leave is_stopped self.old self.new result Disk Nothing };
+        ensures kept { IsKept is_honest is_whole means may_leave faults is_stopped self.old self.new result Disk Nothing };
 
     /// The rules of an office with its book hold.
     ghost rules: { (t : Self) → is_honest t → is_whole t → KeepsRules (means t) };

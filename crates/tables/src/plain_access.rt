@@ -34,6 +34,8 @@ impl Tables for PlainTables {
 
     ghost reads = { λ left m. m ≡ left };
 
+    ghost faults = { λ t. 0 };
+
     ghost is_stopped = { λ t. false };
 
     ghost is_loaded = { λ t. ⊤ };

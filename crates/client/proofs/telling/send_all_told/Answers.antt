@@ -1,6 +1,6 @@
 use Rattle.std.proofs.Common.{◌+◌, ◌++◌, drop, Option, sym, ap, ◌∙◌, arith}
 use Rattle.std.proofs.lemmas.List.{drop_all}
-use Rattle.po_write.proofs.Sent.{more, stopped, whole_sent}
+use Rattle.byte_streams.proofs.Sent.{more, stopped, whole_sent}
 use Rattle.request_book.specs.Replies.{Reply}
 use Rattle.sender.specs.Sending.{Sending}
 use Rattle.client.specs.SendLines.{told_line, told_lines}

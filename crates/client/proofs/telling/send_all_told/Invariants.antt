@@ -1,5 +1,5 @@
 use Rattle.std.proofs.Common.{drop}
-use Rattle.po_write.specs.Sending.{SoFar}
+use Rattle.byte_streams.specs.Sending.{SoFar}
 use Rattle.client.specs.SendLines.{told_lines}
 use Rattle.client.proofs.telling.send_all_told.Given as goal
 

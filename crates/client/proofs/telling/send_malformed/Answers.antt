@@ -1,6 +1,6 @@
 use Rattle.std.proofs.Common.{◌≡◌, refl}
 use Rattle.client.specs.SendLines.{malformed_line}
-use Rattle.po_write.proofs.Sent.{begin, more, stopped, outcome}
+use Rattle.byte_streams.proofs.Sent.{begin, more, stopped, outcome}
 use Rattle.client.proofs.telling.send_malformed.Goals as goal
 
 pub returns-in_err-send : goal.returns-in_err-send

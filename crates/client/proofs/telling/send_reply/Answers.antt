@@ -1,7 +1,7 @@
 use Rattle.std.proofs.Common.{◌≡◌, ◌++◌, refl}
 use Rattle.std.specs.Prelude.{codes, decimal}
 use Rattle.client.specs.SendLines.{reply_line}
-use Rattle.po_write.proofs.Sent.{begin, more, stopped, outcome}
+use Rattle.byte_streams.proofs.Sent.{begin, more, stopped, outcome}
 use Rattle.client.proofs.telling.send_reply.Goals as goal
 
 pub returns-in_err-send_number : goal.returns-in_err-send_number

@@ -1,7 +1,7 @@
 use Rattle.std.proofs.Common.{◌≡◌, ◌++◌, refl, sym, ap}
 use Rattle.std.specs.Prelude.{codes, decimal}
 use Rattle.commands.specs.ExportLines.{export_fault_line}
-use Rattle.po_write.proofs.Sent.{begin, more, stopped, outcome}
+use Rattle.byte_streams.proofs.Sent.{begin, more, stopped, outcome}
 use Rattle.commands.proofs.export.send_export_fault.Goals as goal
 
 pub returns-in_err-send : goal.returns-in_err-send
@@ -25,4 +25,4 @@ pub returns : goal.returns
 returns g c =
     let start : export_fault_line c.args.fault ≡ export_fault_line c.args.fault = refl in
     let number = ap (λ k. decimal k ++ codes "\n") (sym c.number.ensures) in
-    outcome _ _ _ (more (more (more (begin _ _ start) refl c.in_ok-send.ensures) number c.in_ok-send_number.ensures) refl c.in_ok-send-2.ensures) refl c.flush.ensures.sent
+    outcome _ _ _ (more (more (more (begin _ _ start) refl c.in_ok-send.ensures) number c.in_ok-send_number.ensures) refl c.in_ok-send-2.ensures) refl c.hand_on.ensures.sent

@@ -1,7 +1,7 @@
 use Rattle.std.proofs.Common.{◌≡◌, ◌++◌, refl, sym, ap}
 use Rattle.std.specs.Prelude.{codes}
 use Rattle.commands.specs.ExportLines.{receipt_line}
-use Rattle.po_write.proofs.Sent.{begin, more, stopped, outcome}
+use Rattle.byte_streams.proofs.Sent.{begin, more, stopped, outcome}
 use Rattle.commands.proofs.export.send_receipt.Goals as goal
 
 pub returns-in_err-send : goal.returns-in_err-send

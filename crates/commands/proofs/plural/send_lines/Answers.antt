@@ -1,5 +1,5 @@
 use Rattle.std.proofs.Common.{◌∙◌}
-use Rattle.po_write.proofs.Sent.{more, stopped}
+use Rattle.byte_streams.proofs.Sent.{more, stopped}
 use Rattle.commands.proofs.PluralLemmas.{line_next, fault_next}
 use Rattle.commands.proofs.plural.send_lines.Goals as goal
 

@@ -1,5 +1,5 @@
 use Rattle.std.proofs.Common.{◌≡◌, drop}
-use Rattle.po_write.specs.Sending.{SoFar}
+use Rattle.byte_streams.specs.Sending.{SoFar}
 use Rattle.commands.specs.PluralLines.{lines_of, fault_of}
 use Rattle.commands.proofs.plural.send_lines.Given as goal
 

@@ -1,6 +1,6 @@
 use Rattle.std.proofs.Common.{◌≡◌, refl}
 use Rattle.commands.specs.PluralLines.{place}
-use Rattle.po_write.proofs.Sent.{begin, more, stopped, outcome}
+use Rattle.byte_streams.proofs.Sent.{begin, more, stopped, outcome}
 use Rattle.commands.proofs.plural.send_place.Goals as goal
 
 pub returns-in_err-send : goal.returns-in_err-send

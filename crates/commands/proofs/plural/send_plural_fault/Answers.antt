@@ -2,7 +2,7 @@ use Rattle.std.proofs.Common.{◌≡◌, ◌++◌, refl, sym, ap, ◌∙◌}
 use Rattle.std.specs.Prelude.{decimal}
 use Rattle.plural_expr.specs.Faults.{fault_at}
 use Rattle.commands.specs.PluralLines.{plural_fault_line, place_of}
-use Rattle.po_write.proofs.Sent.{begin, more, stopped, outcome}
+use Rattle.byte_streams.proofs.Sent.{begin, more, stopped, outcome}
 use Rattle.commands.proofs.plural.send_plural_fault.Goals as goal
 
 pub returns-in_err-send : goal.returns-in_err-send

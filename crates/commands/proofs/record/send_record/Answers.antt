@@ -2,7 +2,7 @@ use Rattle.std.proofs.Common.{◌≡◌, ◌++◌, refl}
 use Rattle.std.specs.Prelude.{codes, decimal}
 use Rattle.request_book.specs.Words.{number_text}
 use Rattle.commands.specs.RecordLines.{record_line}
-use Rattle.po_write.proofs.Sent.{begin, more, stopped, outcome}
+use Rattle.byte_streams.proofs.Sent.{begin, more, stopped, outcome}
 use Rattle.commands.proofs.record.send_record.Goals as goal
 
 pub returns-in_err-send : goal.returns-in_err-send

@@ -1,4 +1,4 @@
-use Rattle.po_write.proofs.Sent.{more, stopped}
+use Rattle.byte_streams.proofs.Sent.{more, stopped}
 use Rattle.http_api.proofs.AnswerLemmas.{text_left}
 use Rattle.http_api.proofs.answer_bytes.send_all.Goals as goal
 

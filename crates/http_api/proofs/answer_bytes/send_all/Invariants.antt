@@ -1,5 +1,5 @@
 use Rattle.std.proofs.Common.{drop}
-use Rattle.po_write.specs.Sending.{SoFar}
+use Rattle.byte_streams.specs.Sending.{SoFar}
 use Rattle.http_api.proofs.AnswerLemmas.{joined}
 use Rattle.http_api.proofs.answer_bytes.send_all.Given as goal
 

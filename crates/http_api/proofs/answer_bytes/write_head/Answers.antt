@@ -1,5 +1,5 @@
 use Rattle.std.proofs.Common.{refl, sym}
-use Rattle.po_write.proofs.Sent.{begin, more, stopped, outcome}
+use Rattle.byte_streams.proofs.Sent.{begin, more, stopped, outcome}
 use Rattle.http_api.proofs.AnswerLemmas.{head_cut}
 use Rattle.http_api.proofs.answer_bytes.write_head.Goals as goal
 

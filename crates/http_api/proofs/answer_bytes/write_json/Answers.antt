@@ -1,5 +1,5 @@
 use Rattle.std.proofs.Common.{◌≡◌, refl}
-use Rattle.po_write.proofs.Sent.{begin, more, stopped, outcome}
+use Rattle.byte_streams.proofs.Sent.{begin, more, stopped, outcome}
 use Rattle.http_api.specs.Answers.{answer_text}
 use Rattle.http_api.specs.declared.answer_bytes.Content.TheVariants.{Json}
 use Rattle.http_api.proofs.answer_bytes.write_json.Goals as goal

@@ -1,4 +1,4 @@
-use Rattle.po_write.proofs.Sent.{more, stopped, whole_sent}
+use Rattle.byte_streams.proofs.Sent.{more, stopped, whole_sent}
 use Rattle.po_write.proofs.Pushes.{entry_left, no_entry_left}
 use Rattle.po_write.proofs.catalogue.send_entries.Goals as goal
 

@@ -1,5 +1,5 @@
 use Rattle.std.proofs.Common.{drop, nat_lt}
-use Rattle.po_write.specs.Sending.{SoFar}
+use Rattle.byte_streams.specs.Sending.{SoFar}
 use Rattle.po_write.specs.Text.{text_of}
 use Rattle.po_write.proofs.Pushes.{left_of}
 use Rattle.po_write.proofs.catalogue.send_entries.Given as goal

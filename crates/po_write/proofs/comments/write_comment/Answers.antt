@@ -1,6 +1,6 @@
 use Rattle.std.proofs.Common.{refl}
 use Rattle.po_write.proofs.Pieces.{comment_cut}
-use Rattle.po_write.proofs.Sent.{begin, more, stopped, outcome}
+use Rattle.byte_streams.proofs.Sent.{begin, more, stopped, outcome}
 use Rattle.po_write.proofs.comments.write_comment.Goals as goal
 
 pub returns-in_err-send : goal.returns-in_err-send

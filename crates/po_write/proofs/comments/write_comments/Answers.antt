@@ -1,4 +1,4 @@
-use Rattle.po_write.proofs.Sent.{more, whole_sent, stopped}
+use Rattle.byte_streams.proofs.Sent.{more, whole_sent, stopped}
 use Rattle.po_write.proofs.Pieces.{next_item, none_left}
 use Rattle.po_write.specs.Text.{comment}
 use Rattle.po_write.proofs.comments.write_comments.Goals as goal

@@ -1,6 +1,6 @@
 use Rattle.std.proofs.Common.{drop, ◌++◌, ◌∷◌, []}
 use Rattle.std.specs.Prelude.{flat_map}
-use Rattle.po_write.specs.Sending.{SoFar}
+use Rattle.byte_streams.specs.Sending.{SoFar}
 use Rattle.po_write.specs.Text.{flags_line, further}
 use Rattle.po_write.proofs.comments.write_flags.Given as goal
 

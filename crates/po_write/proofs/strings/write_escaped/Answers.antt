@@ -1,5 +1,5 @@
 use Rattle.std.proofs.Common.{ap, arith, rules}
-use Rattle.po_write.proofs.Sent.{more, whole_sent, stopped}
+use Rattle.byte_streams.proofs.Sent.{more, whole_sent, stopped}
 use Rattle.po_write.proofs.Pieces.{run_cut, no_run}
 use Rattle.po_lex.specs.Escapes.{escaped}
 use Rattle.po_write.proofs.strings.write_escaped.Goals as goal

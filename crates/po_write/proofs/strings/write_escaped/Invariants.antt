@@ -1,6 +1,6 @@
 use Rattle.std.proofs.Common.{length}
 use Rattle.po_lex.specs.Escapes.{escaped}
-use Rattle.po_write.specs.Sending.{SoFar}
+use Rattle.byte_streams.specs.Sending.{SoFar}
 use Rattle.po_write.proofs.strings.write_escaped.Given as goal
 
 abbrev pub invariant-loop-first : goal.invariant-loop-first

@@ -1,6 +1,6 @@
 use Rattle.std.proofs.Common.{refl}
 use Rattle.po_lex.specs.Lines.{keyword_text}
-use Rattle.po_write.proofs.Sent.{begin, more, stopped, outcome}
+use Rattle.byte_streams.proofs.Sent.{begin, more, stopped, outcome}
 use Rattle.po_write.proofs.Pieces.{front_and_quote}
 use Rattle.po_write.proofs.strings.write_front.Goals as goal
 

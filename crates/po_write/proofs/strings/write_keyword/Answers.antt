@@ -1,6 +1,6 @@
 use Rattle.std.proofs.Common.{◌++◌, ◌∷◌, [], refl, ap}
 use Rattle.po_lex.specs.Lines.{keyword_text}
-use Rattle.po_write.proofs.Sent.{begin, outcome}
+use Rattle.byte_streams.proofs.Sent.{begin, outcome}
 use Rattle.po_write.proofs.strings.write_keyword.Goals as goal
 
 pub returns-in-MsgidPlural : goal.returns-in-MsgidPlural

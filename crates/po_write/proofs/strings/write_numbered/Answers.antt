@@ -1,5 +1,5 @@
 use Rattle.std.proofs.Common.{refl, arith}
-use Rattle.po_write.proofs.Sent.{begin, more, whole_sent, stopped}
+use Rattle.byte_streams.proofs.Sent.{begin, more, whole_sent, stopped}
 use Rattle.po_write.proofs.Pieces.{numbered_next, numbered_end}
 use Rattle.po_write.proofs.strings.write_numbered.Goals as goal
 

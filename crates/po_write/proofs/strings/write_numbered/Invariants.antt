@@ -1,7 +1,7 @@
 use Rattle.std.proofs.Common.{◌≡◌, drop}
 use Rattle.std.specs.Prelude.{flat_map}
 use Rattle.po_text.specs.Entries.{numbered}
-use Rattle.po_write.specs.Sending.{SoFar}
+use Rattle.byte_streams.specs.Sending.{SoFar}
 use Rattle.po_write.specs.Text.{string_lines}
 use Rattle.po_write.proofs.strings.write_numbered.Given as goal
 

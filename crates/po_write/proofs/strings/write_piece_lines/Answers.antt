@@ -1,5 +1,5 @@
 use Rattle.std.proofs.Common.{refl, arith}
-use Rattle.po_write.proofs.Sent.{more, whole_sent, stopped}
+use Rattle.byte_streams.proofs.Sent.{more, whole_sent, stopped}
 use Rattle.po_write.proofs.Pieces.{piece_cut, no_pieces, some_left}
 use Rattle.po_write.proofs.strings.write_piece_lines.Goals as goal
 

@@ -1,5 +1,5 @@
 use Rattle.std.proofs.Common.{length}
-use Rattle.po_write.specs.Sending.{SoFar}
+use Rattle.byte_streams.specs.Sending.{SoFar}
 use Rattle.po_write.specs.Text.{pieces_of, piece_lines}
 use Rattle.po_write.proofs.strings.write_piece_lines.Given as goal
 

@@ -1,5 +1,5 @@
 use Rattle.std.proofs.Common.{refl}
-use Rattle.po_write.proofs.Sent.{begin, more, stopped, outcome}
+use Rattle.byte_streams.proofs.Sent.{begin, more, stopped, outcome}
 use Rattle.po_write.proofs.Pieces.{many_behind_quote, one_behind_quote}
 use Rattle.po_write.proofs.strings.write_pieces.Goals as goal
 

@@ -1,5 +1,5 @@
 use Rattle.std.proofs.Common.{refl}
-use Rattle.po_write.proofs.Sent.{begin, more, whole_sent, stopped}
+use Rattle.byte_streams.proofs.Sent.{begin, more, whole_sent, stopped}
 use Rattle.po_write.proofs.Pieces.{single_next, single_end}
 use Rattle.po_write.proofs.strings.write_single.Goals as goal
 

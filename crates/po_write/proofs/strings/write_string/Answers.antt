@@ -1,5 +1,5 @@
 use Rattle.std.proofs.Common.{refl, sym, ap, ◌∙◌, drop}
-use Rattle.po_write.proofs.Sent.{begin, more, stopped, outcome}
+use Rattle.byte_streams.proofs.Sent.{begin, more, stopped, outcome}
 use Rattle.po_write.proofs.Pieces.{quote_in_front}
 use Rattle.po_write.specs.Text.{front_of, string_lines, string_pieces}
 use Rattle.po_write.proofs.strings.write_string.Goals as goal

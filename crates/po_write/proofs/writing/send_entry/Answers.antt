@@ -1,5 +1,5 @@
 use Rattle.std.proofs.Common.{sym, ap, ◌++◌}
-use Rattle.po_write.proofs.Sent.{begin, more, stopped, outcome}
+use Rattle.byte_streams.proofs.Sent.{begin, more, stopped, outcome}
 use Rattle.po_write.proofs.Pieces.{entry_cut, after_translator, after_extracted, after_references, after_flags, after_previous}
 use Rattle.std.specs.Prelude.{codes, flat_map}
 use Rattle.po_text.specs.Entries.{previous_strings, entry_strings}

@@ -1,5 +1,5 @@
 use Rattle.std.proofs.Common.{refl, ap}
-use Rattle.po_write.proofs.Sent.{begin, more, stopped, outcome}
+use Rattle.byte_streams.proofs.Sent.{begin, more, stopped, outcome}
 use Rattle.po_write.specs.Text.{entry_text, separated}
 use Rattle.po_write.proofs.writing.send_separated.Goals as goal
 

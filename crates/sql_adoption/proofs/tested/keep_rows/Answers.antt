@@ -1,13 +1,12 @@
-use Rattle.std.proofs.Common.{Ok, true, false, sym, subst}
-use Rattle.std.proofs.lemmas.Result.{err_from_is_err_and}
+use Rattle.std.proofs.Common.{Ok, true, false}
+use Rattle.std.proofs.lemmas.Result.{IfErr-weaker, err_from_is_err_and}
 use Rattle.sqlite.specs.Held.{state}
+use Rattle.sqlite.specs.Effect.{Database}
 use Rattle.office_maps.specs.OfficeIn.{office_in}
 use Rattle.sql_schema.specs.Layouts.{for_main, by_domain}
-use Rattle.sql_schema.specs.Whole.{IsIdleOver, IsLookUp}
-use Rattle.sql_adoption.specs.Tables.{form_told}
-use Rattle.sql_adoption.specs.declared.faults.OpenFault.{OpenFault}
-use Rattle.sql_adoption.proofs.Looked.{idle_still}
-use Rattle.sql_adoption.proofs.Kept.{kept_refused, book_alone_kept, rows_are_kept, rows_refused}
+use Rattle.sql_adoption.specs.Reading.{IsReadOf}
+use Rattle.sql_layouts.specs.Tables.{form_told}
+use Rattle.sql_adoption.proofs.Kept.{kept_refused, book_alone_kept, kept_anyway, rows_are_kept, rows_refused}
 use Rattle.sql_adoption.proofs.tested.keep_rows.Goals as goal
 
 pub keep_book-requires-clause-idle : goal.keep_book-requires-clause-idle
@@ -15,47 +14,51 @@ keep_book-requires-clause-idle g c = (form_told c.args.form, c.requires.idle)
 
 pub returns-in-ForMain-clause-found : goal.returns-in-ForMain-clause-found
 returns-in-ForMain-clause-found g c =
-    let old = state g.S.Store c.args.connection.now in
-    rw c.in-ForMain.is (book_alone_kept _ _ (office_in c.args.read.now.maps) old (state g.S.Store c.keep_book.new.connection) c.in_ok-keep_book.ensures.found)
+    rw c.in-ForMain.is (book_alone_kept (office_in c.args.read.now.maps) (λ db. IsReadOf (for_main false) db c.args.read.now) (state g.S.Store c.args.connection.now) (state g.S.Store c.keep_book.new.connection) c.keep_book.result
+    c.keep_book.ensures.found)
 
-pub keep_main_figures-requires-clause-idle : goal.keep_main_figures-requires-clause-idle
-keep_main_figures-requires-clause-idle g c =
-    let old = state g.S.Store c.args.connection.now in
-    let idle = subst (λ form. IsIdleOver (form_told form) old) c.in-WithFigures.is c.requires.idle in
-    idle_still old (state g.S.Store c.keep_book.new.connection) _ _ idle c.in_ok-keep_book.ensures.found
+pub returns-in-ForMain-clause-refused : goal.returns-in-ForMain-clause-refused
+returns-in-ForMain-clause-refused g c =
+    rw c.in-ForMain.is (IfErr-weaker c.keep_book.result _ _ (λ fault refused clean given. kept_refused (for_main false) (office_in c.args.read.now.maps) (state g.S.Store c.args.connection.now).now fault (refused clean)) c.keep_book.ensures.refused)
 
-pub returns-in-WithFigures-clause-found : goal.returns-in-WithFigures-clause-found
-returns-in-WithFigures-clause-found g c =
+pub returns-in_ok-keep_book-in-WithFigures-clause-found : goal.returns-in_ok-keep_book-in-WithFigures-clause-found
+returns-in_ok-keep_book-in-WithFigures-clause-found g c =
     let old = state g.S.Store c.args.connection.now in
-    rw c.in-WithFigures.is (rows_are_kept (for_main true) _ (office_in c.args.read.now.maps) old (state g.S.Store c.keep_book.new.connection) (state g.S.Store c.keep_main_figures.new.connection) c.keep_main_figures.result
-    c.in_ok-keep_book.ensures.found c.keep_main_figures.ensures.found)
+    let mid = state g.S.Store c.keep_book-in-WithFigures.new.connection in
+    let office = office_in c.args.read.now.maps in
+    let Given : Database → Type 0 = λ db. IsReadOf (for_main true) db c.args.read.now in
+    rw c.in-WithFigures.is (rows_are_kept (for_main true) _ office Given old mid (state g.S.Store c.keep_main_figures.new.connection) c.keep_main_figures.result
+    (kept_anyway office Given old mid (Ok _) c.in_ok-keep_book-in-WithFigures.ensures.found) c.keep_main_figures.ensures.found)
 
-pub returns-in-WithFigures-clause-refused : goal.returns-in-WithFigures-clause-refused
-returns-in-WithFigures-clause-refused g c =
+pub returns-in_ok-keep_book-in-WithFigures-clause-refused : goal.returns-in_ok-keep_book-in-WithFigures-clause-refused
+returns-in_ok-keep_book-in-WithFigures-clause-refused g c =
     let old = state g.S.Store c.args.connection.now in
-    rw c.in-WithFigures.is (rows_refused (for_main true) _ (office_in c.args.read.now.maps) old (state g.S.Store c.keep_book.new.connection) (state g.S.Store c.keep_main_figures.new.connection) c.keep_main_figures.result
-    c.in_ok-keep_book.ensures.found c.keep_main_figures.ensures.found c.keep_main_figures.ensures.refused)
+    let mid = state g.S.Store c.keep_book-in-WithFigures.new.connection in
+    let office = office_in c.args.read.now.maps in
+    let Given : Database → Type 0 = λ db. IsReadOf (for_main true) db c.args.read.now in
+    rw c.in-WithFigures.is (rows_refused (for_main true) _ office Given old mid (state g.S.Store c.keep_main_figures.new.connection) c.keep_main_figures.result
+    (kept_anyway office Given old mid (Ok _) c.in_ok-keep_book-in-WithFigures.ensures.found) c.keep_main_figures.ensures.found c.keep_main_figures.ensures.refused)
 
-pub keep_figures-requires-clause-idle : goal.keep_figures-requires-clause-idle
-keep_figures-requires-clause-idle g c =
-    let old = state g.S.Store c.args.connection.now in
-    let idle = subst (λ form. IsIdleOver (form_told form) old) c.in-ByDomain.is c.requires.idle in
-    idle_still old (state g.S.Store c.keep_book.new.connection) _ _ idle c.in_ok-keep_book.ensures.found
+pub returns-in_ok-keep_recorded-in-ByDomain-clause-found : goal.returns-in_ok-keep_recorded-in-ByDomain-clause-found
+returns-in_ok-keep_recorded-in-ByDomain-clause-found g c =
+    let Given : Database → Type 0 = λ db. IsReadOf by_domain db c.args.read.now in
+    rw c.in-ByDomain.is (rows_are_kept by_domain _ (office_in c.args.read.now.maps) Given (state g.S.Store c.args.connection.now) (state g.S.Store c.keep_recorded.new.connection) (state g.S.Store c.keep_figures.new.connection)
+    c.keep_figures.result c.in_ok-keep_recorded-in-ByDomain.ensures.found c.keep_figures.ensures.found)
 
-pub returns-in-ByDomain-clause-found : goal.returns-in-ByDomain-clause-found
-returns-in-ByDomain-clause-found g c =
-    let old = state g.S.Store c.args.connection.now in
-    rw c.in-ByDomain.is (rows_are_kept by_domain _ (office_in c.args.read.now.maps) old (state g.S.Store c.keep_book.new.connection) (state g.S.Store c.keep_figures.new.connection) c.keep_figures.result
-    c.in_ok-keep_book.ensures.found c.keep_figures.ensures.found)
+pub returns-in_ok-keep_recorded-in-ByDomain-clause-refused : goal.returns-in_ok-keep_recorded-in-ByDomain-clause-refused
+returns-in_ok-keep_recorded-in-ByDomain-clause-refused g c =
+    let Given : Database → Type 0 = λ db. IsReadOf by_domain db c.args.read.now in
+    rw c.in-ByDomain.is (rows_refused by_domain _ (office_in c.args.read.now.maps) Given (state g.S.Store c.args.connection.now) (state g.S.Store c.keep_recorded.new.connection) (state g.S.Store c.keep_figures.new.connection)
+    c.keep_figures.result c.in_ok-keep_recorded-in-ByDomain.ensures.found c.keep_figures.ensures.found c.keep_figures.ensures.refused)
 
-pub returns-in-ByDomain-clause-refused : goal.returns-in-ByDomain-clause-refused
-returns-in-ByDomain-clause-refused g c =
-    let old = state g.S.Store c.args.connection.now in
-    rw c.in-ByDomain.is (rows_refused by_domain _ (office_in c.args.read.now.maps) old (state g.S.Store c.keep_book.new.connection) (state g.S.Store c.keep_figures.new.connection) c.keep_figures.result
-    c.in_ok-keep_book.ensures.found c.keep_figures.ensures.found c.keep_figures.ensures.refused)
-
-pub returns-in_err-keep_book-clause-refused : goal.returns-in_err-keep_book-clause-refused
-returns-in_err-keep_book-clause-refused g c =
+pub returns-in_err-keep_book-in-WithFigures-clause-refused : goal.returns-in_err-keep_book-in-WithFigures-clause-refused
+returns-in_err-keep_book-in-WithFigures-clause-refused g c =
     let p = err_from_is_err_and c.from_residual.result c.from_residual.ensures.1 in
-    rw (p.1, p.2) (λ clean. kept_refused (form_told c.args.form) (office_in c.args.read.now.maps) (state g.S.Store c.args.connection.now).now c.in_err-keep_book.field-0.0
-    (c.in_err-keep_book.ensures.refused clean))
+    rw (c.in-WithFigures.is, p.1, p.2) (λ clean given. kept_refused (for_main true) (office_in c.args.read.now.maps) (state g.S.Store c.args.connection.now).now c.in_err-keep_book-in-WithFigures.field-0.0
+    (c.in_err-keep_book-in-WithFigures.ensures.refused clean))
+
+pub returns-in_err-keep_recorded-in-ByDomain-clause-refused : goal.returns-in_err-keep_recorded-in-ByDomain-clause-refused
+returns-in_err-keep_recorded-in-ByDomain-clause-refused g c =
+    let p = err_from_is_err_and c.from_residual-in_err-keep_recorded-in-ByDomain.result c.from_residual-in_err-keep_recorded-in-ByDomain.ensures.1 in
+    rw (c.in-ByDomain.is, p.1, p.2) (λ clean given. kept_refused by_domain (office_in c.args.read.now.maps) (state g.S.Store c.args.connection.now).now c.in_err-keep_recorded-in-ByDomain.field-0.0
+    (c.in_err-keep_recorded-in-ByDomain.ensures.refused clean))

@@ -11,7 +11,7 @@ use Rattle.tables.specs.declared.faults.EachFault.{EachFault}
 use Rattle.tables.specs.declared.faults.EachFault.TheVariants.{NoTables}
 use Rattle.tables.specs.declared.faults.Lost.TheVariants.{Disk}
 use Rattle.sql_meaning.specs.Domains.{office_of_rows, meaning_by_domain}
-use Rattle.store_sql.specs.Kept.{is_honest, is_whole, means, may_leave, is_stopped}
+use Rattle.store_sql.specs.Kept.{is_honest, is_whole, means, may_leave, faults, is_stopped}
 use Rattle.store_sql.proofs.StillKept.{kept_looked_up_or, keeps_still}
 use Rattle.sqlite.specs.Effect.{Database}
 use Rattle.store_sql.proofs.AtHand.{none_at_hand, at_hand_still}
@@ -21,7 +21,7 @@ use Rattle.sql_schema.specs.Layouts.{rows_named}
 pub returns-in-Ok-clause-kept : goal.returns-in-Ok-clause-kept
 returns-in-Ok-clause-kept g c =
     let flags : Bool × Bool = (c.self.inside.stopped, is_some c.self.inside.office) in
-    subst (λ old. IsKept {A = Unit {0}} {E = EachFault g.row.K-Refusal.Denot} (is_honest g.S.Store) (is_whole g.S.Store) (means g.S.Store) (may_leave g.S.Store) (is_stopped g.S.Store) old
+    subst (λ old. IsKept {A = Unit {0}} {E = EachFault g.row.K-Refusal.Denot} (is_honest g.S.Store) (is_whole g.S.Store) (means g.S.Store) (may_leave g.S.Store) (faults g.S.Store) (is_stopped g.S.Store) old
     (c.hand_entries.new.connection, flags) (Ok (tt {0})) (NoTables Disk) Nothing)
     c.self.view_is
     (kept_looked_up_or g.S.Store c.self.inside.connection c.hand_entries.new.connection (Ok (tt {0})) (λ _ _. ⊤) c.self.invariant.1 c.in-Ok.ensures.looked (NoTables Disk) (Ok (tt {0})) flags flags

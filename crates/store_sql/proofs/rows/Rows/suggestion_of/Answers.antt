@@ -10,7 +10,7 @@ use Rattle.tables.specs.Stops.{Nothing}
 use Rattle.tables.specs.declared.faults.Lost.{Lost}
 use Rattle.tables.specs.declared.faults.Lost.TheVariants.{Disk}
 use Rattle.sql_meaning.specs.Domains.{office_of_rows, meaning_by_domain}
-use Rattle.store_sql.specs.Kept.{is_honest, is_whole, means, may_leave, is_stopped}
+use Rattle.store_sql.specs.Kept.{is_honest, is_whole, means, may_leave, faults, is_stopped}
 use Rattle.store_sql.proofs.AtHand.{at_hand_still, none_at_hand}
 use Rattle.store_sql.proofs.StillKept.{keeps_still, kept_looked_up}
 use Rattle.sqlite.specs.State.{HasCleanDisk}
@@ -33,7 +33,7 @@ returns-in-Ok-clause-answer g c = λ clean.
 
 pub returns-in-Ok-clause-kept : goal.returns-in-Ok-clause-kept
 returns-in-Ok-clause-kept g c =
-    subst (λ old. IsKept {A = Option Suggestion} {E = Lost} (is_honest g.S.Store) (is_whole g.S.Store) (means g.S.Store) (may_leave g.S.Store) (is_stopped g.S.Store) old (c.read_suggestion.new.connection, (c.self.inside.stopped, is_some c.self.inside.office)) (Ok c.in-Ok.found) Disk Nothing)
+    subst (λ old. IsKept {A = Option Suggestion} {E = Lost} (is_honest g.S.Store) (is_whole g.S.Store) (means g.S.Store) (may_leave g.S.Store) (faults g.S.Store) (is_stopped g.S.Store) old (c.read_suggestion.new.connection, (c.self.inside.stopped, is_some c.self.inside.office)) (Ok c.in-Ok.found) Disk Nothing)
     c.self.view_is
     (kept_looked_up g.S.Store c.self.inside.connection c.read_suggestion.new.connection (Ok c.in-Ok.found) (λ db r. r ≡ suggestion_at (project_in (office_of_rows (rows_named db)) c.args.domain.now) c.args.lang.now c.args.key.now c.args.number.now)
     c.self.invariant.1 c.in-Ok.ensures.found (Ok c.in-Ok.found) (c.self.inside.stopped, is_some c.self.inside.office) (c.self.inside.stopped, is_some c.self.inside.office)
