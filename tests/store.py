@@ -236,9 +236,14 @@ def counts(db):
 # ---- statements
 
 
+def in_one_piece(source):
+    """The source, with each text that `concat!` makes of pieces, a line each, as one."""
+    return re.sub(r"concat!\((.*?)\n *\)", lambda it: '"%s"' % "".join(re.findall(r'^ *"([^"]*)"', it[1], re.MULTILINE)), source, flags=re.DOTALL)
+
+
 def texts_of(path, first):
     """The texts of SQL in a source that begin so."""
-    return re.findall(r'"((?:%s) [^"]*)"' % first, path.read_text())
+    return re.findall(r'"((?:%s) [^"]*)"' % first, in_one_piece(path.read_text()))
 
 
 def plan(db, text):

@@ -12,6 +12,7 @@ use Rattle.http_messages.specs.Arrivals as arrivals
 use Rattle.http_messages.specs.declared.inbox.ReadFault.{ReadFault}
 use Rattle.http_messages.specs.declared.inbox.Arrival.{Arrival}
 use Rattle.http_messages.specs.declared.inbox.Arrival.TheVariants as arrival
+use Rattle.http_messages.specs.declared.inbox.Lengths.{Lengths}
 use Rattle.http_api.specs.declared.connection.Next.{Next}
 use Rattle.http_api.specs.declared.connection.Next.TheVariants.{Last}
 use Rattle.http_api.specs.declared.faults.ServeFault.{ServeFault}
@@ -46,33 +47,33 @@ stepped Same {Did = Did} {Wrote = Wrote} {l0 = l0} {l1 = l1} {f0 = f0} {f1 = f1}
     by true e = (one, e)
     by false e = (one, e, behind)
 
-pub message_step : (Same : Type 0) (Did : Asked → Outcome → Type 0) (Honest Stopped : Type 0) (l0 l1 : Option (List ℕ)) (f0 f1 : ℕ) (old at_hand now : List ℕ) (full : Bool) (w0 w1 : Writer) (what : Arrival) (head body : ℕ) (r : Result Next ServeFault)
-    → what ≡ arrival.Message head body → ReadBehind l0 l1 f0 f1 old at_hand → WasWanted old at_hand → Arrives l1 at_hand what
-    → (o : Outcome) → Did (asking_in at_hand head body).asked o → Writes Honest Stopped w0 w1 o ((asking_in at_hand head body).ends || full) r
-    → IfOk r (λ next. next ≡ next_of ((asking_in at_hand head body).ends || full)) → OnOk r (now ≡ drop (head + body) at_hand)
+pub message_step : (Same : Type 0) (Did : Asked → Outcome → Type 0) (Honest Stopped : Type 0) (l0 l1 : Option (List ℕ)) (f0 f1 : ℕ) (old at_hand now : List ℕ) (full : Bool) (w0 w1 : Writer) (what : Arrival) (lengths : Lengths) (r : Result Next ServeFault)
+    → what ≡ arrival.Message lengths → ReadBehind l0 l1 f0 f1 old at_hand → WasWanted old at_hand → Arrives l1 at_hand what
+    → (o : Outcome) → Did (asking_in at_hand lengths.head lengths.body).asked o → Writes Honest Stopped w0 w1 o ((asking_in at_hand lengths.head lengths.body).ends || full) r
+    → IfOk r (λ next. next ≡ next_of ((asking_in at_hand lengths.head lengths.body).ends || full)) → OnOk r (now ≡ drop (lengths.head + lengths.body) at_hand)
     → MatchResult r (Stepped Same Did (λ o last. Honest → TakesAll w0 w1 (outcome_answer o last)) l0 l1 f0 f1 old now full)
     (λ f. SteppedOff Same Did (λ o last. Honest → WroteBeginning Stopped w0 w1 o last f) l0 l1 f0 f1 old full f)
-message_step Same Did Honest Stopped l0 l1 f0 f1 old at_hand now full w0 w1 what head body (Ok x) is read wanted came o did wrote next behind = let arrives = subst (Arrives l1 at_hand) is came in stepped Same x
+message_step Same Did Honest Stopped l0 l1 f0 f1 old at_hand now full w0 w1 what lengths (Ok x) is read wanted came o did wrote next behind = let arrives = subst (Arrives l1 at_hand) is came in stepped Same x
     (record {
       at_hand = at_hand;
       read = read;
       wanted = wanted;
       some = arrives.0;
-      asking = asking_in at_hand head body;
-      behind = drop (head + body) at_hand;
+      asking = asking_in at_hand lengths.head lengths.body;
+      behind = drop (lengths.head + lengths.body) at_hand;
       first = whatever_follows arrives.2;
       outcome = o;
       came = did;
       wrote = wrote;
     })
     next behind
-message_step Same Did Honest Stopped l0 l1 f0 f1 old at_hand now full w0 w1 what head body (Err f) is read wanted came o did wrote next behind = let arrives = subst (Arrives l1 at_hand) is came in broke_off (record {
+message_step Same Did Honest Stopped l0 l1 f0 f1 old at_hand now full w0 w1 what lengths (Err f) is read wanted came o did wrote next behind = let arrives = subst (Arrives l1 at_hand) is came in broke_off (record {
   at_hand = at_hand;
   read = read;
   wanted = wanted;
   some = arrives.0;
-  asking = asking_in at_hand head body;
-  behind = drop (head + body) at_hand;
+  asking = asking_in at_hand lengths.head lengths.body;
+  behind = drop (lengths.head + lengths.body) at_hand;
   first = whatever_follows arrives.2;
   outcome = o;
   came = did;

@@ -15,7 +15,7 @@ use crate::answers::{answer, send_refusal};
 use crate::faults::ServeFault;
 use crate::turns::MessagesBehind;
 use byte_streams::ByteSink;
-use http_messages::{Arrival, Inbox, Refusal, Routes};
+use http_messages::{Arrival, Inbox, Lengths, Refusal, Routes};
 use office::Desk;
 use std::alloc::Global;
 use tables::Tables;
@@ -74,27 +74,25 @@ fn refuse<W: ByteSink>(refusal: Refusal, w: &mut W) -> Result<Next, ServeFault>
     hand_on(w).and(Ok(Next::Last))
 }
 
-/// Answers the message at the front, by how many bytes its head and its body have; `full` says that no more may be answered. Tells
-/// whether the answer is the last one.
+/// Answers the message of these lengths at the front; `full` says that no more may be answered. Tells whether the answer is the last one.
 fn answer_front<T: Tables, W: ByteSink>(
     alloc: Global,
     routes: &Routes,
     desk: &mut Desk<T>,
     inbox: &Inbox,
-    head: usize,
-    body: usize,
+    lengths: Lengths,
     full: bool,
     w: &mut W,
 ) -> Result<bool, ServeFault>
-    requires within { head + body ≤ length inbox.now }
+    requires within { lengths.head + lengths.body ≤ length inbox.now }
     ensures answered { (o : Outcome)
-        × ComesTo T.is_honest T.is_whole T.is_stopped T.means desk.old desk.new (asking_in inbox.now head body).asked o
+        × ComesTo T.is_honest T.is_whole T.is_stopped T.means desk.old desk.new (asking_in inbox.now lengths.head lengths.body).asked o
         × Writes (T.is_honest desk.new) (T.is_stopped desk.new ≡ true)
-        (writer_at W.taken W.failed w.old) (writer_at W.taken W.failed w.new) o ((asking_in inbox.now head body).ends || full) result }
-    ensures last { IfOk result (λ last. last ≡ ((asking_in inbox.now head body).ends || full)) }
+        (writer_at W.taken W.failed w.old) (writer_at W.taken W.failed w.new) o ((asking_in inbox.now lengths.head lengths.body).ends || full) result }
+    ensures last { IfOk result (λ last. last ≡ ((asking_in inbox.now lengths.head lengths.body).ends || full)) }
     ensures failures { TellsFailures (T.is_stopped desk.new ≡ true) (W.failed w.old) (W.failed w.new) result }
 {
-    match inbox.asking(alloc, routes, head, body) {
+    match inbox.asking(alloc, routes, lengths) {
         Ok(asking) => {
             let last = is_last(asking.ends, full);
             answer(alloc, desk, asking.asked, last, w).and(Ok(last))
@@ -106,30 +104,29 @@ fn answer_front<T: Tables, W: ByteSink>(
     }
 }
 
-/// Answers the message at the front, takes it off, and hands the answer on.
+/// Answers the message of these lengths at the front, takes it off, and hands the answer on.
 fn serve_message<T: Tables, W: ByteSink>(
     alloc: Global,
     routes: &Routes,
     desk: &mut Desk<T>,
     inbox: &mut Inbox,
-    head: usize,
-    body: usize,
+    lengths: Lengths,
     full: bool,
     w: &mut W,
 ) -> Result<Next, ServeFault>
-    requires within { head + body ≤ length inbox.old }
+    requires within { lengths.head + lengths.body ≤ length inbox.old }
     ensures answered { (o : Outcome)
-        × ComesTo T.is_honest T.is_whole T.is_stopped T.means desk.old desk.new (asking_in inbox.old head body).asked o
+        × ComesTo T.is_honest T.is_whole T.is_stopped T.means desk.old desk.new (asking_in inbox.old lengths.head lengths.body).asked o
         × Writes (T.is_honest desk.new) (T.is_stopped desk.new ≡ true)
-        (writer_at W.taken W.failed w.old) (writer_at W.taken W.failed w.new) o ((asking_in inbox.old head body).ends || full) result }
-    ensures next { IfOk result (λ next. next ≡ next_of ((asking_in inbox.old head body).ends || full)) }
-    ensures behind { OnOk result (inbox.new ≡ drop (head + body) inbox.old) }
+        (writer_at W.taken W.failed w.old) (writer_at W.taken W.failed w.new) o ((asking_in inbox.old lengths.head lengths.body).ends || full) result }
+    ensures next { IfOk result (λ next. next ≡ next_of ((asking_in inbox.old lengths.head lengths.body).ends || full)) }
+    ensures behind { OnOk result (inbox.new ≡ drop (lengths.head + lengths.body) inbox.old) }
     ensures handed_on { OnOk result (W.holds_back w.new ≡ false) }
     ensures failures { TellsFailures (T.is_stopped desk.new ≡ true) (W.failed w.old) (W.failed w.new) result }
 {
-    let last = answer_front(alloc, routes, desk, inbox, head, body, full, w)?;
-    inbox.take_off(head);
-    inbox.take_off(body);
+    let last = answer_front(alloc, routes, desk, inbox, lengths, full, w)?;
+    inbox.take_off(lengths.head);
+    inbox.take_off(lengths.body);
     hand_on(w).and(Ok(next_of(last)))
 }
 
@@ -161,9 +158,7 @@ fn serve_one<T: Tables, R: MessagesBehind<W>, W: ByteSink>(
     match source.message_behind(w, inbox)? {
         Arrival::End => Ok(Next::End),
         Arrival::Refused(refusal) => refuse(refusal, w),
-        Arrival::Message { head, body } => serve_message(
-            alloc, routes, desk, inbox, head, body, full, w,
-        ),
+        Arrival::Message(lengths) => serve_message(alloc, routes, desk, inbox, lengths, full, w),
     }
 }
 

@@ -190,8 +190,8 @@ cut_short left old piece bytes n size is within wants behind short end = subst (
         rw (length-drop n (old ++ piece)) (omega arith)
 
 pub whole_message : (left : Option (List ℕ)) (old piece bytes : List ℕ) (n size : ℕ) → Some (take n old) ≡ first_head old → n ≤ length old → WantsBody (head_of (take n old)) size
-    → bytes ≡ old ++ piece → n + size ≤ length bytes → Arrives left bytes (arrival.Message n size)
-whole_message left old piece bytes n size is within wants behind long = subst (λ bs. Arrives left bs (arrival.Message n size)) (sym behind) (some_bytes (old ++ piece) (take n old) head, enough, each)
+    → bytes ≡ old ++ piece → n + size ≤ length bytes → Arrives left bytes (arrival.Message (record { head = n; body = size }))
+whole_message left old piece bytes n size is within wants behind long = subst (λ bs. Arrives left bs (arrival.Message (record { head = n; body = size }))) (sym behind) (some_bytes (old ++ piece) (take n old) head, enough, each)
   where
     head : first_head (old ++ piece) ≡ Some (take n old)
     head = head_stays old piece (take n old) (sym is)

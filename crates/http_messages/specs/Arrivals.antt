@@ -78,9 +78,9 @@ pub data RefusedNow (left : Option (List ℕ)) (bytes : List ℕ) (refusal : Ref
 abbrev pub Arrives : Option (List ℕ) → List ℕ → Arrival → Type 0
 Arrives left bytes arrival.End = (bytes ≡ []) × IsAtEnd left
 Arrives left bytes (arrival.Refused refusal) = (0 < length bytes) × RefusedNow left bytes refusal
-Arrives left bytes (arrival.Message head body) =
-    (0 < length bytes) × (head + body ≤ length bytes)
-    × ((rest : List ℕ) → first_step (bytes ++ rest) ≡ step (asking_in bytes head body) (drop (head + body) bytes ++ rest))
+Arrives left bytes (arrival.Message lengths) =
+    (0 < length bytes) × (lengths.head + lengths.body ≤ length bytes)
+    × ((rest : List ℕ) → first_step (bytes ++ rest) ≡ step (asking_in bytes lengths.head lengths.body) (drop (lengths.head + lengths.body) bytes ++ rest))
 
 -- ---- a head, and the body that it wants
 

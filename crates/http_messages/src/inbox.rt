@@ -73,6 +73,13 @@ impl From<AllocError> for ReadFault {
     }
 }
 
+/// How many bytes the head and the body of a message have.
+#[derive(Clone, Copy, Drop)]
+pub struct Lengths {
+    pub head: usize,
+    pub body: usize,
+}
+
 /// What stands at the front of what was read.
 #[derive(Clone, Copy, Drop)]
 pub enum Arrival {
@@ -80,8 +87,8 @@ pub enum Arrival {
     End,
     /// Bytes that fail a test before any route counts, or a message that the stream ended in. The connection ends.
     Refused(Refusal),
-    /// A message, by how many bytes its head and its body have.
-    Message { head: usize, body: usize },
+    /// A message of these lengths.
+    Message(Lengths),
 }
 
 /// What was read of a stream, and not yet taken off.
@@ -218,27 +225,26 @@ impl Inbox {
         if !self.read_up_to(source, head + body)? {
             return Ok(Arrival::Refused(Refusal::Malformed));
         }
-        Ok(Arrival::Message { head, body })
+        Ok(Arrival::Message(Lengths { head, body }))
     }
 
-    /// What the message asks that stands at the front with so many bytes of its head and its body.
+    /// What the message of these lengths asks that stands at the front.
     ///
     /// An error where a growth was refused: then the message passes all tests, and asks for a unit by a query, which may name none.
     pub fn asking(
         &self,
         alloc: Global,
         routes: &Routes,
-        head: usize,
-        body: usize,
+        lengths: Lengths,
     ) -> Result<Asking<'_>, Unread>
-        requires within { head + body ≤ length self.now }
-        ensures asking { IfOk result (λ asking. IsAsking asking (asking_in self.now head body)) }
-        ensures memory { OnErr result (MayTakeMemory (asking_in self.now head body).asked) }
-        ensures ends { IfErr result (λ unread. unread.ends ≡ (asking_in self.now head body).ends) }
+        requires within { lengths.head + lengths.body ≤ length self.now }
+        ensures asking { IfOk result (λ asking. IsAsking asking (asking_in self.now lengths.head lengths.body)) }
+        ensures memory { OnErr result (MayTakeMemory (asking_in self.now lengths.head lengths.body).asked) }
+        ensures ends { IfErr result (λ unread. unread.ends ≡ (asking_in self.now lengths.head lengths.body).ends) }
     {
-        let (front, behind) = self.bytes.split_at(head);
+        let (front, behind) = self.bytes.split_at(lengths.head);
         match Head::read(front) {
-            Some(head) => asking_of(alloc, routes, &head, &behind[..body]),
+            Some(head) => asking_of(alloc, routes, &head, &behind[..lengths.body]),
             None => Ok(Asking {
                 asked: Asked::Refused(Refusal::Malformed),
                 ends: true,

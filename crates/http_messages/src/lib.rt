@@ -31,7 +31,7 @@ mod refusal;
 mod route;
 mod target;
 
-pub use inbox::{Arrival, Inbox, ReadFault};
+pub use inbox::{Arrival, Inbox, Lengths, ReadFault};
 pub use laws::router_finds_by_texts;
 pub use lines::Values;
 pub use message::{Asked, Asking, CALLER_FIELD, LanguageName, RequestParts, Unread};

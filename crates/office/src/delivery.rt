@@ -84,25 +84,31 @@ fn record_with(request: &Request, content: Text, reply: &Reply) -> Option<Record
     }
 }
 
+/// A request on a unit: the request, and of its act the unit's domain, language and key, and what is asked for.
+#[derive(Clone, Copy)]
+struct RequestOnUnit<'a> {
+    request: &'a Request,
+    domain: &'a Name,
+    lang: &'a Lang,
+    key: &'a Key,
+    act: &'a UnitAct,
+}
+
 /// What a suggestion comes to, by what was found without the unit's suggestions: these are read without the votes on them.
 fn decide_suggestion<T: Tables>(
     alloc: Global,
     tables: &mut T,
-    request: &Request,
-    domain: &Name,
-    lang: &Lang,
-    key: &Key,
-    act: &UnitAct,
+    asked: RequestOnUnit<'_>,
     found: Option<ActContext>,
 ) -> Result<UnitOutcome, Lost>
-    requires suggest { is_suggest act.now.action ≡ true }
-    requires found { T.is_honest tables.old → found ≡ without_suggestions (found_for (T.means tables.old).office domain.now lang.now key.now request.now) }
-    ensures answer { T.is_honest tables.new → IfOk result (Decides (found_for (T.means tables.old).office domain.now lang.now key.now request.now) request.now act.now) }
+    requires suggest { is_suggest asked.act.now.action ≡ true }
+    requires found { T.is_honest tables.old → found ≡ without_suggestions (found_for (T.means tables.old).office asked.domain.now asked.lang.now asked.key.now asked.request.now) }
+    ensures answer { T.is_honest tables.new → IfOk result (Decides (found_for (T.means tables.old).office asked.entry.domain.now asked.entry.lang.now asked.entry.key.now asked.entry.request.now) asked.entry.request.now asked.entry.act.now) }
     ensures same { T.is_honest tables.new → T.is_whole tables.new → T.means tables.new ≡ T.means tables.old }
     ensures kept { IsKept T.is_honest T.is_whole T.means T.may_leave T.faults T.is_stopped tables.old tables.new result Disk Nothing }
 {
-    let suggestions = tables.suggestions_of(domain, lang, key)?;
-    let outcome = suggested_outcome(alloc, found, suggestions, request, act);
+    let suggestions = tables.suggestions_of(asked.domain, asked.lang, asked.key)?;
+    let outcome = suggested_outcome(alloc, found, suggestions, asked.request, asked.act);
     Ok(outcome?)
 }
 
@@ -111,23 +117,19 @@ fn decide_suggestion<T: Tables>(
 fn decide_vote<T: Tables>(
     alloc: Global,
     tables: &mut T,
-    request: &Request,
-    domain: &Name,
-    lang: &Lang,
-    key: &Key,
-    act: &UnitAct,
+    asked: RequestOnUnit<'_>,
     named: &Uuid,
     found: Option<ActContext>,
 ) -> Result<Option<UnitOutcome>, Lost>
-    requires vote { is_vote act.now.action ≡ true }
-    requires named { named_by act.now.action ≡ Some named.now }
-    requires found { T.is_honest tables.old → found ≡ without_suggestions (found_for (T.means tables.old).office domain.now lang.now key.now request.now) }
-    ensures answer { T.is_honest tables.new → IfOk result (λ outcome. IfSome outcome (Decides (found_for (T.means tables.old).office domain.now lang.now key.now request.now) request.now act.now)) }
+    requires vote { is_vote asked.act.now.action ≡ true }
+    requires named { named_by asked.act.now.action ≡ Some named.now }
+    requires found { T.is_honest tables.old → found ≡ without_suggestions (found_for (T.means tables.old).office asked.domain.now asked.lang.now asked.key.now asked.request.now) }
+    ensures answer { T.is_honest tables.new → IfOk result (λ outcome. IfSome outcome (Decides (found_for (T.means tables.old).office asked.entry.domain.now asked.entry.lang.now asked.entry.key.now asked.entry.request.now) asked.entry.request.now asked.entry.act.now)) }
     ensures same { T.is_honest tables.new → T.is_whole tables.new → T.means tables.new ≡ T.means tables.old }
     ensures kept { IsKept T.is_honest T.is_whole T.means T.may_leave T.faults T.is_stopped tables.old tables.new result Disk Nothing }
 {
-    let suggestion = tables.suggestion_of(domain, lang, key, named)?;
-    let outcome = voted_outcome(alloc, found, suggestion, request, act);
+    let suggestion = tables.suggestion_of(asked.domain, asked.lang, asked.key, named)?;
+    let outcome = voted_outcome(alloc, found, suggestion, asked.request, asked.act);
     Ok(outcome?)
 }
 
@@ -135,18 +137,14 @@ fn decide_vote<T: Tables>(
 fn decide_whole<T: Tables>(
     alloc: Global,
     tables: &mut T,
-    request: &Request,
-    domain: &Name,
-    lang: &Lang,
-    key: &Key,
-    act: &UnitAct,
+    asked: RequestOnUnit<'_>,
 ) -> Result<UnitOutcome, Lost>
-    ensures answer { T.is_honest tables.new → IfOk result (Decides (found_for (T.means tables.old).office domain.now lang.now key.now request.now) request.now act.now) }
+    ensures answer { T.is_honest tables.new → IfOk result (Decides (found_for (T.means tables.old).office asked.entry.domain.now asked.entry.lang.now asked.entry.key.now asked.entry.request.now) asked.entry.request.now asked.entry.act.now) }
     ensures same { T.is_honest tables.new → T.is_whole tables.new → T.means tables.new ≡ T.means tables.old }
     ensures kept { IsKept T.is_honest T.is_whole T.means T.may_leave T.faults T.is_stopped tables.old tables.new result Disk Nothing }
 {
-    let found = tables.view_of(domain, lang, key, &request.caller)?;
-    let outcome = whole_outcome(alloc, found, request, act);
+    let found = tables.view_of(asked.domain, asked.lang, asked.key, &asked.request.caller)?;
+    let outcome = whole_outcome(alloc, found, asked.request, asked.act);
     Ok(outcome?)
 }
 
@@ -154,24 +152,20 @@ fn decide_whole<T: Tables>(
 fn decide_vote_or_acceptance<T: Tables>(
     alloc: Global,
     tables: &mut T,
-    request: &Request,
-    domain: &Name,
-    lang: &Lang,
-    key: &Key,
-    act: &UnitAct,
+    asked: RequestOnUnit<'_>,
     named: &Uuid,
     found: Option<ActContext>,
 ) -> Result<UnitOutcome, Lost>
-    requires vote { is_vote act.now.action ≡ true }
-    requires named { named_by act.now.action ≡ Some named.now }
-    requires found { T.is_honest tables.old → found ≡ without_suggestions (found_for (T.means tables.old).office domain.now lang.now key.now request.now) }
-    ensures answer { T.is_honest tables.new → IfOk result (Decides (found_for (T.means tables.old).office domain.now lang.now key.now request.now) request.now act.now) }
+    requires vote { is_vote asked.act.now.action ≡ true }
+    requires named { named_by asked.act.now.action ≡ Some named.now }
+    requires found { T.is_honest tables.old → found ≡ without_suggestions (found_for (T.means tables.old).office asked.domain.now asked.lang.now asked.key.now asked.request.now) }
+    ensures answer { T.is_honest tables.new → IfOk result (Decides (found_for (T.means tables.old).office asked.entry.domain.now asked.entry.lang.now asked.entry.key.now asked.entry.request.now) asked.entry.request.now asked.entry.act.now) }
     ensures same { T.is_honest tables.new → T.is_whole tables.new → T.means tables.new ≡ T.means tables.old }
     ensures kept { IsKept T.is_honest T.is_whole T.means T.may_leave T.faults T.is_stopped tables.old tables.new result Disk Nothing }
 {
-    match decide_vote(alloc, tables, request, domain, lang, key, act, named, found)? {
+    match decide_vote(alloc, tables, asked, named, found)? {
         Some(outcome) => Ok(outcome),
-        None => decide_whole(alloc, tables, request, domain, lang, key, act),
+        None => decide_whole(alloc, tables, asked),
     }
 }
 
@@ -179,28 +173,22 @@ fn decide_vote_or_acceptance<T: Tables>(
 fn decide_with_suggestions<T: Tables>(
     alloc: Global,
     tables: &mut T,
-    request: &Request,
-    domain: &Name,
-    lang: &Lang,
-    key: &Key,
-    act: &UnitAct,
+    asked: RequestOnUnit<'_>,
     found: Option<ActContext>,
 ) -> Result<UnitOutcome, Lost>
-    requires found { T.is_honest tables.old → found ≡ without_suggestions (found_for (T.means tables.old).office domain.now lang.now key.now request.now) }
-    ensures answer { T.is_honest tables.new → IfOk result (Decides (found_for (T.means tables.old).office domain.now lang.now key.now request.now) request.now act.now) }
+    requires found { T.is_honest tables.old → found ≡ without_suggestions (found_for (T.means tables.old).office asked.domain.now asked.lang.now asked.key.now asked.request.now) }
+    ensures answer { T.is_honest tables.new → IfOk result (Decides (found_for (T.means tables.old).office asked.entry.domain.now asked.entry.lang.now asked.entry.key.now asked.entry.request.now) asked.entry.request.now asked.entry.act.now) }
     ensures same { T.is_honest tables.new → T.is_whole tables.new → T.means tables.new ≡ T.means tables.old }
     ensures kept { IsKept T.is_honest T.is_whole T.means T.may_leave T.faults T.is_stopped tables.old tables.new result Disk Nothing }
 {
-    match &act.action {
-        UnitAction::Suggest(_) => {
-            decide_suggestion(alloc, tables, request, domain, lang, key, act, found)
-        }
+    match &asked.act.action {
+        UnitAction::Suggest(_) => decide_suggestion(alloc, tables, asked, found),
         UnitAction::Vote(named, _) => {
-            decide_vote_or_acceptance(alloc, tables, request, domain, lang, key, act, named, found)
+            decide_vote_or_acceptance(alloc, tables, asked, named, found)
         }
         _ => {
             drop(found);
-            decide_whole(alloc, tables, request, domain, lang, key, act)
+            decide_whole(alloc, tables, asked)
         }
     }
 }
@@ -210,23 +198,19 @@ fn decide_with_suggestions<T: Tables>(
 fn read_and_decide<T: Tables>(
     alloc: Global,
     tables: &mut T,
-    request: &Request,
-    domain: &Name,
-    lang: &Lang,
-    key: &Key,
-    act: &UnitAct,
+    asked: RequestOnUnit<'_>,
 ) -> Result<UnitOutcome, Lost>
-    ensures answer { T.is_honest tables.new → IfOk result (Decides (found_for (T.means tables.old).office domain.now lang.now key.now request.now) request.now act.now) }
+    ensures answer { T.is_honest tables.new → IfOk result (Decides (found_for (T.means tables.old).office asked.entry.domain.now asked.entry.lang.now asked.entry.key.now asked.entry.request.now) asked.entry.request.now asked.entry.act.now) }
     ensures same { T.is_honest tables.new → T.is_whole tables.new → T.means tables.new ≡ T.means tables.old }
     ensures kept { IsKept T.is_honest T.is_whole T.means T.may_leave T.faults T.is_stopped tables.old tables.new result Disk Nothing }
 {
-    let found = tables.unit_of(domain, lang, key, &request.caller)?;
-    match row_outcome(alloc, &found, request, act)? {
+    let found = tables.unit_of(asked.domain, asked.lang, asked.key, &asked.request.caller)?;
+    match row_outcome(alloc, &found, asked.request, asked.act)? {
         Some(outcome) => {
             drop(found);
             Ok(outcome)
         }
-        None => decide_with_suggestions(alloc, tables, request, domain, lang, key, act, found),
+        None => decide_with_suggestions(alloc, tables, asked, found),
     }
 }
 
@@ -259,27 +243,21 @@ fn commit_unit_act<T: Tables>(
 fn deliver_unit_act<T: Tables>(
     alloc: Global,
     tables: &mut T,
-    request: &Request,
+    asked: RequestOnUnit<'_>,
     content: Text,
-    domain: &Name,
-    lang: &Lang,
-    key: &Key,
-    act: &UnitAct,
 ) -> Result<Reply, Lost>
-    requires act { request.now.act ≡ OnUnit domain.now lang.now key.now act.now }
-    requires new { T.is_honest tables.old → IsTrue (is_none (maps.get (T.means tables.old).book request.now.number)) }
-    requires content { content ≡ content_text request.now }
-    requires limits { IsRequest request.now }
+    requires act { asked.request.now.act ≡ OnUnit asked.domain.now asked.lang.now asked.key.now asked.act.now }
+    requires new { T.is_honest tables.old → IsTrue (is_none (maps.get (T.means tables.old).book asked.request.now.number)) }
+    requires content { content ≡ content_text asked.request.now }
+    requires limits { IsRequest asked.request.now }
     ensures ok { T.is_honest tables.new → IfOk result
-        (λ reply. (T.means tables.new, reply) ≡ first_delivered (T.means tables.old) request.now) }
+        (λ reply. (T.means tables.new, reply) ≡ first_delivered (T.means tables.old) asked.entry.request.now) }
     ensures lost { T.is_honest tables.new → T.is_whole tables.new → OnErr result (T.means tables.new ≡ T.means tables.old) }
     ensures kept { IsKept T.is_honest T.is_whole T.means T.may_leave T.faults T.is_stopped tables.old tables.new result Disk
-        (λ m. m ≡ (first_delivered (T.means tables.old) request.now).0) }
+        (λ m. m ≡ (first_delivered (T.means tables.old) asked.entry.request.now).0) }
 {
-    let UnitOutcome { write, reply } = read_and_decide(
-        alloc, tables, request, domain, lang, key, act,
-    )?;
-    let row = match record_with(request, content, &reply) {
+    let UnitOutcome { write, reply } = read_and_decide(alloc, tables, asked)?;
+    let row = match record_with(asked.request, content, &reply) {
         Some(row) => row,
         None => {
             drop(write);
@@ -287,7 +265,15 @@ fn deliver_unit_act<T: Tables>(
             return Err(Lost::Memory);
         }
     };
-    commit_unit_act(tables, row, domain, lang, key, write, reply)
+    commit_unit_act(
+        tables,
+        row,
+        asked.domain,
+        asked.lang,
+        asked.key,
+        write,
+        reply,
+    )
 }
 
 /// What an act on the office comes to, over the office that is read for it.
@@ -396,7 +382,14 @@ pub(crate) fn deliver_first<T: Tables>(
 {
     match &request.act {
         Act::OnUnit(domain, lang, key, act) => {
-            deliver_unit_act(alloc, tables, request, content, domain, lang, key, act)
+            let asked = RequestOnUnit {
+                request,
+                domain,
+                lang,
+                key,
+                act,
+            };
+            deliver_unit_act(alloc, tables, asked, content)
         }
         _ => deliver_office_act(alloc, tables, request, content),
     }

@@ -109,7 +109,7 @@ fn languages_in(alloc: Global, office: &OfficeMaps, domain: &Name) -> Result<Vec
 fn languages_of<T: Tables>(alloc: Global, tables: &mut T, domain: &Name) -> Result<Vec<Lang>, Lost>
     ensures answer { T.is_honest tables.new → IfOk result (λ all. all.items ≡ languages (project_in (T.means tables.old).office domain.now)) }
     ensures same { T.is_honest tables.new → T.is_whole tables.new → T.means tables.new ≡ T.means tables.old }
-    ensures kept { IsKept T.is_honest T.is_whole T.means T.may_leave T.is_stopped tables.old tables.new result lost.Disk Nothing }
+    ensures kept { IsKept T.is_honest T.is_whole T.means T.may_leave T.faults T.is_stopped tables.old tables.new result lost.Disk Nothing }
 {
     tables.office_rows()?;
     let all = languages_in(alloc, tables.office(), domain);
@@ -126,7 +126,7 @@ impl<T: Tables> Desk<T> {
         ensures answer { T.is_honest self.new → IfOk result (λ all. all.items ≡ languages (project_in (T.means self.old).office domain.now)) }
         ensures same { T.is_honest self.new → T.is_whole self.new → T.means self.new ≡ T.means self.old }
         // Nothing is written, and the tables are stopped just where `Disk` is answered.
-        ensures kept { IsKept T.is_honest T.is_whole T.means T.may_leave T.is_stopped self.old self.new result lost.Disk Nothing }
+        ensures kept { IsKept T.is_honest T.is_whole T.means T.may_leave T.faults T.is_stopped self.old self.new result lost.Disk Nothing }
     {
         languages_of(self.alloc, &mut self.tables, domain)
     }

@@ -12,9 +12,20 @@ use crate::project_maps::ProjectMaps;
 use crate::unit_rows::units_of;
 use deliveries::Language;
 use po_text::Catalogue;
-use std::alloc::Global;
+use std::alloc::{AllocError, Global};
 use template_update::{Plan, plan};
 use units::{Lang, Memory};
+
+/// The language of a code.
+fn lang_of(code: &str) -> Lang
+    requires { is_lang code.now ≡ true }
+    ensures { result ≡ code.now }
+{
+    match Lang::try_new(code) {
+        Some(lang) => lang,
+        None => unreachable!(),
+    }
+}
 
 impl<'a> ProjectMaps<'a> {
     ghost use Rattle.office_maps.specs.OfficeIn.{lent_project};
@@ -32,8 +43,7 @@ impl<'a> ProjectMaps<'a> {
     {
         let mut all = Vec::new(alloc);
         for (code, _language) in self.domain.languages.rows.iter() {
-            let lang = lang_of(alloc, code.as_str())?;
-            all.push(lang)?;
+            all.push(lang_of(code.as_str()))?;
         }
         Ok(all)
     }
@@ -73,9 +83,7 @@ impl<'a> ProjectMaps<'a> {
         ensures { Some language.now.header ≡ maps.get (lent_project self.now).headers code.now
             → IfOk result (λ found. found ≡ plan_at (lent_project self.now) next.now code.now) }
     {
-        let Some(lang) = Lang::try_new(code) else {
-            unreachable!();
-        };
+        let lang = lang_of(code);
         match self.plan_at(alloc, &lang, language, next)? {
             Some(plan) => Ok(Some((lang, plan))),
             None => Ok(None),

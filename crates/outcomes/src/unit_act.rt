@@ -16,7 +16,7 @@ use crate::unit_writes::{of_row, of_suggestion, of_vote, of_whole};
 use deliveries::{ActContext, Outcome, UnitOutcome};
 use po_text::Items;
 use request_book::Request;
-use review::{Decision, Values, decide, early_refusal};
+use review::{Decision, UnitRequest, Values, decide, early_refusal};
 use std::alloc::Global;
 use units::{Memory, Refusal, Suggestion, UnitAct, UnitAction, UnitView};
 
@@ -56,16 +56,13 @@ fn decided(
     ensures { IfOk result
         (λ outcome. outcome ≡ outcome_of_decision (unit_step found.now.policy found.now.rule found.now.role request.now.caller request.now.number view.now act.now)) }
 {
-    let decision = decide(
-        alloc,
-        view,
-        &found.rule,
-        &found.policy,
-        found.role,
-        &request.caller,
-        request.number,
+    let request = UnitRequest {
+        caller: &request.caller,
+        role: found.role,
+        number: request.number,
         act,
-    )?;
+    };
+    let decision = decide(alloc, view, &found.rule, &found.policy, request)?;
     match decision {
         Decision::Done(view, values) => with_view(alloc, view, values),
         Decision::Refused(refusal) => without_view(alloc, refusal),

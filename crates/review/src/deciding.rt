@@ -13,6 +13,17 @@ use std::alloc::Global;
 use units::{Memory, Name, Policy, Role, UnitAct, UnitAction, UnitView};
 use uuid::Uuid;
 
+/// An act on a unit, and who asks for it.
+#[derive(Clone, Copy)]
+pub struct UnitRequest<'a> {
+    pub caller: &'a Name,
+    /// The caller's role.
+    pub role: Role,
+    /// The request's number, which a suggestion that it makes gets.
+    pub number: Uuid,
+    pub act: &'a UnitAct,
+}
+
 /// Decides an act that no refusal meets which every act has.
 fn decide_by_act(
     alloc: Global,
@@ -38,8 +49,7 @@ fn decide_by_act(
 }
 
 /// Decides an act on a unit, by what its caller may do and what the unit is: the unit's new view with the values of
-/// the reply, or the first refusal that applies. `rule` is the plural rule of the unit's language, `role` the role of
-/// `caller`, and `number` the number of the request.
+/// the reply, or the first refusal that applies. `rule` is the plural rule of the unit's language.
 ///
 /// `Memory` where a growth was refused; nothing has changed then.
 pub fn decide(
@@ -47,13 +57,16 @@ pub fn decide(
     view: &UnitView,
     rule: &PluralForms,
     policy: &Policy,
-    role: Role,
-    caller: &Name,
-    number: Uuid,
-    act: &UnitAct,
+    request: UnitRequest<'_>,
 ) -> Result<Decision, Memory>
-    ensures { IfOk result (λ d. d ≡ spec.unit_step policy.now rule.now role caller.now number view.now act.now) }
+    ensures { IfOk result (λ d. d ≡ spec.unit_step policy.now rule.now request.entry.role request.entry.caller.now request.entry.number view.now request.entry.act.now) }
 {
+    let UnitRequest {
+        caller,
+        role,
+        number,
+        act,
+    } = request;
     match early_refusal(policy, rule, role, view, act) {
         Some(refusal) => Ok(Decision::Refused(refusal)),
         None => decide_by_act(alloc, view, rule, policy, caller, number, &act.action),

@@ -1,6 +1,6 @@
 //! Acts on one unit: what refuses them, and what they make of it.
 //!
-//! - `deciding`, `decision`: the decision on an act (`decide`), and what one is (`Decision`)
+//! - `deciding`, `decision`: the decision on an act that a caller asks for (`decide`), and what one is (`Decision`)
 //! - `refusing`: the refusals that every act has, in their order (`early_refusal`)
 //! - `suggesting`, `voting`: a suggestion made or dismissed, and a vote, by which a suggestion may be accepted
 //! - `translating`, `reviewing`: a translation, an acceptance, a comment; an approval, and a unit that is sent back
@@ -23,7 +23,7 @@ mod translating;
 mod units_after;
 mod voting;
 
-pub use deciding::decide;
+pub use deciding::{UnitRequest, decide};
 pub use decision::{Decision, Values};
 pub use refusing::early_refusal;
 pub use suggestions::{find_suggestion, voted_suggestions};

@@ -5,16 +5,16 @@ use Rattle.sqlite.specs.State.{State, HasCleanDisk}
 use Rattle.sqlite.specs.declared.error.Error.{Error}
 use Rattle.sql_schema.specs.Inside.{IsReadyFor}
 use Rattle.sql_schema.specs.Whole.{IsIdleOver, IsLookUp}
-use Rattle.sql_adoption.specs.Found.{HoldsOffice}
-use Rattle.sql_adoption.specs.Looks.{IsTested}
+use Rattle.sql_layouts.specs.Found.{HoldsOffice}
+use Rattle.sql_layouts.specs.Looks.{IsTested}
 use Rattle.sql_adoption.specs.Reading.{RefusesOf}
-use Rattle.sql_adoption.specs.Tables.{form_told}
-use Rattle.sql_adoption.specs.declared.office_tables.Form.{Form}
+use Rattle.sql_layouts.specs.Tables.{form_told}
+use Rattle.sql_layouts.specs.declared.office_tables.Form.{Form}
 use Rattle.sql_adoption.specs.declared.tested.Adopted.{Adopted}
 use Rattle.sql_adoption.proofs.Kept.{refused_so}
 use Rattle.sql_adoption.specs.declared.faults.OpenFault.{OpenFault}
 use Rattle.sql_adoption.specs.Adoption.{IsAdoptedAs, IsAdoptedIn, StaysAsItWas, Refuses}
-use Rattle.sql_adoption.proofs.Looked.{idle_still}
+use Rattle.sql_layouts.proofs.Looked.{idle_still}
 
 -- between transactions all is committed
 abbrev IsSettled : State → Type 0

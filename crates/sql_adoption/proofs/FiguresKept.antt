@@ -25,7 +25,7 @@ use Rattle.sql_adoption.specs.declared.faults.OpenFault.TheVariants.{Memory, Dis
 use Rattle.sql_adoption.specs.declared.faults.Mismatch.TheVariants.{OtherTables, OtherForm, UnreadRow, OtherFigures, BrokenRules}
 use Rattle.sql_adoption.specs.declared.figure_rows.FigureRows.{FigureRows}
 use Rattle.sql_adoption.proofs.FiguresTold.{AreFiguresKeyed, figures_told, figures_shown, they_stand, keyed_by_domain, d_votes_stand, d_numbers_stand, keyed_for_main, main_numbers_stand}
-use Rattle.sql_adoption.proofs.Looked.{looked_on, looked_in_vain, looked_ready}
+use Rattle.sql_layouts.proofs.Looked.{looked_on, looked_in_vain, looked_ready}
 
 -- ---- rows at hand
 

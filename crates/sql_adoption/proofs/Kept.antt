@@ -17,12 +17,12 @@ use Rattle.sql_adoption.specs.declared.faults.OpenFault.TheVariants.{Memory, Dis
 use Rattle.sql_adoption.specs.declared.faults.Mismatch.TheVariants.{OtherTables, OtherForm, UnreadRow, OtherFigures, BrokenRules}
 use Rattle.sql_adoption.specs.declared.office_put.ReadOffice.{ReadOffice}
 use Rattle.sql_adoption.specs.Adoption.{KeepsFigures, AreContents, StandForBook, IsAdoptedAs, Lacks, Refuses}
-use Rattle.sql_adoption.proofs.LaidOut.{one_form}
-use Rattle.sql_adoption.specs.Tables.{form_told}
-use Rattle.sql_adoption.specs.declared.office_tables.Form as told
+use Rattle.sql_layouts.proofs.LaidOut.{one_form}
+use Rattle.sql_layouts.specs.Tables.{form_told}
+use Rattle.sql_layouts.specs.declared.office_tables.Form as told
 use Rattle.sql_adoption.specs.declared.tested.Adopted.{Adopted}
 use Rattle.sql_adoption.specs.Reading.{HoldsAll, IsReadOf, KeepsBook, KeepsRows, FiguresOf, RefusesWith, RefusesOf, RefusesBook, RefusesKept, RefusesFigures, RefusesKeptRows}
-use Rattle.sql_adoption.proofs.Looked.{idle_still, if_ok, looked_on, looked_in_vain, looked_weaker, both_looked, looked_same}
+use Rattle.sql_layouts.proofs.Looked.{idle_still, if_ok, looked_on, looked_in_vain, looked_weaker, both_looked, looked_same}
 use Rattle.sql_schema.specs.Layouts.{Form, for_main, by_domain, HasLayoutOf, NamedRows, rows_named}
 
 -- where the rules were tested

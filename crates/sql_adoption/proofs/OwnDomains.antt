@@ -33,7 +33,7 @@ use Rattle.sql_adoption.specs.declared.faults.OpenFault.TheVariants.{Memory, Dis
 use Rattle.sql_adoption.specs.declared.faults.Mismatch.TheVariants.{OtherTables, OtherForm, UnreadRow, OtherFigures, BrokenRules}
 use Rattle.sql_adoption.specs.OwnedRows.{TakesNamed, AreOwnedAmong, AllOwnedAmong, RefusesUnless, TestsRows}
 use Rattle.sql_adoption.specs.Reading.{is_shown_among, unread, IsOfStatement, IsOfWalk}
-use Rattle.sql_adoption.proofs.Looked.{looked_in_vain, looked_failed, looked_weaker, both_looked, looked_same}
+use Rattle.sql_layouts.proofs.Looked.{looked_in_vain, looked_failed, looked_weaker, both_looked, looked_same}
 use Rattle.sql_adoption.proofs.Stand.{is_shown, was_there}
 
 module _ (tables : NamedRows) (domains : List Row) (named : ShowsTableIn (codes "domain") (1 ∷ []) (0 ∷ []) tables domains) where

@@ -14,7 +14,7 @@ use Rattle.sql_adoption.specs.declared.faults.OpenFault.TheVariants.{Memory, Dis
 use Rattle.sql_adoption.specs.declared.faults.Mismatch.TheVariants.{OtherTables, OtherForm, UnreadRow, OtherFigures, BrokenRules}
 use Rattle.sql_adoption.specs.declared.office_put.ReadOffice.{ReadOffice}
 use Rattle.sql_adoption.specs.OwnedRows.{RefusesUnless}
-use Rattle.sql_adoption.proofs.Looked.{if_ok, both_looked, looked_same}
+use Rattle.sql_layouts.proofs.Looked.{if_ok, both_looked, looked_same}
 use Rattle.sql_adoption.proofs.Unseen.{unseen_stands}
 
 module _ (db : Database) (read : ReadOffice) (own : HoldsOwnDomains (rows_named db)) (are : AreDomainsRead db read) where

@@ -12,7 +12,7 @@ use Rattle.sql_schema.specs.Whole.{IsIdleOver, IsLookUp}
 use Rattle.sql_adoption.specs.Reading.{AreNames, bare_office, AddsDomain, AreDomainsRead, HoldAll, RefusesOf}
 use Rattle.sql_adoption.specs.declared.faults.OpenFault.{OpenFault}
 use Rattle.sql_adoption.specs.declared.office_put.ReadOffice.{ReadOffice}
-use Rattle.sql_adoption.proofs.Looked.{if_ok, looked_on, looked_in_vain, both_looked, looked_same}
+use Rattle.sql_layouts.proofs.Looked.{if_ok, looked_on, looked_in_vain, both_looked, looked_same}
 use Rattle.sql_adoption.proofs.DomainsRead.{HaveRead, nothing_read, one_read, all_read, domains_are_read}
 
 -- the domains of these names, of which so many are put in

@@ -12,7 +12,7 @@ use Rattle.sql_schema.specs.Keys.{text_at}
 use Rattle.sql_meaning.specs.OfficeShown.{votes_shown}
 use Rattle.sql_decoding.specs.TablesRead.{Votes, votes_of}
 use Rattle.sql_adoption.specs.FigureRows.{Sums, sum_in, sum_shown, is_sum, has_its_sum, have_shown_sums}
-use Rattle.sql_adoption.specs.RisingRows.{integer_in}
+use Rattle.sql_layouts.specs.RisingRows.{integer_in}
 use Rattle.sql_adoption.specs.declared.figure_rows.FigureRows.{FigureRows}
 use Rattle.sql_adoption.proofs.FigureTests.{integer_is}
 

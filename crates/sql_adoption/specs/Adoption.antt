@@ -12,8 +12,8 @@ use Rattle.office_maps.specs.OfficeIn.{office_in}
 use Rattle.po_text.specs.Valid.{IsValid}
 use Rattle.sql_schema.specs.Keys.{text_at, row_number, columns}
 use Rattle.sql_schema.specs.Whole.{IsIdleOver}
-use Rattle.sql_adoption.specs.Found.{HoldsOfficeOf, HoldsOffice}
-use Rattle.sql_adoption.specs.Tables.{form_told}
+use Rattle.sql_layouts.specs.Found.{HoldsOfficeOf, HoldsOffice}
+use Rattle.sql_layouts.specs.Tables.{form_told}
 use Rattle.sql_adoption.specs.declared.tested.Adopted.{Adopted}
 use Rattle.po_text.specs.Texts.{Text}
 use Rattle.sql_schema.specs.Views.{seen_in}

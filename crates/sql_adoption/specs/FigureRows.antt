@@ -22,7 +22,7 @@ use Rattle.sql_decoding.specs.RowTests.{holds_text, is_number, is_vote_row}
 use Rattle.sql_decoding.specs.TablesRead.{Votes, votes_of}
 use Rattle.sql_figures.specs.Figures.{figures_of_main}
 use Rattle.sql_figures.specs.KeptTallies.{Counts, tally_columns}
-use Rattle.sql_adoption.specs.RisingRows.{integer_in}
+use Rattle.sql_layouts.specs.RisingRows.{integer_in}
 use Rattle.sql_adoption.specs.declared.figure_rows.FigureRows.{FigureRows}
 use Rattle.sql_adoption.specs.declared.language_tallies.Counted.{Counted}
 

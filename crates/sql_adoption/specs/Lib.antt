@@ -3,12 +3,5 @@ pub mod NotedRecords
 pub mod Adoption
 pub mod Faults
 pub mod Reading
-pub mod Found
-pub mod Looks
-pub mod Shapes
-pub mod Checks
-pub mod Tables
-pub mod RisingRows
-pub mod RowidQueries
 pub mod FigureRows
 pub mod OwnedRows

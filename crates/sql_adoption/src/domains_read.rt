@@ -14,9 +14,9 @@ ghost use Rattle.sql_adoption.specs.Reading.{AreNames, AddsDomain, AreDomainsRea
 use crate::faults::{Mismatch, OpenFault};
 use crate::look_ups::look_up_domains;
 use crate::office_put::{ReadOffice, bare_office, put_told};
-use crate::office_tables::Form;
 use office_maps::OfficeMaps;
 use sql_decoding::{Failure, domain_at};
+use sql_layouts::Form;
 use sql_statements::domain_office::look_up_domain;
 use sqlite::{Alter, Connection, Row};
 use std::alloc::Global;

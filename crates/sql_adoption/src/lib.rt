@@ -1,18 +1,11 @@
-//! Whether a file's tables and rows are an office's with its book: what is asked of a file that somebody hands over,
-//! before anything is answered from it.
+//! Whether the rows of a file's tables are an office's with its book: what is asked of a file that somebody hands over,
+//! behind its tables (`sql_layouts`), before anything is answered from it.
 //!
 //! What is said of values is said while the disk returns what was written.
 //!
-//! Tables:
-//!
-//! - `shapes`, `table_checks`, `table_shapes`, `office_tables`: the tables of each layout, told by constants
-//! - `rowids`: whether the rowids of each table are integers, no two the same
-//! - `offices`: a transaction that tells whether a connection's tables are those, and of which form
-//!
-//! Rows:
-//!
 //! - `look_ups`: what is read of them, each in a transaction; `own_domains`: whether each is of a domain that there is
-//! - `langs_read`, `office_put`: a domain that is put into an office with all that it sees; `domains_read`: all domains, one after the other
+//! - `langs_read`, `office_put`: a domain that is put into an office with all that it sees; `domains_read`: all domains,
+//!   one after the other
 //! - `office_read`: the office of each form, with no more asked of tables that this program wrote (`load_office`)
 //! - `statuses`, `book_read`: the statuses of all records, one row at a time, and whether the rules hold with the book
 //! - `figure_rows`: the figures that are kept, and the rows that they are of; `language_tallies`, `suggestion_sums`,
@@ -20,9 +13,8 @@
 //! - `tested`: all that is asked (`adopted_office`)
 //! - `faults`: why an office's tables can't be had (`OpenFault`, `Mismatch`)
 //!
-//! The specs `Found` and `Adoption` say what is asked of tables and of rows. `Shapes`, `Checks` and `Tables` are the
-//! tables that constants tell, `BookShown` and `NotedRecords` what rows of records stand for, `Faults` the faults' numbers; inner
-//! functions have the others.
+//! The spec `Adoption` says what is asked of rows. `BookShown` and `NotedRecords` are what rows of records stand for,
+//! `Faults` the faults' numbers; inner functions have the others.
 #![tactic(auto)]
 
 mod book_read;
@@ -35,18 +27,11 @@ mod language_tallies;
 mod look_ups;
 mod office_put;
 mod office_read;
-mod office_tables;
-mod offices;
 mod own_domains;
-mod rowids;
-mod shapes;
 mod statuses;
 mod suggestion_sums;
-mod table_checks;
-mod table_shapes;
 mod tested;
 
 pub use faults::{Mismatch, OpenFault};
 pub use office_read::load_office;
-pub use office_tables::Form;
 pub use tested::{Adopted, adopted_office};

@@ -9,13 +9,13 @@ ghost use Rattle.sql_decoding.specs.RowTests.{AreOfficeRows};
 ghost use Rattle.sql_adoption.specs.Adoption as spec;
 ghost use Rattle.sql_adoption.specs.Reading as reading;
 ghost use Rattle.sql_adoption.specs.Reading.{ShowsForm, PutsRows, HoldAll, RefusesRows};
-ghost use Rattle.sql_adoption.specs.Tables.{form_told};
+ghost use Rattle.sql_layouts.specs.Tables.{form_told};
 
 use crate::faults::{Mismatch, OpenFault};
 use crate::langs_read::note_langs;
-use crate::office_tables::Form;
 use office_maps::OfficeMaps;
 use sql_decoding::Failure;
+use sql_layouts::Form;
 use sql_loading::add_domain;
 use sql_statements::whole_office::WholeOffice;
 use sqlite::Row;

@@ -8,15 +8,15 @@ ghost use Rattle.units.specs.Office.{main};
 ghost use Rattle.office_maps.specs.OfficeIn.{office_in};
 ghost use Rattle.sql_meaning.specs.Domains.{office_of_rows};
 ghost use Rattle.sql_adoption.specs.Reading.{ShowsForm, IsOfRows, IsReadOf, HoldsAll, RefusesRows, RefusesOf};
-ghost use Rattle.sql_adoption.specs.Tables.{form_told};
+ghost use Rattle.sql_layouts.specs.Tables.{form_told};
 
 use crate::domains_read::read_domains;
 use crate::faults::OpenFault;
 use crate::office_put::{ReadOffice, bare_office, put_told};
-use crate::office_tables::Form;
 use crate::own_domains::hold_own_domains;
 use office_maps::OfficeMaps;
 use sql_decoding::Failure;
+use sql_layouts::Form;
 use sql_statements::whole_office::{WholeOffice, look_up_office};
 use sqlite::{Alter, Connection};
 use std::alloc::{AllocError, Global};

@@ -9,12 +9,12 @@ ghost use Rattle.sql_decoding.specs.RowTests.{holds_text, is_number, IsUnread};
 ghost use Rattle.sql_decoding.specs.TablesRead.{votes_of};
 ghost use Rattle.sql_adoption.specs.FigureRows as spec;
 ghost use Rattle.sql_adoption.specs.FigureRows.{sum_in, sum_shown, is_sum, have_shown_sums, votes_stand};
-ghost use Rattle.sql_adoption.specs.RisingRows.{integer_in};
+ghost use Rattle.sql_layouts.specs.RisingRows.{integer_in};
 
 use crate::figure_rows::FigureRows;
 use crate::own_domains::bytes_of;
-use crate::rowids::integer_of;
 use sql_decoding::{Failure, text_in};
+use sql_layouts::integer_of;
 use sql_loading::votes_by_number;
 use sqlite::Row;
 use std::alloc::{AllocError, Global};

@@ -6,16 +6,15 @@ ghost use Rattle.sql_schema.specs.Whole.{IsIdleOver, IsLookUp};
 ghost use Rattle.sql_adoption.specs.Adoption.{IsAdoptedAs, IsAdoptedIn, StaysAsItWas, Refuses};
 ghost use Rattle.office_maps.specs.OfficeIn.{office_in};
 ghost use Rattle.sql_adoption.specs.Reading.{HoldsAll, IsReadOf, KeepsRows, RefusesKeptRows, RefusesOf};
-ghost use Rattle.sql_adoption.specs.Tables.{form_told};
+ghost use Rattle.sql_layouts.specs.Tables.{form_told};
 
 use crate::book_read::{keep_book, keep_recorded};
 use crate::faults::{Mismatch, OpenFault};
 use crate::figures_kept::{keep_figures, keep_main_figures};
 use crate::office_put::ReadOffice;
 use crate::office_read::read_office;
-use crate::office_tables::Form;
-use crate::offices::office_form;
 use office_maps::OfficeMaps;
+use sql_layouts::{Form, office_form};
 use sqlite::{Alter, Connection};
 use std::alloc::Global;
 use units::Lang;

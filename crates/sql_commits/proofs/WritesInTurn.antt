@@ -209,19 +209,17 @@ module _ {a b c : Database} (domain : Text) (P : NamedRows → NamedRows → Typ
 -- ---- what is written, by the columns that are given
 
 -- behind a suggestion that is added to a domain its sum is put, which no domain sees
-pub adds_summed : (number domain lang key : Text) (at sum : ℤ) (place : ℕ) (suggester again forms : Text) (old mid new : Database) → at ≡ pos place → again ≡ suggester → AreOfficeTablesOf by_domain old
-    → AddsRow (codes "d_suggestion") first_text (HoldsValues (Words number ∷ Words domain ∷ Words lang ∷ Words key ∷ Int at ∷ Words again ∷ Words forms ∷ [])) old mid
+pub adds_summed : (number domain lang key : Text) (place sum : ℤ) (suggester forms : Text) (old mid new : Database) → AreOfficeTablesOf by_domain old
+    → AddsRow (codes "d_suggestion") first_text (HoldsValues (Words number ∷ Words domain ∷ Words lang ∷ Words key ∷ Int place ∷ Words suggester ∷ Words forms ∷ [])) old mid
     → PutsSum number sum mid new → AddsSummed domain number lang key place suggester forms old new
-adds_summed number domain lang key at sum place suggester again forms old mid new is_at is_again ready added summed =
-    let same : Words number ∷ Words domain ∷ Words lang ∷ Words key ∷ Int at ∷ Words again ∷ Words forms ∷ [] ≡ Words number ∷ Words domain ∷ Words lang ∷ Words key ∷ Int (pos place) ∷ Words suggester ∷ Words forms ∷ [] = cc in
-    let own = subst (λ cells. AddsRow (codes "d_suggestion") first_text (HoldsValues cells) old mid) same added in
-    let Adds = AddsIn (codes "suggestion") first_text (HoldsValues (Words number ∷ Words lang ∷ Words key ∷ Int (pos place) ∷ Words suggester ∷ Words forms ∷ [])) in (
-      unseen_last domain Adds (suggestion_on_domain ready own) (sum_on_domains summed),
+adds_summed number domain lang key place sum suggester forms old mid new ready added summed =
+    let Adds = AddsIn (codes "suggestion") first_text (HoldsValues (Words number ∷ Words lang ∷ Words key ∷ Int place ∷ Words suggester ∷ Words forms ∷ [])) in (
+      unseen_last domain Adds (suggestion_on_domain ready added) (sum_on_domains summed),
       (
-        own.puts.row,
-        subst (λ rows. Has rows own.puts.row) (sym (summed.others (codes "d_suggestion") (names_differ refl))) own.puts.put.here,
-        ap (text_at 2) own.puts.is_row.1,
-        ap first_text own.puts.is_row.1,
+        added.puts.row,
+        subst (λ rows. Has rows added.puts.row) (sym (summed.others (codes "d_suggestion") (names_differ refl))) added.puts.put.here,
+        ap (text_at 2) added.puts.is_row.1,
+        ap first_text added.puts.is_row.1,
       ),
     )
 
@@ -266,12 +264,12 @@ writes_numbered_unit lang key key_all unit ss old mid new is_key is_key_all are 
     (mid, row, (next, gone, put))
 
 -- a suggestion with its sum, and the votes on it
-pub adds_on_domain : (domain lang key number again forms : Text) (place : ℕ) (s : Suggestion) (old mid new : Database)
-    → number ≡ number_text s.number → again ≡ number_text s.number → forms ≡ texts_text s.forms → IsNumber s.number
-    → AddsSummed domain number lang key place s.suggester forms old mid → PutsVotesOn domain again (maps.entries s.votes) mid new → OnDomain domain (AddsNumberedSuggestion lang key place s) old new
-adds_on_domain domain lang key number again forms place s old mid new is_number is_again is_forms valid added votes =
+pub adds_on_domain : (domain lang key number again suggester forms : Text) (at : ℤ) (place : ℕ) (s : Suggestion) (old mid new : Database)
+    → number ≡ number_text s.number → again ≡ number_text s.number → suggester ≡ s.suggester → forms ≡ texts_text s.forms → at ≡ pos place → IsNumber s.number
+    → AddsSummed domain number lang key at suggester forms old mid → PutsVotesOn domain again (maps.entries s.votes) mid new → OnDomain domain (AddsNumberedSuggestion lang key place s) old new
+adds_on_domain domain lang key number again suggester forms at place s old mid new is_number is_again is_suggester is_forms is_at valid added votes =
     let on = subst (λ n. PutsVotesOn domain n (maps.entries s.votes) mid new) (is_again ∙ sym is_number) votes in
-    on_domain_then domain (AddsIn (codes "suggestion") first_text (HoldsValues (Words number ∷ Words lang ∷ Words key ∷ Int (pos place) ∷ Words s.suggester ∷ Words forms ∷ [])))
+    on_domain_then domain (AddsIn (codes "suggestion") first_text (HoldsValues (Words number ∷ Words lang ∷ Words key ∷ Int at ∷ Words suggester ∷ Words forms ∷ [])))
     (PutsRows (codes "vote") first_texts (map (vote_cells number) (maps.entries s.votes))) (AddsNumberedSuggestion lang key place s)
-    (adds_numbered_suggestion lang key number number s.suggester forms (pos place) place s (seen domain old) (seen domain mid) (seen domain new) is_number is_number refl is_forms refl valid)
+    (adds_numbered_suggestion lang key number number suggester forms at place s (seen domain old) (seen domain mid) (seen domain new) is_number is_number is_suggester is_forms is_at valid)
     added.0 (on added.1).0

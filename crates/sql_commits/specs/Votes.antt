@@ -25,9 +25,9 @@ PutsVotesOn domain number votes old new =
     HasSuggestion domain number (rows_named old) → OnDomain domain (PutsRows (codes "vote") first_texts (map (vote_cells number) votes)) old new × HasSuggestion domain number (rows_named new)
 
 -- the suggestion's row is added, with its sum, and it is there afterwards
-abbrev pub AddsSummed : (domain number lang key : Text) → ℕ → (suggester forms : Text) → Database → Database → Type 0
+abbrev pub AddsSummed : (domain number lang key : Text) → ℤ → (suggester forms : Text) → Database → Database → Type 0
 AddsSummed domain number lang key place suggester forms old new =
-    OnDomain domain (AddsIn (codes "suggestion") first_text (HoldsValues (Words number ∷ Words lang ∷ Words key ∷ Int (pos place) ∷ Words suggester ∷ Words forms ∷ []))) old new
+    OnDomain domain (AddsIn (codes "suggestion") first_text (HoldsValues (Words number ∷ Words lang ∷ Words key ∷ Int place ∷ Words suggester ∷ Words forms ∷ []))) old new
     × HasSuggestion domain number (rows_named new)
 
 -- a voter's vote on the suggestion of a number is put, or taken away

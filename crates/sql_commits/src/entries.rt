@@ -14,7 +14,7 @@ use po_text::{Entry, Text};
 use sql_columns::{plural_column, texts_column};
 use sql_decoding::Failure;
 use sql_keepable::entry_key_fits;
-use sql_statements::domain_template::put_domain_entry;
+use sql_statements::domain_template::{EntryRow, put_domain_entry};
 use sqlite::{Alter, Transaction};
 use std::alloc::{AllocError, Global};
 use units::{CONTEXT_GLUE, Name};
@@ -89,13 +89,15 @@ pub(crate) fn put_entry<S: Alter>(
     let columns = columns_of(alloc, entry)?;
     put_domain_entry(
         tx,
-        domain.as_str(),
-        place as i64,
-        columns.key.as_str(),
-        plural_column(&entry.plural),
-        columns.extracted.as_str(),
-        columns.references.as_str(),
-        columns.flags.as_str(),
+        EntryRow {
+            domain: domain.as_str(),
+            place: place as i64,
+            key: columns.key.as_str(),
+            plural: plural_column(&entry.plural),
+            extracted: columns.extracted.as_str(),
+            refs: columns.references.as_str(),
+            flags: columns.flags.as_str(),
+        },
     )
     .map_err(Failure::from)
 }

@@ -10,7 +10,7 @@ ghost use Rattle.sql_commits.specs.Figures.{FollowsPolicy};
 
 use sql_columns::policy_columns;
 use sql_statements::domain_units::unapprove_domain_units;
-use sql_statements::policy::set_policy;
+use sql_statements::policy::{PolicyRow, set_policy};
 use sql_statements::tallies::unapprove_tallies;
 use sqlite::{Alter, Error, Transaction};
 use units::Policy;
@@ -45,12 +45,14 @@ pub fn put_policy_of<S: Alter>(tx: &mut Transaction<'_, S>, policy: &Policy) -> 
     let columns = policy_columns(policy);
     set_policy(
         tx,
-        SCHEMA,
-        columns.reviews,
-        columns.guests_suggest,
-        columns.voting,
-        columns.accept_at,
-        columns.placeholders,
-        columns.line_ends,
+        PolicyRow {
+            schema: SCHEMA,
+            reviews: columns.reviews,
+            guests_suggest: columns.guests_suggest,
+            voting: columns.voting,
+            accept_at: columns.accept_at,
+            placeholders: columns.placeholders,
+            line_ends: columns.line_ends,
+        },
     )
 }

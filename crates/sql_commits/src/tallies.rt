@@ -18,7 +18,7 @@ use sql_decoding::{Failure, tally_in, unit_numbers};
 use sql_keepable::key_fits;
 use sql_statements::domain_suggestions::places_of;
 use sql_statements::domain_units::find_domain_unit;
-use sql_statements::tallies::{find_tally, put_tally};
+use sql_statements::tallies::{TallyRow, find_tally, put_tally};
 use sqlite::{Alter, Transaction};
 use std::alloc::Global;
 use tables::Lost;
@@ -49,26 +49,18 @@ pub fn put_tally_of<S: Alter>(
     ensures same_reference { tx.new.conn.ghost_name ≡ tx.old.conn.ghost_name }
     ensures put { IsInsideOf by_domain (state S.Store tx.old.conn.now) (state S.Store tx.new.conn.now) result (PutsTally domain.now lang.now tally) }
 {
-    let untranslated = count_column(tally.untranslated)?;
-    let needs_editing = count_column(tally.needs_editing)?;
-    let translated = count_column(tally.translated)?;
-    let approved = count_column(tally.approved)?;
-    let read_only = count_column(tally.read_only)?;
-    let suggestions = count_column(tally.suggestions)?;
-    let obsolete = count_column(tally.obsolete)?;
-    put_tally(
-        tx,
-        domain.as_str(),
-        lang.as_str(),
-        untranslated,
-        needs_editing,
-        translated,
-        approved,
-        read_only,
-        suggestions,
-        obsolete,
-    )
-    .map_err(Failure::from)
+    let row = TallyRow {
+        domain: domain.as_str(),
+        lang: lang.as_str(),
+        untranslated: count_column(tally.untranslated)?,
+        needs_editing: count_column(tally.needs_editing)?,
+        translated: count_column(tally.translated)?,
+        approved: count_column(tally.approved)?,
+        read_only: count_column(tally.read_only)?,
+        suggestions: count_column(tally.suggestions)?,
+        obsolete: count_column(tally.obsolete)?,
+    };
+    put_tally(tx, row).map_err(Failure::from)
 }
 
 /// Writes the tallies of languages.

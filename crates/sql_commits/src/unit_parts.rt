@@ -45,7 +45,13 @@ pub fn write_of_unit<S: Alter>(
             write_suggestion(tx, alloc, domain, lang, key, suggestion)
         }
         UnitWrite::Voted(number, voter, value, sum) => {
-            write_vote(tx, alloc, domain, lang, key, *number, voter, *value, *sum)
+            let vote = CastVote {
+                number: *number,
+                voter,
+                value: *value,
+                sum: *sum,
+            };
+            write_vote(tx, alloc, domain, lang, key, vote)
         }
     }
 }
@@ -165,25 +171,33 @@ fn place_behind(row: &Row) -> Result<usize, Failure>
 
 // ---- a vote
 
-/// Writes a voter's vote on the suggestion of a number on a unit, in the place of the one that is there, or takes that away; and the sum that
-/// the votes on it then come to. Where the suggestion isn't on the unit nothing is written.
+/// A vote on a suggestion, and what the votes on it then come to.
+#[derive(Clone, Copy)]
+struct CastVote<'a> {
+    /// The suggestion's number.
+    number: Uuid,
+    voter: &'a Name,
+    /// None, where the voter's vote is taken away.
+    value: Option<VoteValue>,
+    sum: i64,
+}
+
+/// Writes a voter's vote on a suggestion on a unit, in the place of the one that is there, or takes that away; and the sum that the votes on
+/// it then come to. Where the suggestion isn't on the unit nothing is written.
 fn write_vote<S: Alter>(
     tx: &mut Transaction<'_, S>,
     alloc: Global,
     domain: &Name,
     lang: &Lang,
     key: &Key,
-    number: Uuid,
-    voter: &Name,
-    value: Option<VoteValue>,
-    sum: i64,
+    vote: CastVote<'_>,
 ) -> Result<(), Failure>
     requires steady { IsSteadyOver by_domain (state S.Store tx.old.conn.now) }
     ensures same_reference { tx.new.conn.ghost_name ≡ tx.old.conn.ghost_name }
-    ensures put { IsInsideOf by_domain (state S.Store tx.old.conn.now) (state S.Store tx.new.conn.now) result (OnDomain domain.now (WritesVote lang.now (key_text key.now) number voter.now value)) }
-    ensures figures { IsInsideOf by_domain (state S.Store tx.old.conn.now) (state S.Store tx.new.conn.now) result (FollowsVoteAt domain.now lang.now key.now number voter.now value sum) }
+    ensures put { IsInsideOf by_domain (state S.Store tx.old.conn.now) (state S.Store tx.new.conn.now) result (OnDomain domain.now (WritesVote lang.now (key_text key.now) vote.entry.number vote.entry.voter.now vote.entry.value)) }
+    ensures figures { IsInsideOf by_domain (state S.Store tx.old.conn.now) (state S.Store tx.new.conn.now) result (FollowsVoteAt domain.now lang.now key.now vote.entry.number vote.entry.voter.now vote.entry.value vote.entry.sum) }
 {
-    let number = number_column(alloc, number)?;
+    let number = number_column(alloc, vote.number)?;
     let key = key.text(alloc)?;
     let found = find_domain_place(
         tx,
@@ -195,7 +209,14 @@ fn write_vote<S: Alter>(
     match found {
         Some(row) => {
             drop(row);
-            put_vote_and_sum(tx, number.as_str(), voter.as_str(), value, sum).map_err(Failure::from)
+            put_vote_and_sum(
+                tx,
+                number.as_str(),
+                vote.voter.as_str(),
+                vote.value,
+                vote.sum,
+            )
+            .map_err(Failure::from)
         }
         None => Ok(()),
     }

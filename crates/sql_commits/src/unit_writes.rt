@@ -22,8 +22,10 @@ use sql_columns::{
     state_column, texts_column, vote_column,
 };
 use sql_decoding::Failure;
-use sql_statements::domain_suggestions::{add_domain_suggestion, clear_domain_suggestions};
-use sql_statements::domain_units::put_domain_unit;
+use sql_statements::domain_suggestions::{
+    SuggestionRow, add_domain_suggestion, clear_domain_suggestions,
+};
+use sql_statements::domain_units::{UnitRow, put_domain_unit};
 use sql_statements::domain_votes::put_domain_vote;
 use sql_statements::vote_sums::put_sum;
 use sqlite::{Alter, Error, Transaction};
@@ -127,16 +129,18 @@ fn put_row<S: Alter>(
 {
     put_domain_unit(
         tx,
-        domain,
-        lang,
-        columns.key.as_str(),
-        plural_column(&unit.plural),
-        columns.forms.as_str(),
-        state_column(unit.state),
-        flag_column(unit.obsolete),
-        revision_column(unit.revision),
-        columns.comment.as_str(),
-        columns.previous.as_str(),
+        UnitRow {
+            domain,
+            lang,
+            key: columns.key.as_str(),
+            plural: plural_column(&unit.plural),
+            forms: columns.forms.as_str(),
+            state: state_column(unit.state),
+            obsolete: flag_column(unit.obsolete),
+            revision: revision_column(unit.revision),
+            comment: columns.comment.as_str(),
+            previous: columns.previous.as_str(),
+        },
     )
     .map_err(Failure::from)
 }
@@ -180,48 +184,33 @@ pub fn add_suggestion<S: Alter>(
 {
     let number = number_column(alloc, suggestion.number)?;
     let forms = forms_column(alloc, &suggestion.forms)?;
-    add_summed(
-        tx,
+    let row = SuggestionRow {
+        number: number.as_str(),
         domain,
-        number.as_str(),
         lang,
         key,
-        place,
-        suggestion,
-        forms.as_str(),
-    )?;
+        place: place as i64,
+        suggester: suggestion.suggester.as_str(),
+        forms: forms.as_str(),
+    };
+    add_summed(tx, row, &suggestion.votes)?;
     put_votes(tx, domain, number.as_str(), &suggestion.votes)
 }
 
-/// Adds the row of a suggestion that has this number and these forms, and its sum.
+/// Adds the row of a suggestion, and the sum of the votes on it.
 fn add_summed<S: Alter>(
     tx: &mut Transaction<'_, S>,
-    domain: &str,
-    number: &str,
-    lang: &str,
-    key: &str,
-    place: usize,
-    suggestion: &Suggestion,
-    forms: &str,
+    row: SuggestionRow<'_>,
+    votes: &Votes,
 ) -> Result<(), Error>
-    requires fits { place < 2 ^ 63 }
     requires steady { IsSteadyOver by_domain (state S.Store tx.old.conn.now) }
     ensures same_reference { tx.new.conn.ghost_name ≡ tx.old.conn.ghost_name }
     ensures added { IsInsideOf by_domain (state S.Store tx.old.conn.now) (state S.Store tx.new.conn.now) result
-        (AddsSummed domain.now number.now lang.now key.now place suggestion.now.suggester forms.now) }
-    ensures summed { IsInsideOf by_domain (state S.Store tx.old.conn.now) (state S.Store tx.new.conn.now) result (AddsWithSum number.now (vote_sum suggestion.now.votes)) }
+        (AddsSummed row.entry.domain.now row.entry.number.now row.entry.lang.now row.entry.key.now row.entry.place row.entry.suggester.now row.entry.forms.now) }
+    ensures summed { IsInsideOf by_domain (state S.Store tx.old.conn.now) (state S.Store tx.new.conn.now) result (AddsWithSum row.entry.number.now (vote_sum votes.now)) }
 {
-    add_domain_suggestion(
-        tx,
-        number,
-        domain,
-        lang,
-        key,
-        place as i64,
-        suggestion.suggester.as_str(),
-        forms,
-    )?;
-    put_sum(tx, number, suggestion.votes.sum())
+    add_domain_suggestion(tx, row)?;
+    put_sum(tx, row.number, votes.sum())
 }
 
 /// Writes the votes on the suggestion of this number, which is there.

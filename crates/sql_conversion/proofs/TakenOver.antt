@@ -11,9 +11,9 @@ use Rattle.sql_schema.specs.Whole.{IsIdleOver, IsCommitOf}
 use Rattle.sql_meaning.specs.Meaning.{meaning_in}
 use Rattle.sql_meaning.specs.Domains.{meaning_by_domain, meaning_for, DatabaseMeans, TreesMean}
 use Rattle.sql_adoption.specs.Adoption.{IsAdopted, IsAdoptedOf, IsAdoptedIn, StaysAsItWas, Refuses}
-use Rattle.sql_adoption.specs.Tables.{form_told}
+use Rattle.sql_layouts.specs.Tables.{form_told}
 use Rattle.sql_adoption.specs.declared.faults.OpenFault.{OpenFault}
-use Rattle.sql_adoption.specs.declared.office_tables.Form.TheVariants.{ByDomain}
+use Rattle.sql_layouts.specs.declared.office_tables.Form.TheVariants.{ByDomain}
 use Rattle.sql_adoption.specs.declared.tested.Adopted.{Adopted}
 use Rattle.sql_schema.proofs.Layouts.{of_main}
 use Rattle.sql_files.specs.Files.{IsOfficeFile}

@@ -39,7 +39,7 @@ use Rattle.sql_decoding.specs.RowTests.{text_passes, is_domain_row}
 use Rattle.sql_decoding.proofs.ColumnsTested.{text_stands}
 use Rattle.sql_changes.proofs.Template.{template_put, entries_spare, entries_ready}
 use Rattle.sql_adoption.specs.Adoption.{Each, IsAdoptedOf, IsAdoptedAs, StandInDomains}
-use Rattle.sql_adoption.specs.Tables.{form_told}
+use Rattle.sql_layouts.specs.Tables.{form_told}
 use Rattle.sql_adoption.specs.declared.tested.Adopted.{Adopted}
 use Rattle.office_maps.specs.OfficeIn.{office_in}
 use Rattle.sql_files.specs.Files.{StandForAll}

@@ -5,7 +5,7 @@ ghost use Rattle.sqlite.specs.State.{HasCleanDisk};
 ghost use Rattle.sql_schema.specs.Layouts.{IsForMain, by_domain};
 ghost use Rattle.sql_schema.specs.Whole.{IsIdleOver, IsCommitOf};
 ghost use Rattle.sql_adoption.specs.Adoption.{IsAdoptedAs};
-ghost use Rattle.sql_adoption.specs.Tables.{form_told};
+ghost use Rattle.sql_layouts.specs.Tables.{form_told};
 ghost use Rattle.sql_conversion.specs.Conversion.{Converts};
 
 use crate::writing::write_anew;

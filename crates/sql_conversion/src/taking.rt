@@ -4,11 +4,12 @@ ghost use Rattle.sqlite.specs.Held.{state};
 ghost use Rattle.sqlite.specs.State.{HasCleanDisk};
 ghost use Rattle.sql_schema.specs.Layouts.{IsForMain};
 ghost use Rattle.sql_adoption.specs.Adoption.{IsAdoptedIn, Refuses};
-ghost use Rattle.sql_adoption.specs.Tables.{form_told};
+ghost use Rattle.sql_layouts.specs.Tables.{form_told};
 ghost use Rattle.sql_conversion.specs.Conversion.{IsTakenOver, IsGivenBack};
 
 use crate::converting::convert;
-use sql_adoption::{Adopted, Form, OpenFault, adopted_office};
+use sql_adoption::{Adopted, OpenFault, adopted_office};
+use sql_layouts::Form;
 use sqlite::{Alter, Connection};
 use std::alloc::Global;
 

@@ -18,6 +18,21 @@ ghost use Rattle.sql_statements.specs.Tables.{ShowsSuggestionsIn};
 
 use sqlite::{Alter, Error, Row, Transaction, params};
 
+/// The row of a suggestion, each column by its name.
+#[derive(Clone, Copy)]
+pub struct SuggestionRow<'a> {
+    /// That of the request that made it.
+    pub number: &'a str,
+    /// The domain, language and key of the unit that it is on.
+    pub domain: &'a str,
+    pub lang: &'a str,
+    pub key: &'a str,
+    /// Its place among those on the unit.
+    pub place: i64,
+    pub suggester: &'a str,
+    pub forms: &'a str,
+}
+
 /// Takes the suggestions on a unit of a domain away, and with them the votes on them and their sums.
 pub fn clear_domain_suggestions<'a, S: Alter>(
     tx: &mut Transaction<'_, S>,
@@ -37,28 +52,29 @@ pub fn clear_domain_suggestions<'a, S: Alter>(
     .and(Ok(()))
 }
 
-/// Adds a suggestion: the number of the request that made it, the domain, language and key of its unit, its place there, who made it and
-/// its forms. The unit must be there, and the record of that number; a suggestion of that number, or at that place, is an error, and
-/// nothing is written.
-pub fn add_domain_suggestion<'a, S: Alter>(
+/// Adds the row of a suggestion. The unit must be there, and the record of the suggestion's number; a suggestion of that number, or at
+/// that place, is an error, and nothing is written.
+pub fn add_domain_suggestion<S: Alter>(
     tx: &mut Transaction<'_, S>,
-    number: &'a str,
-    domain: &'a str,
-    lang: &'a str,
-    key: &'a str,
-    place: i64,
-    suggester: &'a str,
-    forms: &'a str,
+    row: SuggestionRow<'_>,
 ) -> Result<(), Error>
     requires steady { IsSteadyOver by_domain (state S.Store tx.old.conn.now) }
     ensures same_reference { tx.new.conn.ghost_name ≡ tx.old.conn.ghost_name }
     ensures added { IsInsideOf by_domain (state S.Store tx.old.conn.now) (state S.Store tx.new.conn.now) result
-        (AddsRow (codes "d_suggestion") first_text (HoldsValues (Text number.now ∷ Text domain.now ∷ Text lang.now ∷ Text key.now ∷ Int place ∷ Text suggester.now ∷ Text forms.now ∷ []))) }
+        (AddsRow (codes "d_suggestion") first_text (HoldsValues (Text row.entry.number.now ∷ Text row.entry.domain.now ∷ Text row.entry.lang.now ∷ Text row.entry.key.now ∷ Int row.entry.place ∷ Text row.entry.suggester.now ∷ Text row.entry.forms.now ∷ []))) }
     ensures disk { BlamesTruly (state S.Store tx.old.conn.now) (state S.Store tx.new.conn.now) result }
 {
     tx.execute(
         "INSERT INTO d_suggestion (number, domain, lang, key, place, suggester, forms) VALUES (?1, ?2, ?3, ?4, ?5, ?6, ?7)",
-        params![number, domain, lang, key, place, suggester, forms],
+        params![
+            row.number,
+            row.domain,
+            row.lang,
+            row.key,
+            row.place,
+            row.suggester,
+            row.forms
+        ],
     )
     .and(Ok(()))
 }

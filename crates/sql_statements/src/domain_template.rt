@@ -16,6 +16,20 @@ ghost use Rattle.sql_schema.specs.Rows.{text_or_null};
 
 use sqlite::{Alter, Error, Row, Transaction, params};
 
+/// The row of a template's entry, each column by its name.
+#[derive(Clone, Copy)]
+pub struct EntryRow<'a> {
+    pub domain: &'a str,
+    /// Its place in the template.
+    pub place: i64,
+    pub key: &'a str,
+    /// NULL, where there is none.
+    pub plural: Option<&'a str>,
+    pub extracted: &'a str,
+    pub refs: &'a str,
+    pub flags: &'a str,
+}
+
 /// Takes each entry out of a domain's template.
 pub fn empty_domain_template<S: Alter>(
     tx: &mut Transaction<'_, S>,
@@ -70,27 +84,28 @@ pub fn find_domain_entry<'a, S: Alter>(
     Ok(rows.pop())
 }
 
-/// Writes an entry of a domain's template: its place and key there, which must be new, its plural or NULL, and its comments, references
-/// and flags.
-pub fn put_domain_entry<'a, S: Alter>(
+/// Writes the row of an entry of a domain's template, where its place and its key must be new.
+pub fn put_domain_entry<S: Alter>(
     tx: &mut Transaction<'_, S>,
-    domain: &'a str,
-    place: i64,
-    key: &'a str,
-    plural: Option<&'a str>,
-    extracted: &'a str,
-    refs: &'a str,
-    flags: &'a str,
+    row: EntryRow<'_>,
 ) -> Result<(), Error>
     requires steady { IsSteadyOver by_domain (state S.Store tx.old.conn.now) }
     ensures same_reference { tx.new.conn.ghost_name ≡ tx.old.conn.ghost_name }
     ensures put { IsInsideOf by_domain (state S.Store tx.old.conn.now) (state S.Store tx.new.conn.now) result
-        (PutsRow (codes "d_template") domain_place (HoldsValues (Text domain.now ∷ Int place ∷ Text key.now ∷ text_or_null (option_copied plural.entry) ∷ Text extracted.now ∷ Text refs.now ∷ Text flags.now ∷ []))) }
+        (PutsRow (codes "d_template") domain_place (HoldsValues (Text row.entry.domain.now ∷ Int row.entry.place ∷ Text row.entry.key.now ∷ text_or_null (option_copied row.entry.plural) ∷ Text row.entry.extracted.now ∷ Text row.entry.refs.now ∷ Text row.entry.flags.now ∷ []))) }
     ensures disk { BlamesTruly (state S.Store tx.old.conn.now) (state S.Store tx.new.conn.now) result }
 {
     tx.execute(
         "INSERT INTO d_template (domain, place, key, plural, extracted, refs, flags) VALUES (?1, ?2, ?3, ?4, ?5, ?6, ?7)",
-        params![domain, place, key, plural, extracted, refs, flags],
+        params![
+            row.domain,
+            row.place,
+            row.key,
+            row.plural,
+            row.extracted,
+            row.refs,
+            row.flags
+        ],
     )
     .and(Ok(()))
 }

@@ -14,6 +14,22 @@ ghost use Rattle.sql_schema.specs.Rows.{d_unit_row};
 
 use sqlite::{Alter, Error, Row, Transaction, params};
 
+/// The row of a unit, each column by its name.
+#[derive(Clone, Copy)]
+pub struct UnitRow<'a> {
+    pub domain: &'a str,
+    pub lang: &'a str,
+    pub key: &'a str,
+    /// NULL, where there is none.
+    pub plural: Option<&'a str>,
+    pub forms: &'a str,
+    pub state: i64,
+    pub obsolete: i64,
+    pub revision: i64,
+    pub comment: &'a str,
+    pub previous: &'a str,
+}
+
 /// The unit of a key in a domain's language: plural, forms, state, whether it is obsolete, revision, comment and previous texts. None,
 /// where there is no such unit.
 pub fn find_domain_unit<'a, S: Alter>(
@@ -36,29 +52,26 @@ pub fn find_domain_unit<'a, S: Alter>(
 }
 
 /// Writes the row of a unit: anew if its domain's language has none of its key, and else in the place of the one that is there.
-pub fn put_domain_unit<'a, S: Alter>(
-    tx: &mut Transaction<'_, S>,
-    domain: &'a str,
-    lang: &'a str,
-    key: &'a str,
-    plural: Option<&'a str>,
-    forms: &'a str,
-    state: i64,
-    obsolete: i64,
-    revision: i64,
-    comment: &'a str,
-    previous: &'a str,
-) -> Result<(), Error>
+pub fn put_domain_unit<S: Alter>(tx: &mut Transaction<'_, S>, row: UnitRow<'_>) -> Result<(), Error>
     requires steady { IsSteadyOver by_domain (state_of S.Store tx.old.conn.now) }
     ensures same_reference { tx.new.conn.ghost_name ≡ tx.old.conn.ghost_name }
     ensures put { IsInsideOf by_domain (state_of S.Store tx.old.conn.now) (state_of S.Store tx.new.conn.now) result
-        (PutsRow (codes "d_unit") first_three (HoldsValues (d_unit_row domain.now lang.now key.now (option_copied plural.entry) forms.now state obsolete revision comment.now previous.now))) }
+        (PutsRow (codes "d_unit") first_three (HoldsValues (d_unit_row row.entry.domain.now row.entry.lang.now row.entry.key.now (option_copied row.entry.plural) row.entry.forms.now row.entry.state row.entry.obsolete row.entry.revision row.entry.comment.now row.entry.previous.now))) }
     ensures disk { BlamesTruly (state_of S.Store tx.old.conn.now) (state_of S.Store tx.new.conn.now) result }
 {
     tx.execute(
         "INSERT INTO d_unit (domain, lang, key, plural, forms, state, obsolete, revision, comment, previous) VALUES (?1, ?2, ?3, ?4, ?5, ?6, ?7, ?8, ?9, ?10) ON CONFLICT (domain, lang, key) DO UPDATE SET plural = excluded.plural, forms = excluded.forms, state = excluded.state, obsolete = excluded.obsolete, revision = excluded.revision, comment = excluded.comment, previous = excluded.previous",
         params![
-            domain, lang, key, plural, forms, state, obsolete, revision, comment, previous
+            row.domain,
+            row.lang,
+            row.key,
+            row.plural,
+            row.forms,
+            row.state,
+            row.obsolete,
+            row.revision,
+            row.comment,
+            row.previous
         ],
     )
     .and(Ok(()))

@@ -10,33 +10,35 @@ ghost use Rattle.sql_statements.specs.Answers.{ShowsPolicy};
 
 use sqlite::{Alter, Error, Row, Transaction, params};
 
-/// Writes the policy in the place of the one that is there: which form the tables have, and the office's rules, each as a number. `one`
-/// is another name of the rowid, which is 1; the column itself holds NULL.
-pub fn set_policy<S: Alter>(
-    tx: &mut Transaction<'_, S>,
-    schema: i64,
-    reviews: i64,
-    guests_suggest: i64,
-    voting: i64,
-    accept_at: i64,
-    placeholders: i64,
-    line_ends: i64,
-) -> Result<(), Error>
+/// The row of the policy, each column by its name: which form the tables have, and the office's rules, each as a number.
+#[derive(Clone, Copy)]
+pub struct PolicyRow {
+    pub schema: i64,
+    pub reviews: i64,
+    pub guests_suggest: i64,
+    pub voting: i64,
+    pub accept_at: i64,
+    pub placeholders: i64,
+    pub line_ends: i64,
+}
+
+/// Writes the policy in the place of the one that is there. `one` is another name of the rowid, which is 1; the column itself holds NULL.
+pub fn set_policy<S: Alter>(tx: &mut Transaction<'_, S>, policy: PolicyRow) -> Result<(), Error>
     ensures same_reference { tx.new.conn.ghost_name ≡ tx.old.conn.ghost_name }
     ensures put { (form : Form) → IsSteadyOver form (state S.Store tx.old.conn.now) → IsInsideOf form (state S.Store tx.old.conn.now) (state S.Store tx.new.conn.now) result
-        (PutsRow (codes "policy") row_number (λ row. row ≡ Int (pos 1) ∷ Null ∷ Int schema ∷ Int reviews ∷ Int guests_suggest ∷ Int voting ∷ Int accept_at ∷ Int placeholders ∷ Int line_ends ∷ [])) }
+        (PutsRow (codes "policy") row_number (λ row. row ≡ Int (pos 1) ∷ Null ∷ Int policy.schema ∷ Int policy.reviews ∷ Int policy.guests_suggest ∷ Int policy.voting ∷ Int policy.accept_at ∷ Int policy.placeholders ∷ Int policy.line_ends ∷ [])) }
     ensures disk { BlamesTruly (state S.Store tx.old.conn.now) (state S.Store tx.new.conn.now) result }
 {
     tx.execute(
         "INSERT INTO policy (one, schema, reviews, guests_suggest, voting, accept_at, placeholders, line_ends) VALUES (1, ?1, ?2, ?3, ?4, ?5, ?6, ?7) ON CONFLICT (one) DO UPDATE SET schema = excluded.schema, reviews = excluded.reviews, guests_suggest = excluded.guests_suggest, voting = excluded.voting, accept_at = excluded.accept_at, placeholders = excluded.placeholders, line_ends = excluded.line_ends",
         params![
-            schema,
-            reviews,
-            guests_suggest,
-            voting,
-            accept_at,
-            placeholders,
-            line_ends
+            policy.schema,
+            policy.reviews,
+            policy.guests_suggest,
+            policy.voting,
+            policy.accept_at,
+            policy.placeholders,
+            policy.line_ends
         ],
     )
     .and(Ok(()))

@@ -11,6 +11,20 @@ ghost use Rattle.sql_statements.specs.DomainRenewed.{UnapprovesTallies};
 
 use sqlite::{Alter, Error, Row, Transaction, params};
 
+/// The row of a tally, each column by its name.
+#[derive(Clone, Copy)]
+pub struct TallyRow<'a> {
+    pub domain: &'a str,
+    pub lang: &'a str,
+    pub untranslated: i64,
+    pub needs_editing: i64,
+    pub translated: i64,
+    pub approved: i64,
+    pub read_only: i64,
+    pub suggestions: i64,
+    pub obsolete: i64,
+}
+
 /// The tally of a domain's language: untranslated, needing editing, translated, approved, read-only, suggestions and obsolete. None,
 /// where there is no such language.
 pub fn find_tally<'a, S: Alter>(
@@ -32,36 +46,25 @@ pub fn find_tally<'a, S: Alter>(
 }
 
 /// Writes the tally of a domain's language: anew if it has none, and else in the place of the one that is there.
-pub fn put_tally<'a, S: Alter>(
-    tx: &mut Transaction<'_, S>,
-    domain: &'a str,
-    lang: &'a str,
-    untranslated: i64,
-    needs_editing: i64,
-    translated: i64,
-    approved: i64,
-    read_only: i64,
-    suggestions: i64,
-    obsolete: i64,
-) -> Result<(), Error>
+pub fn put_tally<S: Alter>(tx: &mut Transaction<'_, S>, row: TallyRow<'_>) -> Result<(), Error>
     requires steady { IsSteadyOver by_domain (state S.Store tx.old.conn.now) }
     ensures same_reference { tx.new.conn.ghost_name ≡ tx.old.conn.ghost_name }
     ensures put { IsInsideOf by_domain (state S.Store tx.old.conn.now) (state S.Store tx.new.conn.now) result
-        (PutsRow (codes "d_tally") (key_texts (1 ∷ 2 ∷ [])) (HoldsValues (Text domain.now ∷ Text lang.now ∷ Int untranslated ∷ Int needs_editing ∷ Int translated ∷ Int approved ∷ Int read_only ∷ Int suggestions ∷ Int obsolete ∷ []))) }
+        (PutsRow (codes "d_tally") (key_texts (1 ∷ 2 ∷ [])) (HoldsValues (Text row.entry.domain.now ∷ Text row.entry.lang.now ∷ Int row.entry.untranslated ∷ Int row.entry.needs_editing ∷ Int row.entry.translated ∷ Int row.entry.approved ∷ Int row.entry.read_only ∷ Int row.entry.suggestions ∷ Int row.entry.obsolete ∷ []))) }
     ensures disk { BlamesTruly (state S.Store tx.old.conn.now) (state S.Store tx.new.conn.now) result }
 {
     tx.execute(
         "INSERT INTO d_tally (domain, lang, untranslated, needs_editing, translated, approved, read_only, suggestions, obsolete) VALUES (?1, ?2, ?3, ?4, ?5, ?6, ?7, ?8, ?9) ON CONFLICT (domain, lang) DO UPDATE SET untranslated = excluded.untranslated, needs_editing = excluded.needs_editing, translated = excluded.translated, approved = excluded.approved, read_only = excluded.read_only, suggestions = excluded.suggestions, obsolete = excluded.obsolete",
         params![
-            domain,
-            lang,
-            untranslated,
-            needs_editing,
-            translated,
-            approved,
-            read_only,
-            suggestions,
-            obsolete
+            row.domain,
+            row.lang,
+            row.untranslated,
+            row.needs_editing,
+            row.translated,
+            row.approved,
+            row.read_only,
+            row.suggestions,
+            row.obsolete
         ],
     )
     .and(Ok(()))

@@ -40,7 +40,6 @@ abbrev pub FailsTruly : {R : Type 0} → State → State → WalkFault R → Typ
 FailsTruly old new (NoRows error) = is_of_disk error ≡ true → HasFailed old new
 FailsTruly old new (NoSink refusal) = ⊤
 
-
 -- What a connection that is open shows is what it showed before, or what was committed then: with no transaction open they are one.
 pub record StaysPut (old new : State) : Type 0 where
   pub was_open : IsTrue old.is_open

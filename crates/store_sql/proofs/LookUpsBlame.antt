@@ -7,6 +7,7 @@ use Rattle.sqlite.specs.State.{HasCleanDisk, Survives}
 use Rattle.sqlite.specs.Steps.{FailsToCommit}
 use Rattle.sqlite.specs.Tree.{Trees}
 use Rattle.sqlite.specs.declared.error.Error.{Error}
+use Rattle.sqlite.proofs.Callers.{survives_begin}
 use Rattle.sqlite_trees.specs.declared.store.Store as store
 use Rattle.sql_laws.specs.DiskErrors.{is_of_disk, HasFailed, BlamesTruly}
 use Rattle.sql_laws.proofs.DiskErrors.{told_on, blames_before, blames_behind, commit_blames}
@@ -23,4 +24,4 @@ module _ {S : Type 0} (g : store.Ghosts S) (old begun mid last : Held S) (begins
   pub ended_blames : {U : Type 0} (P Q : Trees → Type 0) (x : A) (r : Result U Error) (given : Result A Error) → given ≡ result_and r (Ok x) → (HasCleanDisk (state g last) → IfErr r (FailsToCommit (state g mid) (state g last)))
       → Survives (state g begun) (state g mid) P → Survives (state g mid) (state g last) Q → BlamesTruly (state g old) (state g last) given
   ended_blames P Q x r given is fails inside end =
-      blames_behind (state g old) (state g mid) (state g last) P Q given (subst (λ h. Survives (state g h) (state g mid) P) begins inside) end (commit_blames (state g mid) (state g last) r given fails x is)
+      blames_behind (state g old) (state g mid) (state g last) P Q given (survives_begin g old (state g mid) P (subst (λ h. Survives (state g h) (state g mid) P) begins inside)) end (commit_blames (state g mid) (state g last) r given fails x is)

@@ -6,7 +6,8 @@ ghost use Rattle.sql_schema.specs.Layouts.{by_domain};
 ghost use Rattle.sql_schema.specs.Whole.{IsIdleOver, IsLookUp};
 ghost use Rattle.store_sql.specs.RecordsBehind.{HoldsHeads, IsPlaceOf, IsTold, WereHanded};
 
-use crate::look_ups::{look, look_up_place};
+use crate::look_ups::{look, look_up};
+use crate::questions::PlaceOf;
 use sql_columns::number_column;
 use sql_decoding::Failure;
 use sql_statements::record_queries::{walk_records, walk_records_behind};
@@ -48,7 +49,12 @@ fn read_place<S: Alter>(
     ensures found { IsLookUp (state S.Store connection.old) (state S.Store connection.new) result (IsPlaceOf number) }
 {
     let column = number_column(alloc, number)?;
-    let found = look_up_place(connection, column.as_str());
+    let found = look_up(
+        connection,
+        PlaceOf {
+            number: column.as_str(),
+        },
+    );
     drop(column);
     match found? {
         Some(row) => {

@@ -8,7 +8,8 @@ ghost use Rattle.sql_schema.specs.Whole.{IsLookUp};
 ghost use Rattle.sql_meaning.specs.Domains.{office_of_rows};
 ghost use Rattle.store_sql.specs.Kept.{KeepsOffice};
 
-use crate::look_ups::look_up_tally;
+use crate::look_ups::look_up;
+use crate::questions::TallyOf;
 use deliveries::Tally;
 use sql_decoding::{Failure, tally_in};
 use sqlite::{Alter, Connection};
@@ -25,7 +26,13 @@ pub(crate) fn read_tally<S: Alter>(
     ensures found { IsLookUp (state S.Store connection.old) (state S.Store connection.new) result
         (λ db counts. counts ≡ counts_of (project_in (office_of_rows (rows_named db)) domain.now) lang.now) }
 {
-    let found = look_up_tally(connection, domain.as_str(), lang.as_str())?;
+    let found = look_up(
+        connection,
+        TallyOf {
+            domain: domain.as_str(),
+            lang: lang.as_str(),
+        },
+    )?;
     match found {
         Some(row) => {
             let tally = tally_in(&row);

@@ -74,7 +74,7 @@ fn tell_decided(
     }
 }
 
-/// Tells what comes of a request. False where memory is refused to the decision.
+/// Tells what comes of a request. False where memory is refused to the decision, and nothing where it is refused to what is told.
 fn is_decided(
     alloc: Global,
     told: &mut String,
@@ -84,14 +84,17 @@ fn is_decided(
     request: &Request,
 ) -> Option<bool> {
     match decision(alloc, stage.views.last()?, actor, rule, request) {
-        Ok(decision) => take(told, stage, decision),
+        Ok(decision) => {
+            take(told, stage, decision)?;
+            Some(true)
+        }
         Err(_) => Some(false),
     }
 }
 
 /// Tells what a decision comes to, whose unit is that of the rows below.
-fn take(told: &mut String, stage: &mut Stage, decision: Decision) -> Option<bool> {
+fn take(told: &mut String, stage: &mut Stage, decision: Decision) -> Option<()> {
     let done = tell_decision(told, &decision);
     stage.take(decision)?;
-    Some(done.is_ok())
+    done.ok()
 }

@@ -3,7 +3,7 @@ use crate::unit_rows::parts::forms;
 use crate::unit_rows::words::revision;
 use crate::words::{comment, word};
 use plural_expr::PluralForms;
-use review::{Decision, decide};
+use review::{Decision, UnitRequest, decide};
 use std::alloc::Global;
 use units::{Memory, Name, Policy, Role, UnitAct, UnitAction, UnitView, VoteValue};
 use uuid::Uuid;
@@ -81,9 +81,11 @@ pub(super) fn decision(
         view,
         rule,
         policy,
-        *role,
-        &request.caller,
-        request.number,
-        &request.act,
+        UnitRequest {
+            caller: &request.caller,
+            role: *role,
+            number: request.number,
+            act: &request.act,
+        },
     )
 }

@@ -12,7 +12,7 @@ use Rattle.http_api.proofs.connection.serve_message.Goals as goal
 pub returns-clause-answered : goal.returns-clause-answered
 returns-clause-answered g c =
     let came = c.in_ok-last.ensures.answered in
-    let last = (asking_in c.args.inbox.now c.args.head c.args.body).ends || c.args.full in
+    let last = (asking_in c.args.inbox.now c.args.lengths.head c.args.lengths.body).ends || c.args.full in
     let honest = g.T.Tables.is_honest c.answer_front.new.desk in
     let stopped = g.T.Tables.is_stopped c.answer_front.new.desk ≡ true in
     let old = writer_at g.W.ByteSink.taken g.W.ByteSink.failed c.args.w.now in
@@ -22,12 +22,12 @@ returns-clause-answered g c =
 
 pub returns-clause-next : goal.returns-clause-next
 returns-clause-next g c =
-    let last = (asking_in c.args.inbox.now c.args.head c.args.body).ends || c.args.full in
+    let last = (asking_in c.args.inbox.now c.args.lengths.head c.args.lengths.body).ends || c.args.full in
     ok_and (λ (next : Next). next ≡ next_of last) c.hand_on.result c.next_of.result c.and.result c.and.ensures (c.next_of.ensures ∙ ap next_of c.in_ok-last.ensures.last)
 
 pub returns-clause-behind : goal.returns-clause-behind
 returns-clause-behind g c =
-    at_ok _ c.and.result (c.take_off-2.ensures ∙ ap (λ (bytes : List ℕ). drop c.args.body bytes) c.take_off.ensures ∙ drop-drop c.args.body c.args.head c.args.inbox.now)
+    at_ok _ c.and.result (c.take_off-2.ensures ∙ ap (λ (bytes : List ℕ). drop c.args.lengths.body bytes) c.take_off.ensures ∙ drop-drop c.args.lengths.body c.args.lengths.head c.args.inbox.now)
 
 pub returns-clause-handed_on : goal.returns-clause-handed_on
 returns-clause-handed_on g c = on_ok_and _ c.hand_on.result c.next_of.result c.and.result c.and.ensures c.hand_on.ensures.handed_on

@@ -30,7 +30,7 @@ returns-in-Message-clause-stepped g c =
     message_step _ _ (g.T.Tables.is_honest c.serve_message.new.desk) (g.T.Tables.is_stopped c.serve_message.new.desk ≡ true)
     (g.R.MessagesBehind.left c.args.source.now) (g.R.MessagesBehind.left c.message_behind.new.self) (g.R.MessagesBehind.failed c.args.source.now) (g.R.MessagesBehind.failed c.message_behind.new.self)
     c.args.inbox.now c.message_behind.new.inbox c.serve_message.new.inbox c.args.full (writer_at g.W.ByteSink.taken g.W.ByteSink.failed c.args.w.now) (writer_at g.W.ByteSink.taken g.W.ByteSink.failed c.serve_message.new.w)
-    c.in_ok-message_behind.field-0 c.in-Message.head c.in-Message.body c.serve_message.result c.in-Message.is c.in_ok-message_behind.ensures.read c.in_ok-message_behind.ensures.wanted c.in_ok-message_behind.ensures.arrives
+    c.in_ok-message_behind.field-0 c.in-Message.lengths c.serve_message.result c.in-Message.is c.in_ok-message_behind.ensures.read c.in_ok-message_behind.ensures.wanted c.in_ok-message_behind.ensures.arrives
     came.0 came.1 came.2 c.serve_message.ensures.next c.serve_message.ensures.behind
 
 pub returns-in_err-message_behind-clause-handed_on : goal.returns-in_err-message_behind-clause-handed_on

@@ -7,9 +7,9 @@ use Rattle.office.proofs.delivery.decide_suggestion.Goals as goal
 
 pub returns-clause-answer : goal.returns-clause-answer
 returns-clause-answer g c = λ honest.
-    c.in_ok-outcome.ensures (found_for (g.T.Tables.means c.args.tables.now).office c.args.domain.now c.args.lang.now c.args.key.now c.args.request.now)
+    c.in_ok-outcome.ensures (found_for (g.T.Tables.means c.args.tables.now).office c.args.asked.domain.now c.args.asked.lang.now c.args.asked.key.now c.args.asked.request.now)
     (c.requires.found (c.in_ok-suggestions.ensures.kept.honest honest))
-    (suggestions_found (project_in (g.T.Tables.means c.args.tables.now).office c.args.domain.now) c.args.lang.now c.args.key.now c.args.request.now.caller c.in_ok-suggestions.suggestions (c.in_ok-suggestions.ensures.answer honest))
+    (suggestions_found (project_in (g.T.Tables.means c.args.tables.now).office c.args.asked.domain.now) c.args.asked.lang.now c.args.asked.key.now c.args.asked.request.now.caller c.in_ok-suggestions.suggestions (c.in_ok-suggestions.ensures.answer honest))
 
 pub returns-clause-kept : goal.returns-clause-kept
 returns-clause-kept g c = read_done c.in_ok-suggestions.ensures.kept

@@ -7,9 +7,9 @@ use Rattle.office.proofs.delivery.decide_vote.Goals as goal
 
 pub returns-clause-answer : goal.returns-clause-answer
 returns-clause-answer g c = λ honest.
-    c.in_ok-outcome.ensures.decided (found_for (g.T.Tables.means c.args.tables.now).office c.args.domain.now c.args.lang.now c.args.key.now c.args.request.now) c.args.named.now c.requires.named
+    c.in_ok-outcome.ensures.decided (found_for (g.T.Tables.means c.args.tables.now).office c.args.asked.domain.now c.args.asked.lang.now c.args.asked.key.now c.args.asked.request.now) c.args.named.now c.requires.named
     (c.requires.found (c.in_ok-suggestion.ensures.kept.honest honest))
-    (suggestion_found (project_in (g.T.Tables.means c.args.tables.now).office c.args.domain.now) c.args.lang.now c.args.key.now c.args.request.now.caller c.args.named.now c.in_ok-suggestion.suggestion (c.in_ok-suggestion.ensures.answer honest))
+    (suggestion_found (project_in (g.T.Tables.means c.args.tables.now).office c.args.asked.domain.now) c.args.asked.lang.now c.args.asked.key.now c.args.asked.request.now.caller c.args.named.now c.in_ok-suggestion.suggestion (c.in_ok-suggestion.ensures.answer honest))
 
 pub returns-clause-kept : goal.returns-clause-kept
 returns-clause-kept g c = read_done c.in_ok-suggestion.ensures.kept

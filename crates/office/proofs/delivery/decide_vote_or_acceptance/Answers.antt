@@ -9,7 +9,7 @@ use Rattle.office.proofs.delivery.decide_vote_or_acceptance.Goals as goal
 
 pub returns-in-Some-clause-answer : goal.returns-in-Some-clause-answer
 returns-in-Some-clause-answer g c = λ honest.
-    subst (λ (o : Option UnitOutcome). IfSome o (Decides (found_for (g.T.Tables.means c.args.tables.now).office c.args.domain.now c.args.lang.now c.args.key.now c.args.request.now) c.args.request.now c.args.act.now)) c.in-Some.is (c.in_ok-outcome.ensures.answer honest)
+    subst (λ (o : Option UnitOutcome). IfSome o (Decides (found_for (g.T.Tables.means c.args.tables.now).office c.args.asked.domain.now c.args.asked.lang.now c.args.asked.key.now c.args.asked.request.now) c.args.asked.request.now c.args.asked.act.now)) c.in-Some.is (c.in_ok-outcome.ensures.answer honest)
 
 pub returns-in-Some-clause-kept : goal.returns-in-Some-clause-kept
 returns-in-Some-clause-kept g c = read_done c.in_ok-outcome.ensures.kept
@@ -17,7 +17,7 @@ returns-in-Some-clause-kept g c = read_done c.in_ok-outcome.ensures.kept
 pub returns-in-None-clause-answer : goal.returns-in-None-clause-answer
 returns-in-None-clause-answer g c = λ honest.
     let was = c.decide_whole.ensures.kept.honest honest in
-    subst (λ (m : OfficeWithBook). IfOk c.decide_whole.result (Decides (found_for m.office c.args.domain.now c.args.lang.now c.args.key.now c.args.request.now) c.args.request.now c.args.act.now))
+    subst (λ (m : OfficeWithBook). IfOk c.decide_whole.result (Decides (found_for m.office c.args.asked.domain.now c.args.asked.lang.now c.args.asked.key.now c.args.asked.request.now) c.args.asked.request.now c.args.asked.act.now))
     (c.decide_vote.ensures.same was (c.in_ok-outcome.ensures.kept.open_still was)) (c.decide_whole.ensures.answer honest)
 
 pub returns-in-None-clause-same : goal.returns-in-None-clause-same

@@ -7,7 +7,7 @@ use Rattle.office.proofs.delivery.decide_whole.Goals as goal
 
 pub returns-clause-answer : goal.returns-clause-answer
 returns-clause-answer g c = λ honest.
-    subst (λ (found : Option ActContext). Decides found c.args.request.now c.args.act.now c.in_ok-outcome.field-0) (c.in_ok-found.ensures.answer honest) c.in_ok-outcome.ensures
+    subst (λ (found : Option ActContext). Decides found c.args.asked.request.now c.args.asked.act.now c.in_ok-outcome.field-0) (c.in_ok-found.ensures.answer honest) c.in_ok-outcome.ensures
 
 pub returns-clause-kept : goal.returns-clause-kept
 returns-clause-kept g c = read_done c.in_ok-found.ensures.kept

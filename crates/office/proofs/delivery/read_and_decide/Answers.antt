@@ -11,8 +11,8 @@ use Rattle.office.proofs.delivery.read_and_decide.Goals as goal
 -- decided without suggestions
 pub returns-in-Some-clause-answer : goal.returns-in-Some-clause-answer
 returns-in-Some-clause-answer g c = λ honest.
-    subst (λ (o : Option UnitOutcome). IfSome o (Decides (found_for (g.T.Tables.means c.args.tables.now).office c.args.domain.now c.args.lang.now c.args.key.now c.args.request.now) c.args.request.now c.args.act.now)) c.in-Some.is
-    (c.in_ok-outcome.ensures.decided (found_for (g.T.Tables.means c.args.tables.now).office c.args.domain.now c.args.lang.now c.args.key.now c.args.request.now) (c.in_ok-found.ensures.answer honest))
+    subst (λ (o : Option UnitOutcome). IfSome o (Decides (found_for (g.T.Tables.means c.args.tables.now).office c.args.asked.domain.now c.args.asked.lang.now c.args.asked.key.now c.args.asked.request.now) c.args.asked.request.now c.args.asked.act.now)) c.in-Some.is
+    (c.in_ok-outcome.ensures.decided (found_for (g.T.Tables.means c.args.tables.now).office c.args.asked.domain.now c.args.asked.lang.now c.args.asked.key.now c.args.asked.request.now) (c.in_ok-found.ensures.answer honest))
 
 pub returns-in-Some-clause-kept : goal.returns-in-Some-clause-kept
 returns-in-Some-clause-kept g c = read_done c.in_ok-found.ensures.kept
@@ -21,14 +21,14 @@ returns-in-Some-clause-kept g c = read_done c.in_ok-found.ensures.kept
 pub decide_with_suggestions-requires : goal.decide_with_suggestions-requires
 decide_with_suggestions-requires g c = record {
   found = λ honest.
-      subst (λ (m : OfficeWithBook). c.in_ok-found.found ≡ without_suggestions (found_for m.office c.args.domain.now c.args.lang.now c.args.key.now c.args.request.now))
+      subst (λ (m : OfficeWithBook). c.in_ok-found.found ≡ without_suggestions (found_for m.office c.args.asked.domain.now c.args.asked.lang.now c.args.asked.key.now c.args.asked.request.now))
       (sym (c.unit_of.ensures.same honest (c.in_ok-found.ensures.kept.open_still honest))) (c.in_ok-found.ensures.answer honest);
 }
 
 pub returns-in-None-clause-answer : goal.returns-in-None-clause-answer
 returns-in-None-clause-answer g c = λ honest.
     let was = c.decide_with_suggestions.ensures.kept.honest honest in
-    subst (λ (m : OfficeWithBook). IfOk c.decide_with_suggestions.result (Decides (found_for m.office c.args.domain.now c.args.lang.now c.args.key.now c.args.request.now) c.args.request.now c.args.act.now))
+    subst (λ (m : OfficeWithBook). IfOk c.decide_with_suggestions.result (Decides (found_for m.office c.args.asked.domain.now c.args.asked.lang.now c.args.asked.key.now c.args.asked.request.now) c.args.asked.request.now c.args.asked.act.now))
     (c.unit_of.ensures.same was (c.in_ok-found.ensures.kept.open_still was)) (c.decide_with_suggestions.ensures.answer honest)
 
 pub returns-in-None-clause-same : goal.returns-in-None-clause-same

@@ -9,4 +9,4 @@ pub returns-in-Some : goal.returns-in-Some
 returns-in-Some c = subst (λ (p : Project). IfOk c.languages.result (λ all. all.items ≡ languages p)) c.in-Some.ensures.its c.languages.ensures
 
 pub returns-in-None : goal.returns-in-None
-returns-in-None c = no_languages (office_in c.args.office.now) c.args.domain.now c.new.result.items c.in-None.ensures c.new.ensures.items
+returns-in-None c = no_languages (office_in c.args.office.now) c.args.domain.now c.new.result.items c.in-None.ensures.none c.new.ensures.items

@@ -4,7 +4,7 @@ use Rattle.office_maps.specs.OfficeIn.{office_in}
 use Rattle.sql_meaning.specs.Meaning.{book_in}
 use Rattle.sql_adoption.specs.declared.faults.OpenFault.{OpenFault}
 use Rattle.sql_adoption.specs.Reading.{AreStatusesIn, KeepsBook, RefusesKept}
-use Rattle.sql_adoption.proofs.Looked.{looked_on, if_err_under}
+use Rattle.sql_layouts.proofs.Looked.{looked_on, if_err_under}
 use Rattle.sql_adoption.proofs.Kept.{book_is_kept, book_refused, rules_refused}
 use Rattle.sql_adoption.proofs.book_read.keep_book.Goals as goal
 use Rattle.sql_schema.specs.Layouts.{rows_named}

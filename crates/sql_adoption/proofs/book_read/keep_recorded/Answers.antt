@@ -8,7 +8,7 @@ use Rattle.sql_adoption.specs.declared.faults.OpenFault.{OpenFault}
 use Rattle.sql_adoption.specs.declared.faults.OpenFault.TheVariants.{Foreign}
 use Rattle.sql_adoption.specs.declared.faults.Mismatch.TheVariants.{BrokenRules}
 use Rattle.sql_adoption.specs.Reading.{IsReadOf, KeepsBook, KeepsRecords}
-use Rattle.sql_adoption.proofs.Looked.{looked_on, looked_in_vain}
+use Rattle.sql_layouts.proofs.Looked.{looked_on, looked_in_vain}
 use Rattle.sql_adoption.proofs.KeptRecords.{recorded_kept, recorded_refused}
 use Rattle.sql_adoption.proofs.book_read.keep_recorded.Goals as goal
 

@@ -9,7 +9,7 @@ use Rattle.sql_adoption.specs.NotedRecords.{TestsRecords}
 use Rattle.sql_adoption.specs.Reading.{KeepsRecords}
 use Rattle.sql_adoption.specs.declared.faults.OpenFault.TheVariants.{Foreign}
 use Rattle.sql_adoption.specs.declared.faults.Mismatch.TheVariants.{BrokenRules}
-use Rattle.sql_adoption.proofs.Looked.{walked_on, looked_in_vain, looked_failed, looked_ready}
+use Rattle.sql_layouts.proofs.Looked.{walked_on, looked_in_vain, looked_failed, looked_ready}
 use Rattle.sql_adoption.proofs.Read.{walk_refused}
 use Rattle.sql_adoption.proofs.KeptRecords.{records_kept, records_refused, records_unread}
 use Rattle.sql_adoption.proofs.book_read.keep_records.Goals as goal

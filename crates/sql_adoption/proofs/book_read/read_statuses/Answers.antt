@@ -7,7 +7,7 @@ use Rattle.sql_decoding.specs.declared.faults.Failure.{Failure}
 use Rattle.sql_adoption.specs.declared.statuses.Statuses.{Statuses}
 use Rattle.sql_adoption.specs.NotedRecords.{NotesRecords}
 use Rattle.sql_adoption.specs.Reading.{AreStatusesIn}
-use Rattle.sql_adoption.proofs.Looked.{walked_on, looked_failed}
+use Rattle.sql_layouts.proofs.Looked.{walked_on, looked_failed}
 use Rattle.sql_adoption.proofs.Read.{statuses_are_read, walk_refused}
 use Rattle.sql_adoption.proofs.book_read.read_statuses.Goals as goal
 

@@ -6,7 +6,7 @@ use Rattle.sql_schema.specs.Views.{seen_in}
 use Rattle.sql_schema.specs.Whole.{IsLookUp}
 use Rattle.sql_statements.specs.WholeOffice.{ShowsWholeOfficeIn}
 use Rattle.sql_adoption.specs.Reading.{AddsDomain}
-use Rattle.sql_adoption.proofs.Looked.{looked_on, looked_ready}
+use Rattle.sql_layouts.proofs.Looked.{looked_on, looked_ready}
 use Rattle.sql_adoption.proofs.Read.{domains_put, domain_refused, all_refused}
 use Rattle.sql_adoption.proofs.domains_read.read_domain.Goals as goal
 

@@ -6,7 +6,7 @@ use Rattle.sql_schema.specs.Layouts.{rows_named}
 use Rattle.sql_schema.specs.Whole.{IsLookUp}
 use Rattle.sql_adoption.specs.Reading.{HoldAll, AddsDomain, AreDomainsRead}
 use Rattle.sql_adoption.specs.declared.faults.OpenFault.{OpenFault}
-use Rattle.sql_adoption.proofs.Looked.{idle_still, looked_in_vain}
+use Rattle.sql_layouts.proofs.Looked.{idle_still, looked_in_vain}
 use Rattle.sql_adoption.proofs.DomainsRead.{no_main}
 use Rattle.sql_adoption.proofs.PutDomains.{none_held}
 use Rattle.sql_adoption.proofs.ReadInTurn.{SoFar, one_at_hand, all_at_hand, names_looked, one_looked, one_in_vain, one_refused, all_looked}

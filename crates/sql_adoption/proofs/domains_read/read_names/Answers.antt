@@ -7,7 +7,7 @@ use Rattle.sql_schema.specs.Keys.{text_at}
 use Rattle.sql_schema.specs.Layouts.{rows_named}
 use Rattle.sql_statements.specs.DomainAnswers.{ShowsDomains}
 use Rattle.sql_adoption.specs.Reading.{AreNames}
-use Rattle.sql_adoption.proofs.Looked.{looked_on}
+use Rattle.sql_layouts.proofs.Looked.{looked_on}
 use Rattle.sql_adoption.proofs.DomainsRead.{names_are_read, names_unread}
 use Rattle.sql_adoption.proofs.domains_read.read_names.Goals as goal
 

@@ -1,4 +1,4 @@
-use Rattle.sql_adoption.specs.Tables.{form_told}
+use Rattle.sql_layouts.specs.Tables.{form_told}
 use Rattle.sql_adoption.proofs.Read.{rows_unread}
 use Rattle.sql_adoption.proofs.office_put.put_told.Goals as goal
 

@@ -5,7 +5,7 @@ use Rattle.sql_schema.specs.Layouts.{rows_named}
 use Rattle.sql_meaning.specs.Domains.{office_of_rows}
 use Rattle.sql_adoption.specs.Reading.{AreDomainsRead}
 use Rattle.sql_adoption.specs.declared.faults.OpenFault.{OpenFault}
-use Rattle.sql_adoption.proofs.Looked.{looked_on, looked_in_vain}
+use Rattle.sql_layouts.proofs.Looked.{looked_on, looked_in_vain}
 use Rattle.sql_adoption.proofs.office_read.load_office.Goals as goal
 
 pub returns-in-Ok : goal.returns-in-Ok

@@ -2,7 +2,7 @@ use Rattle.std.proofs.lemmas.Result.{err_from_is_err_and}
 use Rattle.sqlite.specs.Held.{state}
 use Rattle.sql_schema.specs.Layouts.{by_domain}
 use Rattle.sql_adoption.specs.Reading.{IsReadOf}
-use Rattle.sql_adoption.proofs.Looked.{idle_still, looked_failed}
+use Rattle.sql_layouts.proofs.Looked.{idle_still, looked_failed}
 use Rattle.sql_adoption.proofs.ReadByDomain.{own_read, own_refused, others_there}
 use Rattle.sql_adoption.proofs.office_read.read_by_domain.Goals as goal
 

@@ -6,8 +6,8 @@ use Rattle.sql_schema.specs.Layouts.{Form, for_main}
 use Rattle.sql_schema.specs.Whole.{IsIdleOver, IsLookUp}
 use Rattle.sql_statements.specs.WholeOffice.{ShowsWholeOffice}
 use Rattle.sql_adoption.specs.Reading.{IsReadOf, ShowsForm, RefusesRows, RefusesOf}
-use Rattle.sql_adoption.specs.Tables.{form_told}
-use Rattle.sql_adoption.proofs.Looked.{looked_on, looked_failed, looked_ready}
+use Rattle.sql_layouts.specs.Tables.{form_told}
+use Rattle.sql_layouts.proofs.Looked.{looked_on, looked_failed, looked_ready}
 use Rattle.sql_schema.proofs.Layouts.{of_main}
 use Rattle.sql_adoption.proofs.Read.{main_read, main_refused, all_refused}
 use Rattle.sql_adoption.proofs.office_read.read_main.Goals as goal

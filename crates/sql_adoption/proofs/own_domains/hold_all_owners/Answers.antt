@@ -7,7 +7,7 @@ use Rattle.sql_schema.specs.Layouts.{by_domain}
 use Rattle.sql_schema.specs.Whole.{IsIdleOver}
 use Rattle.sql_statements.specs.declared.owners.Owned.TheVariants.{Template, Languages, Units, Suggestions}
 use Rattle.sql_adoption.specs.OwnedRows.{TestsRows}
-use Rattle.sql_adoption.proofs.Looked.{idle_still}
+use Rattle.sql_layouts.proofs.Looked.{idle_still}
 use Rattle.sql_adoption.proofs.OwnDomains.{Among, FirstTwo, FirstThree, AllAmong, fails_too, then_tests, all_tested}
 use Rattle.sql_adoption.proofs.own_domains.hold_all_owners.Goals as goal
 

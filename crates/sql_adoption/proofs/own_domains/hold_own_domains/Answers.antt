@@ -3,7 +3,7 @@ use Rattle.sqlite.specs.Order.{Row}
 use Rattle.sqlite.specs.Held.{state}
 use Rattle.sqlite.specs.declared.error.Error.{Error}
 use Rattle.sql_adoption.specs.OwnedRows.{TestsRows}
-use Rattle.sql_adoption.proofs.Looked.{idle_still}
+use Rattle.sql_layouts.proofs.Looked.{idle_still}
 use Rattle.sql_adoption.proofs.OwnDomains.{AllAmong, own_tested, no_domains}
 use Rattle.sql_adoption.proofs.own_domains.hold_own_domains.Goals as goal
 

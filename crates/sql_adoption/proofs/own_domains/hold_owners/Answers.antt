@@ -5,7 +5,7 @@ use Rattle.sql_schema.specs.Layouts.{rows_named}
 use Rattle.sql_decoding.specs.declared.faults.Failure.{Failure}
 use Rattle.sql_adoption.specs.declared.own_domains.Named.{Named}
 use Rattle.sql_adoption.specs.OwnedRows.{AreOwnedAmong}
-use Rattle.sql_adoption.proofs.Looked.{walked_on, looked_failed}
+use Rattle.sql_layouts.proofs.Looked.{walked_on, looked_failed}
 use Rattle.sql_adoption.proofs.OwnDomains.{walk_told, walk_refused}
 use Rattle.sql_adoption.proofs.own_domains.hold_owners.Goals as goal
 

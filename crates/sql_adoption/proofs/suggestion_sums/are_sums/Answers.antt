@@ -1,5 +1,5 @@
 use Rattle.std.proofs.Common.{rules, ◌≡◌, ◌∙◌}
-use Rattle.sql_adoption.proofs.Looked.{if_ok}
+use Rattle.sql_layouts.proofs.Looked.{if_ok}
 use Rattle.sql_adoption.proofs.SumsTold.{sums_same}
 use Rattle.sql_adoption.proofs.suggestion_sums.are_sums.Goals as goal
 

@@ -2,7 +2,7 @@ use Rattle.std.proofs.Common.{ℤ, Option, None, cond, sym, ap, ◌∙◌}
 use Rattle.sqlite.specs.Order.{column}
 use Rattle.sql_schema.specs.Keys.{has_text}
 use Rattle.sql_decoding.proofs.RowsSoFar.{one_more_kept}
-use Rattle.sql_adoption.specs.RisingRows.{integer_in}
+use Rattle.sql_layouts.specs.RisingRows.{integer_in}
 use Rattle.sql_adoption.proofs.suggestion_sums.sums_by_number.Goals as goal
 
 pub loop-row-preserved : goal.loop-row-preserved

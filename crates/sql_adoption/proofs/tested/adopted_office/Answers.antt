@@ -1,7 +1,7 @@
 use Rattle.std.proofs.Common.{Option, Ok, subst}
 use Rattle.sqlite.specs.Held.{state}
-use Rattle.sql_adoption.specs.Looks.{IsTested}
-use Rattle.sql_adoption.specs.declared.office_tables.Form.{Form}
+use Rattle.sql_layouts.specs.Looks.{IsTested}
+use Rattle.sql_layouts.specs.declared.office_tables.Form.{Form}
 use Rattle.sql_adoption.proofs.AsItWas.{adopted_refused}
 use Rattle.sql_adoption.proofs.tested.adopted_office.Goals as goal
 

@@ -5,7 +5,7 @@ use Rattle.sqlite.specs.Effect.{Database}
 use Rattle.office_maps.specs.OfficeIn.{office_in}
 use Rattle.sql_schema.specs.Layouts.{for_main, by_domain}
 use Rattle.sql_adoption.specs.Reading.{IsReadOf}
-use Rattle.sql_adoption.specs.Tables.{form_told}
+use Rattle.sql_layouts.specs.Tables.{form_told}
 use Rattle.sql_adoption.proofs.Kept.{kept_refused, book_alone_kept, kept_anyway, rows_are_kept, rows_refused}
 use Rattle.sql_adoption.proofs.tested.keep_rows.Goals as goal
 

@@ -29,14 +29,14 @@ returns-in-Some-clause-put g c =
     let Ready = λ (before after : Database). AreOfficeTablesOf by_domain before × Shown before after in
     let read = write_ready old mid (Ok found) Shown c.requires.steady
     (write_answered old mid {F = Error} found found (ShowsPlaceOf c.as_str.result.now c.as_str-2.result.now c.as_str-3.result.now c.as_str-4.result.now) c.in_ok-found.ensures.found) in
-    let Cast = Casts c.as_str-in-Some.result.now c.as_str-in-Some-2.result.now c.args.value in
-    let sum : ℤ = to_z w64 (of_z w64 c.args.sum) in
-    let through : sum ≡ c.args.sum = to_z-of_z w64 c.args.sum c.ranges.sum in
-    let cast = write_mapped mid new c.put_vote_and_sum.result c.map_err.result _ (Cast sum) (Cast c.args.sum) c.map_err.ensures.cases (λ made. subst (λ z. Cast z mid.now new.now) through made)
+    let Cast = Casts c.as_str-in-Some.result.now c.as_str-in-Some-2.result.now c.args.vote.value in
+    let sum : ℤ = to_z w64 (of_z w64 c.args.vote.sum) in
+    let through : sum ≡ c.args.vote.sum = to_z-of_z w64 c.args.vote.sum (search rules) in
+    let cast = write_mapped mid new c.put_vote_and_sum.result c.map_err.result _ (Cast sum) (Cast c.args.vote.sum) c.map_err.ensures.cases (λ made. subst (λ z. Cast z mid.now new.now) through made)
     c.put_vote_and_sum.ensures.put in
-    write_then old mid new found c.map_err.result Ready (Cast c.args.sum) (OnDomain domain (WritesVote lang (key_text key) c.args.number c.args.voter.now c.args.value))
-    (λ shown made. vote_written domain lang key c.args.number c.args.voter.now c.args.value c.as_str.result.now c.as_str-2.result.now c.as_str-3.result.now c.as_str-4.result.now
-    (search rules) (search rules) (search rules) (search rules) c.in_ok-number.ensures.fits found old.now mid.now shown c.in-Some.row (search rules) c.as_str-in-Some.result.now c.as_str-in-Some-2.result.now c.args.sum new.now
+    write_then old mid new found c.map_err.result Ready (Cast c.args.vote.sum) (OnDomain domain (WritesVote lang (key_text key) c.args.vote.number c.args.vote.voter.now c.args.vote.value))
+    (λ shown made. vote_written domain lang key c.args.vote.number c.args.vote.voter.now c.args.vote.value c.as_str.result.now c.as_str-2.result.now c.as_str-3.result.now c.as_str-4.result.now
+    (search rules) (search rules) (search rules) (search rules) c.in_ok-number.ensures.fits found old.now mid.now shown c.in-Some.row (search rules) c.as_str-in-Some.result.now c.as_str-in-Some-2.result.now c.args.vote.sum new.now
     (search rules) (search rules) made) read cast
 
 pub returns-in-Some-clause-figures : goal.returns-in-Some-clause-figures
@@ -52,14 +52,14 @@ returns-in-Some-clause-figures g c =
     let Ready = λ (before after : Database). AreOfficeTablesOf by_domain before × Shown before after in
     let read = write_ready old mid (Ok found) Shown c.requires.steady
     (write_answered old mid {F = Error} found found (ShowsPlaceOf c.as_str.result.now c.as_str-2.result.now c.as_str-3.result.now c.as_str-4.result.now) c.in_ok-found.ensures.found) in
-    let Cast = Casts c.as_str-in-Some.result.now c.as_str-in-Some-2.result.now c.args.value in
-    let sum : ℤ = to_z w64 (of_z w64 c.args.sum) in
-    let through : sum ≡ c.args.sum = to_z-of_z w64 c.args.sum c.ranges.sum in
-    let cast = write_mapped mid new c.put_vote_and_sum.result c.map_err.result _ (Cast sum) (Cast c.args.sum) c.map_err.ensures.cases (λ made. subst (λ z. Cast z mid.now new.now) through made)
+    let Cast = Casts c.as_str-in-Some.result.now c.as_str-in-Some-2.result.now c.args.vote.value in
+    let sum : ℤ = to_z w64 (of_z w64 c.args.vote.sum) in
+    let through : sum ≡ c.args.vote.sum = to_z-of_z w64 c.args.vote.sum (search rules) in
+    let cast = write_mapped mid new c.put_vote_and_sum.result c.map_err.result _ (Cast sum) (Cast c.args.vote.sum) c.map_err.ensures.cases (λ made. subst (λ z. Cast z mid.now new.now) through made)
     c.put_vote_and_sum.ensures.put in
-    write_then old mid new found c.map_err.result Ready (Cast c.args.sum) (FollowsVoteAt domain lang key c.args.number c.args.voter.now c.args.value c.args.sum)
-    (λ shown made. vote_follows domain lang key c.args.number c.args.voter.now c.args.value c.as_str.result.now c.as_str-2.result.now c.as_str-3.result.now c.as_str-4.result.now
-    (search rules) (search rules) (search rules) (search rules) c.in_ok-number.ensures.fits found old.now mid.now shown c.in-Some.row (search rules) c.as_str-in-Some.result.now c.as_str-in-Some-2.result.now c.args.sum new.now
+    write_then old mid new found c.map_err.result Ready (Cast c.args.vote.sum) (FollowsVoteAt domain lang key c.args.vote.number c.args.vote.voter.now c.args.vote.value c.args.vote.sum)
+    (λ shown made. vote_follows domain lang key c.args.vote.number c.args.vote.voter.now c.args.vote.value c.as_str.result.now c.as_str-2.result.now c.as_str-3.result.now c.as_str-4.result.now
+    (search rules) (search rules) (search rules) (search rules) c.in_ok-number.ensures.fits found old.now mid.now shown c.in-Some.row (search rules) c.as_str-in-Some.result.now c.as_str-in-Some-2.result.now c.args.vote.sum new.now
     (search rules) (search rules) made) read cast
 
 -- elsewhere nothing is
@@ -75,8 +75,8 @@ returns-clause-put g c =
     let Ready = λ (before after : Database). AreOfficeTablesOf by_domain before × Shown before after in
     let read = write_ready old mid (Ok found) Shown c.requires.steady
     (write_answered old mid {F = Error} found found (ShowsPlaceOf c.as_str.result.now c.as_str-2.result.now c.as_str-3.result.now c.as_str-4.result.now) c.in_ok-found.ensures.found) in
-    write_told old mid found _ Ready (OnDomain domain (WritesVote lang (key_text key) c.args.number c.args.voter.now c.args.value))
-    (λ shown. vote_nowhere domain lang key c.args.number c.args.voter.now c.args.value c.as_str.result.now c.as_str-2.result.now c.as_str-3.result.now c.as_str-4.result.now
+    write_told old mid found _ Ready (OnDomain domain (WritesVote lang (key_text key) c.args.vote.number c.args.vote.voter.now c.args.vote.value))
+    (λ shown. vote_nowhere domain lang key c.args.vote.number c.args.vote.voter.now c.args.vote.value c.as_str.result.now c.as_str-2.result.now c.as_str-3.result.now c.as_str-4.result.now
     (search rules) (search rules) (search rules) (search rules) c.in_ok-number.ensures.fits found old.now mid.now shown (search rules)) read
 
 pub returns-clause-figures : goal.returns-clause-figures
@@ -86,5 +86,5 @@ returns-clause-figures g c =
     let found = c.in_ok-found.found in
     let Shown = λ (before after : Database). (after ≡ before) × ShowsPlaceOf c.as_str.result.now c.as_str-2.result.now c.as_str-3.result.now c.as_str-4.result.now before found in
     let read = write_answered old mid {F = Error} found found (ShowsPlaceOf c.as_str.result.now c.as_str-2.result.now c.as_str-3.result.now c.as_str-4.result.now) c.in_ok-found.ensures.found in
-    write_told old mid found _ Shown (FollowsVoteAt c.args.domain.now c.args.lang.now c.args.key.now c.args.number c.args.voter.now c.args.value c.args.sum)
-    (λ shown. vote_nowhere_follows c.args.domain.now c.args.lang.now c.args.key.now c.args.number c.args.voter.now c.args.value c.args.sum old.now mid.now shown.0) read
+    write_told old mid found _ Shown (FollowsVoteAt c.args.domain.now c.args.lang.now c.args.key.now c.args.vote.number c.args.vote.voter.now c.args.vote.value c.args.vote.sum)
+    (λ shown. vote_nowhere_follows c.args.domain.now c.args.lang.now c.args.key.now c.args.vote.number c.args.vote.voter.now c.args.vote.value c.args.vote.sum old.now mid.now shown.0) read

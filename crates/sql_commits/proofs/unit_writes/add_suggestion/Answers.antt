@@ -1,4 +1,5 @@
-use Rattle.std.proofs.Common.{refl, rules, Ok, map, codes, subst, ◌∙◌, sym, ◌≡◌}
+use Rattle.std.proofs.Common.{refl, rules, arith, w64, to_z, Ok, map, codes, subst, ◌∙◌, sym, ◌≡◌}
+use Rattle.std.proofs.lemmas.Int.{to_z_pos}
 use Rattle.std.specs.FinMap as maps
 use Rattle.sqlite.specs.Held.{state}
 use Rattle.sql_changes.specs.OnDomains.{OnDomain}
@@ -28,9 +29,10 @@ returns-clause-put g c =
     let key = c.args.key.now in
     let place = c.args.place in
     let s = c.args.suggestion.now in
-    write_then old mid new c.in_ok-add_summed.field-0 c.put_votes.result (AddsSummed domain c.as_str.result.now lang key place s.suggester c.as_str-2.result.now) (PutsVotesOn domain c.as_str-3.result.now (maps.entries s.votes))
+    write_then old mid new c.in_ok-add_summed.field-0 c.put_votes.result (AddsSummed domain c.as_str.result.now lang key (to_z w64 place) c.as_str-2.result.now c.as_str-3.result.now) (PutsVotesOn domain c.as_str-4.result.now (maps.entries s.votes))
     (OnDomain domain (AddsNumberedSuggestion lang key place s))
-    (adds_on_domain domain lang key c.as_str.result.now c.as_str-3.result.now c.as_str-2.result.now place s old.now mid.now new.now (search rules) (search rules) (search rules) c.in_ok-number.ensures.fits)
+    (adds_on_domain domain lang key c.as_str.result.now c.as_str-4.result.now c.as_str-2.result.now c.as_str-3.result.now (to_z w64 place) place s old.now mid.now new.now
+    (search rules) (search rules) (search rules) (search rules) (to_z_pos w64 place (omega (arith, c.requires.fits))) c.in_ok-number.ensures.fits)
     c.in_ok-add_summed.ensures.added c.put_votes.ensures.put
 
 -- its sum is that of its votes
@@ -40,9 +42,9 @@ returns-clause-figures g c =
     let mid = state g.S.Store c.add_summed.new.tx.conn.now in
     let new = state g.S.Store c.put_votes.new.tx.conn.now in
     let number = c.as_str.result.now in
-    let again = c.as_str-3.result.now in
+    let again = c.as_str-4.result.now in
     let votes = c.args.suggestion.now.votes in
-    let same : again ≡ number = c.as_str-3.ensures ∙ sym c.as_str.ensures in
+    let same : again ≡ number = c.as_str-4.ensures ∙ sym c.as_str.ensures in
     let Votes = λ (n : Text). OnRows (PutsRows (codes "d_vote") first_texts (map (vote_cells n) (maps.entries votes))) in
     let Adds = AddsWithSum number (vote_sum votes) in
     let Ready = λ (before after : Database). AreOfficeTablesOf by_domain before × Adds before after in

@@ -8,7 +8,7 @@ use Rattle.sql_schema.specs.Layouts.{Form, by_domain}
 use Rattle.sql_schema.specs.Whole.{IsCommitOf}
 use Rattle.sql_statements.proofs.LookedUp.{steady_begun}
 use Rattle.sql_commits.proofs.FiguresInTurn.{write_joined}
-use Rattle.sql_adoption.specs.Tables.{form_told}
+use Rattle.sql_layouts.specs.Tables.{form_told}
 use Rattle.sql_schema.proofs.Layouts.{of_main}
 use Rattle.sql_conversion.specs.Conversion.{WritesAnew, FollowsLanguages, Converts}
 use Rattle.sql_conversion.proofs.OneTransaction.{finishes, commits_as}

@@ -1,4 +1,4 @@
-use Rattle.std.proofs.Common.{w64}
+use Rattle.std.proofs.Common.{rules, w64}
 use Rattle.std.proofs.lemmas.Int.{to_z-of_z}
 use Rattle.sqlite.specs.Held.{state}
 use Rattle.sql_laws.proofs.DiskErrors.{execute_blames}
@@ -9,8 +9,8 @@ use Rattle.sql_statements.proofs.domain_suggestions.add_domain_suggestion.Goals 
 pub returns-clause-added : goal.returns-clause-added
 returns-clause-added g c =
     said _ _ _ c.and.ensures (
-    adds_suggestion c.args.number.now c.args.domain.now c.args.lang.now c.args.key.now c.args.place c.args.suggester.now c.args.forms.now (state g.S.Store c.args.tx.now.conn.now) (state g.S.Store c.execute.new.self.conn.now) c.execute.result c.requires.steady
-    (rw (c.params-to_sql.ensures, c.params-to_sql-2.ensures, c.params-to_sql-3.ensures, c.params-to_sql-4.ensures, c.params-to_sql-5.ensures, c.params-to_sql-6.ensures, c.params-to_sql-7.ensures, to_z-of_z w64 c.args.place c.ranges.place) at c.execute.ensures.runs) c.execute.ensures.survives
+    adds_suggestion c.args.row.number.now c.args.row.domain.now c.args.row.lang.now c.args.row.key.now c.args.row.place c.args.row.suggester.now c.args.row.forms.now (state g.S.Store c.args.tx.now.conn.now) (state g.S.Store c.execute.new.self.conn.now) c.execute.result c.requires.steady
+    (rw (c.params-to_sql.ensures, c.params-to_sql-2.ensures, c.params-to_sql-3.ensures, c.params-to_sql-4.ensures, c.params-to_sql-5.ensures, c.params-to_sql-6.ensures, c.params-to_sql-7.ensures, to_z-of_z w64 c.args.row.place (search rules)) at c.execute.ensures.runs) c.execute.ensures.survives
     )
 
 pub returns-clause-disk : goal.returns-clause-disk

@@ -1,9 +1,10 @@
-use Rattle.std.proofs.Common.{inl, rules, refl, sym, ap, subst, ◌∙◌, arith, None, Some}
+use Rattle.std.proofs.Common.{◌≡◌, inl, rules, refl, sym, ap, subst, ◌∙◌, arith, None, Some}
 use Rattle.std.specs.Option.{option_copied}
 use Rattle.sqlite.specs.Held.{state}
 use Rattle.sqlite.specs.Given.{Advances}
 use Rattle.sqlite.specs.State.{HasCleanDisk}
 use Rattle.sqlite.specs.Values.{bound}
+use Rattle.sql_laws.specs.DiskErrors.{HasFailed}
 use Rattle.sql_laws.proofs.DiskErrors.{query_of_disk}
 use Rattle.sql_streams.proofs.Connections.{failed_stays}
 use Rattle.sql_streams.proofs.Steps.{commits_nothing, walk_begun, walk_on, walk_refused, walk_ended, walk_failed, failed_truly}
@@ -66,7 +67,9 @@ returns-in-Err-clause-disk g c clean =
     query_of_disk (state g.S.Store c.args.connection.now) (state g.S.Store c.query.follows.lender-at-none) c.in-Err.error c.args.sql.now (bound c.args.params.now) (inl (refused.err clean))
 
 pub returns-in-Err-advance-clause-disk : goal.returns-in-Err-advance-clause-disk
-returns-in-Err-advance-clause-disk g c clean =
+returns-in-Err-advance-clause-disk g c clean blamed =
     let late : HasCleanDisk (state g.S.Store c.advance.new.self.conn.now) = search rules in
-    failed_truly g.S.Store g.K.RowSink.Took c.args.sql.now (bound c.args.params.now) c.args.connection.now c.requires.plain c.args.sink.now c.rows.rows.conn.now c.advance.new.self.conn.now c.rows.sink c.rows.invariant.1
-    c.advance.ensures.survives c.in-Err-advance.error c.in-Err-advance.ensures.err late
+    let same : c.advance.new.self.conn.now ≡ c.connection-in-Err-advance-1.given.0 = search rules in
+    subst (λ h. HasFailed (state g.S.Store c.args.connection.now) (state g.S.Store h)) same
+    (failed_truly g.S.Store g.K.RowSink.Took c.args.sql.now (bound c.args.params.now) c.args.connection.now c.requires.plain c.args.sink.now c.rows.rows.conn.now c.advance.new.self.conn.now c.rows.sink c.rows.invariant.1
+    c.advance.ensures.survives c.in-Err-advance.error c.in-Err-advance.ensures.err late blamed)

@@ -8,6 +8,6 @@ use Rattle.store_sql.proofs.look_ups.look.Goals as goal
 
 pub returns : goal.returns
 returns g c = record {
-  looked = look_up_mapped (state g.S.Store c.args.connection.now) (state g.S.Store c.look_up_policy.new.connection) {E = Error} {F = Failure} c.in_ok-policy.policy (tt {0}) ShowsPolicy (λ _ _. ⊤)
+  looked = look_up_mapped (state g.S.Store c.args.connection.now) (state g.S.Store c.look_up.new.connection) {E = Error} {F = Failure} c.in_ok-policy.policy (tt {0}) ShowsPolicy (λ _ _. ⊤)
       c.in_ok-policy.ensures.found (λ clean is_open shown. tt);
 }

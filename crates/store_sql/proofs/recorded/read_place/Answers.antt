@@ -14,7 +14,7 @@ use Rattle.store_sql.proofs.recorded.read_place.Goals as goal
 pub returns-in_ok-place-in-Some : goal.returns-in_ok-place-in-Some
 returns-in_ok-place-in-Some g c =
     let old = state g.S.Store c.args.connection.now in
-    let new = state g.S.Store c.look_up_place-found.new.connection in
+    let new = state g.S.Store c.look_up-found.new.connection in
     let n = c.in_ok-place-in-Some.field-0 in
     let same : to_z w64 (of_z w64 n) ≡ n = search rules in
     let holds : column c.in-Some.row 0 ≡ Int n = search rules in
@@ -26,7 +26,7 @@ returns-in_ok-place-in-Some g c =
 
 pub returns-in-None : goal.returns-in-None
 returns-in-None g c = record {
-  found = look_up_mapped (state g.S.Store c.args.connection.now) (state g.S.Store c.look_up_place-found.new.connection) {E = Error} None None
+  found = look_up_mapped (state g.S.Store c.args.connection.now) (state g.S.Store c.look_up-found.new.connection) {E = Error} None None
       (ShowsPlace c.as_str.result.now) (IsPlaceOf c.args.number) (search rules)
       (λ clean is_open shown. (None, subst (λ t. ShowsPlace t (state g.S.Store c.args.connection.now).now None) (search rules) shown, refl));
 }

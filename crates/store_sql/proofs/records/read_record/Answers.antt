@@ -12,7 +12,7 @@ use Rattle.sql_schema.specs.Layouts.{rows_named}
 
 pub returns-in_ok-record-in-Some : goal.returns-in_ok-record-in-Some
 returns-in_ok-record-in-Some g c = record {
-  found = look_up_mapped (state g.S.Store c.args.connection.now) (state g.S.Store c.look_up_record-found.new.connection) {E = Error} (Some c.in-Some.row) (Some c.in_ok-record-in-Some.field-0)
+  found = look_up_mapped (state g.S.Store c.args.connection.now) (state g.S.Store c.look_up-found.new.connection) {E = Error} (Some c.in-Some.row) (Some c.in_ok-record-in-Some.field-0)
       (ShowsRecord c.as_str.result.now) (λ db r. r ≡ option_map (row_of c.args.number) (maps.get (book_in (rows_named db)) c.args.number)) (search rules)
       (λ clean is_open shown. ap Some c.in_ok-record-in-Some.ensures.shown ∙ sym (ap (option_map (row_of c.args.number))
       (reads_record (state g.S.Store c.args.connection.now) c.args.number c.as_str.result.now (Some c.in-Some.row) c.requires.keeps (search rules) (search rules) clean is_open shown)));
@@ -20,7 +20,7 @@ returns-in_ok-record-in-Some g c = record {
 
 pub returns-in-None : goal.returns-in-None
 returns-in-None g c = record {
-  found = look_up_mapped (state g.S.Store c.args.connection.now) (state g.S.Store c.look_up_record-found.new.connection) {E = Error} None None
+  found = look_up_mapped (state g.S.Store c.args.connection.now) (state g.S.Store c.look_up-found.new.connection) {E = Error} None None
       (ShowsRecord c.as_str.result.now) (λ db r. r ≡ option_map (row_of c.args.number) (maps.get (book_in (rows_named db)) c.args.number)) (search rules)
       (λ clean is_open shown. sym (ap (option_map (row_of c.args.number))
       (reads_record (state g.S.Store c.args.connection.now) c.args.number c.as_str.result.now None c.requires.keeps (search rules) (search rules) clean is_open shown)));

@@ -14,7 +14,7 @@ pub returns-in_ok-tally-in-Some : goal.returns-in_ok-tally-in-Some
 returns-in_ok-tally-in-Some g c =
     let old = state g.S.Store c.args.connection.now in
     record {
-      found = look_up_mapped old (state g.S.Store c.look_up_tally.new.connection) {E = Error} (Some c.in-Some.row) (Some c.in_ok-tally-in-Some.field-0)
+      found = look_up_mapped old (state g.S.Store c.look_up.new.connection) {E = Error} (Some c.in-Some.row) (Some c.in_ok-tally-in-Some.field-0)
           (ShowsTally c.as_str.result.now c.as_str-2.result.now)
           (λ db counts. counts ≡ counts_of (project_in (office_of_rows (rows_named db)) c.args.domain.now) c.args.lang.now) (search rules)
           (λ clean is_open shows. ap Some c.in_ok-tally-in-Some.ensures.shown
@@ -25,7 +25,7 @@ pub returns-in-None : goal.returns-in-None
 returns-in-None g c =
     let old = state g.S.Store c.args.connection.now in
     record {
-      found = look_up_mapped old (state g.S.Store c.look_up_tally.new.connection) {E = Error} None None
+      found = look_up_mapped old (state g.S.Store c.look_up.new.connection) {E = Error} None None
           (ShowsTally c.as_str.result.now c.as_str-2.result.now)
           (λ db counts. counts ≡ counts_of (project_in (office_of_rows (rows_named db)) c.args.domain.now) c.args.lang.now) (search rules)
           (λ clean is_open shows.

@@ -14,7 +14,7 @@ pub returns : goal.returns
 returns g c =
     let old = state g.S.Store c.args.connection.now in
     record {
-      found = look_up_answered old (state g.S.Store c.look_up_member.new.connection) {E = Error} c.in_ok-row.row _
+      found = look_up_answered old (state g.S.Store c.look_up.new.connection) {E = Error} c.in_ok-row.row _
           (ShowsMember c.as_str.result.now) (λ role. role ≡ shown_role c.in_ok-row.row)
           (λ db role. role ≡ role_in (office_of_rows (rows_named db)).team c.args.name.now) c.in_ok-row.ensures.found c.role_in-role.ensures.shown
           (λ clean is_open shows role shown. reads_role old c.args.name.now c.as_str.result.now c.in_ok-row.row role c.requires.keeps c.as_str.ensures.value clean is_open shown shows);

@@ -18,7 +18,7 @@ returns g c =
     let rows = c.in_ok-rows.rows in
     let rows_are : c.deref.result.now ≡ rows.items = search rules in
     record {
-      found = look_up_answered old (state g.S.Store c.look_up_suggestions.new.connection) {E = Error} rows _
+      found = look_up_answered old (state g.S.Store c.look_up.new.connection) {E = Error} rows _
           (λ db shown. ShowsDomainSuggestions c.as_str.result.now c.as_str-2.result.now c.as_str-3.result.now db shown.items) (λ found. found ≡ map (with_votes maps.empty) c.deref.result.now)
           (λ db r. r ≡ suggestions_at (project_in (office_of_rows (rows_named db)) c.args.domain.now) c.args.lang.now c.args.key.now) c.in_ok-rows.ensures.found c.suggestions_without_votes-found.ensures.shown
           (λ clean is_open shows found shown. reads_suggestions old c.args.domain.now c.args.lang.now c.args.key.now c.as_str.result.now c.as_str-2.result.now c.as_str-3.result.now

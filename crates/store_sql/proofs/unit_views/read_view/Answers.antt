@@ -15,7 +15,7 @@ pub returns : goal.returns
 returns g c =
     let old = state g.S.Store c.args.connection.now in
     record {
-      found = look_up_answered old (state g.S.Store c.look_up_view.new.connection) {E = Error} c.in_ok-rows.rows _
+      found = look_up_answered old (state g.S.Store c.look_up.new.connection) {E = Error} c.in_ok-rows.rows _
           (ShowsDomainViewRows c.as_str.result.now c.as_str-2.result.now c.as_str-3.result.now c.as_str-4.result.now) (IsShownFound c.args.key.now c.in_ok-rows.rows)
           (λ db r. r ≡ found_of (project_in (office_of_rows (rows_named db)) c.args.domain.now) c.args.lang.now c.args.key.now c.args.name.now) c.in_ok-rows.ensures.found c.found_in-found.ensures.shown
           (λ clean is_open shows found shown. reads_view old c.args.domain.now c.args.lang.now c.args.key.now c.args.name.now c.as_str.result.now c.as_str-2.result.now c.as_str-3.result.now c.as_str-4.result.now

@@ -23,8 +23,8 @@ pub loop-code-preserved : goal.loop-code-preserved
 loop-code-preserved c =
     let step = rest_more deref_pair c.loop-code.code-iterator c.next.new.self c.next.result (c.in-Some.code, c.in-Some._language) c.in-Some.is c.next.ensures.steps in
     record {
-      told = one_more_code c.loop-code.all.items c.push.new.self.items (string_bytes c.in-Some.code.now) c.in_ok-lang.lang (codes_in c.next.new.self)
-          (c.loop-code.invariant.told ∙ ap (λ rows. c.loop-code.all.items ++ codes_in rows) step) (c.in_ok-lang.ensures ∙ c.as_str.ensures.value) c.in_ok-push.ensures.items;
+      told = one_more_code c.loop-code.all.items c.push.new.self.items (string_bytes c.in-Some.code.now) c.lang_of.result (codes_in c.next.new.self)
+          (c.loop-code.invariant.told ∙ ap (λ rows. c.loop-code.all.items ++ codes_in rows) step) (c.lang_of.ensures ∙ c.as_str.ensures.value) c.in_ok-push.ensures.items;
       coded = (both_hold (is_lang (string_bytes c.in-Some.code.now)) (are_codes c.next.new.self) (sym (ap are_codes step) ∙ c.loop-code.invariant.coded)).1;
     }
 
