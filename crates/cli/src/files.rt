@@ -3,7 +3,7 @@ ghost use Rattle.std.specs.Prelude.{◌≡◌, false, IfOk};
 
 use crate::work::{Work, done, told_closed};
 use crate::{STOPPED, store_fault};
-use file_commands::Closed;
+use store_commands::Closed;
 use sqlite::{Connection, Error, ErrorCode, File, FileStore, Options, Unknown};
 use sqlite_std_file::OpenError;
 use std::fs;

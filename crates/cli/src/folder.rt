@@ -5,7 +5,7 @@ use crate::faults::Faults;
 use crate::words::Langs;
 use crate::{DONE, second_output, store_fault};
 use commands::{FAILED, Output, export_text};
-use file_commands::{Closed, Unopened, close_desk, open_desk};
+use store_commands::{Closed, Unopened, close_desk, open_desk};
 use office::{Desk, ExportFault};
 use sqlite::{Alter, Connection};
 use std::fs::{self, File};
@@ -84,7 +84,7 @@ fn export_file<T: Tables>(
 }
 
 /// Tells a fault, and answers the exit status.
-fn told(rt: &HostRuntime, fault: ExportFault) -> u8 {
+fn tell_export_fault(rt: &HostRuntime, fault: ExportFault) -> u8 {
     // Where it can't be told, the status tells it.
     let mut faults = Faults::new(rt);
     let _ = writeln!(faults, "export fault {}", fault.number());
@@ -104,7 +104,7 @@ fn export_named<T: Tables>(
     let named = write!(faults, "{} ", lang.as_str());
     let status = match export_file(rt, desk, domain, lang, folder) {
         Ok(status) => status,
-        Err(_) => told(rt, ExportFault::Memory),
+        Err(_) => tell_export_fault(rt, ExportFault::Memory),
     };
     if named.is_ok() { status } else { FAILED }
 }
@@ -129,10 +129,10 @@ fn export_each<T: Tables>(
 /// Exports the languages that a domain has, in the order of their codes.
 fn export_all<T: Tables>(rt: &HostRuntime, desk: &mut Desk<T>, domain: &Name, folder: &str) -> u8 {
     match desk.languages(domain) {
-        Ok(langs) if langs.is_empty() => told(rt, ExportFault::NoLanguage),
+        Ok(langs) if langs.is_empty() => tell_export_fault(rt, ExportFault::NoLanguage),
         Ok(langs) => export_each(rt, desk, domain, langs.as_slice(), folder),
-        Err(Lost::Memory) => told(rt, ExportFault::Memory),
-        Err(Lost::Disk) => told(rt, ExportFault::Disk),
+        Err(Lost::Memory) => tell_export_fault(rt, ExportFault::Memory),
+        Err(Lost::Disk) => tell_export_fault(rt, ExportFault::Disk),
     }
 }
 

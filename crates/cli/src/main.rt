@@ -23,7 +23,7 @@ use byte_streams::ByteSink;
 use clap::Error;
 use commands::{FAILED, Input, Output, canon_text, deliver_lines, plural_lines};
 use faults::Faults;
-use file_commands::tell_store_fault;
+use store_commands::tell_store_fault;
 use files::in_file;
 use office::Desk;
 use send::send_file;

@@ -5,7 +5,7 @@ use crate::faults::Faults;
 use crate::words::Serve;
 use crate::{DONE, STOPPED, store_fault};
 use commands::FAILED;
-use file_commands::{Closed, Unopened, close_desk, open_desk};
+use store_commands::{Closed, Unopened, close_desk, open_desk};
 use office::Desk;
 use sockets::serve_next;
 use sqlite::{Alter, Connection};

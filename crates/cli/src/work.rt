@@ -6,7 +6,7 @@ use crate::serve::serve_opened;
 use crate::words::{Deliver, Export, Records, Serve, Texts};
 use crate::{DONE, second_output};
 use commands::{FAILED, Input, Output};
-use file_commands::{Closed, deliver_store, export_store, init_store, records_store, say_ready};
+use store_commands::{Closed, deliver_store, export_store, init_store, records_store, say_ready};
 use sqlite::{Alter, Connection};
 use std::io::BufWriter;
 use std::rt::HostRuntime;

@@ -8,10 +8,10 @@ use Rattle.po_lex.specs.declared.fault.PoFault.{PoFault}
 use Rattle.po_text.specs.declared.entry.Entry.{Entry}
 use Rattle.po_read.specs.Spells.{Spells, IsWithin, limits}
 use Rattle.po_read.specs.Faults.{IsFault, too_long, not_utf8, at_line, at_end}
-use Rattle.po_read.specs.Views.{IsMemory}
+use Rattle.po_read.specs.ReaderAnswers.{IsMemory}
 use Rattle.po_write.specs.Pushed.{HasPushed}
 use Rattle.po_write.specs.Text.{text_of}
-use Rattle.po_write.specs.Views.{Writing}
+use Rattle.po_write.specs.Writing.{Writing}
 use Rattle.office.proofs.Streaming.{took_none, all_or_part}
 use Rattle.commands.specs.CanonEntries.{taken_in, failed_in, IsWritten}
 use Rattle.commands.specs.CanonText.{read_limit, WasGathered, po_fault_line, Writer, TakesAll, TakesPart, Canon, written, broke, told, unread}

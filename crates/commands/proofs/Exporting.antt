@@ -6,7 +6,7 @@ use Rattle.units.specs.Office.{Office, project_in}
 use Rattle.byte_streams.specs.Streams.{Took, TookBeginning, RoseOrStands}
 use Rattle.byte_streams.proofs.Taking.{append_known-nil, took_then_beginning}
 use Rattle.byte_streams.specs.Sending.{TookAll, TookPart}
-use Rattle.deliveries.specs.ExportText.{export_text}
+use Rattle.office_specification.specs.ExportText.{export_text}
 use Rattle.office.specs.declared.export.ExportReceipt.{ExportReceipt}
 use Rattle.office.specs.declared.faults.ExportFault.TheVariants.{Device, Disk}
 use Rattle.office.specs.Exports.{WasExported, WasCut, Failed}

@@ -4,7 +4,7 @@ use Rattle.std.proofs.Common.{sym, subst, append-nil, append_assoc}
 use Rattle.byte_streams.specs.declared.vec_sink.VecSink.{VecSink}
 use Rattle.po_text.specs.declared.entry.Entry.{Entry}
 use Rattle.po_write.specs.Pushed.{HasPushed}
-use Rattle.po_write.specs.Views.{Writing}
+use Rattle.po_write.specs.Writing.{Writing}
 
 abbrev pub taken_in : VecSink → Option (List ℕ)
 taken_in sink = Some sink.bytes.items

@@ -5,7 +5,7 @@ use Rattle.po_text.specs.Texts.{Text}
 use Rattle.units.specs.Office.{Office, project_in}
 use Rattle.byte_streams.specs.Streams.{Took, RoseOrStands}
 use Rattle.request_book.specs.Book.{OfficeWithBook}
-use Rattle.deliveries.specs.ExportText.{export_text}
+use Rattle.office_specification.specs.ExportText.{export_text}
 use Rattle.office.specs.declared.faults.ExportFault.TheVariants.{NoLanguage}
 use Rattle.office.specs.Writers.{Writer, TakesAll, TakesPart}
 use Rattle.commands.specs.TextLines.{AreLinesOf}

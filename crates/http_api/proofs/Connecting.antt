@@ -17,7 +17,7 @@ use Rattle.http_api.specs.declared.faults.ServeFault.TheVariants as fault
 use Rattle.http_api.specs.Faults.{fault_of}
 use Rattle.http_api.specs.Outcomes.{Outcome, IsExported, outcome_answer}
 use Rattle.http_api.specs.Answering.{WroteBeginning}
-use Rattle.http_api.specs.Steps.{IsFirst, whatever_follows, at_the_end, TookOne, Ended}
+use Rattle.http_api.specs.ConnectionSteps.{IsFirst, whatever_follows, at_the_end, TookOne, Ended}
 use Rattle.http_api.proofs.ItemLemmas.{item_of, none_left, tail_of, items-one, items-none, items-full, items-all, tail-last, tail-more}
 use Rattle.http_api.proofs.NoMore.{behind_none, behind_one, ReadSoFar, nothing_so_far, reads_no_more, one_more_read}
 use Rattle.http_api.specs.Connection.{behind, EndsBehind, ReadsNoMore, questions, answers_to, EndsInExport, GivenUp, no_source, no_sink, no_room, text_without_memory, text_without_disk}

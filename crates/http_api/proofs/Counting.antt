@@ -11,7 +11,7 @@ use Rattle.http_api.specs.declared.faults.ServeFault.{ServeFault}
 use Rattle.http_api.specs.declared.faults.ServeFault.TheVariants as fault
 use Rattle.http_api.specs.Faults.{fault_of}
 use Rattle.http_api.specs.Answering.{Tells, AnswerFailed, TellsFailures}
-use Rattle.http_api.specs.Steps.{HandsOn, StepFailed}
+use Rattle.http_api.specs.ConnectionSteps.{HandsOn, StepFailed}
 
 -- ---- an answer
 

@@ -14,7 +14,7 @@ use Rattle.http_api.specs.Faults.{fault_of}
 use Rattle.http_api.specs.Outcomes.{Outcome, outcome_answer}
 use Rattle.http_api.specs.Answering.{ComesTo, WroteBeginning}
 use Rattle.http_api.specs.Served.{HasServed}
-use Rattle.http_api.specs.Steps.{Stepped, SteppedOff, unread, broke_off}
+use Rattle.http_api.specs.ConnectionSteps.{Stepped, SteppedOff, unread, broke_off}
 use Rattle.http_api.specs.Connection.{ReadsNoMore, ReadsOn, AllServed, SomeServed, GivenUp, no_sink, no_room}
 use Rattle.http_api.proofs.Serving.{serves, none_served}
 use Rattle.http_api.proofs.Connecting.{HasRoom, has_room, Along, begins, goes_along, AllTaken, ends, ends_behind, is_full, lasts, lasts_read, full_read, SomeTaken, cut_off, breaks_off, wrote_more, gives_up, stops}

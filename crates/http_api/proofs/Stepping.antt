@@ -19,7 +19,7 @@ use Rattle.http_api.specs.declared.faults.ServeFault.{ServeFault}
 use Rattle.http_api.specs.Faults.{fault_of}
 use Rattle.http_api.specs.Outcomes.{Outcome, failed, outcome_answer}
 use Rattle.http_api.specs.Answering.{Came, Tells, Writes, WroteBeginning}
-use Rattle.http_api.specs.Steps.{next_of, IsFirst, whatever_follows, at_the_end, TookOne, Ended, Stepped, SteppedOff, unread, broke_off}
+use Rattle.http_api.specs.ConnectionSteps.{next_of, IsFirst, whatever_follows, at_the_end, TookOne, Ended, Stepped, SteppedOff, unread, broke_off}
 use Rattle.http_api.proofs.Coming.{told}
 use Rattle.http_api.proofs.Exporting.{tells_writes}
 

@@ -8,4 +8,4 @@ pub mod Posts
 pub mod Refusals
 pub mod Served
 pub mod Statuses
-pub mod Steps
+pub mod ConnectionSteps

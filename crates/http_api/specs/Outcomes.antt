@@ -7,7 +7,7 @@ use Rattle.po_text.specs.Texts.{Text}
 use Rattle.units.specs.Office.{Office, project_in}
 use Rattle.units.specs.Limits.{export_limit}
 use Rattle.request_book.specs.Replies.{Reply}
-use Rattle.deliveries.specs.ExportText.{export_text}
+use Rattle.office_specification.specs.ExportText.{export_text}
 use Rattle.views.specs.UnitTexts.{unit_text_at}
 use Rattle.views.specs.CountsTexts.{counts_text_at}
 use Rattle.tables.specs.declared.faults.Lost.{Lost}

@@ -8,7 +8,7 @@ ghost use Rattle.http_api.specs.declared.connection.Next.TheVariants.{Last};
 ghost use Rattle.http_api.specs.Outcomes.{Outcome, outcome_answer};
 ghost use Rattle.http_api.specs.Answering.{ComesTo, Tells, Writes, WroteBeginning, TellsFailures};
 ghost use Rattle.http_api.specs.declared.faults.ServeFault.TheVariants.{Read, Write, Disk};
-ghost use Rattle.http_api.specs.Steps.{next_of, Stepped, SteppedOff, StepFailed, HandsOn};
+ghost use Rattle.http_api.specs.ConnectionSteps.{next_of, Stepped, SteppedOff, StepFailed, HandsOn};
 ghost use Rattle.http_api.specs.Connection.{AllServed, SomeServed, ReadsOn};
 
 use crate::answers::{answer, send_refusal};

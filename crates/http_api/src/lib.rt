@@ -13,7 +13,7 @@
 //! - `Connection`: what comes of a connection; `Messages`, `Served`: messages one after another; `Faults`
 //! - `Outcomes`: what comes of what a message asks, and the bytes that tell it; `Posts`
 //! - `Answers`, `Statuses`, `Refusals`: the bytes of answers
-//! - `Answering`, `Steps`: the code's own steps
+//! - `Answering`, `ConnectionSteps`: the code's own steps
 //!
 //! The loop is proved in `proofs/Connecting` (what the bytes ask), `Looping` (the same by tables and a writer) and
 //! `Stepping` (one message).

@@ -17,19 +17,19 @@ use Rattle.request_book.specs.Replies.{Reply}
 use Rattle.request_book.specs.Acts.{IsRequest, content_text}
 use Rattle.request_book.specs.Book.{OfficeWithBook, Recorded, with_record}
 use Rattle.replies.specs.Bodies.{Stepped}
-use Rattle.deliveries.specs.declared.values.Outcome.{Outcome}
-use Rattle.deliveries.specs.declared.values.UnitOutcome.{UnitOutcome}
-use Rattle.deliveries.specs.declared.values.UnitWrite.{UnitWrite}
-use Rattle.deliveries.specs.declared.values.ActContext.{ActContext}
-use Rattle.deliveries.specs.UnitAccess.{found_of, view_written, written_at, with_write_in, IsWriteOver, IsPossibleWrite}
-use Rattle.deliveries.specs.UnitOutcomes.{outcome_of, view_found, IsOutcomeBy}
-use Rattle.deliveries.specs.OfficeChanges.{changed_by}
-use Rattle.deliveries.specs.OfficeRules.{KeepsRules}
-use Rattle.deliveries.specs.Step.{step}
-use Rattle.deliveries.specs.Deliveries.{first_delivered, left_by, reply_from}
-use Rattle.deliveries.proofs.acts.UnitActs.{recorded_unit_act}
-use Rattle.deliveries.proofs.retries.Delivered.{first_time, IsDelivery}
-use Rattle.deliveries.proofs.rules.KeptRules.{kept_rules}
+use Rattle.office_specification.specs.declared.values.Outcome.{Outcome}
+use Rattle.office_specification.specs.declared.values.UnitOutcome.{UnitOutcome}
+use Rattle.office_specification.specs.declared.values.UnitWrite.{UnitWrite}
+use Rattle.office_specification.specs.declared.values.ActContext.{ActContext}
+use Rattle.office_specification.specs.UnitAccess.{context_of, view_written, written_at, with_write_in, IsWriteOver, IsPossibleWrite}
+use Rattle.office_specification.specs.UnitOutcomes.{outcome_of, context_view, IsOutcomeBy}
+use Rattle.office_specification.specs.OfficeChanges.{changed_by}
+use Rattle.office_specification.specs.OfficeRules.{KeepsRules}
+use Rattle.office_specification.specs.Step.{step}
+use Rattle.office_specification.specs.Deliveries.{first_delivered, left_by, reply_from}
+use Rattle.office_specification.proofs.acts.UnitActs.{recorded_unit_act}
+use Rattle.office_specification.proofs.retries.Delivered.{first_time, IsDelivery}
+use Rattle.office_specification.proofs.rules.KeptRules.{kept_rules}
 use Rattle.outcomes.specs.declared.outcome.OfficeOutcome.{OfficeOutcome}
 use Rattle.outcomes.specs.Settled.{IsSettled}
 use Rattle.office.specs.UnitReads.{found_for, Decides}
@@ -59,18 +59,18 @@ module _ (project : Project) (lang : Text) (key : Key) (caller : Text) where
   found header = record { rule = rule_at project lang; policy = project.policy; role = role_of project caller; view = view_of project (lang, key) }
 
   -- the view that was found is that of the unit
-  view_there : (view : UnitView) → view_found (found_of project lang key caller) ≡ Some view → view_of project (lang, key) ≡ Some view
+  view_there : (view : UnitView) → context_view (context_of project lang key caller) ≡ Some view → view_of project (lang, key) ≡ Some view
   view_there view = by (maps.get project.headers lang)
     where
-      by : (o : Option Entry) → view_found (option_map found o) ≡ Some view → view_of project (lang, key) ≡ Some view
+      by : (o : Option Entry) → context_view (option_map found o) ≡ Some view → view_of project (lang, key) ≡ Some view
       by None e = let never : ◌≡◌ {A = Option UnitView} None (Some view) = e in cc
       by (Some header) e = e
 
   abbrev There : UnitWrite → Type 0
-  There w = (view : UnitView) × (view_found (found_of project lang key caller) ≡ Some view) × IsWriteOver view w
+  There w = (view : UnitView) × (context_view (context_of project lang key caller) ≡ Some view) × IsWriteOver view w
 
   -- what an act writes is of the unit that is there
-  pub act_possible : (whole : Outcome) (outcome : UnitOutcome) → IsOutcomeBy (view_found (found_of project lang key caller)) whole outcome → IsPossibleWrite project lang key outcome.write
+  pub act_possible : (whole : Outcome) (outcome : UnitOutcome) → IsOutcomeBy (context_view (context_of project lang key caller)) whole outcome → IsPossibleWrite project lang key outcome.write
   act_possible whole outcome decides = by outcome.write decides.over
     where
       by : (o : Option UnitWrite) → IfSome o There → IsPossibleWrite project lang key o
@@ -78,14 +78,14 @@ module _ (project : Project) (lang : Text) (key : Key) (caller : Text) where
       by (Some w) h = (h.0, view_there h.0 h.1, h.2)
 
   -- what is written is the view that the act makes
-  act_written : (whole : Outcome) (outcome : UnitOutcome) → IsOutcomeBy (view_found (found_of project lang key caller)) whole outcome → written_at project lang key outcome.write ≡ whole.view
+  act_written : (whole : Outcome) (outcome : UnitOutcome) → IsOutcomeBy (context_view (context_of project lang key caller)) whole outcome → written_at project lang key outcome.write ≡ whole.view
   act_written whole outcome decides = by outcome.write decides.over ∙ decides.view
     where
-      by : (o : Option UnitWrite) → IfSome o There → written_at project lang key o ≡ option_and_then (λ w. option_map (view_written w) (view_found (found_of project lang key caller))) o
+      by : (o : Option UnitWrite) → IfSome o There → written_at project lang key o ≡ option_and_then (λ w. option_map (view_written w) (context_view (context_of project lang key caller))) o
       by None h = refl
       by (Some w) h = ap (option_map (view_written w)) (view_there h.0 h.1 ∙ sym h.1)
 
-  pub act_decided : (whole : Outcome) (outcome : UnitOutcome) → IsOutcomeBy (view_found (found_of project lang key caller)) whole outcome →
+  pub act_decided : (whole : Outcome) (outcome : UnitOutcome) → IsOutcomeBy (context_view (context_of project lang key caller)) whole outcome →
       ◌≡◌ {A = Outcome} (record { view = written_at project lang key outcome.write; reply = outcome.reply }) whole
   act_decided whole outcome decides = λ i. record { view = act_written whole outcome decides i; reply = decides.reply i }
 

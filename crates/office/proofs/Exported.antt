@@ -13,8 +13,8 @@ use Rattle.po_text.specs.declared.entry.Entry.{Entry}
 use Rattle.po_text.specs.Texts.{Text}
 use Rattle.po_write.specs.Text.{entry_text, text_of, separated}
 use Rattle.po_write.proofs.Pushes.{text_of-cons}
-use Rattle.deliveries.specs.ExportedEntries.{catalogue_of}
-use Rattle.deliveries.specs.ExportText.{export_text}
+use Rattle.office_specification.specs.ExportedEntries.{catalogue_of}
+use Rattle.office_specification.specs.ExportText.{export_text}
 use Rattle.tables.specs.Entries.{entries_of}
 use Rattle.tables.specs.Sinks.{WasCutShort}
 use Rattle.tables.specs.declared.faults.EachFault.{EachFault}

@@ -5,7 +5,7 @@ use Rattle.tables.specs.declared.faults.Lost.TheVariants.{Memory, Disk}
 use Rattle.request_book.specs.declared.act.Request.{Request}
 use Rattle.request_book.specs.Replies.{Reply}
 use Rattle.request_book.specs.Book.{OfficeWithBook}
-use Rattle.deliveries.specs.Deliveries.{left_by, answers_of}
+use Rattle.office_specification.specs.Deliveries.{left_by, answers_of}
 use Rattle.tables.specs.declared.faults.Lost.{Lost}
 use Rattle.office.specs.Runs.{HasRun}
 use Rattle.office.proofs.Ran.{one_more_while}

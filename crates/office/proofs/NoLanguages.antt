@@ -6,7 +6,7 @@ use Rattle.po_text.specs.Texts.{Text, text_cmp}
 use Rattle.po_text.specs.declared.entry.Entry.{Entry}
 use Rattle.units.specs.Project.{Project, languages}
 use Rattle.units.specs.Office.{Office, project_in}
-use Rattle.deliveries.proofs.domains.InDomains.{no_domain_yet}
+use Rattle.office_specification.proofs.domains.InDomains.{no_domain_yet}
 
 no_items : {A : Type 0} (xs : List A) → length xs ≡ 0 → xs ≡ []
 no_items [] e = refl

@@ -9,7 +9,7 @@ use Rattle.units.specs.declared.unit.Refusal.TheVariants.{BelowRole}
 use Rattle.request_book.specs.Clash.{is_unit_act}
 use Rattle.request_book.specs.declared.act.Request.{Request}
 use Rattle.replies.specs.Bodies.{refused}
-use Rattle.deliveries.specs.Step.{step}
+use Rattle.office_specification.specs.Step.{step}
 use Rattle.outcomes.specs.declared.outcome.OfficeOutcome.{OfficeOutcome}
 use Rattle.outcomes.specs.Settled.{IsSettled, without_change}
 use Rattle.outcomes.proofs.Settling.{refused_request}

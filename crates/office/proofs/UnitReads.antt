@@ -13,9 +13,9 @@ use Rattle.units.specs.declared.unit.Suggestion.{Suggestion}
 use Rattle.units.specs.declared.unit.Unit.{Unit}
 use Rattle.units.specs.declared.unit.UnitView.{UnitView}
 use Rattle.review.specs.Parts.{without_votes}
-use Rattle.deliveries.specs.declared.values.ActContext.{ActContext}
-use Rattle.deliveries.specs.UnitAccess.{found_of, suggestions_at, suggestion_at}
-use Rattle.deliveries.specs.UnitOutcomes.{view_found}
+use Rattle.office_specification.specs.declared.values.ActContext.{ActContext}
+use Rattle.office_specification.specs.UnitAccess.{context_of, suggestions_at, suggestion_at}
+use Rattle.office_specification.specs.UnitOutcomes.{context_view}
 
 module _ (project : Project) (lang : Text) (key : Key) (caller : Text) where
   abbrev seen : Unit → UnitView
@@ -24,24 +24,24 @@ module _ (project : Project) (lang : Text) (key : Key) (caller : Text) where
   abbrev found : Entry → ActContext
   found header = record { rule = rule_at project lang; policy = project.policy; role = role_of project caller; view = view_of project (lang, key) }
 
-  pub suggestions_found : (all : List Suggestion) → all ≡ suggestions_at project lang key → IfSome (view_found (found_of project lang key caller)) (λ view. all ≡ map without_votes view.unit.suggestions)
+  pub suggestions_found : (all : List Suggestion) → all ≡ suggestions_at project lang key → IfSome (context_view (context_of project lang key caller)) (λ view. all ≡ map without_votes view.unit.suggestions)
   suggestions_found all is = by (maps.get project.headers lang)
     where
       at : (o : Option Unit) → all ≡ option_map_or (λ unit. map without_votes unit.suggestions) o [] → IfSome (option_map seen o) (λ view. all ≡ map without_votes view.unit.suggestions)
       at None e = tt
       at (Some unit) e = e
 
-      by : (o : Option Entry) → IfSome (view_found (option_map found o)) (λ view. all ≡ map without_votes view.unit.suggestions)
+      by : (o : Option Entry) → IfSome (context_view (option_map found o)) (λ view. all ≡ map without_votes view.unit.suggestions)
       by None = tt
       by (Some header) = at (maps.get project.units (lang, key)) is
 
-  pub suggestion_found : (number : Text) (one : Option Suggestion) → one ≡ suggestion_at project lang key number → IfSome (view_found (found_of project lang key caller)) (λ view. one ≡ suggestion_of number view.unit)
+  pub suggestion_found : (number : Text) (one : Option Suggestion) → one ≡ suggestion_at project lang key number → IfSome (context_view (context_of project lang key caller)) (λ view. one ≡ suggestion_of number view.unit)
   suggestion_found number one is = by (maps.get project.headers lang)
     where
       at : (o : Option Unit) → one ≡ option_and_then (suggestion_of number) o → IfSome (option_map seen o) (λ view. one ≡ suggestion_of number view.unit)
       at None e = tt
       at (Some unit) e = e
 
-      by : (o : Option Entry) → IfSome (view_found (option_map found o)) (λ view. one ≡ suggestion_of number view.unit)
+      by : (o : Option Entry) → IfSome (context_view (option_map found o)) (λ view. one ≡ suggestion_of number view.unit)
       by None = tt
       by (Some header) = at (maps.get project.units (lang, key)) is

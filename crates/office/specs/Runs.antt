@@ -4,7 +4,7 @@ use Rattle.std.specs.Prelude.{◌≡◌, List, [], ◌∷◌, ◌++◌, Result}
 use Rattle.request_book.specs.declared.act.Request.{Request}
 use Rattle.request_book.specs.Replies.{Reply}
 use Rattle.request_book.specs.Book.{OfficeWithBook}
-use Rattle.deliveries.specs.Deliveries.{left_by, answers_of, told, kept, lost_marks}
+use Rattle.office_specification.specs.Deliveries.{left_by, answers_of, told, kept, lost_marks}
 
 -- Retries act once: the tables mean what the requests leave, the lost ones struck out, and the others got their one reply. A later
 -- reply shows that the tables were whole before it, so what was told needs honest tables alone.

@@ -10,7 +10,7 @@ use Rattle.po_text.proofs.EntryLists.{all_both}
 use Rattle.po_text.specs.declared.entry.Entry.{Entry}
 use Rattle.po_write.specs.Text.{entry_text, separated}
 use Rattle.office.specs.Checksums.{IsChecksum}
-use Rattle.deliveries.specs.EntryStrings.{HasEntryStrings}
+use Rattle.office_specification.specs.EntryStrings.{HasEntryStrings}
 use Rattle.office.specs.declared.checksum.Checksum.{Checksum}
 use Rattle.office.specs.declared.faults.SendFault.{SendFault}
 use Rattle.office.specs.declared.faults.SendFault.TheVariants as fault

@@ -10,21 +10,21 @@ ghost use Rattle.request_book.specs.Clash.{is_unit_act};
 ghost use Rattle.request_book.specs.declared.act.Act.TheVariants.{OnUnit};
 ghost use Rattle.review.specs.UnitStep.{is_vote, named_by};
 ghost use Rattle.review.specs.Parts.{is_suggest};
-ghost use Rattle.deliveries.specs.Deliveries.{reply_from, first_delivered};
-ghost use Rattle.deliveries.specs.Step.{step};
-ghost use Rattle.deliveries.specs.UnitAccess.{without_suggestions, with_write_in, IsPossibleWrite};
-ghost use Rattle.deliveries.specs.OfficeChanges.{changed_by, IsPossibleChange};
-ghost use Rattle.deliveries.specs.OfficeRules.{KeepsRules};
+ghost use Rattle.office_specification.specs.Deliveries.{reply_from, first_delivered};
+ghost use Rattle.office_specification.specs.Step.{step};
+ghost use Rattle.office_specification.specs.UnitAccess.{without_suggestions, with_write_in, IsPossibleWrite};
+ghost use Rattle.office_specification.specs.OfficeChanges.{changed_by, IsPossibleChange};
+ghost use Rattle.office_specification.specs.OfficeRules.{KeepsRules};
 ghost use Rattle.office.specs.UnitReads.{found_for, Decides};
 ghost use Rattle.outcomes.specs.Settled.{IsSettled};
 ghost use Rattle.request_book.specs.Contents.{IsContent};
 ghost use Rattle.tables.specs.Stops.{Nothing};
-ghost use Rattle.tables.specs.Kept.{IsKept};
+ghost use Rattle.tables.specs.KeptByCalls.{IsKept};
 ghost use Rattle.tables.specs.declared.faults.Lost.TheVariants.{Disk};
 
-use deliveries::{ActContext, Change, UnitOutcome, UnitWrite};
+use office_specification::{ActContext, Change, UnitOutcome, UnitWrite};
 use outcomes::{
-    OfficeOutcome, office_outcome, row_outcome, suggested_outcome, used, voted_outcome,
+    OfficeOutcome, office_outcome, row_outcome, suggested_outcome, number_used, voted_outcome,
     whole_outcome,
 };
 use po_text::{Duplicate, Text};
@@ -46,7 +46,7 @@ fn reply_by(
     match classify(content, recorded.as_ref()) {
         Class::First => Ok(None),
         Class::Repeat(reply) => Ok(Some(reply.duplicate()?)),
-        Class::NumberUsed => Ok(Some(used(alloc)?)),
+        Class::NumberUsed => Ok(Some(number_used(alloc)?)),
     }
 }
 
@@ -143,7 +143,7 @@ fn decide_whole<T: Tables>(
     ensures same { T.is_honest tables.new → T.is_whole tables.new → T.means tables.new ≡ T.means tables.old }
     ensures kept { IsKept T.is_honest T.is_whole T.means T.may_leave T.faults T.is_stopped tables.old tables.new result Disk Nothing }
 {
-    let found = tables.view_of(asked.domain, asked.lang, asked.key, &asked.request.caller)?;
+    let found = tables.context_of(asked.domain, asked.lang, asked.key, &asked.request.caller)?;
     let outcome = whole_outcome(alloc, found, asked.request, asked.act);
     Ok(outcome?)
 }
@@ -288,7 +288,7 @@ fn read_office_and_decide<T: Tables>(
     ensures same { T.is_honest tables.new → T.is_whole tables.new → T.means tables.new ≡ T.means tables.old }
     ensures kept { IsKept T.is_honest T.is_whole T.means T.may_leave T.faults T.is_stopped tables.old tables.new result Disk Nothing }
 {
-    tables.office_rows()?;
+    tables.load_whole_office()?;
     let outcome = office_outcome(alloc, tables.office(), request);
     Ok(outcome?)
 }

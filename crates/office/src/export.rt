@@ -1,11 +1,11 @@
 //! A language's text, entry by entry.
 
 ghost use Rattle.std.specs.Prelude.{◌≡◌, ◌≢◌, ◌⊎◌, Err, IfOk, IfErr, OnOk};
-ghost use Rattle.deliveries.specs.AnyOrder.{ExportsTheSame};
-ghost use Rattle.deliveries.specs.ExportSpelled.{TookCatalogue};
-ghost use Rattle.deliveries.specs.ExportText.{export_text};
+ghost use Rattle.office_specification.specs.AnyOrder.{ExportsTheSame};
+ghost use Rattle.office_specification.specs.ExportSpelled.{TookCatalogue};
+ghost use Rattle.office_specification.specs.ExportText.{export_text};
 ghost use Rattle.units.specs.Office.{project_in};
-ghost use Rattle.tables.specs.Kept.{IsKept};
+ghost use Rattle.tables.specs.KeptByCalls.{IsKept};
 ghost use Rattle.tables.specs.Stops.{Nothing};
 ghost use Rattle.byte_streams.specs.Streams.{RoseOrStands};
 ghost use Rattle.office.specs.declared.faults.ExportFault.TheVariants.{NoLanguage, Device, Memory, Disk};
@@ -29,7 +29,7 @@ pub struct ExportReceipt {
 
 /// The fault that is told, by the writer's count of failures before the export and after it: it failed where that rose, or stands at
 /// its end. Tables that claim another failure of it run on, and are told as want of memory.
-fn told(fault: ExportFault, before: u64, after: u64) -> ExportFault
+fn fault_to_tell(fault: ExportFault, before: u64, after: u64) -> ExportFault
     ensures device { result ≡ Device → RoseOrStands before after }
     ensures failed { RoseOrStands before after → result ≡ fault }
     ensures others { fault ≢ Device → result ≡ fault }
@@ -85,10 +85,10 @@ pub(crate) fn export<T: Tables, W: ByteSink>(
     } = sink;
     let after = w.failures();
     if let Err(fault) = sent {
-        return Err(told(ExportFault::from(fault), before, after));
+        return Err(fault_to_tell(ExportFault::from(fault), before, after));
     }
     if after != before {
-        return Err(told(ExportFault::Device, before, after));
+        return Err(fault_to_tell(ExportFault::Device, before, after));
     }
     // A language that is there has a header.
     if !begun {

@@ -7,13 +7,13 @@ ghost use Rattle.units.specs.Office.{project_in};
 ghost use Rattle.units.specs.Project.{languages};
 ghost use Rattle.office_maps.specs.OfficeIn.{office_in};
 ghost use Rattle.tables.specs.Stops.{Nothing};
-ghost use Rattle.tables.specs.Kept.{IsKept};
+ghost use Rattle.tables.specs.KeptByCalls.{IsKept};
 ghost use Rattle.office.specs.declared.faults.QueryFault.TheVariants.{NoLanguage, NoUnit, Disk};
 ghost use Rattle.tables.specs.declared.faults.Lost.TheVariants as lost;
 
 use crate::desk::Desk;
 use crate::faults::QueryFault;
-use deliveries::ActContext;
+use office_specification::ActContext;
 use office_maps::OfficeMaps;
 use std::alloc::{AllocError, Global};
 use tables::{Lost, Tables};
@@ -63,7 +63,7 @@ fn unit_of<T: Tables>(
         return Err(QueryFault::Disk);
     }
     let name = reader();
-    match tables.view_of(domain, lang, key, &name)? {
+    match tables.context_of(domain, lang, key, &name)? {
         None => Err(QueryFault::NoLanguage),
         Some(found) => {
             let text = text_of(alloc, &found);
@@ -111,7 +111,7 @@ fn languages_of<T: Tables>(alloc: Global, tables: &mut T, domain: &Name) -> Resu
     ensures same { T.is_honest tables.new → T.is_whole tables.new → T.means tables.new ≡ T.means tables.old }
     ensures kept { IsKept T.is_honest T.is_whole T.means T.may_leave T.faults T.is_stopped tables.old tables.new result lost.Disk Nothing }
 {
-    tables.office_rows()?;
+    tables.load_whole_office()?;
     let all = languages_in(alloc, tables.office(), domain);
     Ok(all?)
 }

@@ -6,7 +6,7 @@ ghost use Rattle.std.specs.List.{AllByRecursion};
 ghost use Rattle.po_lex.specs.declared.line.Keyword.{Keyword};
 ghost use Rattle.po_text.specs.Entries.{optional};
 ghost use Rattle.po_text.specs.Valid.{IsString, AllStrings};
-ghost use Rattle.deliveries.specs.EntryStrings.{HasEntryStrings};
+ghost use Rattle.office_specification.specs.EntryStrings.{HasEntryStrings};
 
 use po_text::{Entry, Forms, PoString, Text};
 

@@ -14,10 +14,10 @@ use Rattle.request_book.specs.Clash.{clash}
 use Rattle.tables.specs.declared.faults.Lost.{Lost}
 use Rattle.sender.specs.declared.exchange.Exchange.{Exchange}
 use Rattle.sender.specs.Sending.{Sending, HasDistinctNumbers, held, is_finished}
-use Rattle.deliveries.specs.Step.{step}
-use Rattle.deliveries.specs.Deliveries.{kept, lost_marks, told, after, answers_of}
-use Rattle.deliveries.proofs.retries.Once.{joined}
-use Rattle.deliveries.proofs.retries.Running.{told-ok, told-err, kept-ok, kept-err}
+use Rattle.office_specification.specs.Step.{step}
+use Rattle.office_specification.specs.Deliveries.{kept, lost_marks, told, after, answers_of}
+use Rattle.office_specification.proofs.retries.Once.{joined}
+use Rattle.office_specification.proofs.retries.Running.{told-ok, told-err, kept-ok, kept-err}
 use Rattle.office_laws.specs.Simulation.{replies_in_order, AreNew}
 use Rattle.office_laws.specs.Histories.{Moment, unsent_yet, Happens, sends, arrives, hears, IsHistory, HasCome}
 use Rattle.office_laws.proofs.Reached.{Keeps, at_first, keeps_sent, arrives_there, request_at, heard, all_held, office_of_finished, in_order}

@@ -8,9 +8,9 @@ use Rattle.request_book.specs.declared.act.Request.{Request}
 use Rattle.request_book.specs.Replies.{Reply}
 use Rattle.request_book.specs.Book.{Book, OfficeWithBook, Recorded, recorded_as}
 use Rattle.request_book.specs.Clash.{clash}
-use Rattle.deliveries.specs.Step.{step}
-use Rattle.deliveries.specs.Deliveries.{left_by, first_delivered}
-use Rattle.deliveries.proofs.commuting.Between.{either}
+use Rattle.office_specification.specs.Step.{step}
+use Rattle.office_specification.specs.Deliveries.{left_by, first_delivered}
+use Rattle.office_specification.proofs.commuting.Between.{either}
 use Rattle.sender.proofs.Places.{same, other_way}
 use Rattle.office_laws.proofs.OneDelivery.{one, left_by-cons, left_by-append, unchanged, stepped, stays, still_new, get-inserted, answered_one}
 

@@ -8,12 +8,12 @@ use Rattle.units.specs.Orders.{place_total, place_IsAntisymmetric}
 use Rattle.units.specs.declared.unit.Key.{Key}
 use Rattle.units.specs.declared.unit.Unit.{Unit}
 use Rattle.units.specs.declared.unit.UnitView.{UnitView}
-use Rattle.deliveries.specs.UnitAccess.{with_view}
-use Rattle.deliveries.proofs.rules.Replaced.{Found}
-use Rattle.deliveries.specs.declared.tally.Tally.{Tally}
-use Rattle.deliveries.specs.Tally.{counts_in, counts_of}
-use Rattle.deliveries.specs.Counting.{plus, none_counted}
-use Rattle.deliveries.proofs.tallies.Countings.{counts_more, plus_assoc, none_and}
+use Rattle.office_specification.specs.UnitAccess.{with_view}
+use Rattle.office_specification.proofs.rules.Replaced.{Found}
+use Rattle.office_specification.specs.declared.tally.Tally.{Tally}
+use Rattle.office_specification.specs.Tally.{counts_in, counts_of}
+use Rattle.office_specification.specs.Counting.{plus, none_counted}
+use Rattle.office_specification.proofs.tallies.Countings.{counts_more, plus_assoc, none_and}
 use Rattle.office_laws.specs.Tallies.{counted, moved}
 use Rattle.office_laws.proofs.Totals.{total-put}
 

@@ -16,12 +16,12 @@ use Rattle.units.specs.declared.unit.Policy.{Policy}
 use Rattle.units.specs.declared.unit.Unit.{Unit}
 use Rattle.units.specs.declared.unit.UnitView.{UnitView}
 use Rattle.template_update.specs.declared.plans.Plan.{Plan}
-use Rattle.deliveries.specs.ProjectActs.{LanguagePlan, placed, with_language, with_template}
-use Rattle.deliveries.specs.UnitAccess.{with_view, with_view_in}
-use Rattle.deliveries.proofs.domains.InDomains.{project_own, project_elsewhere, nothing_put, no_domain_yet, equal_domains}
-use Rattle.deliveries.proofs.rules.DomainsKept.{any_project, get-under}
-use Rattle.deliveries.specs.declared.tally.Tally.{Tally}
-use Rattle.deliveries.specs.Tally.{counts_in, counts_of}
+use Rattle.office_specification.specs.ProjectActs.{LanguagePlan, placed, with_language, with_template}
+use Rattle.office_specification.specs.UnitAccess.{with_view, with_view_in}
+use Rattle.office_specification.proofs.domains.InDomains.{project_own, project_elsewhere, nothing_put, no_domain_yet, equal_domains}
+use Rattle.office_specification.proofs.rules.DomainsKept.{any_project, get-under}
+use Rattle.office_specification.specs.declared.tally.Tally.{Tally}
+use Rattle.office_specification.specs.Tally.{counts_in, counts_of}
 use Rattle.office_laws.specs.Tallies.{counted, moved, counts_under, planned}
 use Rattle.office_laws.proofs.Moves.{with_view_moves, with_view_stays}
 use Rattle.office_laws.proofs.ProjectCounts.{policy_counts, template_counts, language_counts, other_counts}

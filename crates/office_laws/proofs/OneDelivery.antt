@@ -12,9 +12,9 @@ use Rattle.request_book.specs.Replies.{Reply}
 use Rattle.request_book.specs.Acts.{content_text}
 use Rattle.request_book.specs.Book.{Book, OfficeWithBook, Recorded, recorded_as}
 use Rattle.replies.specs.Bodies.{number_used}
-use Rattle.deliveries.specs.Step.{step}
-use Rattle.deliveries.specs.Deliveries.{left_by, answers_of, reply_at, reply_from, delivered, first_delivered}
-use Rattle.deliveries.proofs.retries.Once.{joined, delivered-last}
+use Rattle.office_specification.specs.Step.{step}
+use Rattle.office_specification.specs.Deliveries.{left_by, answers_of, reply_at, reply_from, delivered, first_delivered}
+use Rattle.office_specification.proofs.retries.Once.{joined, delivered-last}
 use Rattle.sender.proofs.Places.{same, itself}
 
 -- what one delivery leaves

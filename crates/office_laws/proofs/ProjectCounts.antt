@@ -21,12 +21,12 @@ use Rattle.units.specs.declared.unit.UnitState.TheVariants.{Untranslated, NeedsE
 use Rattle.template_update.specs.declared.plans.Plan.{Plan}
 use Rattle.template_update.proofs.Found.{equal}
 use Rattle.template_update.proofs.Listed.{clash}
-use Rattle.deliveries.specs.ProjectActs.{LanguagePlan, placed, with_language, with_template}
-use Rattle.deliveries.proofs.rules.Replaced.{all_rows}
-use Rattle.deliveries.specs.declared.tally.Tally.{Tally}
-use Rattle.deliveries.specs.Tally.{counts_in, counts_of}
-use Rattle.deliveries.specs.Counting.{plus, none_counted}
-use Rattle.deliveries.proofs.tallies.Countings.{plus_assoc, none_and}
+use Rattle.office_specification.specs.ProjectActs.{LanguagePlan, placed, with_language, with_template}
+use Rattle.office_specification.proofs.rules.Replaced.{all_rows}
+use Rattle.office_specification.specs.declared.tally.Tally.{Tally}
+use Rattle.office_specification.specs.Tally.{counts_in, counts_of}
+use Rattle.office_specification.specs.Counting.{plus, none_counted}
+use Rattle.office_specification.proofs.tallies.Countings.{plus_assoc, none_and}
 use Rattle.office_laws.specs.Tallies.{counted, counts_under, planned}
 use Rattle.office_laws.proofs.Moves.{plus_comm, total_in, one_in, next_in}
 use Rattle.office_laws.proofs.Totals.{total-insert, AreApart, apart-sorted, total-made}

@@ -17,9 +17,9 @@ use Rattle.request_book.specs.Book.{Book, OfficeWithBook, Recorded, recorded_as}
 use Rattle.request_book.specs.Clash.{clash}
 use Rattle.sender.specs.declared.exchange.Exchange.{Exchange}
 use Rattle.sender.specs.Sending.{Sending, HasDistinctNumbers, unanswered, is_open, is_blocked, is_ready, replied, hear, held, is_finished}
-use Rattle.deliveries.specs.Step.{step}
-use Rattle.deliveries.specs.Deliveries.{kept, without, first_of, after, left_by, answers_of, reply_from, IsRecordedIn}
-use Rattle.deliveries.proofs.commuting.Told.{has_replies}
+use Rattle.office_specification.specs.Step.{step}
+use Rattle.office_specification.specs.Deliveries.{kept, without, first_of, after, left_by, answers_of, reply_from, IsRecordedIn}
+use Rattle.office_specification.proofs.commuting.Told.{has_replies}
 use Rattle.office_laws.specs.World.{World, Delivery, Event, Send, Arrive, ArriveLost, Hear, unsent, taken, given, was_sent, is_allowed, arrives, hears, happens, after_events, IsSchedule}
 use Rattle.office_laws.specs.Simulation.{replies_in_order, AreNew, IsReached, IsRecorded}
 use Rattle.sender.proofs.Places.{at_end_or_before, split_at, in_front, front_has, apart, other_way, same, one_request}

@@ -7,7 +7,7 @@ use Rattle.std.specs.Ordering.{is_eq}
 use Rattle.std.specs.Cmp.{IsTotalOrder}
 use Rattle.std.specs.FinMap as maps
 use Rattle.std.specs.FinMap.Entries.{below_all, by_order}
-use Rattle.deliveries.proofs.rules.Replaced.{Found, left_true, right_true, absent}
+use Rattle.office_specification.proofs.rules.Replaced.{Found, left_true, right_true, absent}
 use Rattle.std.specs.Ordering.{is_lt}
 
 less : (r : Ordering) → T (is_lt r) → r ≡ Less

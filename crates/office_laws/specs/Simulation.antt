@@ -7,8 +7,8 @@ use Rattle.request_book.specs.declared.act.Request.{Request}
 use Rattle.request_book.specs.Replies.{Reply}
 use Rattle.request_book.specs.Book.{Book, OfficeWithBook}
 use Rattle.sender.specs.Sending.{HasDistinctNumbers}
-use Rattle.deliveries.specs.Step.{step}
-use Rattle.deliveries.specs.Deliveries.{left_by}
+use Rattle.office_specification.specs.Step.{step}
+use Rattle.office_specification.specs.Deliveries.{left_by}
 use Rattle.office_laws.specs.World.{World, Event, unsent, taken, after_events, IsSchedule}
 
 -- the replies to requests that come once and in order

@@ -8,7 +8,7 @@ use Rattle.request_book.specs.declared.act.Request.{Request}
 use Rattle.request_book.specs.Replies.{Reply}
 use Rattle.request_book.specs.Book.{OfficeWithBook}
 use Rattle.sender.specs.Sending.{Sending, unanswered, is_ready, hear}
-use Rattle.deliveries.specs.Deliveries.{kept, answers_of}
+use Rattle.office_specification.specs.Deliveries.{kept, answers_of}
 
 -- a request that arrived, and whether its delivery was lost
 pub record Delivery : Type 0 where

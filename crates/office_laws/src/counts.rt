@@ -15,11 +15,11 @@ ghost use Rattle.units.specs.declared.unit.Key.{Key};
 ghost use Rattle.units.specs.declared.unit.Unit.{Unit};
 ghost use Rattle.units.specs.declared.unit.UnitView.{UnitView};
 ghost use Rattle.template_update.specs.declared.plans.Plan.{Plan};
-ghost use Rattle.deliveries.specs.ProjectActs.{LanguagePlan, placed, with_language, with_template};
-ghost use Rattle.deliveries.specs.OfficeChanges.{changed};
-ghost use Rattle.deliveries.specs.UnitAccess.{with_view_in};
-ghost use Rattle.deliveries.specs.declared.values.Change.TheVariants.{OneRole};
-ghost use Rattle.deliveries.specs.Tally.{counts_in, counts_of};
+ghost use Rattle.office_specification.specs.ProjectActs.{LanguagePlan, placed, with_language, with_template};
+ghost use Rattle.office_specification.specs.OfficeChanges.{changed};
+ghost use Rattle.office_specification.specs.UnitAccess.{with_view_in};
+ghost use Rattle.office_specification.specs.declared.values.Change.TheVariants.{OneRole};
+ghost use Rattle.office_specification.specs.Tally.{counts_in, counts_of};
 ghost use Rattle.office_laws.specs.Tallies.{counted, moved, counts_under, planned};
 
 /// A unit's new view takes off its language's counts what the unit counted and adds what it counts now; those of every other language

@@ -8,8 +8,8 @@ ghost use Rattle.request_book.specs.declared.act.Request.{Request};
 ghost use Rattle.request_book.specs.Replies.{Reply};
 ghost use Rattle.request_book.specs.Clash.{clash};
 ghost use Rattle.sender.specs.Sending.{held, is_finished};
-ghost use Rattle.deliveries.specs.Deliveries.{after};
-ghost use Rattle.deliveries.specs.ExportText.{export_text};
+ghost use Rattle.office_specification.specs.Deliveries.{after};
+ghost use Rattle.office_specification.specs.ExportText.{export_text};
 ghost use Rattle.office_laws.specs.Simulation.{replies_in_order};
 ghost use Rattle.office_laws.specs.Histories.{Moment, HasCome};
 

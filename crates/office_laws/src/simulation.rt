@@ -8,8 +8,8 @@ ghost use Rattle.request_book.specs.Replies.{Reply};
 ghost use Rattle.request_book.specs.Book.{OfficeWithBook};
 ghost use Rattle.request_book.specs.Clash.{clash};
 ghost use Rattle.sender.specs.Sending.{held, is_finished};
-ghost use Rattle.deliveries.specs.Deliveries.{after, left_by};
-ghost use Rattle.deliveries.specs.ExportText.{export_text};
+ghost use Rattle.office_specification.specs.Deliveries.{after, left_by};
+ghost use Rattle.office_specification.specs.ExportText.{export_text};
 ghost use Rattle.office_laws.specs.World.{World, taken};
 ghost use Rattle.office_laws.specs.Simulation.{IsReached, IsRecorded, replies_in_order};
 

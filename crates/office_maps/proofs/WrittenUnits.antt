@@ -6,8 +6,8 @@ use Rattle.units.specs.Project.{Project, entry_of}
 use Rattle.units.specs.declared.unit.Key.{Key}
 use Rattle.units.specs.declared.unit.Unit.{Unit}
 use Rattle.units.specs.declared.unit.UnitView.{UnitView}
-use Rattle.deliveries.specs.declared.values.UnitWrite.{UnitWrite}
-use Rattle.deliveries.specs.UnitAccess.{view_written, written_at}
+use Rattle.office_specification.specs.declared.values.UnitWrite.{UnitWrite}
+use Rattle.office_specification.specs.UnitAccess.{view_written, written_at}
 
 module _ (project : Project) (lang : Text) (key : Key) (write : UnitWrite) where
   abbrev seen : Unit → UnitView

@@ -4,8 +4,8 @@ ghost use Rattle.std.specs.Prelude.{◌≡◌, IfOk, OnOk, OnErr, fold, string_b
 ghost use Rattle.std.specs.FinMap as maps;
 ghost use Rattle.units.specs.Office.{Office, empty_domain, as_project, domain_of, project_in, with_project};
 ghost use Rattle.units.specs.Changes.{set_role, office_under, with_team, with_domain};
-ghost use Rattle.deliveries.specs.ProjectActs.{with_language, with_template};
-ghost use Rattle.deliveries.specs.OfficeChanges.{changed_project, AreWithin};
+ghost use Rattle.office_specification.specs.ProjectActs.{with_language, with_template};
+ghost use Rattle.office_specification.specs.OfficeChanges.{changed_project, AreWithin};
 ghost use Rattle.office_maps.specs.Rows.{headers_in, units_in, team_in};
 ghost use Rattle.office_maps.specs.OfficeIn.{domain_in, domains_in};
 ghost use Rattle.office_maps.specs.Policies.{IsUnapproved};
@@ -18,7 +18,7 @@ use crate::place::Place;
 use crate::puts::put_in;
 use crate::template::Template;
 use crate::unit_rows::{Displaced, put_all, put_at, put_back, unapprove_all, units_of_plans};
-use deliveries::{Change, DomainChange, Language};
+use office_specification::{Change, DomainChange, Language};
 use po_text::Catalogue;
 use std::alloc::{AllocError, Global};
 use std::collections::BTreeMap;
@@ -245,7 +245,7 @@ fn put_domains(domains: &mut BTreeMap<String, DomainMaps>, policy: &Policy)
 impl OfficeMaps {
     ghost use Rattle.units.specs.Project.{with_unit};
     ghost use Rattle.office_maps.specs.OfficeIn.{office_in, place_of};
-    ghost use Rattle.deliveries.specs.OfficeChanges.{changed, StaysWithin};
+    ghost use Rattle.office_specification.specs.OfficeChanges.{changed, StaysWithin};
 
     /// Puts a unit at a place of a domain, instead of what stood there; nothing where there is no such domain.
     ///

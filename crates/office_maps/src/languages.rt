@@ -10,7 +10,7 @@ ghost use Rattle.po_text.specs.Texts.{text_cmp};
 ghost use Rattle.units.specs.Limits.{is_lang};
 
 use crate::puts::put_in;
-use deliveries::Language;
+use office_specification::Language;
 use std::alloc::{AllocError, Global};
 use std::collections::BTreeMap;
 use units::Lang;

@@ -6,11 +6,11 @@ ghost use Rattle.units.specs.Limits.{is_lang};
 ghost use Rattle.units.specs.Project.{languages, units_of};
 ghost use Rattle.units.specs.Rules.{rule_at};
 ghost use Rattle.template_update.specs.Updates.{plan_of};
-ghost use Rattle.deliveries.specs.ProjectActs.{plan_at, plans};
+ghost use Rattle.office_specification.specs.ProjectActs.{plan_at, plans};
 
 use crate::project_maps::ProjectMaps;
 use crate::unit_rows::units_of;
-use deliveries::Language;
+use office_specification::Language;
 use po_text::Catalogue;
 use std::alloc::{AllocError, Global};
 use template_update::{Plan, plan};

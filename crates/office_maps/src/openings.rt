@@ -15,7 +15,7 @@ use crate::languages::Languages;
 use crate::office_maps::OfficeMaps;
 use crate::template::Template;
 use crate::unit_rows::add_unit;
-use deliveries::Language;
+use office_specification::Language;
 use plural_expr::{PluralFault, PluralForms};
 use po_text::{Catalogue, Entry, Forms, Items, PoString};
 use std::alloc::{AllocError, Global};

@@ -9,7 +9,7 @@ ghost use Rattle.review.specs.Parts.{bare};
 use crate::domain_maps::DomainMaps;
 use crate::place::{OrderedKey, Place};
 use crate::unit_parts::{copies_without_votes, copy_of_number, unit_written};
-use deliveries::{ActContext, UnitWrite};
+use office_specification::{ActContext, UnitWrite};
 use po_text::{Duplicate, Entry, Items};
 use review::with_suggestions;
 use std::alloc::{AllocError, Global};
@@ -27,38 +27,38 @@ pub struct ProjectMaps<'a> {
 
 impl<'a> ProjectMaps<'a> {
     ghost use Rattle.office_maps.specs.OfficeIn.{lent_project, place_of};
-    ghost use Rattle.office_maps.specs.Found.{found_with};
-    ghost use Rattle.deliveries.specs.UnitAccess.{found_of, without_suggestions, suggestions_at, suggestion_at, written_at};
+    ghost use Rattle.office_maps.specs.ActContexts.{context_with};
+    ghost use Rattle.office_specification.specs.UnitAccess.{context_of, without_suggestions, suggestions_at, suggestion_at, written_at};
 
     /// What an act on a unit needs to know; nothing where the language isn't there.
     ///
     /// `AllocError` where a growth was refused.
-    pub fn view_of(
+    pub fn context_of(
         &self,
         lang: &Lang,
         key: &Key,
         name: &Name,
     ) -> Result<Option<ActContext>, AllocError>
-        ensures { IfOk result (λ r. r ≡ found_of (lent_project self.now) lang.now key.now name.now) }
+        ensures { IfOk result (λ r. r ≡ context_of (lent_project self.now) lang.now key.now name.now) }
     {
         let view = self.unit_of(lang, key)?;
-        self.found_with(lang, name, view)
+        self.context_with(lang, name, view)
     }
 
     /// The same but for the unit's suggestions, which aren't copied: the view has none.
     ///
     /// `AllocError` where a growth was refused.
-    pub fn bare_view_of(
+    pub fn bare_context_of(
         &self,
         alloc: Global,
         lang: &Lang,
         key: &Key,
         name: &Name,
     ) -> Result<Option<ActContext>, AllocError>
-        ensures { IfOk result (λ r. r ≡ without_suggestions (found_of (lent_project self.now) lang.now key.now name.now)) }
+        ensures { IfOk result (λ r. r ≡ without_suggestions (context_of (lent_project self.now) lang.now key.now name.now)) }
     {
         let view = self.bare_unit_of(alloc, lang, key)?;
-        self.found_with(lang, name, view)
+        self.context_with(lang, name, view)
     }
 
     /// The suggestions on a unit, in their order, without the votes on them; none where the unit isn't there.
@@ -114,13 +114,13 @@ impl<'a> ProjectMaps<'a> {
     }
 
     /// What an act needs to know that finds this view of its unit; nothing where the language isn't there.
-    fn found_with(
+    fn context_with(
         &self,
         lang: &Lang,
         name: &Name,
         view: Option<UnitView>,
     ) -> Result<Option<ActContext>, AllocError>
-        ensures { IfOk result (λ r. r ≡ found_with (lent_project self.now) lang.now name.now view) }
+        ensures { IfOk result (λ r. r ≡ context_with (lent_project self.now) lang.now name.now view) }
     {
         let Some(language) = self.domain.languages.get(lang) else {
             drop(view);

@@ -5,9 +5,9 @@ ghost use Rattle.po_text.specs.declared.entry.Entry.{Entry as EntryValue};
 ghost use Rattle.units.specs.Units.{suggestion_of};
 ghost use Rattle.review.specs.UnitStep.{with_vote};
 ghost use Rattle.review.specs.Parts.{without_votes};
-ghost use Rattle.deliveries.specs.UnitAccess.{view_written};
+ghost use Rattle.office_specification.specs.UnitAccess.{view_written};
 
-use deliveries::UnitWrite;
+use office_specification::UnitWrite;
 use po_text::{Duplicate, Items};
 use review::{find_suggestion, voted_suggestions, with_suggestions};
 use std::alloc::{AllocError, Global};

@@ -19,13 +19,13 @@ use Rattle.review.specs.Parts.{with_these, bare, without_votes, at_most_one, is_
 use Rattle.review.proofs.Steps.{unit_step-early}
 use Rattle.review.proofs.Parts.{HasSource, source_stays, IsWith, row_step, IsSuggested, suggest_step, IsVoted, vote_step}
 use Rattle.replies.specs.Bodies.{done}
-use Rattle.deliveries.specs.declared.values.ActContext.{ActContext}
-use Rattle.deliveries.specs.declared.values.Outcome.{Outcome}
-use Rattle.deliveries.specs.declared.values.UnitOutcome.{UnitOutcome}
-use Rattle.deliveries.specs.declared.values.UnitWrite.{UnitWrite}
-use Rattle.deliveries.specs.declared.values.UnitWrite.TheVariants.{Whole, Row, Suggested, Voted}
-use Rattle.deliveries.specs.UnitAccess.{without_suggestions, view_written, IsWriteOver}
-use Rattle.deliveries.specs.UnitOutcomes.{outcome_of, outcome_of_decision, refusing, view_found, needs_suggestions, accepts_found, IsOutcomeBy}
+use Rattle.office_specification.specs.declared.values.ActContext.{ActContext}
+use Rattle.office_specification.specs.declared.values.Outcome.{Outcome}
+use Rattle.office_specification.specs.declared.values.UnitOutcome.{UnitOutcome}
+use Rattle.office_specification.specs.declared.values.UnitWrite.{UnitWrite}
+use Rattle.office_specification.specs.declared.values.UnitWrite.TheVariants.{Whole, Row, Suggested, Voted}
+use Rattle.office_specification.specs.UnitAccess.{without_suggestions, view_written, IsWriteOver}
+use Rattle.office_specification.specs.UnitOutcomes.{outcome_of, outcome_of_decision, refusing, context_view, needs_suggestions, accepts_found, IsOutcomeBy}
 use Rattle.outcomes.specs.UnitParts.{shown, of_whole, of_row, of_vote}
 
 -- nothing is written where the act is refused
@@ -55,7 +55,7 @@ module _ (caller number : Text) (act : UnitAct) where
   by_whole v (Done w values) same = record { reply = refl; view = refl; over = (v, refl, same) }
   by_whole v (Refused refusal) same = record { reply = refl; view = refl; over = tt }
 
-  pub whole_is : (found : Option ActContext) → IsOutcomeBy (view_found found) (outcome_of found caller number act) (of_whole (outcome_of found caller number act))
+  pub whole_is : (found : Option ActContext) → IsOutcomeBy (context_view found) (outcome_of found caller number act) (of_whole (outcome_of found caller number act))
   whole_is None = record { reply = refl; view = refl; over = tt }
   whole_is (Some f) = by f.view
     where
@@ -78,7 +78,7 @@ module _ (caller number : Text) (act : UnitAct) where
   }
 
   pub row_is : (full : Option ActContext) → needs_suggestions (without_suggestions full) act ≡ false →
-      IsOutcomeBy (view_found full) (outcome_of full caller number act) (of_row (outcome_of (without_suggestions full) caller number act))
+      IsOutcomeBy (context_view full) (outcome_of full caller number act) (of_row (outcome_of (without_suggestions full) caller number act))
   row_is None e = record { reply = refl; view = refl; over = tt }
   row_is (Some f) e = by f.view e
     where
@@ -127,9 +127,9 @@ module _ (caller number : Text) (act : UnitAct) where
   suggest_is f v SendBack e = cc
 
   pub suggested_is : (full : Option ActContext) (suggestions : List Suggestion) (written : UnitOutcome) → is_suggest act.action ≡ true →
-      IfSome (view_found full) (λ v. suggestions ≡ map without_votes v.unit.suggestions) →
+      IfSome (context_view full) (λ v. suggestions ≡ map without_votes v.unit.suggestions) →
       let outcome = outcome_of (shown suggestions (without_suggestions full)) caller number act in
-      written.reply ≡ outcome.reply → WritesLast outcome written → IsOutcomeBy (view_found full) (outcome_of full caller number act) written
+      written.reply ≡ outcome.reply → WritesLast outcome written → IsOutcomeBy (context_view full) (outcome_of full caller number act) written
   suggested_is None suggestions written kind all replied writes = refused_is None (refusing NoLanguage) written replied refl writes
   suggested_is (Some f) suggestions written kind all replied writes = by f.view all replied writes
     where
@@ -183,9 +183,9 @@ module _ (caller number : Text) (seen : ℕ) (named : Text) (value : Option Vote
     sym (ap accepts_voted is),
   )
 
-  pub voted_is : (full : Option ActContext) (suggestion : Option Suggestion) → IfSome (view_found full) (λ v. suggestion ≡ suggestion_of named v.unit) →
+  pub voted_is : (full : Option ActContext) (suggestion : Option Suggestion) → IfSome (context_view full) (λ v. suggestion ≡ suggestion_of named v.unit) →
       let written = of_vote named caller value (outcome_of (shown (at_most_one suggestion) (without_suggestions full)) caller number asked) in
-      IfSome written (IsOutcomeBy (view_found full) (outcome_of full caller number asked)) × (is_none written ≡ accepts_found full caller number asked)
+      IfSome written (IsOutcomeBy (context_view full) (outcome_of full caller number asked)) × (is_none written ≡ accepts_found full caller number asked)
   voted_is None suggestion is = (record { reply = refl; view = refl; over = tt }, refl)
   voted_is (Some f) suggestion is = by f.view is
     where
@@ -199,16 +199,16 @@ module _ (caller number : Text) (seen : ℕ) (named : Text) (value : Option Vote
 
 -- the same, of an act that votes
 pub voted_told : (caller number : Text) (act : UnitAct) (own named : Text) (value : Option VoteValue) → act.action ≡ Vote own value → named_by act.action ≡ Some named →
-    (full : Option ActContext) (suggestion : Option Suggestion) → IfSome (view_found full) (λ v. suggestion ≡ suggestion_of named v.unit) →
+    (full : Option ActContext) (suggestion : Option Suggestion) → IfSome (context_view full) (λ v. suggestion ≡ suggestion_of named v.unit) →
     (written : Option UnitOutcome) → written ≡ of_vote own caller value (outcome_of (shown (at_most_one suggestion) (without_suggestions full)) caller number act) →
-    IfSome written (IsOutcomeBy (view_found full) (outcome_of full caller number act)) × (is_none written ≡ accepts_found full caller number act)
+    IfSome written (IsOutcomeBy (context_view full) (outcome_of full caller number act)) × (is_none written ≡ accepts_found full caller number act)
 voted_told caller number act own named value votes names full suggestion there written told =
     let one : Some own ≡ Some named = sym (ap named_by votes) ∙ names in
     let same : own ≡ named = cc in
     let is : act ≡ record { seen = act.seen; action = Vote own value } = ap (λ (action : UnitAction). record { seen = act.seen; action = action }) votes in
-    subst (λ (w : Option UnitOutcome). IfSome w (IsOutcomeBy (view_found full) (outcome_of full caller number act)) × (is_none w ≡ accepts_found full caller number act)) (sym told)
+    subst (λ (w : Option UnitOutcome). IfSome w (IsOutcomeBy (context_view full) (outcome_of full caller number act)) × (is_none w ≡ accepts_found full caller number act)) (sym told)
     (subst (λ (x : UnitAct).
     let w = of_vote own caller value (outcome_of (shown (at_most_one suggestion) (without_suggestions full)) caller number x) in
-    IfSome w (IsOutcomeBy (view_found full) (outcome_of full caller number x)) × (is_none w ≡ accepts_found full caller number x)) (sym is)
+    IfSome w (IsOutcomeBy (context_view full) (outcome_of full caller number x)) × (is_none w ≡ accepts_found full caller number x)) (sym is)
     (voted_is caller number act.seen own value full suggestion
-    (subst (λ (n : Text). IfSome (view_found full) (λ v. suggestion ≡ suggestion_of n v.unit)) (sym same) there)))
+    (subst (λ (n : Text). IfSome (context_view full) (λ v. suggestion ≡ suggestion_of n v.unit)) (sym same) there)))

@@ -4,10 +4,10 @@ use Rattle.std.proofs.Math.Seq.{drop-cons}
 use Rattle.std.proofs.lemmas.List.{drop_all}
 use Rattle.po_text.specs.declared.entry.Entry.{Entry}
 use Rattle.units.specs.declared.unit.Unit.{Unit}
-use Rattle.deliveries.specs.declared.tally.Tally.{Tally}
-use Rattle.deliveries.specs.Tally.{counts_in}
-use Rattle.deliveries.specs.Counting.{none_counted, plus}
-use Rattle.deliveries.proofs.tallies.Countings.{none_and, and_none, next_counted}
+use Rattle.office_specification.specs.declared.tally.Tally.{Tally}
+use Rattle.office_specification.specs.Tally.{counts_in}
+use Rattle.office_specification.specs.Counting.{none_counted, plus}
+use Rattle.office_specification.proofs.tallies.Countings.{none_and, and_none, next_counted}
 
 module _ (template : List Entry) (units : List Unit) where
   pub none_yet : (tally : Tally) → tally ≡ none_counted → plus tally (counts_in template units) ≡ counts_in template units

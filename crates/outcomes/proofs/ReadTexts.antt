@@ -7,7 +7,7 @@ use Rattle.po_text.specs.declared.entry.Entry.{Entry}
 use Rattle.po_read.specs.Spells.{Spells, IsWithin, limits}
 use Rattle.po_read.specs.Faults.{Fault, IsFault, fault_of}
 use Rattle.po_read.specs.Plain.{entries_of, reading_of, unless}
-use Rattle.po_read.specs.Views.{IsMemory}
+use Rattle.po_read.specs.ReaderAnswers.{IsMemory}
 use Rattle.po_read.proofs.Accepts.{no_fault}
 use Rattle.po_read.proofs.Least.{computed}
 use Rattle.po_read.proofs.Passing.{spelled_passes}

@@ -15,11 +15,11 @@ use Rattle.request_book.specs.declared.act.Act.{Act}
 use Rattle.request_book.specs.declared.act.Act.TheVariants.{OnUnit, SetTemplate, AddLanguage, SetRole, SetPolicy, AddDomain}
 use Rattle.request_book.specs.declared.act.Request.{Request}
 use Rattle.replies.specs.Bodies.{Stepped, refuse, refused}
-use Rattle.deliveries.specs.ProjectActs.{template_step, language_step}
-use Rattle.deliveries.specs.OfficeActs.{managed, team_step, policy_step, domain_step}
-use Rattle.deliveries.specs.OfficeChanges.{changed_project_by}
-use Rattle.deliveries.specs.Step.{step, act_step, in_domain, in_known_domain}
-use Rattle.deliveries.proofs.domains.InDomains.{with_project-same}
+use Rattle.office_specification.specs.ProjectActs.{template_step, language_step}
+use Rattle.office_specification.specs.OfficeActs.{managed, team_step, policy_step, domain_step}
+use Rattle.office_specification.specs.OfficeChanges.{changed_project_by}
+use Rattle.office_specification.specs.Step.{step, act_step, in_domain, in_known_domain}
+use Rattle.office_specification.proofs.domains.InDomains.{with_project-same}
 use Rattle.outcomes.specs.declared.outcome.DomainOutcome.{DomainOutcome}
 use Rattle.outcomes.specs.declared.outcome.OfficeOutcome.{OfficeOutcome}
 use Rattle.outcomes.specs.Settled.{IsSettledIn, IsSettled, without_change}

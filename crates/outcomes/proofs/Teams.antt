@@ -18,10 +18,10 @@ use Rattle.units.specs.declared.unit.Role.{Role}
 use Rattle.units.specs.declared.unit.Role.TheVariants.{Guest, Translator, Reviewer, Manager}
 use Rattle.units.specs.Orders.{text_total, text_IsAntisymmetric}
 use Rattle.office_maps.specs.Rows.{team_in, headers_in}
-use Rattle.deliveries.specs.declared.values.Language.{Language}
-use Rattle.deliveries.specs.OfficeActs.{is_manager}
-use Rattle.office_maps.specs.MapViews.{viewed}
-use Rattle.office_maps.proofs.Views.{get-viewed}
+use Rattle.office_specification.specs.declared.values.Language.{Language}
+use Rattle.office_specification.specs.OfficeActs.{is_manager}
+use Rattle.office_maps.specs.MapEntries.{mapped}
+use Rattle.office_maps.proofs.MapEntries.{get-mapped}
 use Rattle.office_maps.proofs.Teams.{team_entries, team_len}
 use Rattle.office_maps.proofs.AfterChanges.{no_guest}
 
@@ -123,16 +123,16 @@ module _ {A : Type 0} (team : BTreeMap (String A) Role) (ordered : IsOrdered (λ
   abbrev others_in : Text → List (String A × Role) → Bool
   others_in name es = list_any (λ (e : String A × Role). not (text_eq (string_bytes e.0) name) && is_manager e.1) es
 
-  others-viewed : (name : Text) (es : List (String A × Role)) → others text_total is_manager name (viewed string_bytes (λ role. role) es) ≡ others_in name es
-  others-viewed name [] = refl
-  others-viewed name (e ∷ es) =
+  others-mapped : (name : Text) (es : List (String A × Role)) → others text_total is_manager name (mapped string_bytes (λ role. role) es) ≡ others_in name es
+  others-mapped name [] = refl
+  others-mapped name (e ∷ es) =
       let laws = eq_by_cmp_equiv text_total in
       let tie : eq_by_cmp text_cmp name (string_bytes e.0) ≡ text_eq (string_bytes e.0) name = laws.symm name (string_bytes e.0) ∙ sym (texts_ties (string_bytes e.0) name) in
-      λ i. (not (tie i) && is_manager e.1) || others-viewed name es i
+      λ i. (not (tie i) && is_manager e.1) || others-mapped name es i
 
   pub manager_left : (name : Text) (role : Role) → (is_manager role || others_in name team.entries) ≡ list_any is_manager (maps.values (set_role name role (team_in team)))
   manager_left name role =
-      sym (managers-by (team_in team) name role ∙ ap (λ b. is_manager role || b) (ap (others text_total is_manager name) (team_entries team ordered) ∙ others-viewed name team.entries))
+      sym (managers-by (team_in team) name role ∙ ap (λ b. is_manager role || b) (ap (others text_total is_manager name) (team_entries team ordered) ∙ others-mapped name team.entries))
 
   pub manager_among_others : (name : Text) (role : Role) → is_manager role ≡ false
       → list_any (λ (e : String A × Role). not (text_eq (string_bytes e.0) name) && is_manager e.1) team.entries ≡ list_any is_manager (maps.values (set_role name role (team_in team)))
@@ -147,7 +147,7 @@ is_copied None = refl
 is_copied (Some x) = refl
 
 pub has_name : {A : Type 0} (team : BTreeMap (String A) Role) (name : Text) → maps.contains_key (team_in team) name ≡ is_some (get_by (λ k. text_cmp name (string_bytes k)) team)
-has_name team name = ap is_some (get-viewed text_cmp string_bytes (λ role. role) text_total team name) ∙ some_map _ _
+has_name team name = ap is_some (get-mapped text_cmp string_bytes (λ role. role) text_total team name) ∙ some_map _ _
 
 pub size_without : (team : maps.FinMap text_cmp Role) (name : Text) → maps.len (set_role name Guest team) ≡ cond (maps.contains_key team name) (maps.len team - 1) (maps.len team)
 size_without team name = maps.len-remove text_total team name
@@ -170,4 +170,4 @@ module _ {A : Type 0} (team : BTreeMap (String A) Role) (ordered : IsOrdered (λ
 
 -- whether a language is there
 pub has_code : {A : Type 0} (rows : BTreeMap (String A) Language) (lang : Text) → maps.contains_key (headers_in rows) lang ≡ is_some (get_by (λ k. text_cmp lang (string_bytes k)) rows)
-has_code rows lang = ap is_some (get-viewed text_cmp string_bytes (λ language. language.header) text_total rows lang) ∙ some_map _ _
+has_code rows lang = ap is_some (get-mapped text_cmp string_bytes (λ language. language.header) text_total rows lang) ∙ some_map _ _

@@ -9,7 +9,7 @@ use Rattle.request_book.specs.Replies.{Reply}
 use Rattle.outcomes.specs.declared.outcome.DomainOutcome.{DomainOutcome}
 use Rattle.outcomes.specs.declared.outcome.OfficeOutcome.{OfficeOutcome}
 use Rattle.replies.specs.Bodies.{Stepped}
-use Rattle.deliveries.specs.OfficeChanges.{changed_project_by, IsPossibleChangeIn, changed_by, IsPossibleChange}
+use Rattle.office_specification.specs.OfficeChanges.{changed_project_by, IsPossibleChangeIn, changed_by, IsPossibleChange}
 
 -- the project and the reply are those of the step, and the change can be made
 pub record IsSettledIn (project : Project) (outcome : DomainOutcome) (stepped : Stepped Project) : Type 0 where

@@ -8,10 +8,10 @@ use Rattle.units.specs.declared.unit.Suggestion.{Suggestion}
 use Rattle.units.specs.declared.unit.UnitView.{UnitView}
 use Rattle.units.specs.declared.votes.VoteValue.{VoteValue}
 use Rattle.review.specs.Parts.{with_these}
-use Rattle.deliveries.specs.declared.values.ActContext.{ActContext}
-use Rattle.deliveries.specs.declared.values.Outcome.{Outcome}
-use Rattle.deliveries.specs.declared.values.UnitOutcome.{UnitOutcome}
-use Rattle.deliveries.specs.declared.values.UnitWrite.TheVariants.{Whole, Row, Voted}
+use Rattle.office_specification.specs.declared.values.ActContext.{ActContext}
+use Rattle.office_specification.specs.declared.values.Outcome.{Outcome}
+use Rattle.office_specification.specs.declared.values.UnitOutcome.{UnitOutcome}
+use Rattle.office_specification.specs.declared.values.UnitWrite.TheVariants.{Whole, Row, Voted}
 
 -- what was found, if anything was, with these suggestions on the unit, if it is there
 abbrev pub shown : List Suggestion → Option ActContext → Option ActContext

@@ -5,13 +5,13 @@ ghost use Rattle.std.specs.FinMap as maps;
 ghost use Rattle.units.specs.Project.{Project};
 ghost use Rattle.units.specs.Office.{Office, project_in, with_project};
 ghost use Rattle.replies.specs.Bodies.{Stepped};
-ghost use Rattle.deliveries.specs.OfficeActs.{domain_step};
+ghost use Rattle.office_specification.specs.OfficeActs.{domain_step};
 ghost use Rattle.outcomes.specs.Settled.{IsSettled, IsSettledIn};
 ghost use Rattle.office_maps.specs.OfficeIn.{office_in};
 
 use crate::bodies::domain_added;
 use crate::outcome::{DomainOutcome, OfficeOutcome};
-use deliveries::Change;
+use office_specification::Change;
 use office_maps::OfficeMaps;
 use po_text::Duplicate;
 use std::alloc::Global;

@@ -5,8 +5,8 @@ ghost use Rattle.units.specs.Project.{role_in};
 ghost use Rattle.units.specs.Units.{is_below};
 ghost use Rattle.units.specs.declared.unit.Role.TheVariants.{Manager};
 ghost use Rattle.request_book.specs.Clash.{is_unit_act};
-ghost use Rattle.deliveries.specs.ProjectActs.{template_step, language_step};
-ghost use Rattle.deliveries.specs.Step.{step, in_known_domain};
+ghost use Rattle.office_specification.specs.ProjectActs.{template_step, language_step};
+ghost use Rattle.office_specification.specs.Step.{step, in_known_domain};
 ghost use Rattle.outcomes.specs.Settled.{IsSettled};
 ghost use Rattle.office_maps.specs.OfficeIn.{office_in};
 

@@ -2,7 +2,7 @@
 ghost use Rattle.std.specs.Prelude.{◌≡◌, IfOk};
 
 use crate::bodies::{refused, refused_rule, refused_text};
-use deliveries::{Change, DomainChange};
+use office_specification::{Change, DomainChange};
 use plural_expr::PluralFault;
 use po_lex::PoFault;
 use request_book::Reply;

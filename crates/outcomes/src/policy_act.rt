@@ -6,13 +6,13 @@ ghost use Rattle.std.specs.FinMap as maps;
 ghost use Rattle.units.specs.Limits.{revision_limit};
 ghost use Rattle.units.specs.Changes.{unapproved};
 ghost use Rattle.units.specs.Units.{is_approved};
-ghost use Rattle.deliveries.specs.OfficeActs.{passes, turned, policy_step};
+ghost use Rattle.office_specification.specs.OfficeActs.{passes, turned, policy_step};
 ghost use Rattle.outcomes.specs.Settled.{IsSettled};
 ghost use Rattle.office_maps.specs.OfficeIn.{domain_in, office_in};
 
 use crate::bodies::policy_set;
 use crate::outcome::OfficeOutcome;
-use deliveries::Change;
+use office_specification::Change;
 use office_maps::{DomainMaps, OfficeMaps};
 use std::alloc::{AllocError, Global};
 use units::{Memory, Policy, Refusal, Revision, Unit, UnitState};

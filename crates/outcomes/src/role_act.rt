@@ -5,14 +5,14 @@ ghost use Rattle.std.specs.List.{list_any};
 ghost use Rattle.std.specs.FinMap as maps;
 ghost use Rattle.po_text.specs.Texts.{text_eq};
 ghost use Rattle.units.specs.Changes.{set_role};
-ghost use Rattle.deliveries.specs.OfficeActs as spec;
-ghost use Rattle.deliveries.specs.OfficeActs.{is_manager};
+ghost use Rattle.office_specification.specs.OfficeActs as spec;
+ghost use Rattle.office_specification.specs.OfficeActs.{is_manager};
 ghost use Rattle.outcomes.specs.Settled.{IsSettled};
 ghost use Rattle.office_maps.specs.OfficeIn.{office_in};
 
 use crate::bodies::role_set;
 use crate::outcome::OfficeOutcome;
-use deliveries::Change;
+use office_specification::Change;
 use office_maps::OfficeMaps;
 use po_text::Duplicate;
 use std::alloc::Global;

@@ -3,7 +3,7 @@ ghost use Rattle.std.specs.Prelude.{◌≡◌, IfOk, option_map};
 ghost use Rattle.review.specs.Parts as part;
 ghost use Rattle.outcomes.specs.UnitParts as spec;
 
-use deliveries::ActContext;
+use office_specification::ActContext;
 use po_text::Items;
 use std::alloc::{AllocError, Global};
 use units::{Suggestion, UnitView};

@@ -1,10 +1,10 @@
 //! How many units of a plan are in each state.
 
 ghost use Rattle.std.specs.Prelude.{◌≡◌, [], ◌∷◌, map, IfOk, OnOk};
-ghost use Rattle.deliveries.specs.Tally.{counts_in};
-ghost use Rattle.deliveries.specs.Counting.{plus};
+ghost use Rattle.office_specification.specs.Tally.{counts_in};
+ghost use Rattle.office_specification.specs.Counting.{plus};
 
-use deliveries::Tally;
+use office_specification::Tally;
 use office_maps::{OrderedKey, Template};
 use po_text::Duplicate;
 use std::alloc::{AllocError, Global};

@@ -5,15 +5,15 @@ ghost use Rattle.review.specs.UnitStep.{unit_step, is_vote, named_by};
 ghost use Rattle.review.specs.Parts as part;
 ghost use Rattle.review.specs.Parts.{is_suggest, without_votes};
 ghost use Rattle.replies.specs.Bodies.{done as done_of};
-ghost use Rattle.deliveries.specs.UnitAccess.{without_suggestions};
-ghost use Rattle.deliveries.specs.UnitOutcomes as spec;
-ghost use Rattle.deliveries.specs.UnitOutcomes.{refusing, outcome_of_decision, outcome_of, view_found, accepts_found, IsOutcomeBy};
-ghost use Rattle.deliveries.specs.declared.values.ActContext.{ActContext as FoundValue};
+ghost use Rattle.office_specification.specs.UnitAccess.{without_suggestions};
+ghost use Rattle.office_specification.specs.UnitOutcomes as spec;
+ghost use Rattle.office_specification.specs.UnitOutcomes.{refusing, outcome_of_decision, outcome_of, context_view, accepts_found, IsOutcomeBy};
+ghost use Rattle.office_specification.specs.declared.values.ActContext.{ActContext as ContextValue};
 
 use crate::bodies::{done, refused};
 use crate::shown::{at_most_one, with_suggestions};
 use crate::unit_writes::{of_row, of_suggestion, of_vote, of_whole};
-use deliveries::{ActContext, Outcome, UnitOutcome};
+use office_specification::{ActContext, Outcome, UnitOutcome};
 use po_text::Items;
 use request_book::Request;
 use review::{Decision, UnitRequest, Values, decide, early_refusal};
@@ -130,7 +130,7 @@ pub fn whole_outcome(
     request: &Request,
     act: &UnitAct,
 ) -> Result<UnitOutcome, Memory>
-    ensures { IfOk result (IsOutcomeBy (view_found found) (outcome_of found request.now.caller request.now.number act.now)) }
+    ensures { IfOk result (IsOutcomeBy (context_view found) (outcome_of found request.now.caller request.now.number act.now)) }
 {
     let outcome = by_found(alloc, &found, request, act);
     drop(found);
@@ -147,8 +147,8 @@ pub fn row_outcome(
     request: &Request,
     act: &UnitAct,
 ) -> Result<Option<UnitOutcome>, Memory>
-    ensures decided { IfOk result (λ outcome. (full : Option FoundValue) → found.now ≡ without_suggestions full →
-        IfSome outcome (IsOutcomeBy (view_found full) (outcome_of full request.now.caller request.now.number act.now))) }
+    ensures decided { IfOk result (λ outcome. (full : Option ContextValue) → found.now ≡ without_suggestions full →
+        IfSome outcome (IsOutcomeBy (context_view full) (outcome_of full request.now.caller request.now.number act.now))) }
     ensures needs { IfOk result (λ outcome. is_none outcome ≡ spec.needs_suggestions found.now act.now) }
 {
     if needs_suggestions(found, act) {
@@ -170,9 +170,9 @@ pub fn suggested_outcome(
     act: &UnitAct,
 ) -> Result<UnitOutcome, Memory>
     requires suggest { is_suggest act.now.action ≡ true }
-    ensures { IfOk result (λ outcome. (full : Option FoundValue) → found ≡ without_suggestions full →
-        IfSome (view_found full) (λ view. suggestions ≡ map without_votes view.unit.suggestions) →
-        IsOutcomeBy (view_found full) (outcome_of full request.now.caller request.now.number act.now) outcome) }
+    ensures { IfOk result (λ outcome. (full : Option ContextValue) → found ≡ without_suggestions full →
+        IfSome (context_view full) (λ view. suggestions ≡ map without_votes view.unit.suggestions) →
+        IsOutcomeBy (context_view full) (outcome_of full request.now.caller request.now.number act.now) outcome) }
 {
     let found = with_suggestions(found, suggestions);
     let outcome = by_found(alloc, &found, request, act);
@@ -192,11 +192,11 @@ pub fn voted_outcome(
     act: &UnitAct,
 ) -> Result<Option<UnitOutcome>, Memory>
     requires vote { is_vote act.now.action ≡ true }
-    ensures decided { IfOk result (λ outcome. (full : Option FoundValue) (named : List ℕ) → named_by act.now.action ≡ Some named →
-        found ≡ without_suggestions full → IfSome (view_found full) (λ view. suggestion ≡ suggestion_of named view.unit) →
-        IfSome outcome (IsOutcomeBy (view_found full) (outcome_of full request.now.caller request.now.number act.now))) }
-    ensures accepts { IfOk result (λ outcome. (full : Option FoundValue) (named : List ℕ) → named_by act.now.action ≡ Some named →
-        found ≡ without_suggestions full → IfSome (view_found full) (λ view. suggestion ≡ suggestion_of named view.unit) →
+    ensures decided { IfOk result (λ outcome. (full : Option ContextValue) (named : List ℕ) → named_by act.now.action ≡ Some named →
+        found ≡ without_suggestions full → IfSome (context_view full) (λ view. suggestion ≡ suggestion_of named view.unit) →
+        IfSome outcome (IsOutcomeBy (context_view full) (outcome_of full request.now.caller request.now.number act.now))) }
+    ensures accepts { IfOk result (λ outcome. (full : Option ContextValue) (named : List ℕ) → named_by act.now.action ≡ Some named →
+        found ≡ without_suggestions full → IfSome (context_view full) (λ view. suggestion ≡ suggestion_of named view.unit) →
         is_none outcome ≡ accepts_found full request.now.caller request.now.number act.now) }
 {
     let suggestions = at_most_one(alloc, suggestion)?;

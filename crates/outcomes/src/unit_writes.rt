@@ -1,10 +1,10 @@
 //! What is written of a unit, by what the act on it came to.
 ghost use Rattle.std.specs.Prelude.{◌≡◌, ◌++◌, ◌∷◌, [], List, Some, None, MatchOption, IfOk};
 ghost use Rattle.units.specs.declared.unit.Suggestion.{Suggestion as SuggestionValue};
-ghost use Rattle.deliveries.specs.declared.values.UnitWrite.TheVariants.{Suggested};
+ghost use Rattle.office_specification.specs.declared.values.UnitWrite.TheVariants.{Suggested};
 ghost use Rattle.outcomes.specs.UnitParts as spec;
 
-use deliveries::{Outcome, UnitOutcome, UnitWrite};
+use office_specification::{Outcome, UnitOutcome, UnitWrite};
 use po_text::Duplicate;
 use std::alloc::AllocError;
 use units::{Name, Suggestion, UnitView, VoteValue};

@@ -4,6 +4,6 @@ pub mod Values
 pub mod Plain
 pub mod Faults
 pub mod KeptRule
-pub mod Views
+pub mod PlainTrees
 pub mod Codes
-pub mod FrameViews
+pub mod PlainFrames

@@ -8,7 +8,7 @@ ghost use Rattle.plural_expr.specs.Trees.{Tree as TreeValue, SpellsRule};
 ghost use Rattle.plural_expr.specs.Values.{Rule, index_of, serves_one};
 ghost use Rattle.plural_expr.specs.Plain.{rule_of};
 ghost use Rattle.plural_expr.specs.Faults.{IsFaultOf, IsRuleOf, form_limit, count_of as form_count, rule_counted, reading_of};
-ghost use Rattle.plural_expr.specs.Views.{tree_view};
+ghost use Rattle.plural_expr.specs.PlainTrees.{plain_tree};
 
 use crate::copying::copy_of;
 use crate::fault::{EvalFault, PluralFault};
@@ -38,7 +38,7 @@ fn count_of(written: Token) -> Option<u32>
 
 /// The rule of these digits and this tree, or the first test that they fail.
 fn counted(written: Token, tree: Tree) -> Result<PluralForms, PluralFault>
-    ensures { result ≡ rule_counted written (tree_view tree) }
+    ensures { result ≡ rule_counted written (plain_tree tree) }
 {
     let Some(count) = count_of(written) else {
         drop(tree);

@@ -1,7 +1,7 @@
 //! Copies of trees.
 
 ghost use Rattle.std.specs.Prelude.{◌≡◌, IfOk};
-ghost use Rattle.plural_expr.specs.Views.{tree_view};
+ghost use Rattle.plural_expr.specs.PlainTrees.{plain_tree};
 
 use crate::tree::Tree;
 use std::alloc::AllocError;
@@ -9,7 +9,7 @@ use std::alloc::AllocError;
 /// The same tree again. It is as deep in calls as the tree, which a rule bounds by 32.
 #[cycle(copying)]
 pub(crate) fn copy_of(tree: &Tree) -> Result<Tree, AllocError>
-    ensures { IfOk result (λ copy. tree_view copy ≡ tree_view tree.now) }
+    ensures { IfOk result (λ copy. plain_tree copy ≡ plain_tree tree.now) }
 {
     match tree {
         Tree::Variable => Ok(Tree::Variable),
@@ -33,7 +33,7 @@ pub(crate) fn copy_of(tree: &Tree) -> Result<Tree, AllocError>
 /// The tree of a box again, in memory of the box's allocator.
 #[cycle(copying)]
 fn boxed_copy(node: &Box<Tree>) -> Result<Box<Tree>, AllocError>
-    ensures { IfOk result (λ copy. tree_view copy.value ≡ tree_view node.now.value) }
+    ensures { IfOk result (λ copy. plain_tree copy.value ≡ plain_tree node.now.value) }
 {
     let alloc = *Box::allocator(node);
     let copy = copy_of(node)?;

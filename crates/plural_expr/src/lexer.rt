@@ -4,7 +4,7 @@ ghost use Rattle.std.specs.Prelude.{◌≡◌, ◌<◌, ◌≤◌, ◌^◌, ℕ,
 ghost use Rattle.std.specs.List.{find, starts_with, prefix_len};
 ghost use Rattle.std.specs.Char.{is_ascii_digit};
 ghost use Rattle.plural_expr.specs.Tokens.{with_length, fixed, digits_token, token_at, tokens_of, value_of_digits};
-ghost use Rattle.plural_expr.specs.Views.{spelled};
+ghost use Rattle.plural_expr.specs.PlainTrees.{spelled};
 
 use crate::token::Token;
 use crate::tree::Operator;

@@ -16,7 +16,7 @@
 //!
 //! Specs: `Tokens` (how a text is cut), `Trees` (which tokens a tree is written by), `Values` (the value of a tree at
 //! n, and the form of a number), `Faults` (the first test that a text fails), `KeptRule` (what is kept beside a rule),
-//! `Views` and `FrameViews` (trees and frames without their places in memory); for laws `Plain` (a plain slow reader of
+//! `PlainTrees` and `PlainFrames` (trees and frames without their places in memory); for laws `Plain` (a plain slow reader of
 //! trees) and `Codes` (trees as lists of numbers).
 #![tactic(auto)]
 

@@ -3,7 +3,7 @@
 ghost use Rattle.plural_expr.specs.Values.{Rule};
 ghost use Rattle.plural_expr.specs.Codes.{coded_rule};
 ghost use Rattle.plural_expr.specs.KeptRule.{IsKept};
-ghost use Rattle.plural_expr.specs.Views.{tree_view};
+ghost use Rattle.plural_expr.specs.PlainTrees.{plain_tree};
 
 use crate::tree::Tree;
 use std::marker::Model;
@@ -22,7 +22,7 @@ impl Model for PluralForms {
 
     ghost coded = { coded_rule };
 
-    ghost view = { λ p. record { count = p.count; tree = tree_view p.tree } };
+    ghost view = { λ p. record { count = p.count; tree = plain_tree p.tree } };
 
-    ghost invariant = { λ p. IsKept (record { count = p.count; tree = tree_view p.tree }) p.served };
+    ghost invariant = { λ p. IsKept (record { count = p.count; tree = plain_tree p.tree }) p.served };
 }

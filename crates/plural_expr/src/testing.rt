@@ -4,7 +4,7 @@ ghost use Rattle.std.specs.Prelude.{◌≡◌, ◌↔◌, ◌<◌, ◌≤◌, �
 ghost use Rattle.plural_expr.specs.Trees.{depth};
 ghost use Rattle.plural_expr.specs.Values.{value_of, served_by};
 ghost use Rattle.plural_expr.specs.Faults.{form_limit, value_fault, values_fault};
-ghost use Rattle.plural_expr.specs.Views.{tree_view};
+ghost use Rattle.plural_expr.specs.PlainTrees.{plain_tree};
 
 use crate::fault::PluralFault;
 use crate::tree::Tree;
@@ -15,7 +15,7 @@ const TESTED: u32 = 1000;
 
 /// Whether the tree is at most as deep as the limit. It never goes deeper than the limit itself.
 pub(crate) fn is_within(tree: &Tree, limit: u32) -> bool
-    ensures { IsTrue result ↔ (depth (tree_view tree.now) ≤ limit) }
+    ensures { IsTrue result ↔ (depth (plain_tree tree.now) ≤ limit) }
 {
     let Some(below) = limit.checked_sub(1) else {
         return false;
@@ -32,9 +32,9 @@ pub(crate) fn is_within(tree: &Tree, limit: u32) -> bool
 
 /// The form's number at n, or the fault there.
 fn form_at(tree: &Tree, count: u32, n: u32) -> Result<u32, PluralFault>
-    ensures value { IfOk result (λ form. value_of (tree_view tree.now) n ≡ Ok form) }
+    ensures value { IfOk result (λ form. value_of (plain_tree tree.now) n ≡ Ok form) }
     ensures below_count { IfOk result (λ form. form < count) }
-    ensures fault { IfErr result (λ fault. value_fault count n (value_of (tree_view tree.now) n) ≡ Some fault) }
+    ensures fault { IfErr result (λ fault. value_fault count n (value_of (plain_tree tree.now) n) ≡ Some fault) }
 {
     match value(tree, n) {
         Ok(value) if value < u64::from(count) => Ok(value as u32),
@@ -46,10 +46,10 @@ fn form_at(tree: &Tree, count: u32, n: u32) -> Result<u32, PluralFault>
 /// How many n in 0..999 each form serves, or the first fault at such an n.
 pub(crate) fn count_served(tree: &Tree, count: u32) -> Result<[u16; 8], PluralFault>
     requires { count ≤ form_limit }
-    ensures passed { IfOk result (λ _. values_fault (record { count = count; tree = tree_view tree.now }) ≡ None) }
+    ensures passed { IfOk result (λ _. values_fault (record { count = count; tree = plain_tree tree.now }) ≡ None) }
     ensures counts { IfOk result (λ served. (form : ℕ) →
-        slice_index served form ≡ length (served_by (record { count = count; tree = tree_view tree.now }) form)) }
-    ensures fault { IfErr result (λ fault. values_fault (record { count = count; tree = tree_view tree.now }) ≡ Some fault) }
+        slice_index served form ≡ length (served_by (record { count = count; tree = plain_tree tree.now }) form)) }
+    ensures fault { IfErr result (λ fault. values_fault (record { count = count; tree = plain_tree tree.now }) ≡ Some fault) }
 {
     let mut served = [0; 8];
     for n in 0..TESTED {

@@ -2,7 +2,7 @@
 
 ghost use Rattle.std.specs.Prelude.{◌≡◌, [], IfOk, MatchOption, None, option_map};
 ghost use Rattle.plural_expr.specs.Plain.{operand_at, rule_at, rule_of, with_digits};
-ghost use Rattle.plural_expr.specs.Views.{tree_view};
+ghost use Rattle.plural_expr.specs.PlainTrees.{plain_tree};
 
 use crate::lexer::tokens;
 use crate::reading::read_tree;
@@ -41,7 +41,7 @@ fn header(tokens: &[Token]) -> Option<(Token, &[Token])>
 /// a tree goes down its levels, which are fewer than 512.
 #[tactic(auto, unfolding(crate::specs::Plain::rule_of))]
 pub(crate) fn read_rule(alloc: Global, text: &[u8]) -> Result<Option<(Token, Tree)>, AllocError>
-    ensures { IfOk result (λ found. option_map (λ rule. (rule.0, tree_view rule.1)) found ≡ rule_of text.now) }
+    ensures { IfOk result (λ found. option_map (λ rule. (rule.0, plain_tree rule.1)) found ≡ rule_of text.now) }
 {
     let Some(tokens) = tokens(alloc, text)? else {
         return Ok(None);

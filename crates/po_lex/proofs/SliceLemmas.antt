@@ -14,7 +14,7 @@ use Rattle.memchr.specs.Find.{IsFirstByte, is_byte}
 use Rattle.po_lex.specs.declared.fault.FaultKind.{FaultKind}
 use Rattle.po_lex.specs.Reading.{is_white, is_all_white, drop_white_end, trim}
 use Rattle.po_lex.specs.Lines.{begins_with, lines_of, word_of}
-use Rattle.po_lex.specs.Views.{IsSliceOf, SlicesPart, SlicesLine}
+use Rattle.po_lex.specs.PlainTokens.{IsSliceOf, SlicesPart, SlicesLine}
 
 pub all_slice : (text : List ℕ) → IsSliceOf text text
 all_slice text = record { before = []; after = []; cut = sym (append-nil text) }

@@ -2,4 +2,4 @@ pub mod Kinds
 pub mod Reading
 pub mod Escapes
 pub mod Lines
-pub mod Views
+pub mod PlainTokens

@@ -6,7 +6,7 @@ ghost use Rattle.std.specs.Str.{bytes_eq};
 ghost use Rattle.po_lex.specs.Reading.{is_all_white, skip_white};
 ghost use Rattle.po_lex.specs.Escapes.{unescaped};
 ghost use Rattle.po_lex.specs.Lines.{begins_with, word_of, keyword_of, is_form, piece_at, part_at, is_comment_text, comment_of, skip_space, flags_of, previous_at, message_at, spaced, obsolete_at, comment_at, line_of};
-ghost use Rattle.po_lex.specs.Views.{read_part, read_line, line_view, spelled, IsSliceOf, SlicesPart, SlicesLine};
+ghost use Rattle.po_lex.specs.PlainTokens.{read_part, read_line, plain_line, spelled, IsSliceOf, SlicesPart, SlicesLine};
 
 use crate::fault::FaultKind;
 use crate::line::{Keyword, Line, Part};
@@ -166,7 +166,7 @@ pub fn is_comment_text(text: &str) -> bool
 
 /// The line of a comment with this text.
 fn comment_of<'a>(text: &str, line: Line<'a>) -> Result<Line<'a>, FaultKind>
-    ensures value { read_line result ≡ comment_of (λ _. line_view line.entry) text.now }
+    ensures value { read_line result ≡ comment_of (λ _. plain_line line.entry) text.now }
     ensures same { IfOk result (λ told. told ≡ line.entry) }
 {
     if is_comment_text(text) {

@@ -9,7 +9,7 @@
 //! - `fault`: why a text spells no catalogue
 //!
 //! Specs: `Lines` (the form of a line, or its fault), `Escapes` (the strings that quoted pieces stand for), `Reading`
-//! (a value or a fault's kind, and what is white), `Views` (what tokens stand for), `Kinds` (the numbers of the kinds).
+//! (a value or a fault's kind, and what is white), `PlainTokens` (what tokens stand for), `Kinds` (the numbers of the kinds).
 #![tactic(auto)]
 
 mod fault;

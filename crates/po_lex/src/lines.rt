@@ -2,7 +2,7 @@
 
 ghost use Rattle.std.specs.Prelude.{◌≡◌, [], ◌∷◌, ◌+◌, ◌<◌, ◌^◌, length, MatchOption, IfSome, IfNone};
 ghost use Rattle.po_lex.specs.Lines.{lines_of};
-ghost use Rattle.po_lex.specs.Views.{Rest, IsNext};
+ghost use Rattle.po_lex.specs.PlainTokens.{Rest, IsNext};
 
 use crate::fault::PoFault;
 use crate::forms::line_of;

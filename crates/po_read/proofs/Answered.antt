@@ -11,7 +11,7 @@ use Rattle.po_text.specs.declared.entry.Entry.{Entry}
 use Rattle.po_read.specs.Spells.{Spells, IsWithin, limits}
 use Rattle.po_read.specs.Faults.{no_lines, Fault, IsFault, too_long, not_utf8, fault_from, fault_of}
 use Rattle.po_read.specs.Plain.{entries_of}
-use Rattle.po_read.specs.Views.{IsMemory, PassesBefore, IsMemoryLine}
+use Rattle.po_read.specs.ReaderAnswers.{IsMemory, PassesBefore, IsMemoryLine}
 use Rattle.po_read.proofs.Least.{least, computed}
 use Rattle.po_read.proofs.Accepts.{no_fault}
 use Rattle.po_read.proofs.Passing.{spelled_passes}

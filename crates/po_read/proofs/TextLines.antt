@@ -5,10 +5,10 @@ use Rattle.std.specs.List.{fold, AllByRecursion}
 use Rattle.po_lex.specs.declared.fault.FaultKind.{FaultKind}
 use Rattle.po_lex.specs.declared.fault.FaultKind.TheVariants as kinds
 use Rattle.po_lex.specs.Lines.{Line, line_of, lines_of, with_byte}
-use Rattle.po_lex.specs.Views.{Rest, IsNext, Tells, line_view}
+use Rattle.po_lex.specs.PlainTokens.{Rest, IsNext, Tells, plain_line}
 use Rattle.po_lex.specs.declared.line.Token.{Token}
 use Rattle.po_lex.specs.declared.fault.PoFault.{PoFault}
-use Rattle.po_read.specs.Views.{IsMemory, PassesBefore}
+use Rattle.po_read.specs.ReaderAnswers.{IsMemory, PassesBefore}
 use Rattle.po_text.specs.declared.entry.Entry.{Entry}
 use Rattle.po_read.specs.declared.reading.Reader.{Reader}
 use Rattle.po_read.specs.Spells.{limits}
@@ -105,11 +105,11 @@ read_whole text reader rest n entries g none h = (
 
 -- ---- as a reader is told the lines
 
-token_read : (old new : Rest) (told : Result Token PoFault) (token : Token) → (n : IsNext old new told) → told ≡ Ok token → line_of n.line ≡ Ok (line_view token.line)
+token_read : (old new : Rest) (told : Result Token PoFault) (token : Token) → (n : IsNext old new told) → told ≡ Ok token → line_of n.line ≡ Ok (plain_line token.line)
 token_read old new told token n e = let t : Tells n.line old.number (Ok token) = subst (λ (r : Result Token PoFault). Tells n.line old.number r) e n.tells in t.1
 
-pub token_sound : (text : List ℕ) (reader : Reader) (old new : Rest) (told : Result Token PoFault) (token : Token) (n : ℕ) → Going text reader old.text n → IsNext old new told → told ≡ Ok token → IsSoundLine (line_view token.line)
-token_sound text reader old new told token n g next e = sound_here text reader old.text next.line new.text n (line_view token.line) g next.cut (token_read old new told token next e)
+pub token_sound : (text : List ℕ) (reader : Reader) (old new : Rest) (told : Result Token PoFault) (token : Token) (n : ℕ) → Going text reader old.text n → IsNext old new told → told ≡ Ok token → IsSoundLine (plain_line token.line)
+token_sound text reader old new told token n g next e = sound_here text reader old.text next.line new.text n (plain_line token.line) g next.cut (token_read old new told token next e)
 
 pub token_fault : (text : List ℕ) (reader : Reader) (old new : Rest) (told : Result Token PoFault) (fault : PoFault) (n : ℕ) → Going text reader old.text n → n ≡ old.number → IsNext old new told → told ≡ Err fault
     → (fault_from limits 1 no_lines (lines_of text) ≡ Some (fault.line, fault.kind)) ⊎ IsMemory fault
@@ -123,10 +123,10 @@ token_reached text reader old new told fault n g number next e =
     subst (λ (k : ℕ). PassesBefore limits (lines_of text) k) (number ∙ sym t.0) (reached_here text reader old.text n g)
 
 pub line_told : (text : List ℕ) (reader : Reader) (old new : Rest) (told : Result Token PoFault) (token : Token) (n : ℕ) (kind : FaultKind) → Going text reader old.text n → IsNext old new told → told ≡ Ok token
-    → ((lines : Lines) → Reads reader lines → (line_fault limits lines (Ok (line_view token.line)) ≡ Some kind) ⊎ (kind ≡ kinds.Memory)) → (fault_from limits 1 no_lines (lines_of text) ≡ Some (n, kind)) ⊎ (kind ≡ kinds.Memory)
+    → ((lines : Lines) → Reads reader lines → (line_fault limits lines (Ok (plain_line token.line)) ≡ Some kind) ⊎ (kind ≡ kinds.Memory)) → (fault_from limits 1 no_lines (lines_of text) ≡ Some (n, kind)) ⊎ (kind ≡ kinds.Memory)
 line_told text reader old new told token n kind g next e h = by (h g.lines g.reads)
   where
-    by : (line_fault limits g.lines (Ok (line_view token.line)) ≡ Some kind) ⊎ (kind ≡ kinds.Memory) → (fault_from limits 1 no_lines (lines_of text) ≡ Some (n, kind)) ⊎ (kind ≡ kinds.Memory)
+    by : (line_fault limits g.lines (Ok (plain_line token.line)) ≡ Some kind) ⊎ (kind ≡ kinds.Memory) → (fault_from limits 1 no_lines (lines_of text) ≡ Some (n, kind)) ⊎ (kind ≡ kinds.Memory)
     by (inl f) = inl (fault_here text reader old.text next.line new.text n kind g next.cut (ap (line_fault limits g.lines) (token_read old new told token next e) ∙ f))
     by (inr m) = inr m
 
@@ -140,14 +140,14 @@ unfolding begin
 hand_none Took none first text reader u h = record { going = begin text reader u h; took = none first }
 
 pub token_next : {S : Type 0} (Took : S → List Entry → S → Type 0) (first sink sink' : S) (text : List ℕ) (reader reader' : Reader) (old new : Rest) (told : Result Token PoFault) (token : Token) (n : ℕ) → Handing Took first text reader sink old.text n → IsNext old new told → told ≡ Ok token
-    → ((first : S) (lines : Lines) → HandsOn Took first reader sink lines → (line_fault limits lines (Ok (line_view token.line)) ≡ None) × HandsOn Took first reader' sink' (add_line lines (Ok (line_view token.line)))) → Handing Took first text reader' sink' new.text (n + 1)
+    → ((first : S) (lines : Lines) → HandsOn Took first reader sink lines → (line_fault limits lines (Ok (plain_line token.line)) ≡ None) × HandsOn Took first reader' sink' (add_line lines (Ok (plain_line token.line)))) → Handing Took first text reader' sink' new.text (n + 1)
 unfolding go_on
 token_next Took first sink sink' text reader reader' old new told token n w next e h =
     let g = w.going in
     let is = token_read old new told token next e in
     let now = h first g.lines (record { reads = g.reads; took = w.took }) in
     record {
-      going = go_on text reader reader' old.text next.line new.text n (line_view token.line) g next.cut is (now.0, now.1.reads);
+      going = go_on text reader reader' old.text next.line new.text n (plain_line token.line) g next.cut is (now.0, now.1.reads);
       took = subst (λ (o : Result Line FaultKind). Took first (map entry_of (add_line g.lines o).whole) sink') (sym is) now.1.took;
     }
 

@@ -9,7 +9,7 @@
 //! - `laws`: a text spells at most one catalogue, and has a fault exactly where it spells none
 //!
 //! Specs: `Spells` (which catalogue a text spells), `Faults` (its first fault), `Plain` (a plain slow reader, which
-//! laws tie to what a text spells), `Views` (what is answered); inner functions have `SoFar`, `Drafts`, `Found`, `KeyTexts` and `Taking`.
+//! laws tie to what a text spells), `ReaderAnswers` (what is answered); inner functions have `SoFar`, `Drafts`, `Found`, `KeyTexts` and `Taking`.
 #![tactic(auto)]
 
 mod key_texts;

@@ -4,12 +4,12 @@ ghost use Rattle.std.specs.Prelude.{◌≡◌, ◌+◌, ◌≤◌, ◌==◌, ◌
 ghost use Rattle.std.specs.List.{list_all};
 ghost use Rattle.po_lex.specs.Lines.{is_form, begins};
 ghost use Rattle.po_lex.specs.Escapes.{unescaped};
-ghost use Rattle.po_lex.specs.Views.{part_view};
+ghost use Rattle.po_lex.specs.PlainTokens.{plain_part};
 ghost use Rattle.po_text.specs.Strings.{string_limit, is_string_byte};
 ghost use Rattle.po_text.specs.Entries.{is_header_key};
 ghost use Rattle.po_read.specs.Faults.{part_fault, form_fault, numbered_fault, when, is_id};
 ghost use Rattle.po_read.specs.Drafts.{draft_of, draft_last, draft_header, draft_end, draft_with, counted, with_keyword, with_more, whole_of, part_text, part_more, IsDigitKey, IsDigitPart};
-ghost use Rattle.po_read.specs.Views.{told};
+ghost use Rattle.po_read.specs.ReaderAnswers.{told};
 ghost use Rattle.po_lex.specs.declared.fault.FaultKind.TheVariants as kinds;
 ghost use Rattle.po_lex.specs.declared.line.Keyword.TheVariants.{Msgid, MsgidPlural, Msgstr, MsgstrAt};
 ghost use Rattle.po_text.specs.Texts.{Text};
@@ -83,7 +83,7 @@ impl Message {
 
     /// `Order` or `Forms` if this part can't follow.
     pub(crate) fn test(&self, part: &Part<'_>) -> Result<(), FaultKind>
-        ensures { told result ≡ part_fault (draft_last (draft_of self.now)) (draft_header (draft_of self.now)) (part_view part.now) }
+        ensures { told result ≡ part_fault (draft_last (draft_of self.now)) (draft_header (draft_of self.now)) (plain_part part.now) }
     {
         match part {
             Part::Begins(keyword, _) => match keyword {
@@ -138,11 +138,11 @@ impl Message {
 
     /// Adds one more part, which can follow.
     pub(crate) fn add(&mut self, alloc: Global, part: Part<'_>) -> Result<(), AllocError>
-        requires short { length (part_text (draft_end (draft_of self.old)) (part_view part)) ≤ string_limit }
-        requires bytes { list_all is_string_byte (part_more (part_view part)) ≡ true }
-        requires follows { part_fault (draft_last (draft_of self.old)) (draft_header (draft_of self.old)) (part_view part) ≡ None }
-        requires digit { IsDigitPart (part_view part) }
-        ensures { OnOk result (draft_of self.new ≡ draft_with (draft_of self.old) (part_view part.entry)) }
+        requires short { length (part_text (draft_end (draft_of self.old)) (plain_part part)) ≤ string_limit }
+        requires bytes { list_all is_string_byte (part_more (plain_part part)) ≡ true }
+        requires follows { part_fault (draft_last (draft_of self.old)) (draft_header (draft_of self.old)) (plain_part part) ≡ None }
+        requires digit { IsDigitPart (plain_part part) }
+        ensures { OnOk result (draft_of self.new ≡ draft_with (draft_of self.old) (plain_part part.entry)) }
     {
         match part {
             Part::Begins(keyword, raw) => {

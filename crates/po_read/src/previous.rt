@@ -3,12 +3,12 @@
 ghost use Rattle.std.specs.Prelude.{◌≡◌, ◌≤◌, ◌+◌, not, true, length, is_some, OnOk};
 ghost use Rattle.std.specs.List.{list_all};
 ghost use Rattle.po_lex.specs.Escapes.{unescaped};
-ghost use Rattle.po_lex.specs.Views.{part_view};
+ghost use Rattle.po_lex.specs.PlainTokens.{plain_part};
 ghost use Rattle.po_text.specs.Entries.{previous_strings};
 ghost use Rattle.po_text.specs.Strings.{string_limit, is_string_byte};
 ghost use Rattle.po_read.specs.Faults.{last_keyword, previous_fault};
 ghost use Rattle.po_read.specs.Drafts.{previous_end, previous_more, previous_keyword, previous_with, part_text, part_more};
-ghost use Rattle.po_read.specs.Views.{told};
+ghost use Rattle.po_read.specs.ReaderAnswers.{told};
 
 use crate::message::in_order;
 use po_lex::{FaultKind, Keyword, Part};
@@ -40,7 +40,7 @@ pub(crate) fn previous_len(previous: &Previous) -> usize
 
 /// Whether this part can follow.
 pub(crate) fn test_previous(previous: &Previous, part: &Part<'_>) -> Result<(), FaultKind>
-    ensures { told result ≡ previous_fault (last_keyword (previous_strings previous.now)) (part_view part.now) }
+    ensures { told result ≡ previous_fault (last_keyword (previous_strings previous.now)) (plain_part part.now) }
 {
     match part {
         Part::Begins(keyword, _) => match keyword {
@@ -59,9 +59,9 @@ pub(crate) fn add_previous(
     previous: &mut Previous,
     part: Part<'_>,
 ) -> Result<(), AllocError>
-    requires short { length (part_text (previous_end previous.old) (part_view part)) ≤ string_limit }
-    requires bytes { list_all is_string_byte (part_more (part_view part)) ≡ true }
-    ensures { OnOk result (previous.new ≡ previous_with previous.old (part_view part.entry)) }
+    requires short { length (part_text (previous_end previous.old) (plain_part part)) ≤ string_limit }
+    requires bytes { list_all is_string_byte (part_more (plain_part part)) ≡ true }
+    ensures { OnOk result (previous.new ≡ previous_with previous.old (plain_part part.entry)) }
 {
     match part {
         Part::Begins(keyword, raw) => {

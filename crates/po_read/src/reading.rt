@@ -2,7 +2,7 @@
 
 ghost use Rattle.std.specs.Prelude.{◌≡◌, ◌∷◌, ◌++◌, ◌⊎◌, ◌&&◌, ◌||◌, [], List, true, false, not, None, Some, Ok, map, length, ◌<◌, ◌^◌, MatchResult, IfOk, IfErr, OnOk};
 ghost use Rattle.po_lex.specs.Lines.{lines_of, blank};
-ghost use Rattle.po_lex.specs.Views.{line_view};
+ghost use Rattle.po_lex.specs.PlainTokens.{plain_line};
 ghost use Rattle.po_lex.specs.declared.fault.FaultKind.TheVariants as kinds;
 ghost use Rattle.po_text.specs.declared.entry.Entry.{Entry};
 ghost use Rattle.po_read.specs.Spells.{Spells, IsWithin, limits};
@@ -13,7 +13,7 @@ ghost use Rattle.po_text.specs.Header.{has_charset};
 ghost use Rattle.po_read.specs.Found.{has_key};
 ghost use Rattle.po_text.specs.Entries.{is_header_key};
 ghost use Rattle.po_read.specs.Drafts.{IsSoundLine};
-ghost use Rattle.po_read.specs.Views.{told, ReadsOrMemory, IsMemory, PassesBefore, IsMemoryLine};
+ghost use Rattle.po_read.specs.ReaderAnswers.{told, ReadsOrMemory, IsMemory, PassesBefore, IsMemoryLine};
 
 use crate::keys::Keys;
 use crate::message::Message;
@@ -53,9 +53,9 @@ impl<'a> Reader<'a> {
 
     /// Reads a line, and hands on the entry that has ended in front of it.
     fn read_line<S: ReadSink>(&mut self, sink: &mut S, line: Line<'a>) -> Result<(), FaultKind>
-        requires sound { IsSoundLine (line_view line) }
-        ensures ok { OnOk result ((first : S) (lines : Lines) → HandsOn S.Took first self.old sink.old lines → (line_fault limits lines (Ok (line_view line.entry)) ≡ None) × HandsOn S.Took first self.new sink.new (add_line lines (Ok (line_view line.entry)))) }
-        ensures err { IfErr result (λ kind. (lines : Lines) → Reads self.old lines → (line_fault limits lines (Ok (line_view line.entry)) ≡ Some kind) ⊎ (kind ≡ kinds.Memory)) }
+        requires sound { IsSoundLine (plain_line line) }
+        ensures ok { OnOk result ((first : S) (lines : Lines) → HandsOn S.Took first self.old sink.old lines → (line_fault limits lines (Ok (plain_line line.entry)) ≡ None) × HandsOn S.Took first self.new sink.new (add_line lines (Ok (plain_line line.entry)))) }
+        ensures err { IfErr result (λ kind. (lines : Lines) → Reads self.old lines → (line_fault limits lines (Ok (plain_line line.entry)) ≡ Some kind) ⊎ (kind ≡ kinds.Memory)) }
     {
         match line {
             Line::Blank => Ok(()),
@@ -65,10 +65,10 @@ impl<'a> Reader<'a> {
 
     /// Reads a line that isn't blank.
     fn read_more<S: ReadSink>(&mut self, sink: &mut S, line: Line<'a>) -> Result<(), FaultKind>
-        requires sound { IsSoundLine (line_view line) }
-        requires some { line_view line ≡ blank → ⊥ }
-        ensures ok { OnOk result ((first : S) (lines : Lines) → HandsOn S.Took first self.old sink.old lines → (fault_at limits lines (line_view line.entry) ≡ None) × HandsOn S.Took first self.new sink.new (after lines (line_view line.entry))) }
-        ensures err { IfErr result (λ kind. (lines : Lines) → Reads self.old lines → (fault_at limits lines (line_view line.entry) ≡ Some kind) ⊎ (kind ≡ kinds.Memory)) }
+        requires sound { IsSoundLine (plain_line line) }
+        requires some { plain_line line ≡ blank → ⊥ }
+        ensures ok { OnOk result ((first : S) (lines : Lines) → HandsOn S.Took first self.old sink.old lines → (fault_at limits lines (plain_line line.entry) ≡ None) × HandsOn S.Took first self.new sink.new (after lines (plain_line line.entry))) }
+        ensures err { IfErr result (λ kind. (lines : Lines) → Reads self.old lines → (fault_at limits lines (plain_line line.entry) ≡ Some kind) ⊎ (kind ≡ kinds.Memory)) }
     {
         self.test_front(&line)?;
         self.close_before(sink, &line)?;
@@ -79,7 +79,7 @@ impl<'a> Reader<'a> {
 
     /// The tests of a line before the entry ends that it follows: `Limit` for its string, and those of a string that has ended.
     fn test_front(&self, line: &Line<'a>) -> Result<(), FaultKind>
-        ensures { Tells result (front_fault self.now (line_view line.now)) }
+        ensures { Tells result (front_fault self.now (plain_line line.now)) }
     {
         self.current.test_length(line)?;
         if self.current.goes_on(line) {
@@ -90,9 +90,9 @@ impl<'a> Reader<'a> {
 
     /// Ends the entry, if it has a form and the line begins another.
     fn close_before<S: ReadSink>(&mut self, sink: &mut S, line: &Line<'a>) -> Result<(), AllocError>
-        ensures reads { OnOk result ((lines : Lines) → Reads self.old lines → Reads self.new (before lines (line_view line.now))) }
-        ensures hands { OnOk result ((first : S) (lines : Lines) → HandsOn S.Took first self.old sink.old lines → HandsOn S.Took first self.new sink.new (before lines (line_view line.now))) }
-        ensures length { OnOk result (length_fault (so_far self.new.current) (line_view line.now) ≡ length_fault (so_far self.old.current) (line_view line.now)) }
+        ensures reads { OnOk result ((lines : Lines) → Reads self.old lines → Reads self.new (before lines (plain_line line.now))) }
+        ensures hands { OnOk result ((first : S) (lines : Lines) → HandsOn S.Took first self.old sink.old lines → HandsOn S.Took first self.new sink.new (before lines (plain_line line.now))) }
+        ensures length { OnOk result (length_fault (so_far self.new.current) (plain_line line.now) ≡ length_fault (so_far self.old.current) (plain_line line.now)) }
     {
         if begins_entry(line) && self.current.message.has_form() {
             self.close(sink)?;
@@ -102,7 +102,7 @@ impl<'a> Reader<'a> {
 
     /// The tests of a line in its entry: `Order` or `Forms` if it can't follow, `Limit` for one more entry than there may be.
     fn test_entry(&self, line: &Line<'a>) -> Result<(), FaultKind>
-        ensures { told result ≡ or_else (order_fault_here (so_far self.now.current) (line_view line.now)) (entries_here self.now (line_view line.now)) }
+        ensures { told result ≡ or_else (order_fault_here (so_far self.now.current) (plain_line line.now)) (entries_here self.now (plain_line line.now)) }
     {
         self.current.test_order(line)?;
         self.test_entries(line)
@@ -110,10 +110,10 @@ impl<'a> Reader<'a> {
 
     /// Adds a line to the entry, which can follow.
     fn add(&mut self, line: Line<'a>) -> Result<(), AllocError>
-        requires sound { IsSoundLine (line_view line) }
-        requires short { length_fault (so_far self.old.current) (line_view line) ≡ None }
-        requires follows { order_fault_here (so_far self.old.current) (line_view line) ≡ None }
-        ensures added { OnOk result (so_far self.new.current ≡ with_line (so_far self.old.current) (line_view line.entry)) }
+        requires sound { IsSoundLine (plain_line line) }
+        requires short { length_fault (so_far self.old.current) (plain_line line) ≡ None }
+        requires follows { order_fault_here (so_far self.old.current) (plain_line line) ≡ None }
+        ensures added { OnOk result (so_far self.new.current ≡ with_line (so_far self.old.current) (plain_line line.entry)) }
         ensures keys { OnOk result (self.new.keys ≡ self.old.keys) }
     {
         self.current.add(self.alloc, line)
@@ -203,7 +203,7 @@ impl<'a> Reader<'a> {
 
     /// `Limit` if the line begins one more entry than there may be.
     fn test_entries(&self, line: &Line<'a>) -> Result<(), FaultKind>
-        ensures { told result ≡ entries_here self.now (line_view line.now) }
+        ensures { told result ≡ entries_here self.now (plain_line line.now) }
     {
         match line {
             Line::Message {
@@ -257,7 +257,7 @@ impl<'a> Reader<'a> {
 
 /// Whether the line begins an entry behind one with a form.
 fn begins_entry(line: &Line<'_>) -> bool
-    ensures { result ≡ begins_entry (line_view line.now) }
+    ensures { result ≡ begins_entry (plain_line line.now) }
 {
     !matches!(
         line,

@@ -4,12 +4,12 @@ ghost use Rattle.std.specs.Prelude.{◌≡◌, ◌≤◌, ◌+◌, [], not, true
 ghost use Rattle.std.specs.List.{list_all};
 ghost use Rattle.po_lex.specs.Lines.{is_form, items_of, translator, extracted, reference, flags, previous, message};
 ghost use Rattle.po_lex.specs.Escapes.{unescaped};
-ghost use Rattle.po_lex.specs.Views.{line_view, part_view};
+ghost use Rattle.po_lex.specs.PlainTokens.{plain_line, plain_part};
 ghost use Rattle.po_lex.specs.declared.fault.FaultKind.TheVariants as kinds;
 ghost use Rattle.po_text.specs.Strings.{string_limit, is_string_byte};
 ghost use Rattle.po_read.specs.Faults.{when, part_fault};
 ghost use Rattle.po_read.specs.Drafts.{draft_of, draft_last, draft_header, draft_end, nothing, previous_end, part_text, part_more, IsDigitPart, IsSoundLine};
-ghost use Rattle.po_read.specs.Views.{told};
+ghost use Rattle.po_read.specs.ReaderAnswers.{told};
 
 use crate::message::{Message, in_order};
 use crate::previous::{add_previous, has_no_previous, previous_len, test_previous};
@@ -70,7 +70,7 @@ impl<'a> Unfinished<'a> {
 
     /// Whether the line goes on with the last string.
     pub(crate) fn goes_on(&self, line: &Line<'a>) -> bool
-        ensures { result ≡ goes_on_here (so_far self.now) (line_view line.now) }
+        ensures { result ≡ goes_on_here (so_far self.now) (plain_line line.now) }
     {
         match line {
             Line::Message {
@@ -91,7 +91,7 @@ impl<'a> Unfinished<'a> {
 
     /// `Limit` if the string that the line begins or goes on with is too long.
     pub(crate) fn test_length(&self, line: &Line<'a>) -> Result<(), FaultKind>
-        ensures { told result ≡ length_fault (so_far self.now) (line_view line.now) }
+        ensures { told result ≡ length_fault (so_far self.now) (plain_line line.now) }
     {
         match line {
             Line::Message {
@@ -116,7 +116,7 @@ impl<'a> Unfinished<'a> {
 
     /// `Order` or `Forms` if the line can't follow here.
     pub(crate) fn test_order(&self, line: &Line<'a>) -> Result<(), FaultKind>
-        ensures { told result ≡ order_fault_here (so_far self.now) (line_view line.now) }
+        ensures { told result ≡ order_fault_here (so_far self.now) (plain_line line.now) }
     {
         match line {
             Line::Message { obsolete, part } => {
@@ -133,10 +133,10 @@ impl<'a> Unfinished<'a> {
 
     /// Adds one more line, which can follow.
     pub(crate) fn add(&mut self, alloc: Global, line: Line<'a>) -> Result<(), AllocError>
-        requires sound { IsSoundLine (line_view line) }
-        requires short { length_fault (so_far self.old) (line_view line) ≡ None }
-        requires follows { order_fault_here (so_far self.old) (line_view line) ≡ None }
-        ensures { OnOk result (so_far self.new ≡ with_line (so_far self.old) (line_view line.entry)) }
+        requires sound { IsSoundLine (plain_line line) }
+        requires short { length_fault (so_far self.old) (plain_line line) ≡ None }
+        requires follows { order_fault_here (so_far self.old) (plain_line line) ≡ None }
+        ensures { OnOk result (so_far self.new ≡ with_line (so_far self.old) (plain_line line.entry)) }
     {
         match line {
             Line::Blank => Ok(()),
@@ -185,9 +185,9 @@ impl<'a> Unfinished<'a> {
         obsolete: bool,
         part: Part<'a>,
     ) -> Result<(), AllocError>
-        requires short { length (part_text (previous_end self.old.previous) (part_view part)) ≤ string_limit }
-        requires bytes { list_all is_string_byte (part_more (part_view part)) ≡ true }
-        ensures { OnOk result (so_far self.new ≡ with_line (so_far self.old) (previous obsolete (part_view part.entry))) }
+        requires short { length (part_text (previous_end self.old.previous) (plain_part part)) ≤ string_limit }
+        requires bytes { list_all is_string_byte (part_more (plain_part part)) ≡ true }
+        ensures { OnOk result (so_far self.new ≡ with_line (so_far self.old) (previous obsolete (plain_part part.entry))) }
     {
         self.mark(obsolete);
         add_previous(alloc, &mut self.previous, part)
@@ -199,11 +199,11 @@ impl<'a> Unfinished<'a> {
         obsolete: bool,
         part: Part<'a>,
     ) -> Result<(), AllocError>
-        requires short { length (part_text (draft_end (draft_of self.old.message)) (part_view part)) ≤ string_limit }
-        requires bytes { list_all is_string_byte (part_more (part_view part)) ≡ true }
-        requires follows { part_fault (draft_last (draft_of self.old.message)) (draft_header (draft_of self.old.message)) (part_view part) ≡ None }
-        requires digit { IsDigitPart (part_view part) }
-        ensures { OnOk result (so_far self.new ≡ with_line (so_far self.old) (message obsolete (part_view part.entry))) }
+        requires short { length (part_text (draft_end (draft_of self.old.message)) (plain_part part)) ≤ string_limit }
+        requires bytes { list_all is_string_byte (part_more (plain_part part)) ≡ true }
+        requires follows { part_fault (draft_last (draft_of self.old.message)) (draft_header (draft_of self.old.message)) (plain_part part) ≡ None }
+        requires digit { IsDigitPart (plain_part part) }
+        ensures { OnOk result (so_far self.new ≡ with_line (so_far self.old) (message obsolete (plain_part part.entry))) }
     {
         self.mark(obsolete);
         self.message.add(alloc, part)

@@ -10,7 +10,7 @@ use Rattle.po_text.specs.Texts.{is_empty}
 use Rattle.po_write.specs.Pushed.{HasPushed, HasBroken}
 use Rattle.byte_streams.specs.Sending.{TookAll, TookPart}
 use Rattle.po_write.specs.Text.{entry_text, text_of, separated}
-use Rattle.po_write.specs.Views.{Writing}
+use Rattle.po_write.specs.Writing.{Writing}
 use Rattle.po_write.proofs.Pieces.{next_left}
 
 -- The text of a list with one more entry is the text, a blank line where there was an entry, and the entry.

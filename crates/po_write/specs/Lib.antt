@@ -2,4 +2,4 @@ pub mod Keywords
 pub mod Numbers
 pub mod Pushed
 pub mod Text
-pub mod Views
+pub mod Writing

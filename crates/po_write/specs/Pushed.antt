@@ -4,7 +4,7 @@ use Rattle.po_text.specs.declared.entry.Entry.{Entry}
 use Rattle.po_text.specs.Texts.{is_empty}
 use Rattle.byte_streams.specs.Sending.{TookAll, TookPart}
 use Rattle.po_write.specs.Text.{text_of}
-use Rattle.po_write.specs.Views.{Writing}
+use Rattle.po_write.specs.Writing.{Writing}
 
 -- These entries were pushed, and no push failed: the sink took their text.
 pub record HasPushed {W : Type 0} (taken : W → Option (List ℕ)) (failed : W → ℕ) (sink : W) (writer : Writing W) (es : List Entry) : Type 0 where

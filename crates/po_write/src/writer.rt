@@ -6,7 +6,7 @@ ghost use Rattle.po_text.specs.declared.entry.Entry.{Entry as EntryValue};
 ghost use Rattle.po_write.specs.Pushed.{HasPushed, HasBroken};
 ghost use Rattle.byte_streams.specs.Sending.{Sends};
 ghost use Rattle.po_write.specs.Text.{entry_text, separated, text_of};
-ghost use Rattle.po_write.specs.Views.{Writing};
+ghost use Rattle.po_write.specs.Writing.{Writing};
 
 use crate::fault::WriteFault;
 use crate::writing::send_separated;

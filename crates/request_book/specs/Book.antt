@@ -43,10 +43,10 @@ pub data Standing : Type 0 where
   repeat : Reply → Standing
   number_used : Standing
 
-abbrev pub class_view : Class → Standing
-class_view First = first
-class_view (Repeat r) = repeat r.now
-class_view NumberUsed = number_used
+abbrev pub standing_of : Class → Standing
+standing_of First = first
+standing_of (Repeat r) = repeat r.now
+standing_of NumberUsed = number_used
 
 abbrev pub class_of : Text → Option Record → Standing
 class_of content None = first

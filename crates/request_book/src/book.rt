@@ -1,6 +1,6 @@
 //! What a book keeps of a request, and what it says of one that comes.
 ghost use Rattle.std.specs.Prelude.{◌≡◌, option_map};
-ghost use Rattle.request_book.specs.Book.{class_of, class_view};
+ghost use Rattle.request_book.specs.Book.{class_of, standing_of};
 
 use crate::reply::Reply;
 use po_text::{Duplicate, Text};
@@ -38,7 +38,7 @@ pub enum Class<'a> {
 
 /// The class of a request with this canonical text, by the record under its number. Takes no memory.
 pub fn classify<'a>(content: &str, known: Option<&'a Record>) -> Class<'a>
-    ensures { class_view result ≡ class_of content.now (option_map (λ r. r.now) known.entry) }
+    ensures { standing_of result ≡ class_of content.now (option_map (λ r. r.now) known.entry) }
 {
     match known {
         None => Class::First,

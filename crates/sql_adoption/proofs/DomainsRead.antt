@@ -17,15 +17,15 @@ use Rattle.po_text.specs.Texts.{Text, text_cmp}
 use Rattle.units.specs.Office.{Office, Domain, domain_of, main}
 use Rattle.units.specs.Project.{Project}
 use Rattle.request_book.specs.Book.{Book}
-use Rattle.deliveries.specs.OfficeRules.{KeepsRules}
+use Rattle.office_specification.specs.OfficeRules.{KeepsRules}
 use Rattle.office_maps.specs.OfficeIn.{office_in}
 use Rattle.office_maps.specs.declared.office_maps.OfficeMaps.{OfficeMaps}
 use Rattle.sql_schema.specs.Inside.{AreOfficeTablesOf}
 use Rattle.sql_schema.specs.Keys.{text_at, first_text, has_text, columns}
 use Rattle.sql_schema.specs.Layouts.{by_domain, NamedRows, rows_named}
-use Rattle.sql_schema.specs.Views.{seen_in}
+use Rattle.sql_schema.specs.SeenRows.{seen_in}
 use Rattle.sql_schema.proofs.DomainRows.{one_domain_name}
-use Rattle.sql_schema.proofs.DomainViews.{is_text}
+use Rattle.sql_schema.proofs.DomainsSeen.{is_text}
 use Rattle.sql_statements.specs.DomainAnswers.{ShowsDomains}
 use Rattle.sql_statements.specs.Tables.{ShowsTableIn}
 use Rattle.tables.specs.declared.faults.Lost.{Lost}

@@ -10,7 +10,7 @@ use Rattle.sqlite.specs.declared.types.Value.TheVariants.{Null, Int, Real, Text 
 use Rattle.sqlite.specs.Order.{Row, column}
 use Rattle.sqlite_value.specs.Order.{bytes}
 use Rattle.po_text.specs.Texts.{Text, text_eq}
-use Rattle.deliveries.specs.declared.tally.Tally.{Tally}
+use Rattle.office_specification.specs.declared.tally.Tally.{Tally}
 use Rattle.sql_schema.specs.Keys.{columns}
 use Rattle.sql_meaning.specs.Cells.{tally_cells}
 use Rattle.sql_meaning.specs.Values.{integer_of}

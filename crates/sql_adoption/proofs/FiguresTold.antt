@@ -14,15 +14,15 @@ use Rattle.po_text.specs.Texts.{Text, text_cmp}
 use Rattle.units.specs.Office.{Office}
 use Rattle.units.specs.Units.{vote_sum}
 use Rattle.units.specs.declared.votes.VoteValue.{VoteValue}
-use Rattle.deliveries.specs.declared.tally.Tally.{Tally}
+use Rattle.office_specification.specs.declared.tally.Tally.{Tally}
 use Rattle.sql_schema.specs.Inside.{AreOfficeTablesOf}
 use Rattle.sql_schema.specs.Keys.{text_at, first_text, first_texts, has_text, columns}
 use Rattle.sql_schema.specs.Layouts.{for_main, by_domain, NamedRows, rows_named}
-use Rattle.sql_schema.specs.Views.{suggestion_seen, is_vote_in, vote_seen}
+use Rattle.sql_schema.specs.SeenRows.{suggestion_seen, is_vote_in, vote_seen}
 use Rattle.sql_schema.proofs.DomainRows.{one_d_vote, one_d_sum}
 use Rattle.sql_schema.proofs.TableRows.{one_vote, one_sum}
-use Rattle.sql_schema.proofs.DomainViews.{is_text}
-use Rattle.sql_schema.proofs.Views.{to_view}
+use Rattle.sql_schema.proofs.DomainsSeen.{is_text}
+use Rattle.sql_schema.proofs.SeenRows.{to_seen}
 use Rattle.sql_meaning.specs.Cells.{tally_cells}
 use Rattle.sql_meaning.specs.OfficeShown.{votes_shown}
 use Rattle.sql_meaning.specs.Values.{vote_at}
@@ -179,13 +179,13 @@ module _ (db : Database) (ready : AreOfficeTablesOf by_domain db) where
         let domain : Text = text_at 2 s.0 in
         let passes : is_vote_in domain suggestions v ≡ true =
         some_from (λ s. has_text 1 (first_text v) s && has_text 2 domain s) suggestions s.0 s.1 (and_from _ _ (is_text 1 (first_text v) s.0 (sym s.2)) (is_text 2 domain s.0 refl)) in
-        (stand.each domain).votes v (to_view (is_vote_in domain suggestions) vote_seen (rows_named db (codes "d_vote")) v there passes)
+        (stand.each domain).votes v (to_seen (is_vote_in domain suggestions) vote_seen (rows_named db (codes "d_vote")) v there passes)
 
     pub d_numbers_stand : Each (codes "d_suggestion") (1 ∷ []) (holds_text is_number 0) (rows_named db)
     d_numbers_stand s there =
         let domain : Text = text_at 2 s in
         let it : is_suggestion_row (columns (1 ∷ 4 ∷ 5 ∷ 6 ∷ 2 ∷ 3 ∷ []) (suggestion_seen s)) ≡ true =
-        (stand.each domain).suggestions (suggestion_seen s) (to_view (has_text 2 domain) suggestion_seen suggestions s there (is_text 2 domain s refl)) in
+        (stand.each domain).suggestions (suggestion_seen s) (to_seen (has_text 2 domain) suggestion_seen suggestions s there (is_text 2 domain s refl)) in
         (and_parts _ _ (and_parts _ _ it).1).0
 
 -- ---- those of tables without a column for a domain

@@ -9,11 +9,11 @@ use Rattle.sql_laws.specs.RowMaps.{OneEach}
 use Rattle.units.specs.Office.{Office, main}
 use Rattle.units.specs.Offices.{IsOffice}
 use Rattle.office_maps.specs.OfficeIn.{office_in}
-use Rattle.deliveries.specs.OfficeRules.{KeepsRules}
+use Rattle.office_specification.specs.OfficeRules.{KeepsRules}
 use Rattle.sql_schema.specs.Keys.{columns}
 use Rattle.sql_schema.specs.Inside.{AreOfficeTablesOf}
 use Rattle.sql_schema.specs.Layouts.{by_domain, rows_named}
-use Rattle.sql_schema.specs.Views.{seen_in}
+use Rattle.sql_schema.specs.SeenRows.{seen_in}
 use Rattle.sql_statements.specs.RecordTable.{ShowsRecords, ShowsRecordsIn}
 use Rattle.sql_meaning.specs.Meaning.{number_at, book_in}
 use Rattle.sql_meaning.proofs.DomainOfficeRows.{domain_rows}

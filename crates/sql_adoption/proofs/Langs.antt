@@ -14,7 +14,7 @@ use Rattle.sqlite_rules.proofs.ListLemmas.{some_has}
 use Rattle.po_text.specs.Texts.{Text, text_cmp, text_eq}
 use Rattle.po_text.specs.declared.entry.Entry.{Entry}
 use Rattle.units.specs.Orders.{text_total}
-use Rattle.deliveries.proofs.domains.InDomains.{equal_domains}
+use Rattle.office_specification.proofs.domains.InDomains.{equal_domains}
 use Rattle.sql_schema.specs.Keys.{text_at}
 use Rattle.sql_meaning.specs.Shown.{shown_header}
 use Rattle.sql_meaning.specs.OfficeShown.{headers_shown}

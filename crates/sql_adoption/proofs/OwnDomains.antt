@@ -21,7 +21,7 @@ use Rattle.sql_streams.specs.Walks.{GaveUpTo, CutShort}
 use Rattle.sql_schema.specs.Keys.{text_at, first_text, has_text, columns}
 use Rattle.sql_schema.specs.Layouts.{NamedRows, rows_named}
 use Rattle.sql_schema.specs.Whole.{IsLookUp}
-use Rattle.sql_schema.proofs.DomainViews.{is_text}
+use Rattle.sql_schema.proofs.DomainsSeen.{is_text}
 use Rattle.sql_statements.specs.DomainAnswers.{ShowsDomains}
 use Rattle.sql_statements.specs.Tables.{ShowsTableIn}
 use Rattle.sql_statements.specs.Owners.{owned_name, owned_place, ShowsOwners}

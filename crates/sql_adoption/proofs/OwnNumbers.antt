@@ -21,16 +21,16 @@ use Rattle.units.specs.Project.{Place, place_cmp}
 use Rattle.units.specs.Orders.{text_total, text_IsAntisymmetric, place_total, place_IsAntisymmetric}
 use Rattle.units.specs.declared.unit.Suggestion.{Suggestion}
 use Rattle.request_book.specs.Words.{number_text}
-use Rattle.deliveries.specs.OfficeRules.{numbers_in, all_numbers}
-use Rattle.deliveries.proofs.rules.UnitRules.{numbers_of}
-use Rattle.deliveries.proofs.rules.Numbering.{AreApart, all_from, distinct_from}
+use Rattle.office_specification.specs.OfficeRules.{numbers_in, all_numbers}
+use Rattle.office_specification.proofs.rules.UnitRules.{numbers_of}
+use Rattle.office_specification.proofs.rules.Numbering.{AreApart, all_from, distinct_from}
 use Rattle.sql_columns.specs.Readings.{number_read, key_parts}
 use Rattle.sql_schema.specs.Keys.{text_at, first_text, has_text, is_on_unit}
 use Rattle.sql_schema.specs.Inside.{AreOfficeTablesOf}
 use Rattle.sql_schema.specs.Layouts.{NamedRows, by_domain, rows_named}
-use Rattle.sql_schema.specs.Views.{seen_in, suggestion_seen}
+use Rattle.sql_schema.specs.SeenRows.{seen_in, suggestion_seen}
 use Rattle.sql_schema.proofs.DomainRows.{one_d_number}
-use Rattle.sql_schema.proofs.Views.{from_view}
+use Rattle.sql_schema.proofs.SeenRows.{from_seen}
 use Rattle.sql_meaning.specs.Values.{integer_at}
 use Rattle.sql_meaning.specs.Meaning.{number_at, key_at, suggestion_of_row, suggestions_in, place_of_row, unit_of_row}
 use Rattle.sql_meaning.specs.Domains.{domain_of_rows, office_of_rows}
@@ -93,8 +93,8 @@ module _ (db : Database) (ready : AreOfficeTablesOf by_domain db) (stands : (dom
   -- a number tells the row and its domain
   one_row : (d e : Text) (x y : Row) → Has (suggestions d) x → Has (suggestions e) y → number_at 1 x ≡ number_at 1 y → (x ≡ y) × (d ≡ e)
   one_row d e x y in_x in_y is =
-      let r = from_view (has_text 2 d) suggestion_seen (rows (codes "d_suggestion")) x in_x in
-      let s = from_view (has_text 2 e) suggestion_seen (rows (codes "d_suggestion")) y in_y in
+      let r = from_seen (has_text 2 d) suggestion_seen (rows (codes "d_suggestion")) x in_x in
+      let s = from_seen (has_text 2 e) suggestion_seen (rows (codes "d_suggestion")) y in_y in
       let texts : first_text x ≡ first_text y = named x (is_numbered d x in_x) ∙ (ap number_text is ∙ sym (named y (is_numbered e y in_y))) in
       let number : text_at 1 r.0 ≡ text_at 1 s.0 = ap first_text (sym r.3) ∙ texts ∙ ap first_text s.3 in
       let one : r.0 ≡ s.0 = one_d_number db ready.schema ready.sound (ready.tables (codes "d_suggestion") refl) r.0 s.0 r.1 s.1 number in

@@ -9,7 +9,7 @@ use Rattle.po_text.specs.declared.entry.Entry.{Entry}
 use Rattle.po_text.specs.Texts.{Text, text_cmp}
 use Rattle.units.specs.Orders.{text_total}
 use Rattle.units.specs.Office.{Office, Domain, domain_of, empty_domain, main}
-use Rattle.deliveries.proofs.domains.InDomains.{equal_domains}
+use Rattle.office_specification.proofs.domains.InDomains.{equal_domains}
 use Rattle.office_maps.specs.OfficeIn.{office_in}
 use Rattle.office_maps.specs.declared.office_maps.OfficeMaps.{OfficeMaps}
 use Rattle.sql_laws.proofs.Transactions.{on_ok_mapped}

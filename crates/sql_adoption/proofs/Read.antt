@@ -15,14 +15,14 @@ use Rattle.units.specs.Office.{Office, main, domain_of}
 use Rattle.office_maps.specs.OfficeIn.{office_in}
 use Rattle.office_maps.specs.declared.office_maps.OfficeMaps.{OfficeMaps}
 use Rattle.sql_schema.specs.Inside.{AreOfficeTablesOf}
-use Rattle.sql_schema.specs.Views.{seen_in}
+use Rattle.sql_schema.specs.SeenRows.{seen_in}
 use Rattle.sql_meaning.specs.Meaning.{book_in}
 use Rattle.sql_statements.specs.Answers.{ShowsPolicy}
 use Rattle.sql_schema.proofs.RowNumbers.{one_row_number}
 use Rattle.tables.specs.declared.faults.Lost.{Lost}
 use Rattle.tables.specs.declared.faults.Lost.TheVariants as lost
 use Rattle.sql_decoding.specs.declared.faults.Failure.{Failure}
-use Rattle.deliveries.specs.MainAlone.{main_alone}
+use Rattle.office_specification.specs.MainAlone.{main_alone}
 use Rattle.sql_statements.specs.declared.whole_office.WholeOffice.{WholeOffice}
 use Rattle.sql_statements.specs.WholeOffice.{ShowsWholeOffice, ShowsWholeOfficeIn}
 use Rattle.sql_meaning.proofs.WholeOffice.{whole_rows}
@@ -30,7 +30,7 @@ use Rattle.sql_meaning.proofs.OfficeRows.{office_rows}
 use Rattle.sql_meaning.proofs.DomainOfficeRows.{domain_rows}
 use Rattle.sql_statements.specs.RecordTable.{ShowsRecords}
 use Rattle.sql_decoding.specs.RowTests.{AreOfficeRows as ReadRows}
-use Rattle.office_rules.specs.Given.{AreStatusesOf}
+use Rattle.rule_tests.specs.Given.{AreStatusesOf}
 use Rattle.sql_adoption.specs.BookShown.{book_shown, IsRecordRow}
 use Rattle.sql_adoption.proofs.WholeBook.{all_numbered, whole_book}
 use Rattle.sql_streams.specs.declared.walking.WalkFault.{WalkFault}

@@ -4,7 +4,7 @@ use Rattle.sqlite.specs.Effect.{Database}
 use Rattle.sqlite.specs.State.{State, HasCleanDisk}
 use Rattle.po_text.specs.Texts.{Text}
 use Rattle.sql_schema.specs.Layouts.{by_domain, rows_named}
-use Rattle.sql_schema.specs.Views.{seen_in}
+use Rattle.sql_schema.specs.SeenRows.{seen_in}
 use Rattle.sql_schema.specs.Whole.{IsLookUp}
 use Rattle.sql_meaning.specs.Domains.{is_domain, HoldsOwnDomains}
 use Rattle.sql_adoption.specs.Adoption.{StandForOffice}

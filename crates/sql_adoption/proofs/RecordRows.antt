@@ -4,7 +4,7 @@ use Rattle.std.specs.BTreeMap.{BTreeMap}
 use Rattle.sqlite.specs.Order.{Row}
 use Rattle.po_text.specs.Texts.{Text}
 use Rattle.request_book.specs.Book.{Book}
-use Rattle.office_rules.specs.Given.{AreStatusesOf}
+use Rattle.rule_tests.specs.Given.{AreStatusesOf}
 use Rattle.sql_adoption.specs.BookShown.{IsRecordRow}
 use Rattle.sql_adoption.specs.NotedRecords.{with_record_shown, NotesRecords, notes_one, has_status, TestsRecords, tests_one}
 

@@ -20,14 +20,14 @@ use Rattle.units.specs.declared.unit.Unit.{Unit}
 use Rattle.std.specs.Cmp.{int_cmp_total}
 use Rattle.std.specs.Ordering.{int_cmp}
 use Rattle.request_book.specs.Book.{Recorded}
-use Rattle.deliveries.specs.OfficeRules.{KeepsRules}
-use Rattle.office_rules.specs.Books.{is_status, HasStatuses}
+use Rattle.office_specification.specs.OfficeRules.{KeepsRules}
+use Rattle.rule_tests.specs.Books.{is_status, HasStatuses}
 use Rattle.sql_columns.specs.Readings.{number_read}
 use Rattle.sql_schema.specs.Keys.{text_at, first_text, has_text, is_on_unit}
 use Rattle.sql_schema.specs.Inside.{AreOfficeTablesOf}
 use Rattle.sql_schema.specs.Layouts.{NamedRows, by_domain, rows_named}
-use Rattle.sql_schema.specs.Views.{seen_in, suggestion_seen}
-use Rattle.sql_schema.proofs.Views.{from_view}
+use Rattle.sql_schema.specs.SeenRows.{seen_in, suggestion_seen}
+use Rattle.sql_schema.proofs.SeenRows.{from_seen}
 use Rattle.sql_laws.specs.RowMaps.{OneEach}
 use Rattle.sql_meaning.specs.Values.{integer_at, natural_at}
 use Rattle.sql_meaning.specs.Meaning.{number_at, recorded_in, book_in, suggestion_of_row, suggestions_in, place_of_row, unit_of_row}
@@ -79,7 +79,7 @@ module _ (db : Database) (ready : AreOfficeTablesOf by_domain db) where
 
     row_recorded : (x : Row) → Has (tables (codes "suggestion")) x → IsSome (maps.get (book_in rows) (number_at 1 x))
     row_recorded x there =
-        let s = from_view (has_text 2 domain) suggestion_seen (rows (codes "d_suggestion")) x there in
+        let s = from_seen (has_text 2 domain) suggestion_seen (rows (codes "d_suggestion")) x there in
         let r = d_suggestion_recorded db ready.schema ready.sound s.0 s.1 in
         let same : first_text r.0 ≡ first_text x = r.2 ∙ sym (ap first_text s.3) in
         subst (λ (t : Text). IsSome (maps.get (book_in rows) (unwrap_or (number_read t) []))) same (is_recorded rows r.0 r.1)

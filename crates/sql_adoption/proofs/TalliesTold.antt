@@ -14,7 +14,7 @@ use Rattle.sqlite_rules.proofs.ListLemmas.{test_has, test_from, some_has, some_f
 use Rattle.po_text.specs.declared.entry.Entry.{Entry}
 use Rattle.po_text.specs.Texts.{Text}
 use Rattle.units.specs.Office.{Office, project_in}
-use Rattle.deliveries.specs.declared.tally.Tally.{Tally}
+use Rattle.office_specification.specs.declared.tally.Tally.{Tally}
 use Rattle.tables.proofs.NothingCounted.{nothing_counted}
 use Rattle.sql_schema.specs.Keys.{text_at}
 use Rattle.sql_meaning.specs.Cells.{tally_cells}

@@ -14,8 +14,8 @@ use Rattle.po_text.specs.declared.entry.Entry.{Entry}
 use Rattle.po_text.specs.Texts.{Text}
 use Rattle.sql_schema.specs.Keys.{text_at, first_text, has_text}
 use Rattle.sql_schema.specs.Layouts.{NamedRows}
-use Rattle.sql_schema.specs.Views.{viewed, entry_seen, language_seen, unit_seen, suggestion_seen, is_vote_in, vote_seen, seen_in}
-use Rattle.sql_schema.proofs.Views.{from_view}
+use Rattle.sql_schema.specs.SeenRows.{rows_seen, entry_seen, language_seen, unit_seen, suggestion_seen, is_vote_in, vote_seen, seen_in}
+use Rattle.sql_schema.proofs.SeenRows.{from_seen}
 use Rattle.sql_meaning.specs.Domains.{is_domain, HoldsOwnDomains}
 use Rattle.sql_meaning.specs.Meaning.{entry_of_row, template_in}
 use Rattle.sql_meaning.specs.Values.{integer_at}
@@ -39,27 +39,27 @@ module _ (rows : NamedRows) (own : HoldsOwnDomains rows) (domain : Text) (missin
 
   no_entry : (x : Row) → Has (seen (codes "template")) x → ⊥
   no_entry x there =
-      let r = from_view (has_text 1 domain) entry_seen (rows (codes "d_template")) x there in
+      let r = from_seen (has_text 1 domain) entry_seen (rows (codes "d_template")) x there in
       not_its (text_at 1 r.0) (own.template r.0 r.1) (texts_are_one (text_at 1 r.0) domain r.2)
 
   no_language : (x : Row) → Has (seen (codes "language")) x → ⊥
   no_language x there =
-      let r = from_view (has_text 1 domain) language_seen (rows (codes "d_language")) x there in
+      let r = from_seen (has_text 1 domain) language_seen (rows (codes "d_language")) x there in
       not_its (text_at 1 r.0) (own.languages r.0 r.1) (texts_are_one (text_at 1 r.0) domain r.2)
 
   no_unit : (x : Row) → Has (seen (codes "unit")) x → ⊥
   no_unit x there =
-      let r = from_view (has_text 1 domain) unit_seen (rows (codes "d_unit")) x there in
+      let r = from_seen (has_text 1 domain) unit_seen (rows (codes "d_unit")) x there in
       not_its (text_at 1 r.0) (own.units r.0 r.1) (texts_are_one (text_at 1 r.0) domain r.2)
 
   no_suggestion : (x : Row) → Has (seen (codes "suggestion")) x → ⊥
   no_suggestion x there =
-      let r = from_view (has_text 2 domain) suggestion_seen (rows (codes "d_suggestion")) x there in
+      let r = from_seen (has_text 2 domain) suggestion_seen (rows (codes "d_suggestion")) x there in
       not_its (text_at 2 r.0) (own.suggestions r.0 r.1) (texts_are_one (text_at 2 r.0) domain r.2)
 
   no_vote : (x : Row) → Has (seen (codes "vote")) x → ⊥
   no_vote x there =
-      let r = from_view (is_vote_in domain (rows (codes "d_suggestion"))) vote_seen (rows (codes "d_vote")) x there in
+      let r = from_seen (is_vote_in domain (rows (codes "d_suggestion"))) vote_seen (rows (codes "d_vote")) x there in
       let s = some_has (λ s. has_text 1 (first_text r.0) s && has_text 2 domain s) (rows (codes "d_suggestion")) r.2 in
       not_its (text_at 2 s.0) (own.suggestions s.0 s.1) (texts_are_one (text_at 2 s.0) domain (and_parts _ _ s.2).1)
 

@@ -6,8 +6,8 @@ use Rattle.sqlite.specs.Effect.{Database}
 use Rattle.sqlite.specs.Tree.{Trees}
 use Rattle.sqlite.specs.State.{State, HasCleanDisk}
 use Rattle.sqlite_rules.specs.Lists.{Has}
-use Rattle.deliveries.specs.OfficeRules.{KeepsRules}
-use Rattle.office_rules.specs.Given.{AreAllLangs}
+use Rattle.office_specification.specs.OfficeRules.{KeepsRules}
+use Rattle.rule_tests.specs.Given.{AreAllLangs}
 use Rattle.office_maps.specs.OfficeIn.{office_in}
 use Rattle.po_text.specs.Valid.{IsValid}
 use Rattle.sql_schema.specs.Keys.{text_at, row_number, columns}
@@ -16,7 +16,7 @@ use Rattle.sql_layouts.specs.Found.{HoldsOfficeOf, HoldsOffice}
 use Rattle.sql_layouts.specs.Tables.{form_told}
 use Rattle.sql_adoption.specs.declared.tested.Adopted.{Adopted}
 use Rattle.po_text.specs.Texts.{Text}
-use Rattle.sql_schema.specs.Views.{seen_in}
+use Rattle.sql_schema.specs.SeenRows.{seen_in}
 use Rattle.sql_meaning.specs.Meaning.{template_in, meaning_in, AreNumbered}
 use Rattle.sql_meaning.specs.Domains.{meaning_for, HoldsOwnDomains}
 use Rattle.sql_decoding.specs.RowTests.{is_domain_row, is_member_row, is_policy_row, is_entry_row, is_language_row, is_unit_row, is_suggestion_row, is_vote_row, is_record_row}

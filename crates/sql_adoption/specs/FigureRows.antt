@@ -12,7 +12,7 @@ use Rattle.sqlite.specs.Order.{Row, column}
 use Rattle.sqlite_rules.specs.Lists.{Has}
 use Rattle.po_text.specs.Texts.{Text, text_eq, text_cmp}
 use Rattle.units.specs.Units.{vote_sum}
-use Rattle.deliveries.specs.declared.tally.Tally.{Tally}
+use Rattle.office_specification.specs.declared.tally.Tally.{Tally}
 use Rattle.sql_schema.specs.Keys.{text_at, has_text, columns}
 use Rattle.sql_statements.specs.Tables.{ShowsTable}
 use Rattle.sql_schema.specs.Layouts.{NamedRows, rows_named}

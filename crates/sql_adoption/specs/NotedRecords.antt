@@ -14,8 +14,8 @@ use Rattle.request_book.specs.Book.{Book}
 use Rattle.sql_meaning.specs.Meaning.{number_at}
 use Rattle.sql_meaning.specs.Values.{natural_at}
 use Rattle.sql_meaning.specs.Shown.{shown_record}
-use Rattle.office_rules.specs.Given.{AreStatusesOf}
-use Rattle.office_rules.specs.Books.{is_status}
+use Rattle.rule_tests.specs.Given.{AreStatusesOf}
+use Rattle.rule_tests.specs.Books.{is_status}
 use Rattle.sql_adoption.specs.BookShown.{IsRecordRow}
 
 -- content, status, body, number: a book with the record of a row

@@ -16,12 +16,12 @@ use Rattle.tables.specs.declared.faults.Lost.TheVariants as lost
 use Rattle.units.specs.Office.{Office, main}
 use Rattle.units.specs.Openings.{opening}
 use Rattle.request_book.specs.Book.{OfficeWithBook}
-use Rattle.deliveries.specs.MainAlone.{main_alone}
-use Rattle.deliveries.specs.OfficeRules.{KeepsRules}
+use Rattle.office_specification.specs.MainAlone.{main_alone}
+use Rattle.office_specification.specs.OfficeRules.{KeepsRules}
 use Rattle.office_maps.specs.OfficeIn.{office_in}
 use Rattle.office_maps.specs.declared.office_maps.OfficeMaps.{OfficeMaps}
 use Rattle.sql_schema.specs.Keys.{text_at}
-use Rattle.sql_schema.specs.Views.{seen_in}
+use Rattle.sql_schema.specs.SeenRows.{seen_in}
 use Rattle.sql_meaning.specs.Meaning.{team_in, policy_in, book_in, AreNumbered}
 use Rattle.sql_meaning.specs.Domains.{domain_of_rows, office_of_rows, is_domain, meaning_for}
 use Rattle.sql_statements.specs.Tables.{ShowsTableIn}
@@ -31,8 +31,8 @@ use Rattle.sql_decoding.specs.RowTests.{is_domain_row, AreOfficeRows}
 use Rattle.sql_decoding.specs.declared.faults.Failure.{Failure}
 use Rattle.sql_streams.specs.declared.walking.WalkFault.{WalkFault}
 use Rattle.sql_streams.specs.declared.walking.WalkFault.TheVariants.{NoRows, NoSink}
-use Rattle.office_rules.specs.Books.{HasStatuses}
-use Rattle.office_rules.specs.Given.{AreAll, AreAllDomains, AreAllLangs, AreStatusesOf}
+use Rattle.rule_tests.specs.Books.{HasStatuses}
+use Rattle.rule_tests.specs.Given.{AreAll, AreAllDomains, AreAllLangs, AreStatusesOf}
 use Rattle.sql_adoption.specs.declared.faults.OpenFault.{OpenFault}
 use Rattle.sql_adoption.specs.declared.faults.OpenFault.TheVariants.{Memory, Disk, Foreign, Exists}
 use Rattle.sql_adoption.specs.declared.faults.Mismatch.TheVariants.{OtherTables, OtherForm, UnreadRow, OtherFigures, BrokenRules}

@@ -11,7 +11,7 @@ ghost use Rattle.sql_adoption.specs.FigureRows.{is_words, is_integer, is_row_of,
 ghost use Rattle.sql_adoption.specs.Reading.{HoldsAll};
 
 use crate::office_put::ReadOffice;
-use deliveries::Tally;
+use office_specification::Tally;
 use office_maps::OfficeMaps;
 use sqlite::Row;
 use sqlite::types::ValueRef;

@@ -6,13 +6,13 @@ ghost use Rattle.sql_columns.specs.Readings.{number_read};
 ghost use Rattle.sql_schema.specs.Keys.{text_at};
 ghost use Rattle.sql_meaning.specs.Meaning.{number_at};
 ghost use Rattle.sql_meaning.specs.Shown.{shown_record};
-ghost use Rattle.office_rules.specs.Given.{AreStatusesOf};
+ghost use Rattle.rule_tests.specs.Given.{AreStatusesOf};
 ghost use Rattle.sql_decoding.specs.RowTests.{holds_text, is_number, is_record_row, IsUnread};
 ghost use Rattle.tables.specs.declared.faults.Lost.TheVariants.{Disk};
 ghost use Rattle.sql_adoption.specs.BookShown.{IsRecordRow};
 ghost use Rattle.sql_adoption.specs.NotedRecords.{has_status};
 
-use office_rules::{is_content, is_status, note_status};
+use rule_tests::{is_content, is_status, note_status};
 use request_book::{Record, bytes_fit};
 use sql_columns::number_from;
 use sql_decoding::{Failure, record_in};

@@ -9,7 +9,7 @@ use Rattle.sqlite_rules.specs.Lists.{Has}
 use Rattle.po_text.specs.Texts.{Text, text_cmp}
 use Rattle.units.specs.Project.{Project}
 use Rattle.units.specs.declared.unit.Role.{Role}
-use Rattle.deliveries.specs.MainAlone.{main_alone}
+use Rattle.office_specification.specs.MainAlone.{main_alone}
 use Rattle.request_book.specs.Book.{OfficeWithBook, with_record}
 use Rattle.request_book.specs.declared.book.Record.{Record}
 use Rattle.sql_columns.specs.Readings.{number_read}

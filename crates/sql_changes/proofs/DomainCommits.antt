@@ -17,20 +17,20 @@ use Rattle.units.specs.declared.unit.Role.{Role}
 use Rattle.units.specs.declared.unit.UnitView.{UnitView}
 use Rattle.request_book.specs.Book.{with_record}
 use Rattle.request_book.specs.declared.book.Record.{Record}
-use Rattle.deliveries.specs.MainAlone.{main_alone}
-use Rattle.deliveries.specs.OfficeChanges.{IsPossibleIn, changed_project, changed}
-use Rattle.deliveries.specs.OfficeRules.{KeepsRules}
-use Rattle.deliveries.specs.UnitAccess.{with_view, written_at, IsPossibleWrite, with_write_in}
-use Rattle.deliveries.specs.declared.values.Change.TheVariants.{InDomain}
-use Rattle.deliveries.specs.declared.values.DomainChange.{DomainChange}
-use Rattle.deliveries.specs.declared.values.DomainChange.TheVariants.{NewLanguage, NewTemplate}
-use Rattle.deliveries.specs.declared.values.UnitWrite.{UnitWrite}
-use Rattle.deliveries.proofs.domains.InDomains.{nothing_put}
-use Rattle.deliveries.proofs.domains.MainAlone.{policy-main}
+use Rattle.office_specification.specs.MainAlone.{main_alone}
+use Rattle.office_specification.specs.OfficeChanges.{IsPossibleIn, changed_project, changed}
+use Rattle.office_specification.specs.OfficeRules.{KeepsRules}
+use Rattle.office_specification.specs.UnitAccess.{with_view, written_at, IsPossibleWrite, with_write_in}
+use Rattle.office_specification.specs.declared.values.Change.TheVariants.{InDomain}
+use Rattle.office_specification.specs.declared.values.DomainChange.{DomainChange}
+use Rattle.office_specification.specs.declared.values.DomainChange.TheVariants.{NewLanguage, NewTemplate}
+use Rattle.office_specification.specs.declared.values.UnitWrite.{UnitWrite}
+use Rattle.office_specification.proofs.domains.InDomains.{nothing_put}
+use Rattle.office_specification.proofs.domains.MainAlone.{policy-main}
 use Rattle.sql_schema.specs.Inside.{AreOfficeTablesOf, Then}
 use Rattle.sql_schema.specs.Keys.{first_text}
 use Rattle.sql_schema.specs.Layouts.{by_domain, NamedRows, rows_named}
-use Rattle.sql_schema.specs.Views.{seen_in}
+use Rattle.sql_schema.specs.SeenRows.{seen_in}
 use Rattle.sql_meaning.specs.Beginnings.{PutsDomain}
 use Rattle.sql_meaning.specs.Domains.{project_seen, domain_of_rows, office_of_rows, meaning_by_domain, is_domain, HoldsOwnDomains}
 use Rattle.sql_meaning.specs.Meaning.{AreNumbered, book_in, team_in, policy_in, meaning_in}

@@ -13,16 +13,16 @@ use Rattle.sqlite_rules.proofs.ListLemmas.{some_has}
 use Rattle.sql_laws.proofs.RowMaps.{texts_are_one}
 use Rattle.po_text.specs.Texts.{Text}
 use Rattle.units.specs.Office.{same_domain}
-use Rattle.deliveries.proofs.domains.InDomains.{equal_domains, its_own_domain}
+use Rattle.office_specification.proofs.domains.InDomains.{equal_domains, its_own_domain}
 use Rattle.request_book.specs.declared.book.Record.{Record}
 use Rattle.sql_schema.specs.Inside.{AreOfficeTablesOf, PutsRow, PutsIn, HoldsValues}
 use Rattle.sql_schema.specs.Keys.{text_at, key_texts, first_text, first_texts, first_three, row_number, domain_place, has_text}
 use Rattle.sql_schema.specs.Layouts.{by_domain, NamedRows, rows_named, SparesOthers}
-use Rattle.sql_schema.specs.Views.{entry_seen, unit_seen, is_vote_in, seen_in, AreSameByName}
+use Rattle.sql_schema.specs.SeenRows.{entry_seen, unit_seen, is_vote_in, seen_in, AreSameByName}
 use Rattle.sql_schema.proofs.DomainRows.{one_d_number}
-use Rattle.sql_schema.proofs.DomainViews.{is_text, units_stay_seen}
+use Rattle.sql_schema.proofs.DomainsSeen.{is_text, units_stay_seen}
 use Rattle.sql_schema.proofs.Layouts.{names_differ}
-use Rattle.sql_schema.proofs.Views.{to_view}
+use Rattle.sql_schema.proofs.SeenRows.{to_seen}
 use Rattle.sql_statements.specs.Added.{AddsRow}
 use Rattle.sql_statements.specs.DomainCleared.{ClearsDomainUnit}
 use Rattle.sql_statements.specs.DomainRenewed.{HaveNextRevisionsInDomains, UnapprovesDomainUnits, UnapprovesTallies}
@@ -184,7 +184,7 @@ nothing_on_domain domain P db it = record {
 next_of_all : (old : Database) → ((d : Text) → HaveNextIn (seen d old)) → HaveNextRevisionsInDomains old
 next_of_all old next row there approved =
     let domain = text_at 1 row in
-    next domain (unit_seen row) (to_view (has_text 1 domain) unit_seen (rows_named old (codes "d_unit")) row there (is_text 1 domain row refl)) approved
+    next domain (unit_seen row) (to_seen (has_text 1 domain) unit_seen (rows_named old (codes "d_unit")) row there (is_text 1 domain row refl)) approved
 
 -- a vote on a suggestion of a domain is in no other, since no other suggestion has its number
 in_no_other : (old : Database) → AreOfficeTablesOf by_domain old → (domain : Text) (s : Row) → Has (rows_named old (codes "d_suggestion")) s → text_at 2 s ≡ domain → (vote : Row) → first_text vote ≡ first_text s

@@ -14,10 +14,10 @@ use Rattle.units.specs.Orders.{text_total}
 use Rattle.units.specs.Rules.{plural_field}
 use Rattle.units.specs.declared.unit.Unit.{Unit}
 use Rattle.template_update.specs.declared.plans.Plan.{Plan}
-use Rattle.deliveries.specs.MainAlone.{main_alone}
-use Rattle.deliveries.specs.ProjectActs.{with_language}
-use Rattle.deliveries.specs.OfficeRules.{KeepsRules}
-use Rattle.deliveries.specs.declared.values.Language.{Language}
+use Rattle.office_specification.specs.MainAlone.{main_alone}
+use Rattle.office_specification.specs.ProjectActs.{with_language}
+use Rattle.office_specification.specs.OfficeRules.{KeepsRules}
+use Rattle.office_specification.specs.declared.values.Language.{Language}
 use Rattle.request_book.specs.Book.{with_record}
 use Rattle.request_book.specs.declared.book.Record.{Record}
 use Rattle.sql_columns.specs.Written.{ArePrevious, IsHeaderEntry, header_text}
@@ -25,7 +25,7 @@ use Rattle.sql_laws.specs.RowMaps.{OneEach}
 use Rattle.sql_schema.specs.Inside.{Then}
 use Rattle.sql_schema.specs.Keys.{first_text}
 use Rattle.sql_meaning.specs.Meaning.{AreNumbered, book_in, template_in, headers_in, team_in, policy_in, units_in, project_of_rows, meaning_in}
-use Rattle.office_rules.proofs.MainAlone.{project_keeps}
+use Rattle.rule_tests.proofs.MainAlone.{project_keeps}
 use Rattle.sql_meaning.proofs.RowsPut.{header_put}
 use Rattle.sql_changes.specs.Commits.{PutsNumberedRecord, PutsLanguage, WritesLanguage, MakesLanguage}
 use Rattle.sql_changes.specs.UnitWrites.{WritesUnits}

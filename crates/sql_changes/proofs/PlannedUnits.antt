@@ -6,7 +6,7 @@ use Rattle.po_text.specs.Texts.{Text}
 use Rattle.units.specs.Project.{Place, place_cmp}
 use Rattle.units.specs.declared.unit.Unit.{Unit}
 use Rattle.template_update.specs.Marks.{unmarked}
-use Rattle.deliveries.specs.ProjectActs.{LanguagePlan}
+use Rattle.office_specification.specs.ProjectActs.{LanguagePlan}
 use Rattle.sql_meaning.specs.Meaning.{units_in}
 use Rattle.sql_meaning.proofs.UnitsWritten.{KeepsOthers, writes_unit}
 use Rattle.sql_changes.specs.UnitWrites.{WritesPlanned, WritesUnits, WritesUnitsBack, WritesPlansBack}

@@ -11,9 +11,9 @@ use Rattle.units.specs.Changes.{unapproved, with_policy, office_under}
 use Rattle.units.specs.Project.{Place}
 use Rattle.units.specs.declared.unit.Policy.{Policy}
 use Rattle.units.specs.declared.unit.Unit.{Unit}
-use Rattle.deliveries.specs.MainAlone.{main_alone}
-use Rattle.deliveries.specs.OfficeRules.{KeepsRules}
-use Rattle.deliveries.proofs.domains.MainAlone.{policy-main}
+use Rattle.office_specification.specs.MainAlone.{main_alone}
+use Rattle.office_specification.specs.OfficeRules.{KeepsRules}
+use Rattle.office_specification.proofs.domains.MainAlone.{policy-main}
 use Rattle.request_book.specs.Book.{with_record}
 use Rattle.request_book.specs.declared.book.Record.{Record}
 use Rattle.sql_statements.specs.Renewed.{is_approved_row, unapproved_row, AreRenewed}

@@ -9,9 +9,9 @@ use Rattle.units.specs.Project.{Place, place_cmp, place_eq}
 use Rattle.units.specs.Orders.{place_total, place_IsAntisymmetric}
 use Rattle.units.specs.declared.unit.Unit.{Unit}
 use Rattle.template_update.specs.Marks.{marked, unmarked}
-use Rattle.deliveries.specs.ProjectActs.{LanguagePlan, placed}
-use Rattle.deliveries.specs.OfficeChanges.{is_planned, staying}
-use Rattle.deliveries.proofs.rules.Rebuilt.{equal_places}
+use Rattle.office_specification.specs.ProjectActs.{LanguagePlan, placed}
+use Rattle.office_specification.specs.OfficeChanges.{is_planned, staying}
+use Rattle.office_specification.proofs.rules.Rebuilt.{equal_places}
 use Rattle.sql_meaning.proofs.WrittenAnew.{or_else}
 use Rattle.sql_changes.proofs.PlannedUnits.{Units, Entries, from_last, rows, changing}
 use Rattle.sql_changes.proofs.PlansCover.{get-from_last}

@@ -7,14 +7,14 @@ use Rattle.sqlite_rules.specs.Lists.{Has}
 use Rattle.po_text.specs.declared.entry.Entry.{Entry}
 use Rattle.po_text.specs.Texts.{Text}
 use Rattle.units.specs.Projects.{IsTemplateEntry}
-use Rattle.deliveries.specs.MainAlone.{main_alone}
-use Rattle.deliveries.specs.ProjectActs.{LanguagePlan, placed, with_template}
-use Rattle.deliveries.specs.OfficeRules.{KeepsRules}
+use Rattle.office_specification.specs.MainAlone.{main_alone}
+use Rattle.office_specification.specs.ProjectActs.{LanguagePlan, placed, with_template}
+use Rattle.office_specification.specs.OfficeRules.{KeepsRules}
 use Rattle.request_book.specs.Book.{with_record}
 use Rattle.request_book.specs.declared.book.Record.{Record}
 use Rattle.sql_schema.specs.Inside.{Then}
 use Rattle.sql_meaning.specs.Meaning.{AreNumbered, book_in, template_in, headers_in, team_in, policy_in, units_in, project_of_rows, meaning_in}
-use Rattle.office_rules.proofs.MainAlone.{project_keeps}
+use Rattle.rule_tests.proofs.MainAlone.{project_keeps}
 use Rattle.sql_changes.specs.Commits.{PutsNumberedRecord, WritesTemplate, MakesTemplate}
 use Rattle.sql_changes.specs.EntryWrites.{HoldsEntries}
 use Rattle.sql_changes.specs.UnitWrites.{LeavesRows, WritesPlansBack}

@@ -12,12 +12,12 @@ use Rattle.units.specs.declared.unit.Key.{Key}
 use Rattle.units.specs.declared.unit.Unit.{Unit}
 use Rattle.units.specs.declared.unit.UnitView.{UnitView}
 use Rattle.review.specs.UnitStep.{with_vote}
-use Rattle.deliveries.specs.MainAlone.{main_alone}
-use Rattle.deliveries.specs.OfficeRules.{KeepsRules}
-use Rattle.deliveries.specs.UnitAccess.{with_view, view_written, written_at, IsWriteOver, IsPossibleWrite}
-use Rattle.deliveries.specs.declared.values.UnitWrite.{UnitWrite}
-use Rattle.deliveries.specs.declared.values.UnitWrite.TheVariants.{Whole, Row, Suggested, Voted}
-use Rattle.office_rules.proofs.MainAlone.{project_keeps}
+use Rattle.office_specification.specs.MainAlone.{main_alone}
+use Rattle.office_specification.specs.OfficeRules.{KeepsRules}
+use Rattle.office_specification.specs.UnitAccess.{with_view, view_written, written_at, IsWriteOver, IsPossibleWrite}
+use Rattle.office_specification.specs.declared.values.UnitWrite.{UnitWrite}
+use Rattle.office_specification.specs.declared.values.UnitWrite.TheVariants.{Whole, Row, Suggested, Voted}
+use Rattle.rule_tests.proofs.MainAlone.{project_keeps}
 use Rattle.request_book.specs.Book.{Book, with_record}
 use Rattle.request_book.specs.declared.book.Record.{Record}
 use Rattle.sql_schema.specs.Inside.{Then}

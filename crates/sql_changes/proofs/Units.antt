@@ -21,12 +21,12 @@ use Rattle.units.specs.Units.{is_approved, is_needs_editing, in_state, next_revi
 use Rattle.units.specs.declared.unit.Unit.{Unit}
 use Rattle.units.specs.declared.unit.UnitState.{UnitState}
 use Rattle.units.specs.declared.unit.UnitState.TheVariants.{Untranslated, NeedsEditing, Translated, Approved}
-use Rattle.deliveries.specs.OfficeRules.{KeepsRules}
+use Rattle.office_specification.specs.OfficeRules.{KeepsRules}
 use Rattle.sql_schema.specs.Keys.{text_at}
 use Rattle.sql_statements.specs.Renewed.{is_approved_row, unapproved_row, AreRenewed}
 use Rattle.sql_meaning.specs.Values.{natural_at, state_at}
 use Rattle.sql_meaning.specs.Meaning.{book_in, place_of_row, unit_of_row, units_in, suggestions_in, project_of_rows, meaning_in}
-use Rattle.office_rules.proofs.MainAlone.{project_keeps}
+use Rattle.rule_tests.proofs.MainAlone.{project_keeps}
 use Rattle.sql_meaning.proofs.Units.{by_place}
 use Rattle.sql_changes.proofs.States.{approved_is, revision_is}
 use Rattle.sql_schema.specs.Layouts.{NamedRows}

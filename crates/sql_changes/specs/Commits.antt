@@ -12,11 +12,11 @@ use Rattle.units.specs.declared.unit.Role.{Role}
 use Rattle.units.specs.declared.unit.Key.{Key}
 use Rattle.units.specs.declared.unit.Unit.{Unit}
 use Rattle.template_update.specs.declared.plans.Plan.{Plan}
-use Rattle.deliveries.specs.ProjectActs.{LanguagePlan}
-use Rattle.deliveries.specs.declared.values.DomainChange.{DomainChange}
-use Rattle.deliveries.specs.declared.values.DomainChange.TheVariants.{NewLanguage, NewTemplate}
-use Rattle.deliveries.specs.declared.values.Language.{Language}
-use Rattle.deliveries.specs.declared.values.UnitWrite.{UnitWrite}
+use Rattle.office_specification.specs.ProjectActs.{LanguagePlan}
+use Rattle.office_specification.specs.declared.values.DomainChange.{DomainChange}
+use Rattle.office_specification.specs.declared.values.DomainChange.TheVariants.{NewLanguage, NewTemplate}
+use Rattle.office_specification.specs.declared.values.Language.{Language}
+use Rattle.office_specification.specs.declared.values.UnitWrite.{UnitWrite}
 use Rattle.request_book.specs.Acts.{IsNumber}
 use Rattle.request_book.specs.declared.book.Record.{Record}
 use Rattle.sql_columns.specs.Numbers.{role_number, flag_number}
@@ -29,7 +29,7 @@ use Rattle.sql_changes.specs.EntryWrites.{HoldsEntries}
 use Rattle.sql_changes.specs.UnitWrites.{LeavesRows, WritesOfUnit, WritesUnits, WritesPlansBack}
 use Rattle.sqlite.specs.Effect.{Database}
 use Rattle.sql_schema.specs.Layouts.{NamedRows, rows_named}
-use Rattle.sql_schema.specs.Views.{AreSameByName}
+use Rattle.sql_schema.specs.SeenRows.{AreSameByName}
 use Rattle.sql_meaning.specs.Domains.{is_domain}
 use Rattle.sql_changes.specs.OnDomains.{OnEach, OnDomainElse}
 use Rattle.sql_meaning.specs.RowChanges.{TakesIn, UnapprovesIn}

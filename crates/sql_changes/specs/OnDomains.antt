@@ -4,7 +4,7 @@ use Rattle.sqlite.specs.Effect.{Database}
 use Rattle.po_text.specs.Texts.{Text}
 use Rattle.units.specs.Office.{same_domain}
 use Rattle.sql_schema.specs.Layouts.{NamedRows, rows_named}
-use Rattle.sql_schema.specs.Views.{seen_in, AreSameByName}
+use Rattle.sql_schema.specs.SeenRows.{seen_in, AreSameByName}
 
 -- A table that no act within the domains and no conversion writes: neither of a domain's rows or figures, nor the records, the team or the policy.
 pub record IsElsewhere (name : List ℕ) : Type 0 where

@@ -15,9 +15,9 @@ use Rattle.units.specs.declared.votes.VoteValue.{VoteValue}
 use Rattle.request_book.specs.Acts.{IsNumber}
 use Rattle.request_book.specs.Words.{number_text}
 use Rattle.template_update.specs.Marks.{unmarked}
-use Rattle.deliveries.specs.ProjectActs.{LanguagePlan}
-use Rattle.deliveries.specs.declared.values.UnitWrite.{UnitWrite}
-use Rattle.deliveries.specs.declared.values.UnitWrite.TheVariants as writes
+use Rattle.office_specification.specs.ProjectActs.{LanguagePlan}
+use Rattle.office_specification.specs.declared.values.UnitWrite.{UnitWrite}
+use Rattle.office_specification.specs.declared.values.UnitWrite.TheVariants as writes
 use Rattle.sql_columns.specs.Written.{ArePrevious}
 use Rattle.sql_schema.specs.Inside.{PutsIn, HoldsValues, Then}
 use Rattle.sql_schema.specs.Keys.{first_text, first_texts, has_text, is_on_unit}

@@ -6,13 +6,13 @@ use Rattle.units.specs.KeyTexts.{HasStrings}
 use Rattle.units.specs.Office.{Office, project_in}
 use Rattle.units.specs.declared.unit.Key.{Key}
 use Rattle.request_book.specs.declared.book.Record.{Record}
-use Rattle.deliveries.specs.OfficeChanges.{changed_by, IsPossibleChange}
-use Rattle.deliveries.specs.OfficeRules.{KeepsRules}
-use Rattle.deliveries.specs.UnitAccess.{with_write_in, IsPossibleWrite}
-use Rattle.deliveries.specs.declared.values.Change.{Change}
-use Rattle.deliveries.specs.declared.values.Change.TheVariants.{OneRole, NewPolicy, NewDomain, InDomain}
-use Rattle.deliveries.specs.declared.values.UnitWrite.{UnitWrite}
-use Rattle.deliveries.proofs.domains.InDomains.{with_project-same}
+use Rattle.office_specification.specs.OfficeChanges.{changed_by, IsPossibleChange}
+use Rattle.office_specification.specs.OfficeRules.{KeepsRules}
+use Rattle.office_specification.specs.UnitAccess.{with_write_in, IsPossibleWrite}
+use Rattle.office_specification.specs.declared.values.Change.{Change}
+use Rattle.office_specification.specs.declared.values.Change.TheVariants.{OneRole, NewPolicy, NewDomain, InDomain}
+use Rattle.office_specification.specs.declared.values.UnitWrite.{UnitWrite}
+use Rattle.office_specification.proofs.domains.InDomains.{with_project-same}
 use Rattle.sql_schema.specs.Inside.{AreOfficeTablesOf}
 use Rattle.sql_schema.specs.Layouts.{by_domain, rows_named}
 use Rattle.sql_meaning.specs.Domains.{HoldsOwnDomains, office_of_rows, meaning_by_domain}

@@ -6,11 +6,11 @@ use Rattle.sqlite.specs.Effect.{Database}
 use Rattle.po_text.specs.Texts.{Text}
 use Rattle.units.specs.declared.unit.Key.{Key}
 use Rattle.request_book.specs.declared.book.Record.{Record}
-use Rattle.deliveries.specs.declared.values.Change.{Change}
-use Rattle.deliveries.specs.declared.values.Change.TheVariants.{OneRole, NewPolicy, NewDomain, InDomain}
-use Rattle.deliveries.specs.declared.values.DomainChange.{DomainChange}
-use Rattle.deliveries.specs.declared.values.DomainChange.TheVariants.{NewLanguage, NewTemplate}
-use Rattle.deliveries.specs.declared.values.UnitWrite.{UnitWrite}
+use Rattle.office_specification.specs.declared.values.Change.{Change}
+use Rattle.office_specification.specs.declared.values.Change.TheVariants.{OneRole, NewPolicy, NewDomain, InDomain}
+use Rattle.office_specification.specs.declared.values.DomainChange.{DomainChange}
+use Rattle.office_specification.specs.declared.values.DomainChange.TheVariants.{NewLanguage, NewTemplate}
+use Rattle.office_specification.specs.declared.values.UnitWrite.{UnitWrite}
 use Rattle.sql_columns.specs.Numbers.{role_number}
 use Rattle.sql_schema.specs.Keys.{has_text}
 use Rattle.sql_schema.specs.Layouts.{NamedRows, rows_named}

@@ -5,10 +5,10 @@ use Rattle.sqlite.specs.Effect.{Database}
 use Rattle.sqlite.specs.Order.{Row}
 use Rattle.sqlite_rules.proofs.ListLemmas.{some_has, some_from}
 use Rattle.po_text.specs.Texts.{Text}
-use Rattle.deliveries.proofs.domains.InDomains.{equal_domains}
+use Rattle.office_specification.proofs.domains.InDomains.{equal_domains}
 use Rattle.sql_schema.specs.Keys.{first_text, has_text}
 use Rattle.sql_schema.specs.Layouts.{NamedRows, rows_named}
-use Rattle.sql_schema.proofs.DomainViews.{is_text}
+use Rattle.sql_schema.proofs.DomainsSeen.{is_text}
 use Rattle.sql_statements.specs.DomainAnswers.{ShowsDomain}
 use Rattle.sql_meaning.specs.Domains.{is_domain}
 use Rattle.sql_figures.specs.Figures.{FiguresStay}

@@ -22,8 +22,8 @@ use Rattle.sql_schema.specs.Keys.{text_at, has_text, columns}
 use Rattle.sqlite.specs.Effect.{Database}
 use Rattle.sql_schema.specs.Inside.{Then, AreOfficeTablesOf}
 use Rattle.sql_schema.specs.Layouts.{by_domain, NamedRows, rows_named}
-use Rattle.sql_schema.specs.Views.{seen_in, entry_seen}
-use Rattle.sql_schema.proofs.Views.{from_view}
+use Rattle.sql_schema.specs.SeenRows.{seen_in, entry_seen}
+use Rattle.sql_schema.proofs.SeenRows.{from_seen}
 use Rattle.sql_statements.specs.DomainEntries.{is_entry_of}
 use Rattle.sql_statements.specs.Tables.{ShowsTemplateIn}
 use Rattle.sql_statements.specs.Taken.{TakesRows}
@@ -114,7 +114,7 @@ module _ (domain : Text) (tables : NamedRows) (shown : List Row) (shows : ShowsT
   -- a row that is seen is its columns
   whole : (r : Row) → Has rows r → r ≡ column r 0 ∷ Null ∷ column r 2 ∷ column r 3 ∷ column r 4 ∷ column r 5 ∷ column r 6 ∷ []
   whole r there =
-      let it = from_view (has_text 1 domain) entry_seen (tables (codes "d_template")) r there in
+      let it = from_seen (has_text 1 domain) entry_seen (tables (codes "d_template")) r there in
       subst (λ (v : Row). v ≡ column v 0 ∷ Null ∷ column v 2 ∷ column v 3 ∷ column v 4 ∷ column v 5 ∷ column v 6 ∷ []) (sym it.3) refl
 
   -- the row that shows an entry at its place

@@ -18,8 +18,8 @@ use Rattle.units.specs.declared.unit.Suggestion.{Suggestion}
 use Rattle.sql_schema.specs.Inside.{AreOfficeTablesOf, IsInOrder}
 use Rattle.sql_schema.specs.Keys.{has_text, is_on_unit, columns}
 use Rattle.sql_schema.specs.Layouts.{by_domain, rows_named}
-use Rattle.sql_schema.specs.Views.{suggestion_seen}
-use Rattle.sql_schema.proofs.Views.{from_view}
+use Rattle.sql_schema.specs.SeenRows.{suggestion_seen}
+use Rattle.sql_schema.proofs.SeenRows.{from_seen}
 use Rattle.sql_statements.specs.DomainAnswers.{ShowsPlaces}
 use Rattle.sql_statements.specs.DomainCleared.{is_on_domain_unit}
 use Rattle.sql_meaning.specs.Values.{integer_at}
@@ -81,7 +81,7 @@ pub places_before : (db : Database) → AreOfficeTablesOf by_domain db → (doma
     → AreBefore lang key place (seen domain db (codes "suggestion"))
 places_before db ready domain lang key rows place shown before x there on =
     let all = rows_named db (codes "d_suggestion") in
-    let r = from_view (has_text 2 domain) suggestion_seen all x there in
+    let r = from_seen (has_text 2 domain) suggestion_seen all x there in
     let on_it : is_on_unit lang key (suggestion_seen r.0) ≡ true = subst (λ (y : Row). is_on_unit lang key y ≡ true) r.3 on in
     let of_unit : is_on_domain_unit domain lang key r.0 ≡ true = and_from _ _ r.2 on_it in
     let on_unit = filter (is_on_domain_unit domain lang key) all in

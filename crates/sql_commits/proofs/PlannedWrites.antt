@@ -9,7 +9,7 @@ use Rattle.units.specs.Rules.{plural_field}
 use Rattle.units.specs.Units.{key_of, key_text}
 use Rattle.units.specs.declared.unit.Unit.{Unit}
 use Rattle.template_update.specs.Marks.{unmarked}
-use Rattle.deliveries.specs.ProjectActs.{LanguagePlan}
+use Rattle.office_specification.specs.ProjectActs.{LanguagePlan}
 use Rattle.sql_columns.specs.Numbers.{state_number, flag_number}
 use Rattle.sql_columns.specs.Written.{texts_text, previous_text, header_text}
 use Rattle.sql_schema.specs.Inside.{AreOfficeTablesOf, IsInsideOf, PutsRow, PutsIn, HoldsValues}

@@ -15,14 +15,14 @@ use Rattle.units.specs.declared.unit.Key.{Key}
 use Rattle.units.specs.declared.unit.Suggestion.{Suggestion}
 use Rattle.units.specs.declared.unit.Unit.{Unit}
 use Rattle.units.specs.declared.unit.UnitView.{UnitView}
-use Rattle.deliveries.specs.Counting.{none_counted}
-use Rattle.deliveries.specs.declared.tally.Tally.{Tally}
+use Rattle.office_specification.specs.Counting.{none_counted}
+use Rattle.office_specification.specs.declared.tally.Tally.{Tally}
 use Rattle.tables.specs.Tallies.{counted, moved}
 use Rattle.sql_schema.specs.Inside.{AreOfficeTablesOf}
 use Rattle.sql_schema.specs.Keys.{has_text, is_on_unit, columns}
 use Rattle.sql_schema.specs.Layouts.{by_domain, NamedRows, rows_named}
-use Rattle.sql_schema.specs.Views.{suggestion_seen, seen_in}
-use Rattle.sql_schema.proofs.DomainViews.{unit_found_seen}
+use Rattle.sql_schema.specs.SeenRows.{suggestion_seen, seen_in}
+use Rattle.sql_schema.proofs.DomainsSeen.{unit_found_seen}
 use Rattle.sql_statements.specs.DomainAnswers.{ShowsDomainUnit, ShowsPlaces}
 use Rattle.sql_statements.specs.DomainCleared.{is_on_domain_unit}
 use Rattle.sql_statements.proofs.Seen.{mapped_seen, filtered_seen}

@@ -4,7 +4,7 @@ use Rattle.sqlite.specs.declared.types.Value.TheVariants.{Int, Text as Words}
 use Rattle.sqlite.specs.Effect.{Database}
 use Rattle.sqlite.specs.Order.{Row}
 use Rattle.po_text.specs.Texts.{Text}
-use Rattle.deliveries.specs.declared.tally.Tally.{Tally}
+use Rattle.office_specification.specs.declared.tally.Tally.{Tally}
 use Rattle.sql_schema.specs.Inside.{PutsRow, HoldsValues}
 use Rattle.sql_schema.specs.Keys.{key_texts}
 use Rattle.sql_meaning.specs.Cells.{tally_cells}

@@ -7,10 +7,10 @@ use Rattle.units.specs.Units.{shown_state}
 use Rattle.units.specs.declared.unit.Unit.{Unit}
 use Rattle.units.specs.declared.unit.ShownState.{ShownState}
 use Rattle.units.specs.declared.unit.ShownState.TheVariants.{Untranslated, NeedsEditing, Translated, Approved, ReadOnly}
-use Rattle.deliveries.specs.declared.tally.Tally.{Tally}
-use Rattle.deliveries.specs.Tally.{counts_in}
-use Rattle.deliveries.specs.Counting.{none_counted, one_more}
-use Rattle.deliveries.proofs.tallies.Countings.{none_and, adds_obsolete, adds_shown}
+use Rattle.office_specification.specs.declared.tally.Tally.{Tally}
+use Rattle.office_specification.specs.Tally.{counts_in}
+use Rattle.office_specification.specs.Counting.{none_counted, one_more}
+use Rattle.office_specification.proofs.tallies.Countings.{none_and, adds_obsolete, adds_shown}
 use Rattle.tables.specs.Tallies.{counted, moved}
 use Rattle.sql_commits.specs.Counted.{CountsOneMore}
 

@@ -20,10 +20,10 @@ use Rattle.request_book.specs.Words.{number_text}
 use Rattle.sql_schema.specs.Inside.{AreOfficeTablesOf, Then}
 use Rattle.sql_schema.specs.Keys.{text_at, first_text, first_texts, has_text, is_on_unit, columns}
 use Rattle.sql_schema.specs.Layouts.{by_domain, rows_named, SparesOthers}
-use Rattle.sql_schema.specs.Views.{suggestion_seen}
+use Rattle.sql_schema.specs.SeenRows.{suggestion_seen}
 use Rattle.sql_schema.proofs.DomainRows.{one_d_vote}
-use Rattle.sql_schema.proofs.DomainViews.{is_text}
-use Rattle.sql_schema.proofs.Views.{from_view, to_view}
+use Rattle.sql_schema.proofs.DomainsSeen.{is_text}
+use Rattle.sql_schema.proofs.SeenRows.{from_seen, to_seen}
 use Rattle.sql_statements.specs.DomainAnswers.{ShowsPlaceOf}
 use Rattle.sql_statements.proofs.SeenAnswers.{votes_shown_seen}
 use Rattle.sql_meaning.specs.Meaning.{votes_in}
@@ -55,12 +55,12 @@ suggestion_told domain lang key number db (Some shown) it =
     let of_lang : text_at 3 it.0 ≡ lang = let e = it.2 in cc in
     let of_key : text_at 4 it.0 ≡ key = let e = it.2 in cc in
     some_from (λ x. has_text 1 (number_text number) x && is_on_unit lang key x) (seen domain db (codes "suggestion")) row
-    (to_view (has_text 2 domain) suggestion_seen (rows_named db (codes "d_suggestion")) it.0 it.1 (is_text 2 domain it.0 name))
+    (to_seen (has_text 2 domain) suggestion_seen (rows_named db (codes "d_suggestion")) it.0 it.1 (is_text 2 domain it.0 name))
     (and_from _ _ (is_text 1 (number_text number) row of_number) (and_from _ _ (is_text 2 lang row of_lang) (is_text 3 key row of_key)))
 suggestion_told domain lang key number db None none =
     false_from_ne_true _ (λ there.
     let x = some_has (λ x. has_text 1 (number_text number) x && is_on_unit lang key x) (seen domain db (codes "suggestion")) there in
-    let r = from_view (has_text 2 domain) suggestion_seen (rows_named db (codes "d_suggestion")) x.0 x.1 in
+    let r = from_seen (has_text 2 domain) suggestion_seen (rows_named db (codes "d_suggestion")) x.0 x.1 in
     let parts = and_parts (has_text 1 (number_text number) x.0) (is_on_unit lang key x.0) x.2 in
     let unit = and_parts (has_text 2 lang x.0) (has_text 3 key x.0) parts.1 in
     let of_number : text_at 1 r.0 ≡ number_text number = ap (text_at 1) (sym r.3) ∙ texts_are_one (text_at 1 x.0) (number_text number) parts.0 in
@@ -75,7 +75,7 @@ votes_seen : (db : Database) → AreOfficeTablesOf by_domain db → (domain numb
     → votes_in (seen domain db) number ≡ votes_among (rows_named db (codes "d_vote")) number
 votes_seen db ready domain number row there is =
     let all = rows_named db (codes "d_vote") in
-    let r = from_view (has_text 2 domain) suggestion_seen (rows_named db (codes "d_suggestion")) row there in
+    let r = from_seen (has_text 2 domain) suggestion_seen (rows_named db (codes "d_suggestion")) row there in
     let named : first_text r.0 ≡ number = ap first_text (sym r.3) ∙ is in
     let shown : List Row = map (columns (2 ∷ 3 ∷ [])) (filter (has_text 1 number) all) in
     let one : OneEach first_texts all = one_d_vote db ready.schema ready.sound (ready.tables (codes "d_vote") refl) in

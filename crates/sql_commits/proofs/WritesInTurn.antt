@@ -36,7 +36,7 @@ use Rattle.sql_schema.specs.Layouts.{rows_named}
 use Rattle.sql_schema.proofs.Layouts.{names_differ}
 use Rattle.sql_statements.specs.Added.{AddsRow}
 use Rattle.units.specs.Office.{same_domain}
-use Rattle.sql_schema.specs.Views.{AreSameByName}
+use Rattle.sql_schema.specs.SeenRows.{AreSameByName}
 use Rattle.sql_changes.specs.OnDomains.{OnDomain, MakesIf, SparesDomains}
 use Rattle.sql_changes.proofs.DomainWrites.{seen, on_domain_then, spares_first, spares_last, nothing_on_domain, suggestion_on_domain, sum_on_domains, vote_on_domain}
 use Rattle.sql_commits.specs.Figures.{PutsSum}

@@ -3,10 +3,10 @@ use Rattle.std.specs.Prelude.{◌≡◌, Bool, true, false}
 use Rattle.sqlite.specs.Effect.{Database}
 use Rattle.po_text.specs.Texts.{Text}
 use Rattle.units.specs.declared.unit.Unit.{Unit}
-use Rattle.deliveries.specs.declared.values.Change.{Change}
-use Rattle.deliveries.specs.declared.values.Change.TheVariants.{OneRole, NewPolicy, NewDomain, InDomain}
-use Rattle.deliveries.specs.declared.values.DomainChange.{DomainChange}
-use Rattle.deliveries.specs.declared.values.DomainChange.TheVariants.{NewLanguage, NewTemplate}
+use Rattle.office_specification.specs.declared.values.Change.{Change}
+use Rattle.office_specification.specs.declared.values.Change.TheVariants.{OneRole, NewPolicy, NewDomain, InDomain}
+use Rattle.office_specification.specs.declared.values.DomainChange.{DomainChange}
+use Rattle.office_specification.specs.declared.values.DomainChange.TheVariants.{NewLanguage, NewTemplate}
 use Rattle.sql_columns.specs.Numbers.{role_number}
 use Rattle.sql_meaning.specs.Beginnings.{PutsDomain}
 use Rattle.sql_meaning.specs.Domains.{is_domain}

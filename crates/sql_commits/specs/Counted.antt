@@ -7,8 +7,8 @@ use Rattle.po_text.specs.Texts.{Text}
 use Rattle.units.specs.declared.unit.Key.{Key}
 use Rattle.units.specs.declared.unit.Suggestion.{Suggestion}
 use Rattle.units.specs.declared.unit.Unit.{Unit}
-use Rattle.deliveries.specs.Counting.{none_counted}
-use Rattle.deliveries.specs.declared.tally.Tally.{Tally}
+use Rattle.office_specification.specs.Counting.{none_counted}
+use Rattle.office_specification.specs.declared.tally.Tally.{Tally}
 use Rattle.tables.specs.Tallies.{counted, moved}
 use Rattle.sql_commits.specs.Figures.{project_at}
 use Rattle.sql_commits.specs.declared.unit_counts.CountedValues.{CountedValues}

@@ -10,14 +10,14 @@ use Rattle.units.specs.declared.unit.Suggestion.{Suggestion}
 use Rattle.units.specs.declared.unit.Policy.{Policy}
 use Rattle.units.specs.declared.unit.UnitView.{UnitView}
 use Rattle.units.specs.declared.votes.VoteValue.{VoteValue}
-use Rattle.deliveries.specs.declared.tally.Tally.{Tally}
-use Rattle.deliveries.specs.UnitAccess.{view_written, IsWriteOver}
-use Rattle.deliveries.specs.declared.values.UnitWrite.{UnitWrite}
-use Rattle.deliveries.specs.declared.values.UnitWrite.TheVariants.{Whole, Row, Suggested, Voted}
-use Rattle.deliveries.specs.declared.values.Change.{Change}
-use Rattle.deliveries.specs.declared.values.Change.TheVariants.{OneRole, NewPolicy, NewDomain, InDomain}
-use Rattle.deliveries.specs.declared.values.DomainChange.{DomainChange}
-use Rattle.deliveries.specs.declared.values.DomainChange.TheVariants.{NewLanguage, NewTemplate}
+use Rattle.office_specification.specs.declared.tally.Tally.{Tally}
+use Rattle.office_specification.specs.UnitAccess.{view_written, IsWriteOver}
+use Rattle.office_specification.specs.declared.values.UnitWrite.{UnitWrite}
+use Rattle.office_specification.specs.declared.values.UnitWrite.TheVariants.{Whole, Row, Suggested, Voted}
+use Rattle.office_specification.specs.declared.values.Change.{Change}
+use Rattle.office_specification.specs.declared.values.Change.TheVariants.{OneRole, NewPolicy, NewDomain, InDomain}
+use Rattle.office_specification.specs.declared.values.DomainChange.{DomainChange}
+use Rattle.office_specification.specs.declared.values.DomainChange.TheVariants.{NewLanguage, NewTemplate}
 use Rattle.tables.specs.Tallies.{counted}
 use Rattle.sql_schema.specs.Inside.{PutsRow, HoldsValues, Then}
 use Rattle.sql_schema.specs.Keys.{first_text, key_texts}

@@ -17,7 +17,7 @@ use crate::roles::write_role;
 use crate::templates::write_template;
 use crate::transactions::finish;
 use crate::unit_parts::write_of_unit;
-use deliveries::{Change, DomainChange, UnitWrite};
+use office_specification::{Change, DomainChange, UnitWrite};
 use request_book::Record;
 use sql_decoding::Failure;
 use sql_statements::domains::{find_domain, put_domain};

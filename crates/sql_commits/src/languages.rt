@@ -10,7 +10,7 @@ ghost use Rattle.sql_figures.specs.Figures.{with_tally, FiguresFollow, FiguresSt
 
 use crate::planned_units::write_units;
 use crate::tallies::put_tally_of;
-use deliveries::Tally;
+use office_specification::Tally;
 use po_text::Entry;
 use sql_columns::{header_column, rule_column};
 use sql_decoding::Failure;

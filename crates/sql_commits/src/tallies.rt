@@ -13,7 +13,7 @@ ghost use Rattle.sql_figures.specs.Figures.{with_tallies, moved_at, FiguresFollo
 use crate::unit_counts::{
     CountedValues, counted, counted_so, counted_there, one_suggestion, values_beside, values_of,
 };
-use deliveries::Tally;
+use office_specification::Tally;
 use sql_decoding::{Failure, tally_in, unit_numbers};
 use sql_keepable::key_fits;
 use sql_statements::domain_suggestions::places_of;

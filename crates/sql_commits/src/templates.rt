@@ -10,7 +10,7 @@ ghost use Rattle.sql_figures.specs.Figures.{with_tallies, FiguresFollow};
 use crate::changed_entries::change_entries;
 use crate::planned_units::write_plans_back;
 use crate::tallies::put_tallies;
-use deliveries::Tally;
+use office_specification::Tally;
 use po_text::Entry;
 use sql_decoding::Failure;
 use sqlite::{Alter, Transaction};

@@ -1,6 +1,6 @@
 //! What one unit counts in a tally.
 ghost use Rattle.std.specs.Prelude.{◌≡◌, List, Option, IfOk};
-ghost use Rattle.deliveries.specs.Counting.{none_counted, one_more};
+ghost use Rattle.office_specification.specs.Counting.{none_counted, one_more};
 ghost use Rattle.sql_commits.specs.Counted.{HasValues, HasValuesIf, CountsOneMore};
 ghost use Rattle.sql_figures.specs.KeptTallies.{counted_at};
 ghost use Rattle.tables.specs.Tallies.{counted as counts_one};
@@ -10,7 +10,7 @@ ghost use Rattle.units.specs.declared.unit.Key.{Key as KeyValue};
 ghost use Rattle.units.specs.declared.unit.Unit.{Unit as UnitValue};
 ghost use Rattle.po_text.specs.declared.entry.Entry.{Entry as EntryValue};
 
-use deliveries::Tally;
+use office_specification::Tally;
 use po_text::Entry;
 use sql_decoding::{Failure, UnitNumbers};
 use units::{ShownState, Unit, UnitState, is_read_only};

@@ -12,7 +12,7 @@ ghost use Rattle.units.specs.Units.{key_text};
 
 use crate::tallies::{count_suggestion, move_row_tally, move_tally};
 use crate::unit_writes::{add_suggestion, write_row, write_unit};
-use deliveries::UnitWrite;
+use office_specification::UnitWrite;
 use sql_columns::{number_column, vote_column};
 use sql_decoding::{Failure, natural_in};
 use sql_statements::domain_suggestions::{find_domain_place, places_of};

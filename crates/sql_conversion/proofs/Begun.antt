@@ -14,7 +14,7 @@ use Rattle.sql_schema.specs.Inside.{AreOfficeTablesOf}
 use Rattle.sql_schema.specs.Keys.{first_text, has_text, row_number, columns}
 use Rattle.sql_schema.specs.Layouts.{for_main, Layout, made_new, made_second, HasLayoutOf, schema_of, NamedRows, rows_in, rows_named}
 use Rattle.sqlite.specs.Schema.{Schema}
-use Rattle.sql_schema.specs.Views.{viewed, entry_seen, language_seen, unit_seen, suggestion_seen, is_vote_in, vote_seen, seen_in}
+use Rattle.sql_schema.specs.SeenRows.{rows_seen, entry_seen, language_seen, unit_seen, suggestion_seen, is_vote_in, vote_seen, seen_in}
 use Rattle.sql_schema.proofs.Layouts.{names_differ}
 use Rattle.sql_meaning.specs.Beginnings.{PutsMain}
 use Rattle.sql_meaning.specs.Domains.{IsMainAlone}
@@ -117,24 +117,24 @@ module _ {figures : Bool} (old made named told : Database) (ready : AreOfficeTab
 
     no_entries : seen_in domain (rows_named told) (codes "template") ≡ []
     no_entries =
-        put.others (codes "template") (names_differ refl) ∙ seen_named (codes "template") ∙ ap (viewed (has_text 1 domain) entry_seen) (keeps (codes "d_template") ∙ none.template)
+        put.others (codes "template") (names_differ refl) ∙ seen_named (codes "template") ∙ ap (rows_seen (has_text 1 domain) entry_seen) (keeps (codes "d_template") ∙ none.template)
 
     no_languages : seen_in domain (rows_named told) (codes "language") ≡ []
     no_languages =
-        put.others (codes "language") (names_differ refl) ∙ seen_named (codes "language") ∙ ap (viewed (has_text 1 domain) language_seen) (keeps (codes "d_language") ∙ none.languages)
+        put.others (codes "language") (names_differ refl) ∙ seen_named (codes "language") ∙ ap (rows_seen (has_text 1 domain) language_seen) (keeps (codes "d_language") ∙ none.languages)
 
     no_units : seen_in domain (rows_named told) (codes "unit") ≡ []
-    no_units = put.others (codes "unit") (names_differ refl) ∙ seen_named (codes "unit") ∙ ap (viewed (has_text 1 domain) unit_seen) (keeps (codes "d_unit") ∙ none.units)
+    no_units = put.others (codes "unit") (names_differ refl) ∙ seen_named (codes "unit") ∙ ap (rows_seen (has_text 1 domain) unit_seen) (keeps (codes "d_unit") ∙ none.units)
 
     no_suggestions : seen_in domain (rows_named told) (codes "suggestion") ≡ []
     no_suggestions =
         put.others (codes "suggestion") (names_differ refl) ∙ seen_named (codes "suggestion")
-        ∙ ap (viewed (has_text 2 domain) suggestion_seen) (keeps (codes "d_suggestion") ∙ none.suggestions)
+        ∙ ap (rows_seen (has_text 2 domain) suggestion_seen) (keeps (codes "d_suggestion") ∙ none.suggestions)
 
     no_votes : seen_in domain (rows_named told) (codes "vote") ≡ []
     no_votes =
         put.others (codes "vote") (names_differ refl) ∙ seen_named (codes "vote")
-        ∙ ap (viewed (is_vote_in domain (rows_named made (codes "d_suggestion"))) vote_seen) (keeps (codes "d_vote") ∙ none.votes)
+        ∙ ap (rows_seen (is_vote_in domain (rows_named made (codes "d_suggestion"))) vote_seen) (keeps (codes "d_vote") ∙ none.votes)
 
     nothing_seen : SeesNothing (seen_in domain (rows_named told))
     nothing_seen = record {

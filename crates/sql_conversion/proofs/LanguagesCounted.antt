@@ -10,13 +10,13 @@ use Rattle.po_text.specs.Texts.{Text, text_eq}
 use Rattle.units.specs.Office.{Office, main, same_domain, project_in}
 use Rattle.units.specs.Offices.{IsOffice}
 use Rattle.units.specs.Project.{Project, units_of}
-use Rattle.deliveries.specs.Counting.{none_counted}
-use Rattle.deliveries.specs.declared.tally.Tally.{Tally}
-use Rattle.deliveries.specs.MainAlone.{main_alone}
-use Rattle.deliveries.specs.Tally.{counts_in, counts_of}
-use Rattle.deliveries.proofs.domains.InDomains.{equal_domains}
-use Rattle.deliveries.proofs.domains.MainAlone.{has-main, in-main}
-use Rattle.office_rules.specs.Given.{AreAll}
+use Rattle.office_specification.specs.Counting.{none_counted}
+use Rattle.office_specification.specs.declared.tally.Tally.{Tally}
+use Rattle.office_specification.specs.MainAlone.{main_alone}
+use Rattle.office_specification.specs.Tally.{counts_in, counts_of}
+use Rattle.office_specification.proofs.domains.InDomains.{equal_domains}
+use Rattle.office_specification.proofs.domains.MainAlone.{has-main, in-main}
+use Rattle.rule_tests.specs.Given.{AreAll}
 use Rattle.sql_schema.specs.Layouts.{rows_named}
 use Rattle.sql_meaning.specs.Domains.{office_of_rows}
 use Rattle.sql_figures.specs.KeptTallies.{Counts, office_counts, AreTalliesOf}

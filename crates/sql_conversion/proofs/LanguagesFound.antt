@@ -6,10 +6,10 @@ use Rattle.std.specs.Option.{option_copied}
 use Rattle.po_text.specs.declared.entry.Entry.{Entry}
 use Rattle.po_text.specs.Texts.{Text, text_cmp}
 use Rattle.units.specs.Project.{units_of}
-use Rattle.deliveries.specs.declared.values.Language.{Language}
+use Rattle.office_specification.specs.declared.values.Language.{Language}
 use Rattle.office_maps.specs.declared.project_maps.ProjectMaps.{ProjectMaps}
 use Rattle.office_maps.specs.OfficeIn.{lent_project}
-use Rattle.office_maps.proofs.OfficeViews.{header_at}
+use Rattle.office_maps.proofs.OfficeLookUps.{header_at}
 use Rattle.sql_schema.specs.Layouts.{NamedRows}
 use Rattle.sql_conversion.specs.Conversion.{WritesWhole, WritesIf, WritesThere}
 

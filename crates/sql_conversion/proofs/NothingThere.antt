@@ -9,7 +9,7 @@ use Rattle.po_text.specs.Texts.{Text, text_cmp}
 use Rattle.po_text.specs.declared.entry.Entry.{Entry}
 use Rattle.units.specs.Office.{Office, main, empty_domain, as_project, project_in}
 use Rattle.units.specs.Project.{Project}
-use Rattle.deliveries.proofs.domains.InDomains.{no_domain_yet}
+use Rattle.office_specification.proofs.domains.InDomains.{no_domain_yet}
 use Rattle.sql_schema.specs.Creation.{KeepsNamedRows}
 use Rattle.sql_schema.specs.Inside.{IsInsideOf, OnRows, PutsRow, Then}
 use Rattle.sql_schema.specs.Keys.{first_text}

@@ -5,12 +5,12 @@ use Rattle.sqlite.specs.Effect.{Database}
 use Rattle.sqlite.specs.declared.types.Value.TheVariants.{Text as Words}
 use Rattle.sqlite.specs.Order.{Row}
 use Rattle.sqlite_rules.specs.Lists.{Has}
-use Rattle.deliveries.specs.MainAlone.{main_alone}
-use Rattle.deliveries.specs.OfficeRules.{KeepsRules}
-use Rattle.deliveries.proofs.domains.InDomains.{equal_domains}
-use Rattle.deliveries.proofs.domains.MainAlone.{in-main}
-use Rattle.office_rules.proofs.MainAlone.{project_keeps}
-use Rattle.office_rules.specs.Given.{AreAll}
+use Rattle.office_specification.specs.MainAlone.{main_alone}
+use Rattle.office_specification.specs.OfficeRules.{KeepsRules}
+use Rattle.office_specification.proofs.domains.InDomains.{equal_domains}
+use Rattle.office_specification.proofs.domains.MainAlone.{in-main}
+use Rattle.rule_tests.proofs.MainAlone.{project_keeps}
+use Rattle.rule_tests.specs.Given.{AreAll}
 use Rattle.po_text.specs.Texts.{Text}
 use Rattle.po_text.specs.Valid.{IsValid}
 use Rattle.po_text.specs.declared.entry.Entry.{Entry}
@@ -21,7 +21,7 @@ use Rattle.units.specs.Projects.{IsProject, IsTemplateEntry}
 use Rattle.request_book.specs.Book.{OfficeWithBook}
 use Rattle.sql_schema.specs.Inside.{AreOfficeTablesOf}
 use Rattle.sql_schema.specs.Layouts.{Form, for_main, by_domain, IsForMain, NamedRows, rows_named}
-use Rattle.sql_schema.specs.Views.{seen_in, AreSameByName}
+use Rattle.sql_schema.specs.SeenRows.{seen_in, AreSameByName}
 use Rattle.sql_schema.proofs.DomainRows.{domain_names}
 use Rattle.sql_schema.proofs.Layouts.{of_main, names_differ}
 use Rattle.sql_meaning.specs.Domains.{meaning_by_domain, meaning_for, is_domain, IsMainAlone}

@@ -11,8 +11,8 @@ use Rattle.units.specs.declared.unit.Unit.{Unit}
 use Rattle.units.specs.Project.{Project, units_of}
 use Rattle.units.specs.Office.{Office, main, project_in}
 use Rattle.units.specs.Offices.{IsOffice}
-use Rattle.deliveries.specs.declared.tally.Tally.{Tally}
-use Rattle.deliveries.specs.Tally.{counts_of}
+use Rattle.office_specification.specs.declared.tally.Tally.{Tally}
+use Rattle.office_specification.specs.Tally.{counts_of}
 use Rattle.request_book.specs.Book.{OfficeWithBook}
 use Rattle.sql_schema.specs.Creation.{KeepsNamedRows}
 use Rattle.sql_schema.specs.Inside.{Then, AreOfficeTablesOf}

@@ -55,7 +55,7 @@ use Rattle.tables.specs.declared.faults.Lost.TheVariants.{Memory}
 use Rattle.sql_meaning.specs.Values.{flag_at, state_at, role_at, vote_at, natural_at}
 use Rattle.sql_decoding.specs.declared.faults.Failure.{Failure}
 use Rattle.sql_decoding.specs.RowTests.{text_passes, text_or_null_passes, integer_passes, holds_text, holds_text_or_null, holds_integer, natural_passes, is_number, has_strings, is_key, are_texts, are_forms, are_previous, is_header, is_rule_of, is_flag, is_state, is_role, is_vote, is_language, IsUnread}
-use Rattle.sql_decoding.specs.ShownFound.{header_of_column}
+use Rattle.sql_decoding.specs.ShownContexts.{header_of_column}
 use Rattle.sql_decoding.proofs.RowsTold.{second_fails, memory_tells}
 
 pub unless : (b : Bool) → (b ≡ true → ⊥) → b ≡ false

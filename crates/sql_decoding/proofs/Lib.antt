@@ -1,6 +1,6 @@
 pub mod RowsTold
 pub mod ColumnsTested
 pub mod ColumnsRead
-pub mod ViewsRead
+pub mod ContextsRead
 pub mod RowsSoFar
 pub mod SuggestionsRead

@@ -26,7 +26,7 @@ use Rattle.units.specs.declared.unit.Unit.{Unit}
 use Rattle.request_book.specs.Acts.{IsNumber}
 use Rattle.request_book.specs.Words.{number_text}
 use Rattle.review.specs.Parts.{without_votes}
-use Rattle.deliveries.specs.UnitAccess.{suggestions_at, suggestion_at}
+use Rattle.office_specification.specs.UnitAccess.{suggestions_at, suggestion_at}
 use Rattle.sql_columns.specs.Readings.{number_read, key_parts}
 use Rattle.sql_columns.proofs.Keys.{parts_of_text, text_of_parts}
 use Rattle.sql_columns.proofs.Readers.{number_found, number_written}
@@ -34,7 +34,7 @@ use Rattle.sql_statements.specs.declared.unit_rows.SuggestionRows.{SuggestionRow
 use Rattle.sql_statements.specs.UnitRows.{suggestion_of, ShowsSuggestionsOn, ShowsVotesOn, ShowsOneSuggestion}
 use Rattle.sql_schema.specs.Keys.{text_at, key_texts, is_on_unit, columns}
 use Rattle.sql_schema.specs.Layouts.{NamedRows}
-use Rattle.sql_schema.proofs.DomainViews.{is_text}
+use Rattle.sql_schema.proofs.DomainsSeen.{is_text}
 use Rattle.sql_meaning.specs.RowKeys.{AreOfficeRows}
 use Rattle.sql_meaning.specs.Values.{integer_at, texts_at}
 use Rattle.sql_meaning.specs.Meaning.{number_at, key_at, place_of_row, unit_of_row, units_in, votes_in, suggestion_of_row, suggestions_in, project_of_rows}
@@ -42,7 +42,7 @@ use Rattle.sql_meaning.specs.Shown.{shown_suggestion, shown_votes}
 use Rattle.sql_meaning.proofs.MapValues.{one_found, none_found, value_of_row, row_has_value}
 use Rattle.sql_meaning.proofs.OfficeQueries.{suggestions_found, votes_found}
 use Rattle.sql_meaning.proofs.UniqueKeys.{one_place_each}
-use Rattle.sql_decoding.specs.ShownFound.{suggestion_shown}
+use Rattle.sql_decoding.specs.ShownContexts.{suggestion_shown}
 use Rattle.sql_decoding.specs.TablesRead.{with_votes}
 
 -- what the text of a number reads back to tells the text

@@ -20,7 +20,7 @@ use Rattle.sql_statements.specs.declared.whole_office.UnitTables.{UnitTables}
 use Rattle.sql_statements.specs.declared.whole_office.WholeOffice.{WholeOffice}
 use Rattle.sql_statements.specs.declared.unit_rows.SuggestionRows.{SuggestionRows}
 use Rattle.sql_statements.specs.declared.unit_rows.UnitRows.{UnitRows}
-use Rattle.sql_statements.specs.declared.unit_rows.ViewRows.{ViewRows}
+use Rattle.sql_statements.specs.declared.unit_rows.ContextRows.{ContextRows}
 use Rattle.sql_meaning.specs.OfficeShown.{template_shown}
 use Rattle.tables.specs.declared.faults.Lost.TheVariants.{Disk}
 use Rattle.sql_decoding.specs.declared.faults.Failure.{Failure}
@@ -250,8 +250,8 @@ are_unit_rows rows =
     option_map_or (λ unit. (list_all is_suggestion_with_votes rows.suggestions.items && is_unit unit) && option_map_or is_entry rows.entry true) rows.unit true
 
 -- a language wants a policy beside it
-abbrev pub are_found_rows : ViewRows → Bool
-are_found_rows rows =
+abbrev pub are_context_rows : ContextRows → Bool
+are_context_rows rows =
     option_map_or (λ language. option_map_or (λ policy.
     is_policy_row policy && (option_map_or (holds_integer is_role 0) rows.office.role true && (is_language language && are_unit_rows rows.unit))) rows.office.policy false)
     rows.office.language true

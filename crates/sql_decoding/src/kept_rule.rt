@@ -1,6 +1,6 @@
 //! The plural rule that was read last, kept with the columns that it was read of: to read a rule tests it on a thousand numbers.
 ghost use Rattle.std.specs.Prelude.{◌≡◌, ◌&&◌, true, IfOk, IfErr, IfSome};
-ghost use Rattle.sql_decoding.specs.ShownFound.{header_of_column, rule_of_column, shown_rule};
+ghost use Rattle.sql_decoding.specs.ShownContexts.{header_of_column, rule_of_column, shown_rule};
 ghost use Rattle.sql_decoding.specs.RowTests.{is_header, is_rule_of, is_language};
 ghost use Rattle.tables.specs.declared.faults.Lost.TheVariants.{Memory};
 

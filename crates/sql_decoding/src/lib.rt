@@ -5,14 +5,14 @@
 //! - `columns`, `integers`, `texts`: one column, one that is a whole number, and one that is a text
 //! - `records`: a record; `record_heads`: its number and its status alone
 //! - `units_read`: a unit with its suggestions and votes, and a template's entry
-//! - `views`: what an act on a unit needs, and a suggestion that is found
+//! - `act_contexts`: what an act on a unit needs, and a suggestion that is found
 //! - `tallies`: how many units of a language are in each state
 //! - `entries_read`: the entries of an export
 //! - `kept_rule`: the plural rule that was read last
 //! - `faults`: what a failure comes to: want of memory and a failed disk are told apart
 //!
 //! Specs: `RowTests` (which rows stand for values; `proofs/ColumnsTested` has columns that pass and that don't,
-//! `RowsTold` rows), `ShownFound`, `ShownEntries`, `RecordHeads`, `TablesRead`.
+//! `RowsTold` rows), `ShownContexts`, `ShownEntries`, `RecordHeads`, `TablesRead`.
 #![tactic(auto)]
 
 mod columns;
@@ -25,7 +25,7 @@ mod records;
 mod tallies;
 mod texts;
 mod units_read;
-mod views;
+mod act_contexts;
 
 pub use columns::{
     domain_at, is_text, is_text_or_null, key_at, lang_at, name_text_at, natural_in, role_at,
@@ -41,4 +41,4 @@ pub use units_read::{
     UnitNumbers, entry_in, put_vote, suggestion_with, suggestions_without_votes, template_entry,
     unit_numbers, unit_with,
 };
-pub use views::{found_in, header_in, policy_in, role_in, suggestion_found};
+pub use act_contexts::{context_in, header_in, policy_in, role_in, suggestion_found};

@@ -6,7 +6,7 @@ ghost use Rattle.sql_decoding.specs.RowTests.{holds_integer, is_count, is_tally,
 
 use crate::columns::integer_in;
 use crate::faults::Failure;
-use deliveries::Tally;
+use office_specification::Tally;
 use sqlite::Row;
 use tables::Lost;
 

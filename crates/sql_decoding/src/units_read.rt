@@ -5,7 +5,7 @@ ghost use Rattle.sql_columns.specs.Readings.{previous_read};
 ghost use Rattle.units.specs.Units.{no_previous as nothing_previous};
 ghost use Rattle.sql_schema.specs.Keys.{text_at};
 ghost use Rattle.sql_meaning.specs.Shown.{shown_votes, shown_entry, shown_unit};
-ghost use Rattle.sql_decoding.specs.ShownFound.{suggestion_shown};
+ghost use Rattle.sql_decoding.specs.ShownContexts.{suggestion_shown};
 ghost use Rattle.sql_decoding.specs.TablesRead.{with_votes};
 ghost use Rattle.sql_decoding.specs.RowTests.{is_entry, has_unit_texts, has_unit_numbers, is_unit, is_suggestion, is_suggestion_with_votes, is_vote_on, IsUnread, is_entry_row};
 ghost use Rattle.tables.specs.declared.faults.Lost.TheVariants.{Memory};

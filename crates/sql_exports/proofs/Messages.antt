@@ -18,7 +18,7 @@ use Rattle.po_text.specs.Texts.{Text}
 use Rattle.units.specs.Units.{key_of}
 use Rattle.units.specs.Project.{Place, place_cmp}
 use Rattle.units.specs.Orders.{place_total, place_IsAntisymmetric}
-use Rattle.deliveries.specs.ExportedEntries.{translated}
+use Rattle.office_specification.specs.ExportedEntries.{translated}
 use Rattle.sql_schema.specs.Keys.{second_text, columns, text_at}
 use Rattle.sql_meaning.specs.Meaning.{template_in, units_in, unit_of_row, place_of_row, key_at}
 use Rattle.sql_meaning.specs.Shown.{shown_entry}

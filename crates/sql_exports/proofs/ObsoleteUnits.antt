@@ -32,7 +32,7 @@ use Rattle.units.specs.Project.{Place, place_cmp, units_of}
 use Rattle.units.specs.Orders.{text_total, text_IsAntisymmetric, key_total, place_total, place_IsAntisymmetric}
 use Rattle.units.specs.declared.unit.Key.{Key}
 use Rattle.units.specs.declared.unit.Unit.{Unit}
-use Rattle.deliveries.specs.ExportedEntries.{obsolete_entry}
+use Rattle.office_specification.specs.ExportedEntries.{obsolete_entry}
 use Rattle.sql_columns.specs.Readings.{key_parts}
 use Rattle.sql_columns.proofs.Keys.{text_of_parts}
 use Rattle.sql_schema.specs.Keys.{text_at, has_text, columns}

@@ -6,7 +6,7 @@ use Rattle.std.specs.FinMap as maps
 use Rattle.po_text.specs.declared.entry.Entry.{Entry}
 use Rattle.po_text.specs.Texts.{Text}
 use Rattle.units.specs.Project.{Project}
-use Rattle.deliveries.specs.ExportedEntries.{catalogue_of}
+use Rattle.office_specification.specs.ExportedEntries.{catalogue_of}
 use Rattle.tables.specs.Entries.{entries_of}
 use Rattle.sql_exports.specs.Entries.{messages_of, obsolete_of}
 

@@ -10,11 +10,11 @@ use Rattle.sql_schema.specs.Inside.{AreOfficeTablesOf}
 use Rattle.sql_schema.specs.Keys.{text_at, has_text}
 use Rattle.sql_schema.specs.Layouts.{by_domain, NamedRows, rows_named}
 use Rattle.sql_schema.specs.Schema.{d_unit_table}
-use Rattle.sql_schema.specs.Views.{unit_seen, seen_in}
+use Rattle.sql_schema.specs.SeenRows.{unit_seen, seen_in}
 use Rattle.sql_schema.proofs.DomainRows.{d_unit_texts}
 use Rattle.sql_schema.proofs.Layouts.{d_unit_placed}
 use Rattle.sql_schema.proofs.TextKeys.{holds_int}
-use Rattle.sql_schema.proofs.Views.{from_view}
+use Rattle.sql_schema.proofs.SeenRows.{from_seen}
 use Rattle.sql_meaning.specs.RowKeys.{HoldsIntegers, HoldsWords}
 use Rattle.sql_meaning.specs.Values.{integer_at}
 use Rattle.sql_meaning.proofs.DomainOfficeRows.{once_seen}
@@ -28,7 +28,7 @@ pub record HasUnitColumns (tables : NamedRows) : Type 0 where
 
 module _ (db : Database) (ready : AreOfficeTablesOf by_domain db) (domain : Text) where
   of_unit : (P : Row → Type 0) → ((row : Row) → Has (rows_named db (codes "d_unit")) row → P (unit_seen row)) → (x : Row) → Has (seen_in domain (rows_named db) (codes "unit")) x → P x
-  of_unit P each x there = let r = from_view (has_text 1 domain) unit_seen (rows_named db (codes "d_unit")) x there in subst P (sym r.3) (each r.0 r.1)
+  of_unit P each x there = let r = from_seen (has_text 1 domain) unit_seen (rows_named db (codes "d_unit")) x there in subst P (sym r.3) (each r.0 r.1)
 
   pub unit_columns : HasUnitColumns (seen_in domain (rows_named db))
   unit_columns = record {

@@ -10,7 +10,7 @@ ghost use Rattle.sql_meaning.specs.Meaning.{project_of_rows};
 ghost use Rattle.sql_exports.specs.Handing.{Gives};
 ghost use Rattle.sql_exports.specs.Entries.{messages_of, obsolete_of};
 ghost use Rattle.sql_schema.specs.Layouts.{by_domain, rows_named};
-ghost use Rattle.sql_schema.specs.Views.{seen_in};
+ghost use Rattle.sql_schema.specs.SeenRows.{seen_in};
 
 use crate::handing::{hand_messages, hand_obsolete};
 use crate::header::look_up_header;

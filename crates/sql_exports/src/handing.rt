@@ -10,7 +10,7 @@ ghost use Rattle.sql_schema.specs.Whole.{IsIdleOver, IsLookUp};
 ghost use Rattle.sql_statements.specs.Queries.{AreUnits, ShowsMessagesIn, ShowsObsoleteIn};
 ghost use Rattle.sql_exports.specs.Handing.{GivesAllBut, IsTold};
 ghost use Rattle.sql_schema.specs.Layouts.{by_domain, rows_named};
-ghost use Rattle.sql_schema.specs.Views.{seen_in};
+ghost use Rattle.sql_schema.specs.SeenRows.{seen_in};
 
 use crate::entry_rows::{EntryReader, EntryRows};
 use po_text::Entry;
@@ -21,7 +21,7 @@ use sqlite::{Alter, Connection};
 use tables::{EachFault, EntrySink};
 
 /// What a walk that was cut short comes to: the query's failure, or what was told of a row.
-fn told<R: Drop>(fault: WalkFault<EachFault<R>>) -> EachFault<R>
+fn walk_fault<R: Drop>(fault: WalkFault<EachFault<R>>) -> EachFault<R>
     ensures { IsTold fault result }
 {
     match fault {
@@ -51,7 +51,7 @@ pub(crate) fn hand_messages<'a, S: Alter, R: EntryReader, K: EntrySink>(
     let mut rows = EntryRows::new(reader, held, sink);
     match walk_domain_messages(connection, domain, lang, &mut rows) {
         Ok(()) => Ok(()),
-        Err(fault) => Err(told(fault)),
+        Err(fault) => Err(walk_fault(fault)),
     }
 }
 
@@ -76,6 +76,6 @@ pub(crate) fn hand_obsolete<'a, S: Alter, R: EntryReader, K: EntrySink>(
     let mut rows = EntryRows::new(reader, held, sink);
     match walk_domain_obsolete(connection, domain, lang, &mut rows) {
         Ok(()) => Ok(()),
-        Err(fault) => Err(told(fault)),
+        Err(fault) => Err(walk_fault(fault)),
     }
 }

@@ -15,12 +15,12 @@ use Rattle.sqlite_rules.specs.Lists.{Has}
 use Rattle.po_text.specs.Texts.{Text, text_cmp}
 use Rattle.units.specs.Units.{vote_sum}
 use Rattle.units.specs.declared.votes.VoteValue.{VoteValue}
-use Rattle.deliveries.specs.declared.tally.Tally.{Tally}
+use Rattle.office_specification.specs.declared.tally.Tally.{Tally}
 use Rattle.tables.specs.Tallies.{moved}
 use Rattle.sql_schema.specs.Inside.{AreOfficeTablesOf, PutsRow, HoldsValues, Then}
 use Rattle.sql_schema.specs.Keys.{first_text, first_texts, key_texts, has_text}
 use Rattle.sql_schema.specs.Layouts.{by_domain, NamedRows, rows_named, SparesOthers}
-use Rattle.sql_schema.specs.Views.{viewed, entry_seen, language_seen, unit_seen, suggestion_seen, is_vote_in, vote_seen, named_so}
+use Rattle.sql_schema.specs.SeenRows.{rows_seen, entry_seen, language_seen, unit_seen, suggestion_seen, is_vote_in, vote_seen, named_so}
 use Rattle.sql_schema.proofs.Layouts.{names_differ}
 use Rattle.sql_statements.specs.Added.{AddsRow}
 use Rattle.sql_statements.specs.DomainAnswers.{ShowsTally}
@@ -205,8 +205,8 @@ record_alone domain old new others =
     let units = others (codes "d_unit") (names_differ refl) in
     let suggestions = others (codes "d_suggestion") (names_differ refl) in
     let votes = others (codes "d_vote") (names_differ refl) in
-    λ i. project_of_rows (named_so [] (team i) (policy i) (viewed (has_text 1 domain) entry_seen (template i)) (viewed (has_text 1 domain) language_seen (languages i))
-    (viewed (has_text 1 domain) unit_seen (units i)) (viewed (has_text 2 domain) suggestion_seen (suggestions i)) (viewed (is_vote_in domain (suggestions i)) vote_seen (votes i)))
+    λ i. project_of_rows (named_so [] (team i) (policy i) (rows_seen (has_text 1 domain) entry_seen (template i)) (rows_seen (has_text 1 domain) language_seen (languages i))
+    (rows_seen (has_text 1 domain) unit_seen (units i)) (rows_seen (has_text 2 domain) suggestion_seen (suggestions i)) (rows_seen (is_vote_in domain (suggestions i)) vote_seen (votes i)))
 
 pub record_leaves_domain : (domain : Text) (old new : NamedRows) → SparesOthers (codes "record") old new → is_domain new domain ≡ is_domain old domain
 record_leaves_domain domain old new others = ap (list_any (has_text 1 domain)) (others (codes "domain") (names_differ refl))

@@ -11,8 +11,8 @@ use Rattle.po_text.specs.Texts.{Text, text_cmp}
 use Rattle.units.specs.Office.{Domain, Office, has_domain, empty_domain, as_project, project_in, with_project}
 use Rattle.units.specs.Orders.{text_total, text_IsAntisymmetric}
 use Rattle.units.specs.Project.{Project, units_of}
-use Rattle.deliveries.specs.Tally.{counts_in, counts_of}
-use Rattle.deliveries.proofs.domains.InDomains.{no_domain_yet, nothing_put}
+use Rattle.office_specification.specs.Tally.{counts_in, counts_of}
+use Rattle.office_specification.proofs.domains.InDomains.{no_domain_yet, nothing_put}
 use Rattle.sql_schema.specs.Keys.{first_text}
 use Rattle.sql_schema.specs.Layouts.{NamedRows, rows_named}
 use Rattle.sql_meaning.specs.Domains.{project_seen, domain_of_rows, domains_in, office_of_rows, is_domain}

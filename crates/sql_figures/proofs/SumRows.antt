@@ -19,7 +19,7 @@ use Rattle.sql_schema.specs.Inside.{AreOfficeTablesOf, PutsRow, HoldsValues}
 use Rattle.sql_schema.specs.Keys.{text_at, first_text, first_texts, key_texts, has_text}
 use Rattle.sql_schema.specs.Layouts.{by_domain, NamedRows, rows_named, SparesOthers}
 use Rattle.sql_schema.proofs.DomainRows.{one_d_number, one_d_vote}
-use Rattle.sql_schema.proofs.DomainViews.{is_text}
+use Rattle.sql_schema.proofs.DomainsSeen.{is_text}
 use Rattle.sql_schema.proofs.Layouts.{names_differ}
 use Rattle.sql_statements.specs.Added.{AddsRow}
 use Rattle.sql_statements.specs.DomainCleared.{is_on_domain_unit, IsOfUnit, ClearsDomainUnit}

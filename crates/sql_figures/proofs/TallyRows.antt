@@ -10,8 +10,8 @@ use Rattle.sqlite_rules.specs.Lists.{Has}
 use Rattle.sql_laws.specs.RowMaps.{IsPut, IsFound}
 use Rattle.po_text.specs.Texts.{Text, text_eq}
 use Rattle.units.specs.Office.{same_domain}
-use Rattle.deliveries.proofs.domains.InDomains.{equal_domains, its_own_domain}
-use Rattle.deliveries.specs.declared.tally.Tally.{Tally}
+use Rattle.office_specification.proofs.domains.InDomains.{equal_domains, its_own_domain}
+use Rattle.office_specification.specs.declared.tally.Tally.{Tally}
 use Rattle.tables.specs.Tallies.{moved, none_approved}
 use Rattle.sql_schema.specs.Inside.{HoldsValues}
 use Rattle.sql_schema.specs.Keys.{text_at, key_texts, columns}

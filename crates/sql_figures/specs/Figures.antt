@@ -8,7 +8,7 @@ use Rattle.sqlite.specs.Effect.{Database}
 use Rattle.sqlite.specs.Order.{Row, column}
 use Rattle.po_text.specs.Texts.{Text, text_eq}
 use Rattle.units.specs.Office.{Office, main, same_domain}
-use Rattle.deliveries.specs.declared.tally.Tally.{Tally}
+use Rattle.office_specification.specs.declared.tally.Tally.{Tally}
 use Rattle.tables.specs.Tallies.{moved, none_approved}
 use Rattle.sql_schema.specs.Keys.{columns}
 use Rattle.sql_schema.specs.Layouts.{NamedRows, rows_named}

@@ -7,9 +7,9 @@ use Rattle.po_text.specs.declared.entry.Entry.{Entry}
 use Rattle.po_text.specs.Texts.{Text}
 use Rattle.units.specs.Office.{Office, project_in}
 use Rattle.units.specs.declared.unit.Unit.{Unit}
-use Rattle.deliveries.specs.Counting.{none_counted}
-use Rattle.deliveries.specs.declared.tally.Tally.{Tally}
-use Rattle.deliveries.specs.Tally.{counts_of}
+use Rattle.office_specification.specs.Counting.{none_counted}
+use Rattle.office_specification.specs.declared.tally.Tally.{Tally}
+use Rattle.office_specification.specs.Tally.{counts_of}
 use Rattle.tables.specs.Tallies.{counted}
 use Rattle.sql_schema.specs.Keys.{text_at, columns}
 use Rattle.sql_meaning.specs.Cells.{tally_cells}

@@ -2,9 +2,9 @@
 use Rattle.std.proofs.Common.{◌≡◌, Bool, true, false, Option, Some, None, codes, refl, sym, subst, ◌∙◌}
 use Rattle.std.specs.Prelude.{IfSome}
 use Rattle.sqlite.specs.Effect.{Database}
-use Rattle.deliveries.specs.OfficeRules.{KeepsRules}
-use Rattle.deliveries.specs.declared.values.UnitWrite.{UnitWrite}
-use Rattle.deliveries.proofs.domains.InDomains.{equal_domains}
+use Rattle.office_specification.specs.OfficeRules.{KeepsRules}
+use Rattle.office_specification.specs.declared.values.UnitWrite.{UnitWrite}
+use Rattle.office_specification.proofs.domains.InDomains.{equal_domains}
 use Rattle.po_text.specs.Texts.{Text}
 use Rattle.po_text.specs.Valid.{IsValid}
 use Rattle.request_book.specs.declared.book.Record.{Record}
@@ -13,7 +13,7 @@ use Rattle.units.specs.Projects.{IsProject}
 use Rattle.units.specs.declared.unit.Key.{Key}
 use Rattle.sql_schema.specs.Inside.{AreOfficeTablesOf}
 use Rattle.sql_schema.specs.Layouts.{by_domain, rows_named, NamedRows}
-use Rattle.sql_schema.specs.Views.{seen_in, AreSameByName}
+use Rattle.sql_schema.specs.SeenRows.{seen_in, AreSameByName}
 use Rattle.sql_schema.proofs.Layouts.{names_differ}
 use Rattle.sql_meaning.specs.Domains.{project_seen, meaning_by_domain, is_domain}
 use Rattle.sql_meaning.specs.Meaning.{template_in, project_of_rows}

@@ -30,13 +30,13 @@ use Rattle.units.specs.declared.unit.UnitView.{UnitView}
 use Rattle.units.specs.declared.votes.VoteValue.{VoteValue}
 use Rattle.review.specs.UnitStep.{with_vote}
 use Rattle.template_update.specs.declared.plans.Plan.{Plan}
-use Rattle.deliveries.specs.ProjectActs.{LanguagePlan, placed, with_language, with_template}
-use Rattle.deliveries.specs.UnitAccess.{with_view, with_view_in}
-use Rattle.deliveries.specs.Counting.{plus, none_counted}
-use Rattle.deliveries.specs.Tally.{is_state, current, shown_in, counts_in, counts_of}
-use Rattle.deliveries.specs.declared.tally.Tally.{Tally}
-use Rattle.deliveries.proofs.domains.InDomains.{equal_domains, its_own_domain, project_own, project_elsewhere}
-use Rattle.deliveries.proofs.tallies.Countings.{plus_assoc, none_and}
+use Rattle.office_specification.specs.ProjectActs.{LanguagePlan, placed, with_language, with_template}
+use Rattle.office_specification.specs.UnitAccess.{with_view, with_view_in}
+use Rattle.office_specification.specs.Counting.{plus, none_counted}
+use Rattle.office_specification.specs.Tally.{is_state, current, shown_in, counts_in, counts_of}
+use Rattle.office_specification.specs.declared.tally.Tally.{Tally}
+use Rattle.office_specification.proofs.domains.InDomains.{equal_domains, its_own_domain, project_own, project_elsewhere}
+use Rattle.office_specification.proofs.tallies.Countings.{plus_assoc, none_and}
 use Rattle.office_laws.specs.Tallies.{planned}
 use Rattle.office_laws.proofs.Moves.{plus_comm, total_in, one_in, next_in}
 use Rattle.office_laws.proofs.OfficeCounts.{office_policy_counts, new_language_counts, other_languages_counts, new_template_counts}

@@ -6,14 +6,14 @@ use Rattle.json.specs.Print.{escape_byte}
 use Rattle.po_text.specs.Header.{field_value}
 use Rattle.po_lex.specs.Lines.{lines_of}
 use Rattle.units.specs.Rules.{plural_field}
-use Rattle.deliveries.proofs.rows.DemoRequests.{demo_project, header_de}
+use Rattle.office_specification.proofs.rows.DemoRequests.{demo_project, header_de}
 use Rattle.std.specs.List.{list_all}
 use Rattle.std.specs.FinMap as maps
 use Rattle.std.proofs.lemmas.Bool.{and_from}
 use Rattle.sqlite.specs.declared.types.Value.TheVariants.{Null, Int, Text as Words}
 use Rattle.sqlite.specs.Order.{Row, column}
 use Rattle.sqlite_rules.specs.Lists.{Has}
-use Rattle.deliveries.specs.OfficeRules.{KeepsRules}
+use Rattle.office_specification.specs.OfficeRules.{KeepsRules}
 use Rattle.po_text.specs.Strings.{is_string}
 use Rattle.units.specs.KeyTexts.{HasStrings}
 use Rattle.units.specs.Limits.{is_lang}
@@ -27,10 +27,10 @@ use Rattle.sql_meaning.specs.Beginnings.{closed_row, hello_row, MakesDemo}
 use Rattle.sql_meaning.specs.Meaning.{project_of_rows, book_in, meaning_in}
 use Rattle.sql_meaning.proofs.Openings.{opens_demo, demo_keeps}
 use Rattle.sql_decoding.specs.RowTests.{is_key, is_domain_row, is_policy_row, is_entry_row, is_language_row, is_rule_of}
-use Rattle.sql_decoding.specs.ShownFound.{header_of_column}
+use Rattle.sql_decoding.specs.ShownContexts.{header_of_column}
 use Rattle.sql_decoding.proofs.ColumnsTested.{text_stands, null_stands, key_stands, header_stands, no_texts_stand, language_stands}
 use Rattle.sql_keepable.specs.Keepable.{IsKeepableUnit}
-use Rattle.office_rules.proofs.MainAlone.{project_keeps}
+use Rattle.rule_tests.proofs.MainAlone.{project_keeps}
 use Rattle.sql_files.specs.Files.{HoldsOfficeRows, StandForAll}
 use Rattle.sql_files.proofs.InDomains.{whole_book, stand_alone}
 use Rattle.sql_files.proofs.DomainKept.{plain, main_named}
@@ -40,7 +40,7 @@ use Rattle.sql_files.proofs.RoleKept.{member_stands, MemberStands}
 use Rattle.sql_files.proofs.UnitKept.{unit_stands, UnitStands}
 use Rattle.sql_schema.specs.Creation.{HaveNoRows}
 use Rattle.sql_schema.proofs.Layouts.{names_differ}
-use Rattle.sql_schema.specs.Views.{seen_in}
+use Rattle.sql_schema.specs.SeenRows.{seen_in}
 use Rattle.sql_adoption.specs.Adoption.{Each}
 use Rattle.units.specs.Office.{main}
 use Rattle.sql_schema.specs.Layouts.{by_domain, NamedRows, rows_named}

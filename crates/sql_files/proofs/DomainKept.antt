@@ -17,12 +17,12 @@ use Rattle.po_text.specs.Texts.{Text}
 use Rattle.request_book.specs.declared.book.Record.{Record}
 use Rattle.units.specs.Limits.{is_name}
 use Rattle.units.specs.Office.{main}
-use Rattle.deliveries.specs.OfficeRules.{KeepsRules}
+use Rattle.office_specification.specs.OfficeRules.{KeepsRules}
 use Rattle.sql_schema.specs.Inside.{Then, AreOfficeTablesOf}
 use Rattle.sql_schema.specs.Keys.{first_text, has_text, columns}
 use Rattle.sql_schema.specs.Layouts.{by_domain, rows_named}
-use Rattle.sql_schema.specs.Views.{seen_in}
-use Rattle.sql_schema.proofs.DomainViews.{is_text}
+use Rattle.sql_schema.specs.SeenRows.{seen_in}
+use Rattle.sql_schema.proofs.DomainsSeen.{is_text}
 use Rattle.sql_meaning.specs.Beginnings.{PutsDomain, MakesMainTables}
 use Rattle.sql_meaning.specs.Domains.{meaning_by_domain, is_domain}
 use Rattle.sql_meaning.proofs.DomainSteps.{all_unseen}

@@ -12,27 +12,27 @@ use Rattle.units.specs.Project.{Project, entry_of, view_of, units_of}
 use Rattle.units.specs.declared.unit.Key.{Key}
 use Rattle.units.specs.declared.unit.UnitView.{UnitView}
 use Rattle.review.specs.UnitStep.{with_vote}
-use Rattle.deliveries.specs.Counting.{AreWithin}
-use Rattle.deliveries.specs.Tally.{counts_in}
-use Rattle.deliveries.specs.OfficeChanges.{changed_project, changed, changed_by, IsPossible, IsPossibleChange}
-use Rattle.deliveries.specs.UnitAccess.{with_view, with_view_in, view_written, IsWriteOver, IsPossibleWrite, with_write_in}
-use Rattle.deliveries.specs.declared.values.Change.{Change}
-use Rattle.deliveries.specs.declared.values.Change.TheVariants.{OneRole, NewPolicy, NewDomain, InDomain}
-use Rattle.deliveries.specs.declared.values.DomainChange.{DomainChange}
-use Rattle.deliveries.specs.declared.values.DomainChange.TheVariants.{NewLanguage, NewTemplate}
-use Rattle.deliveries.specs.declared.values.UnitWrite.{UnitWrite}
-use Rattle.deliveries.specs.declared.values.UnitWrite.TheVariants.{Whole, Row, Suggested, Voted}
-use Rattle.deliveries.proofs.domains.InDomains.{nothing_put, project_own, with_project-same}
-use Rattle.deliveries.proofs.rules.DomainsKept.{any_project}
+use Rattle.office_specification.specs.Counting.{AreWithin}
+use Rattle.office_specification.specs.Tally.{counts_in}
+use Rattle.office_specification.specs.OfficeChanges.{changed_project, changed, changed_by, IsPossible, IsPossibleChange}
+use Rattle.office_specification.specs.UnitAccess.{with_view, with_view_in, view_written, IsWriteOver, IsPossibleWrite, with_write_in}
+use Rattle.office_specification.specs.declared.values.Change.{Change}
+use Rattle.office_specification.specs.declared.values.Change.TheVariants.{OneRole, NewPolicy, NewDomain, InDomain}
+use Rattle.office_specification.specs.declared.values.DomainChange.{DomainChange}
+use Rattle.office_specification.specs.declared.values.DomainChange.TheVariants.{NewLanguage, NewTemplate}
+use Rattle.office_specification.specs.declared.values.UnitWrite.{UnitWrite}
+use Rattle.office_specification.specs.declared.values.UnitWrite.TheVariants.{Whole, Row, Suggested, Voted}
+use Rattle.office_specification.proofs.domains.InDomains.{nothing_put, project_own, with_project-same}
+use Rattle.office_specification.proofs.rules.DomainsKept.{any_project}
 use Rattle.office_laws.proofs.OfficeCounts.{new_domain_counts}
 use Rattle.tables.proofs.OfficeUnits.{few_counted}
 use Rattle.tables.specs.Tallies.{counted}
 use Rattle.sql_schema.specs.Inside.{AreOfficeTablesOf}
 use Rattle.sql_schema.specs.Keys.{text_at, has_text}
 use Rattle.sql_schema.specs.Layouts.{by_domain, rows_named}
-use Rattle.sql_schema.specs.Views.{unit_seen, seen_in}
-use Rattle.sql_schema.proofs.DomainViews.{is_text}
-use Rattle.sql_schema.proofs.Views.{to_view}
+use Rattle.sql_schema.specs.SeenRows.{unit_seen, seen_in}
+use Rattle.sql_schema.proofs.DomainsSeen.{is_text}
+use Rattle.sql_schema.proofs.SeenRows.{to_seen}
 use Rattle.sql_statements.specs.DomainRenewed.{HaveNextRevisionsInDomains}
 use Rattle.sql_meaning.specs.Domains.{is_domain}
 use Rattle.sql_meaning.proofs.DomainChanges.{has_domain_of_rows}
@@ -211,7 +211,7 @@ next_in_domains : (db : Database) → IsOfficeDatabase by_domain db → HaveNext
 next_in_domains db file row there approved =
     let domain = text_at 1 row in
     next_revisions (seen_in domain (rows_named db)) (file.rows.office.each domain).units (unit_seen row)
-    (to_view (has_text 1 domain) unit_seen (rows_named db (codes "d_unit")) row there (is_text 1 domain row refl)) approved
+    (to_seen (has_text 1 domain) unit_seen (rows_named db (codes "d_unit")) row there (is_text 1 domain row refl)) approved
 
 pub act_figures : (old new : Database) (domain lang : Text) (key : Key) (write : Option UnitWrite) → IsOfficeDatabase by_domain old → IsOffice (office_of new)
     → office_of new ≡ with_write_in (office_of old) domain lang key write → IsPossibleWrite (project_in (office_of old) domain) lang key write

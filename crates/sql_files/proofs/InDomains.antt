@@ -13,14 +13,14 @@ use Rattle.po_text.specs.Texts.{Text}
 use Rattle.po_text.specs.Valid.{IsValid}
 use Rattle.units.specs.Office.{main, project_in}
 use Rattle.units.specs.Projects.{IsProject}
-use Rattle.deliveries.specs.OfficeRules.{KeepsRules}
-use Rattle.deliveries.proofs.rules.DomainsKept.{any_project}
+use Rattle.office_specification.specs.OfficeRules.{KeepsRules}
+use Rattle.office_specification.proofs.rules.DomainsKept.{any_project}
 use Rattle.sql_schema.specs.Inside.{AreOfficeTablesOf}
 use Rattle.sql_schema.specs.Keys.{text_at, first_text, has_text}
 use Rattle.sql_schema.specs.Layouts.{by_domain, NamedRows, rows_named}
-use Rattle.sql_schema.specs.Views.{viewed, entry_seen, language_seen, unit_seen, suggestion_seen, is_vote_in, vote_seen, seen_in, AreSameByName}
-use Rattle.sql_schema.proofs.DomainViews.{is_text}
-use Rattle.sql_schema.proofs.Views.{from_view, to_view}
+use Rattle.sql_schema.specs.SeenRows.{rows_seen, entry_seen, language_seen, unit_seen, suggestion_seen, is_vote_in, vote_seen, seen_in, AreSameByName}
+use Rattle.sql_schema.proofs.DomainsSeen.{is_text}
+use Rattle.sql_schema.proofs.SeenRows.{from_seen, to_seen}
 use Rattle.sql_meaning.specs.Domains.{project_seen, office_of_rows, meaning_by_domain, is_domain, AreOwned, HoldsOwnDomains, IsMainAlone}
 use Rattle.sql_meaning.proofs.DomainChanges.{has_domain_of_rows, project_of_domain}
 use Rattle.sql_meaning.proofs.DomainOfficeRows.{one_domain_each}
@@ -83,9 +83,9 @@ module _ (rows : NamedRows) where
     suggestions = unseen 2 suggestion_seen (codes "d_suggestion") own.suggestions;
   }
     where
-      unseen : (place : ℕ) (seen : Row → Row) (name : List ℕ) → AreOwned place name rows → HasNoRow (viewed (has_text place domain) seen (rows name))
+      unseen : (place : ℕ) (seen : Row → Row) (name : List ℕ) → AreOwned place name rows → HasNoRow (rows_seen (has_text place domain) seen (rows name))
       unseen place seen name owned x there =
-          let r = from_view (has_text place domain) seen (rows name) x there in
+          let r = from_seen (has_text place domain) seen (rows name) x there in
           let yes : is_domain rows domain ≡ true = subst (λ (t : Text). is_domain rows t ≡ true) (texts_are_one (text_at place r.0) domain r.2) (owned r.0 r.1) in
           let wrong : true ≡ false = sym yes ∙ missing in
           cc
@@ -99,22 +99,22 @@ module _ (rows : NamedRows) where
     suggestions = owned 2 suggestion_seen (codes "d_suggestion") (λ domain missing. (none domain missing).suggestions);
   }
     where
-      owned : (place : ℕ) (seen : Row → Row) (name : List ℕ) → ((domain : Text) → is_domain rows domain ≡ false → HasNoRow (viewed (has_text place domain) seen (rows name))) → AreOwned place name rows
+      owned : (place : ℕ) (seen : Row → Row) (name : List ℕ) → ((domain : Text) → is_domain rows domain ≡ false → HasNoRow (rows_seen (has_text place domain) seen (rows name))) → AreOwned place name rows
       owned place seen name unseen row there = by (is_domain rows (text_at place row)) refl
         where
           by : (b : Bool) → is_domain rows (text_at place row) ≡ b → IsTrue (is_domain rows (text_at place row))
           by true is = is
           by false missing =
-              absurd (unseen (text_at place row) missing (seen row) (to_view (has_text place (text_at place row)) seen (rows name) row there (is_text place (text_at place row) row refl)))
+              absurd (unseen (text_at place row) missing (seen row) (to_seen (has_text place (text_at place row)) seen (rows name) row there (is_text place (text_at place row) row refl)))
 
   -- a vote is seen where its suggestion is
   no_vote : (domain : Text) → SeesNothing (seen_in domain rows) → HasNoRow (seen_in domain rows (codes "vote"))
   no_vote domain none v there =
       let suggestions = rows (codes "d_suggestion") in
-      let r = from_view (is_vote_in domain suggestions) vote_seen (rows (codes "d_vote")) v there in
+      let r = from_seen (is_vote_in domain suggestions) vote_seen (rows (codes "d_vote")) v there in
       let s = some_has (λ s. has_text 1 (first_text r.0) s && has_text 2 domain s) suggestions r.2 in
       let parts = and_parts (has_text 1 (first_text r.0) s.0) (has_text 2 domain s.0) s.2 in
-      none.suggestions (suggestion_seen s.0) (to_view (has_text 2 domain) suggestion_seen suggestions s.0 s.1 parts.1)
+      none.suggestions (suggestion_seen s.0) (to_seen (has_text 2 domain) suggestion_seen suggestions s.0 s.1 parts.1)
 
   -- team and policy are what any other domain sees
   nothing_stands : (domain other : Text) → SeesNothing (seen_in domain rows) → StandForOffice (seen_in other rows) → StandForOffice (seen_in domain rows)

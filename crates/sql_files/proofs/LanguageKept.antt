@@ -16,8 +16,8 @@ use Rattle.units.specs.Orders.{text_total, text_IsAntisymmetric}
 use Rattle.units.specs.Rules.{plural_field, rule_of_field, rule_in}
 use Rattle.units.specs.declared.unit.Unit.{Unit}
 use Rattle.template_update.specs.declared.plans.Plan.{Plan}
-use Rattle.deliveries.specs.OfficeRules.{KeepsRules}
-use Rattle.deliveries.specs.declared.values.Language.{Language}
+use Rattle.office_specification.specs.OfficeRules.{KeepsRules}
+use Rattle.office_specification.specs.declared.values.Language.{Language}
 use Rattle.request_book.specs.declared.book.Record.{Record}
 use Rattle.sql_columns.specs.Written.{IsHeaderEntry, header_text}
 use Rattle.sql_columns.proofs.Readers.{header_found, only_same}
@@ -29,7 +29,7 @@ use Rattle.sql_changes.specs.Commits.{PutsNumberedRecord, PutsLanguage, WritesLa
 use Rattle.sql_changes.specs.UnitWrites.{WritesUnits}
 use Rattle.sql_changes.proofs.PlannedUnits.{units_in_turn}
 use Rattle.sql_decoding.specs.RowTests.{is_language_row, is_rule_of}
-use Rattle.sql_decoding.specs.ShownFound.{header_of_column}
+use Rattle.sql_decoding.specs.ShownContexts.{header_of_column}
 use Rattle.sql_decoding.proofs.ColumnsTested.{text_stands, header_stands, language_stands}
 use Rattle.sql_keepable.specs.Keepable.{IsKeepableLanguage, AreKeepableUnits}
 use Rattle.units.specs.Projects.{IsProject}
@@ -43,7 +43,7 @@ use Rattle.sql_schema.proofs.Layouts.{names_differ}
 use Rattle.sql_meaning.specs.RowKeys.{AreOfficeRows}
 use Rattle.sqlite.specs.Effect.{Database}
 use Rattle.sql_meaning.proofs.DomainOfficeRows.{domain_rows}
-use Rattle.sql_schema.specs.Views.{seen_in}
+use Rattle.sql_schema.specs.SeenRows.{seen_in}
 
 -- ---- a language's row
 

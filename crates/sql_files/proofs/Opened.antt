@@ -5,7 +5,7 @@ use Rattle.std.proofs.lemmas.Bool.{and_from}
 use Rattle.sqlite.specs.declared.types.Value.TheVariants.{Int, Text as Words}
 use Rattle.sqlite.specs.Order.{Row, column}
 use Rattle.sqlite_rules.specs.Lists.{Has}
-use Rattle.deliveries.specs.OfficeRules.{KeepsRules}
+use Rattle.office_specification.specs.OfficeRules.{KeepsRules}
 use Rattle.po_text.specs.Texts.{Text}
 use Rattle.po_text.specs.Valid.{IsValid}
 use Rattle.units.specs.Limits.{is_name}
@@ -22,7 +22,7 @@ use Rattle.sql_files.proofs.Puts.{no_row, all_put}
 use Rattle.sql_files.proofs.StartFigures.{opening_figures}
 use Rattle.sql_schema.specs.Creation.{HaveNoRows}
 use Rattle.sql_schema.proofs.Layouts.{names_differ}
-use Rattle.sql_schema.specs.Views.{seen_in}
+use Rattle.sql_schema.specs.SeenRows.{seen_in}
 use Rattle.sql_adoption.specs.Adoption.{Each}
 use Rattle.sql_schema.specs.Layouts.{by_domain, NamedRows, rows_named}
 use Rattle.sqlite.specs.Effect.{Database}

@@ -11,7 +11,7 @@ use Rattle.sqlite_rules.specs.Edit.{id_in}
 use Rattle.sqlite_rules.specs.Lists.{Has}
 use Rattle.sql_laws.specs.RowMaps.{OneEach}
 use Rattle.sql_laws.proofs.RowMaps.{get-is}
-use Rattle.deliveries.specs.OfficeRules.{KeepsRules}
+use Rattle.office_specification.specs.OfficeRules.{KeepsRules}
 use Rattle.request_book.specs.declared.book.Record.{Record}
 use Rattle.sql_columns.specs.Numbers.{flag_number}
 use Rattle.units.specs.Limits.{is_accept_at, is_revision, revision_limit}
@@ -45,7 +45,7 @@ use Rattle.sql_schema.specs.Inside.{AreOfficeTablesOf}
 use Rattle.sqlite.specs.Effect.{Database}
 use Rattle.sql_meaning.proofs.DomainOfficeRows.{domain_rows}
 use Rattle.sql_changes.specs.OnDomains.{OnDomainsWhere}
-use Rattle.sql_schema.specs.Views.{seen_in}
+use Rattle.sql_schema.specs.SeenRows.{seen_in}
 
 -- ---- the policy's row
 

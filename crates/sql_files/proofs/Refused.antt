@@ -1,7 +1,7 @@
 -- An office's file is adopted, but for want of memory and a failed disk; and what is adopted is one.
 use Rattle.std.proofs.Common.{inl, inr, refl}
 use Rattle.sqlite.specs.Effect.{Database, IsDatabase}
-use Rattle.deliveries.specs.OfficeRules.{KeepsRules}
+use Rattle.office_specification.specs.OfficeRules.{KeepsRules}
 use Rattle.sql_schema.specs.Layouts.{Form, rows_named}
 use Rattle.sql_meaning.specs.Domains.{meaning_for}
 use Rattle.sql_adoption.specs.Adoption.{Refuses, TellsForm, KeepsFigures, StandForOfficeOf, StandForBook, IsAdopted}

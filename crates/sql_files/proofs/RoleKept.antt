@@ -5,7 +5,7 @@ use Rattle.std.proofs.lemmas.Bool.{and_from}
 use Rattle.sqlite.specs.declared.types.Value.TheVariants.{Int, Text as Words}
 use Rattle.sqlite.specs.Order.{Row}
 use Rattle.sqlite_rules.specs.Lists.{Has}
-use Rattle.deliveries.specs.OfficeRules.{KeepsRules}
+use Rattle.office_specification.specs.OfficeRules.{KeepsRules}
 use Rattle.po_text.specs.Texts.{Text}
 use Rattle.request_book.specs.declared.book.Record.{Record}
 use Rattle.sql_columns.specs.Numbers.{role_number}
@@ -26,7 +26,7 @@ use Rattle.sql_schema.proofs.Layouts.{names_differ}
 use Rattle.sql_schema.specs.Inside.{AreOfficeTablesOf}
 use Rattle.sqlite.specs.Effect.{Database}
 use Rattle.sql_changes.specs.OnDomains.{OnEach}
-use Rattle.sql_schema.specs.Views.{seen_in}
+use Rattle.sql_schema.specs.SeenRows.{seen_in}
 
 abbrev pub MemberStands : Row → Type 0
 MemberStands row = IsTrue (is_member_row (columns (2 ∷ 1 ∷ []) row))

@@ -13,9 +13,9 @@ use Rattle.units.specs.Orders.{text_total, place_total}
 use Rattle.units.specs.Project.{place_cmp, units_of}
 use Rattle.units.specs.declared.unit.Unit.{Unit}
 use Rattle.request_book.specs.Book.{OfficeWithBook}
-use Rattle.deliveries.specs.Tally.{counts_in, counts_of}
-use Rattle.deliveries.specs.declared.tally.Tally.{Tally}
-use Rattle.deliveries.proofs.rows.DemoRequests.{demo_project}
+use Rattle.office_specification.specs.Tally.{counts_in, counts_of}
+use Rattle.office_specification.specs.declared.tally.Tally.{Tally}
+use Rattle.office_specification.proofs.rows.DemoRequests.{demo_project}
 use Rattle.sql_schema.specs.Layouts.{NamedRows, rows_named}
 use Rattle.sql_schema.proofs.Layouts.{names_differ}
 use Rattle.sql_meaning.specs.Beginnings.{MakesOpening, MakesDemo}

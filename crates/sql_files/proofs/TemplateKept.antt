@@ -8,8 +8,8 @@ use Rattle.po_text.specs.declared.entry.Entry.{Entry}
 use Rattle.po_text.specs.Valid.{IsValid}
 use Rattle.units.specs.KeyTexts.{HasStrings}
 use Rattle.units.specs.Units.{key_of, key_text}
-use Rattle.deliveries.specs.ProjectActs.{LanguagePlan}
-use Rattle.deliveries.specs.OfficeRules.{KeepsRules}
+use Rattle.office_specification.specs.ProjectActs.{LanguagePlan}
+use Rattle.office_specification.specs.OfficeRules.{KeepsRules}
 use Rattle.request_book.specs.declared.book.Record.{Record}
 use Rattle.sql_columns.specs.Written.{texts_text}
 use Rattle.sql_schema.specs.Inside.{Then, AreOfficeTablesOf}
@@ -33,7 +33,7 @@ use Rattle.sql_files.proofs.ActKept.{record_step, kept_in}
 use Rattle.sql_schema.specs.Layouts.{by_domain, NamedRows, rows_named}
 use Rattle.sql_schema.proofs.Layouts.{names_differ}
 use Rattle.sqlite.specs.Effect.{Database}
-use Rattle.sql_schema.specs.Views.{seen_in}
+use Rattle.sql_schema.specs.SeenRows.{seen_in}
 
 -- ---- an entry's row
 

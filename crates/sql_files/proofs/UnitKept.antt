@@ -11,9 +11,9 @@ use Rattle.po_text.specs.Strings.{is_string}
 use Rattle.po_text.specs.Texts.{Text}
 use Rattle.request_book.specs.Acts.{IsNumber, vote_number}
 use Rattle.request_book.specs.Words.{number_text}
-use Rattle.deliveries.specs.ProjectActs.{LanguagePlan}
-use Rattle.deliveries.specs.declared.values.UnitWrite.{UnitWrite}
-use Rattle.deliveries.specs.declared.values.UnitWrite.TheVariants as writes
+use Rattle.office_specification.specs.ProjectActs.{LanguagePlan}
+use Rattle.office_specification.specs.declared.values.UnitWrite.{UnitWrite}
+use Rattle.office_specification.specs.declared.values.UnitWrite.TheVariants as writes
 use Rattle.sql_columns.specs.Numbers.{state_number, flag_number}
 use Rattle.sql_columns.specs.Written.{texts_text, previous_text}
 use Rattle.units.specs.Limits.{is_name, is_lang, is_revision}

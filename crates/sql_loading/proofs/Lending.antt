@@ -6,7 +6,7 @@ use Rattle.po_text.specs.Texts.{Text, text_cmp}
 use Rattle.units.specs.Project.{Project}
 use Rattle.units.specs.Office.{Office, Domain, empty_domain, same_domain, as_project, project_in, domain_of, with_project}
 use Rattle.units.specs.Orders.{text_total, text_IsAntisymmetric}
-use Rattle.deliveries.proofs.domains.InDomains.{its_own_domain}
+use Rattle.office_specification.proofs.domains.InDomains.{its_own_domain}
 use Rattle.sql_loading.specs.DomainChanged.{lending}
 
 -- of two that are put in under one name the last stays

@@ -13,7 +13,7 @@ ghost use Rattle.tables.specs.declared.faults.Lost.TheVariants.{Disk};
 
 use crate::office_tables::{put_languages, put_policy, put_team, put_template};
 use crate::unit_tables::{all_suggestions, suggestions_on};
-use deliveries::Change;
+use office_specification::Change;
 use office_maps::{OfficeMaps, OrderedKey, Place};
 use po_text::{Duplicate, Items};
 use sql_decoding::{Failure, key_at, lang_at, unit_with};

@@ -13,7 +13,7 @@ ghost use Rattle.std.specs.FinMap as finite;
 ghost use Rattle.office_maps.specs.Rows as maps_read;
 ghost use Rattle.sql_meaning.specs.Values as values;
 
-use deliveries::{Change, DomainChange, Language, Tally};
+use office_specification::{Change, DomainChange, Language, Tally};
 use office_maps::OfficeMaps;
 use po_text::{Catalogue, Duplicate, Entry, Items};
 use sql_columns::rule_from;

@@ -9,7 +9,7 @@ use Rattle.po_text.specs.Texts.{Text}
 use Rattle.units.specs.Project.{Project, with_unit}
 use Rattle.units.specs.declared.unit.Key.{Key}
 use Rattle.units.specs.declared.unit.Unit.{Unit}
-use Rattle.deliveries.specs.MainAlone.{main_alone}
+use Rattle.office_specification.specs.MainAlone.{main_alone}
 use Rattle.sql_columns.specs.Readings.{number_read}
 use Rattle.request_book.specs.Acts.{IsNumber}
 use Rattle.request_book.specs.Book.{with_record}

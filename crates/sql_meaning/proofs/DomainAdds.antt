@@ -13,10 +13,10 @@ use Rattle.po_text.specs.Texts.{Text}
 use Rattle.sql_schema.specs.Inside.{PutsIn}
 use Rattle.sql_schema.specs.Keys.{text_at, first_text, has_text}
 use Rattle.sql_schema.specs.Layouts.{NamedRows, rows_named}
-use Rattle.sql_schema.specs.Views.{viewed, entry_seen, language_seen, unit_seen, suggestion_seen, is_vote_in, vote_seen, named_so, seen_in, AreSame, AreSameByName}
+use Rattle.sql_schema.specs.SeenRows.{rows_seen, entry_seen, language_seen, unit_seen, suggestion_seen, is_vote_in, vote_seen, named_so, seen_in, AreSame, AreSameByName}
 use Rattle.sql_schema.proofs.Layouts.{by_name, names_differ}
 use Rattle.sql_schema.proofs.Queries.{filtered_same}
-use Rattle.sql_schema.proofs.Views.{from_view, to_view}
+use Rattle.sql_schema.proofs.SeenRows.{from_seen, to_seen}
 use Rattle.sql_statements.specs.Added.{AddsRow}
 
 -- two tests are one where each says what the other says
@@ -62,7 +62,7 @@ module _ (IsRow : Row → Type 0) (old new : Database) (domain : Text) (adds : A
 
     votes_same : seen_in d are (codes "vote") ≡ seen_in d were (codes "vote")
     votes_same =
-        ap (λ (votes : List Row). viewed (is_vote_in d (are (codes "d_suggestion"))) vote_seen votes) (stays (codes "d_vote") (names_differ refl))
+        ap (λ (votes : List Row). rows_seen (is_vote_in d (are (codes "d_suggestion"))) vote_seen votes) (stays (codes "d_vote") (names_differ refl))
         ∙ ap (map vote_seen) (filtered_same (is_vote_in d (are (codes "d_suggestion"))) (is_vote_in d (were (codes "d_suggestion"))) (were (codes "d_vote"))
         (λ v there. same_test _ _ (forth v there) (back v)))
 
@@ -77,8 +77,8 @@ module _ (IsRow : Row → Type 0) (old new : Database) (domain : Text) (adds : A
         let units = stays (codes "d_unit") (names_differ refl) in
         let votes = votes_same in
         passed are (seen_in d are (codes "suggestion")) (seen_in d are (codes "vote"))
-        ∙ (λ i. named_so (records i) (team i) (policy i) (viewed (has_text 1 d) entry_seen (template i)) (viewed (has_text 1 d) language_seen (languages i))
-        (viewed (has_text 1 d) unit_seen (units i)) [] (votes i) name)
+        ∙ (λ i. named_so (records i) (team i) (policy i) (rows_seen (has_text 1 d) entry_seen (template i)) (rows_seen (has_text 1 d) language_seen (languages i))
+        (rows_seen (has_text 1 d) unit_seen (units i)) [] (votes i) name)
         ∙ sym (passed were (seen_in d were (codes "suggestion")) (seen_in d were (codes "vote")))
       where
         both : (b : Bool) (x y rest : List Row) → b ≡ false → cond b x rest ≡ cond b y rest
@@ -88,12 +88,12 @@ module _ (IsRow : Row → Type 0) (old new : Database) (domain : Text) (adds : A
         no_s = false_from_ne_true _ (λ e. differ (texts_are_one name (codes "suggestion") e))
 
         passed : (rows : NamedRows) (suggestions votes : List Row)
-            → named_so (rows (codes "record")) (rows (codes "team")) (rows (codes "policy")) (viewed (has_text 1 d) entry_seen (rows (codes "d_template"))) (viewed (has_text 1 d) language_seen (rows (codes "d_language")))
-            (viewed (has_text 1 d) unit_seen (rows (codes "d_unit"))) suggestions votes name
-            ≡ named_so (rows (codes "record")) (rows (codes "team")) (rows (codes "policy")) (viewed (has_text 1 d) entry_seen (rows (codes "d_template"))) (viewed (has_text 1 d) language_seen (rows (codes "d_language")))
-            (viewed (has_text 1 d) unit_seen (rows (codes "d_unit"))) [] votes name
+            → named_so (rows (codes "record")) (rows (codes "team")) (rows (codes "policy")) (rows_seen (has_text 1 d) entry_seen (rows (codes "d_template"))) (rows_seen (has_text 1 d) language_seen (rows (codes "d_language")))
+            (rows_seen (has_text 1 d) unit_seen (rows (codes "d_unit"))) suggestions votes name
+            ≡ named_so (rows (codes "record")) (rows (codes "team")) (rows (codes "policy")) (rows_seen (has_text 1 d) entry_seen (rows (codes "d_template"))) (rows_seen (has_text 1 d) language_seen (rows (codes "d_language")))
+            (rows_seen (has_text 1 d) unit_seen (rows (codes "d_unit"))) [] votes name
         passed rows suggestions votes =
-            ap (λ (more : List Row). cond (is_eq (slice_cmp nat_cmp name (codes "unit"))) (viewed (has_text 1 d) unit_seen (rows (codes "d_unit"))) more)
+            ap (λ (more : List Row). cond (is_eq (slice_cmp nat_cmp name (codes "unit"))) (rows_seen (has_text 1 d) unit_seen (rows (codes "d_unit"))) more)
             (both (is_eq (slice_cmp nat_cmp name (codes "suggestion"))) suggestions [] _ no_s)
 
   -- ---- its domain
@@ -112,19 +112,19 @@ module _ (IsRow : Row → Type 0) (old new : Database) (domain : Text) (adds : A
       put : IsPut first_text (seen_in domain were (codes "suggestion")) (seen_in domain are (codes "suggestion")) (suggestion_seen row)
       put = record {
         only = λ x there.
-            let r = from_view (has_text 2 domain) suggestion_seen (are (codes "d_suggestion")) x there in
+            let r = from_seen (has_text 2 domain) suggestion_seen (are (codes "d_suggestion")) x there in
             elim (adds.puts.put.only r.0 r.1) [
               | inl is ↦ inl (r.3 ∙ ap suggestion_seen is)
               | inr was ↦ inr (
-                subst (Has (seen_in domain were (codes "suggestion"))) (sym r.3) (to_view (has_text 2 domain) suggestion_seen (were (codes "d_suggestion")) r.0 was.0 r.2),
+                subst (Has (seen_in domain were (codes "suggestion"))) (sym r.3) (to_seen (has_text 2 domain) suggestion_seen (were (codes "d_suggestion")) r.0 was.0 r.2),
                 λ e. was.1 (ap first_text (sym r.3) ∙ e),
               )
             ];
-        here = to_view (has_text 2 domain) suggestion_seen (are (codes "d_suggestion")) row adds.puts.put.here own_seen;
+        here = to_seen (has_text 2 domain) suggestion_seen (are (codes "d_suggestion")) row adds.puts.put.here own_seen;
         kept = λ x there differ.
-            let r = from_view (has_text 2 domain) suggestion_seen (were (codes "d_suggestion")) x there in
+            let r = from_seen (has_text 2 domain) suggestion_seen (were (codes "d_suggestion")) x there in
             subst (Has (seen_in domain are (codes "suggestion"))) (sym r.3)
-            (to_view (has_text 2 domain) suggestion_seen (are (codes "d_suggestion")) r.0 (adds.puts.put.kept r.0 r.1 (adds.fresh r.0 r.1)) r.2);
+            (to_seen (has_text 2 domain) suggestion_seen (are (codes "d_suggestion")) r.0 (adds.puts.put.kept r.0 r.1 (adds.fresh r.0 r.1)) r.2);
       }
 
   -- ---- every other domain
@@ -144,11 +144,11 @@ module _ (IsRow : Row → Type 0) (old new : Database) (domain : Text) (adds : A
       suggestions : AreSame (seen_in other were (codes "suggestion")) (seen_in other are (codes "suggestion"))
       suggestions = record {
         only = λ x there.
-            let r = from_view (has_text 2 other) suggestion_seen (are (codes "d_suggestion")) x there in
+            let r = from_seen (has_text 2 other) suggestion_seen (are (codes "d_suggestion")) x there in
             subst (Has (seen_in other were (codes "suggestion"))) (sym r.3)
-            (to_view (has_text 2 other) suggestion_seen (were (codes "d_suggestion")) r.0 (was r.0 r.2 (adds.puts.put.only r.0 r.1)) r.2);
+            (to_seen (has_text 2 other) suggestion_seen (were (codes "d_suggestion")) r.0 (was r.0 r.2 (adds.puts.put.only r.0 r.1)) r.2);
         kept = λ x there.
-            let r = from_view (has_text 2 other) suggestion_seen (were (codes "d_suggestion")) x there in
+            let r = from_seen (has_text 2 other) suggestion_seen (were (codes "d_suggestion")) x there in
             subst (Has (seen_in other are (codes "suggestion"))) (sym r.3)
-            (to_view (has_text 2 other) suggestion_seen (are (codes "d_suggestion")) r.0 (adds.puts.put.kept r.0 r.1 (adds.fresh r.0 r.1)) r.2);
+            (to_seen (has_text 2 other) suggestion_seen (are (codes "d_suggestion")) r.0 (adds.puts.put.kept r.0 r.1 (adds.fresh r.0 r.1)) r.2);
       }

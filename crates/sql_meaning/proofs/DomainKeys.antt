@@ -14,15 +14,15 @@ use Rattle.sql_schema.specs.Schema.{d_template_table, d_suggestion_table}
 use Rattle.sql_schema.specs.Layouts.{by_domain, rows_named}
 use Rattle.sql_schema.specs.Keys.{text_at, key_texts, first_text, first_texts, has_text}
 use Rattle.sql_schema.specs.Inside.{AreOfficeTablesOf}
-use Rattle.sql_schema.specs.Views.{entry_seen, suggestion_seen, is_vote_in, vote_seen, seen_in}
+use Rattle.sql_schema.specs.SeenRows.{entry_seen, suggestion_seen, is_vote_in, vote_seen, seen_in}
 use Rattle.sql_schema.proofs.Layouts.{d_template_placed, d_suggestion_placed}
 use Rattle.sql_schema.proofs.TextKeys.{one_of_key}
 use Rattle.sql_schema.proofs.TextLists.{AreTextsAt, texts_of_row}
 use Rattle.sql_schema.proofs.DomainRows.{agree_so, one_d_entry, d_entry_texts, d_entry_places, d_entry_place_keyed, one_d_language, one_d_unit, one_d_number, d_suggestion_units, d_suggestion_places, d_suggestion_place_keyed, one_d_vote}
 use Rattle.sql_schema.proofs.TableRows.{one_record, one_member}
-use Rattle.sql_schema.proofs.Views.{from_view, to_view, one_seen}
-use Rattle.sql_statements.proofs.SeenChanges.{entry_keys_viewed}
-use Rattle.sql_schema.proofs.DomainViews.{units_viewed, languages_viewed}
+use Rattle.sql_schema.proofs.SeenRows.{from_seen, to_seen, one_seen}
+use Rattle.sql_statements.proofs.SeenChanges.{entry_keys_alike}
+use Rattle.sql_schema.proofs.DomainsSeen.{units_alike, languages_alike}
 use Rattle.sql_meaning.specs.Values.{integer_of, integer_at}
 use Rattle.sql_meaning.specs.RowKeys.{AreKeyedRows}
 use Rattle.sql_meaning.proofs.Rowids.{one_rowid}
@@ -39,8 +39,8 @@ module _ (db : Database) (ready : AreOfficeTablesOf by_domain db) (domain : Text
   one_entry : OneEach (integer_at 0) (seen_in domain (rows_named db) (codes "template"))
   one_entry x y in_x in_y e =
       let rows = rows_named db (codes "d_template") in
-      let r = from_view (has_text 1 domain) entry_seen rows x in_x in
-      let s = from_view (has_text 1 domain) entry_seen rows y in_y in
+      let r = from_seen (has_text 1 domain) entry_seen rows x in_x in
+      let s = from_seen (has_text 1 domain) entry_seen rows y in_y in
       let place_r = d_entry_places db ready.schema ready.sound r.0 r.1 in
       let place_s = d_entry_places db ready.schema ready.sound s.0 s.1 in
       let places : integer_of (column r.0 2) ≡ integer_of (column s.0 2) = ap (integer_at 0) (sym r.3) ∙ e ∙ ap (integer_at 0) s.3 in
@@ -53,8 +53,8 @@ module _ (db : Database) (ready : AreOfficeTablesOf by_domain db) (domain : Text
   one_number : OneEach first_text (seen_in domain (rows_named db) (codes "suggestion"))
   one_number x y in_x in_y e =
       let rows = rows_named db (codes "d_suggestion") in
-      let r = from_view (has_text 2 domain) suggestion_seen rows x in_x in
-      let s = from_view (has_text 2 domain) suggestion_seen rows y in_y in
+      let r = from_seen (has_text 2 domain) suggestion_seen rows x in_x in
+      let s = from_seen (has_text 2 domain) suggestion_seen rows y in_y in
       let number : text_at 1 r.0 ≡ text_at 1 s.0 = ap first_text (sym r.3) ∙ e ∙ ap first_text s.3 in
       r.3 ∙ ap suggestion_seen (one_d_number db ready.schema ready.sound (ready.tables (codes "d_suggestion") refl) r.0 s.0 r.1 s.1 number) ∙ sym s.3
 
@@ -62,8 +62,8 @@ module _ (db : Database) (ready : AreOfficeTablesOf by_domain db) (domain : Text
       → integer_at 4 x ≡ integer_at 4 y → x ≡ y
   one_place x y in_x in_y lang key place =
       let rows = rows_named db (codes "d_suggestion") in
-      let r = from_view (has_text 2 domain) suggestion_seen rows x in_x in
-      let s = from_view (has_text 2 domain) suggestion_seen rows y in_y in
+      let r = from_seen (has_text 2 domain) suggestion_seen rows x in_x in
+      let s = from_seen (has_text 2 domain) suggestion_seen rows y in_y in
       let place_r = d_suggestion_places db ready.schema ready.sound r.0 r.1 in
       let place_s = d_suggestion_places db ready.schema ready.sound s.0 s.1 in
       let places : integer_of (column r.0 5) ≡ integer_of (column s.0 5) = ap (integer_at 4) (sym r.3) ∙ place ∙ ap (integer_at 4) s.3 in
@@ -81,8 +81,8 @@ module _ (db : Database) (ready : AreOfficeTablesOf by_domain db) (domain : Text
   one_vote x y in_x in_y e =
       let rows = rows_named db (codes "d_vote") in
       let test = is_vote_in domain (rows_named db (codes "d_suggestion")) in
-      let r = from_view test vote_seen rows x in_x in
-      let s = from_view test vote_seen rows y in_y in
+      let r = from_seen test vote_seen rows x in_x in
+      let s = from_seen test vote_seen rows y in_y in
       let same : key_texts (1 ∷ 2 ∷ []) r.0 ≡ key_texts (1 ∷ 2 ∷ []) s.0 = ap first_texts (sym r.3) ∙ e ∙ ap first_texts s.3 in
       r.3 ∙ one_d_vote db ready.schema ready.sound (ready.tables (codes "d_vote") refl) r.0 s.0 r.1 s.1 same ∙ sym s.3
 
@@ -90,10 +90,10 @@ module _ (db : Database) (ready : AreOfficeTablesOf by_domain db) (domain : Text
   has_suggestion : (v : Row) → Has (seen_in domain (rows_named db) (codes "vote")) v → (s : Row) × Has (seen_in domain (rows_named db) (codes "suggestion")) s × (first_text v ≡ first_text s)
   has_suggestion v there =
       let rows = rows_named db (codes "d_suggestion") in
-      let r = from_view (is_vote_in domain rows) vote_seen (rows_named db (codes "d_vote")) v there in
+      let r = from_seen (is_vote_in domain rows) vote_seen (rows_named db (codes "d_vote")) v there in
       let s = some_has (λ s. has_text 1 (first_text r.0) s && has_text 2 domain s) rows r.2 in
       let parts = and_parts (has_text 1 (first_text r.0) s.0) (has_text 2 domain s.0) s.2 in
-      (suggestion_seen s.0, to_view (has_text 2 domain) suggestion_seen rows s.0 s.1 parts.1, ap first_text r.3 ∙ sym (texts_are_one (first_text s.0) (first_text r.0) parts.0))
+      (suggestion_seen s.0, to_seen (has_text 2 domain) suggestion_seen rows s.0 s.1 parts.1, ap first_text r.3 ∙ sym (texts_are_one (first_text s.0) (first_text r.0) parts.0))
 
   pub are_keyed_rows : AreKeyedRows (seen_in domain (rows_named db))
   are_keyed_rows = record {
@@ -101,8 +101,8 @@ module _ (db : Database) (ready : AreOfficeTablesOf by_domain db) (domain : Text
     one_member = one_member db ready.schema ready.sound (ready.tables (codes "team") refl);
     one_policy = one_rowid (rows_named db (codes "policy")) (ready.tables (codes "policy") refl);
     one_entry = one_entry;
-    one_key = one_seen (entry_keys_viewed domain) (rows_named db (codes "d_template")) (one_d_entry db ready.schema ready.sound (ready.tables (codes "d_template") refl));
-    one_language = one_seen (languages_viewed domain) (rows_named db (codes "d_language")) (one_d_language db ready.schema ready.sound (ready.tables (codes "d_language") refl));
-    one_unit = one_seen (units_viewed domain) (rows_named db (codes "d_unit")) (one_d_unit db ready.schema ready.sound (ready.tables (codes "d_unit") refl));
+    one_key = one_seen (entry_keys_alike domain) (rows_named db (codes "d_template")) (one_d_entry db ready.schema ready.sound (ready.tables (codes "d_template") refl));
+    one_language = one_seen (languages_alike domain) (rows_named db (codes "d_language")) (one_d_language db ready.schema ready.sound (ready.tables (codes "d_language") refl));
+    one_unit = one_seen (units_alike domain) (rows_named db (codes "d_unit")) (one_d_unit db ready.schema ready.sound (ready.tables (codes "d_unit") refl));
     suggested = record { one_number = one_number; one_place = one_place; one_vote = one_vote; has_suggestion = has_suggestion };
   }

@@ -28,13 +28,13 @@ use Rattle.sql_schema.specs.Inside.{AreOfficeTablesOf}
 use Rattle.sql_schema.specs.Keys.{text_at, first_text, has_text, row_number}
 use Rattle.sql_schema.specs.Layouts.{by_domain, rows_named}
 use Rattle.sql_schema.specs.Schema.{is_between, d_unit_table}
-use Rattle.sql_schema.specs.Views.{viewed, entry_seen, unit_seen, suggestion_seen, seen_in}
-use Rattle.sql_schema.proofs.DomainViews.{is_text}
+use Rattle.sql_schema.specs.SeenRows.{rows_seen, entry_seen, unit_seen, suggestion_seen, seen_in}
+use Rattle.sql_schema.proofs.DomainsSeen.{is_text}
 use Rattle.sql_schema.proofs.DomainParents.{d_suggestion_on_unit, d_vote_on_suggestion}
 use Rattle.sql_schema.proofs.DomainRows.{one_domain_name, one_d_entry_place, d_entry_places, d_unit_texts, d_suggestion_units, d_suggestion_texts, d_suggestion_places, d_vote_texts}
 use Rattle.sql_schema.proofs.Layouts.{d_unit_placed}
 use Rattle.sql_schema.proofs.TextKeys.{holds_int, passes_rule}
-use Rattle.sql_schema.proofs.Views.{from_view, to_view}
+use Rattle.sql_schema.proofs.SeenRows.{from_seen, to_seen}
 use Rattle.sql_meaning.specs.RowKeys.{HoldsIntegers, AreTypedRows, AreOfficeRows}
 use Rattle.sql_meaning.specs.Values.{integer_at}
 use Rattle.sql_meaning.proofs.DomainKeys.{are_keyed_rows}
@@ -45,11 +45,11 @@ use Rattle.sql_meaning.proofs.Rowids.{integer_is}
 
 module _ (test : Row → Bool) (seen : Row → Row) where
   pub once_seen : (rows : List Row) → AreOnce rows
-      → ((r s : Row) → Has rows r → Has rows s → test r ≡ true → test s ≡ true → is_eq (value_cmp (rowid (seen r)) (rowid (seen s))) ≡ true → r ≡ s) → AreOnce (viewed test seen rows)
+      → ((r s : Row) → Has rows r → Has rows s → test r ≡ true → test s ≡ true → is_eq (value_cmp (rowid (seen r)) (rowid (seen s))) ≡ true → r ≡ s) → AreOnce (rows_seen test seen rows)
   once_seen [] up apart = tt
   once_seen (row ∷ rows) up apart = by (once_seen rows up.1 (λ r s in_r in_s. apart r s (inr in_r) (inr in_s))) (test row) refl
     where
-      by : AreOnce (viewed test seen rows) → (b : Bool) → test row ≡ b → AreOnce (map seen (cond b (row ∷ filter test rows) (filter test rows)))
+      by : AreOnce (rows_seen test seen rows) → (b : Bool) → test row ≡ b → AreOnce (map seen (cond b (row ∷ filter test rows) (filter test rows)))
       by rest false fails = rest
       by rest true passes = (
         all-map (λ s. is_eq (value_cmp (rowid (seen row)) (rowid s)) ≡ false) seen (filter test rows) (all_from (λ s. is_eq (value_cmp (rowid (seen row)) (rowid (seen s))) ≡ false) (filter test rows) differs),
@@ -114,26 +114,26 @@ module _ (db : Database) (ready : AreOfficeTablesOf by_domain db) where
     has_unit : (s : Row) → Has (seen_in domain (rows_named db) (codes "suggestion")) s
         → (u : Row) × Has (seen_in domain (rows_named db) (codes "unit")) u × (text_at 1 u ≡ text_at 2 s) × (text_at 2 u ≡ text_at 3 s)
     has_unit x there =
-        let r = from_view (has_text 2 domain) suggestion_seen (rows_named db (codes "d_suggestion")) x there in
+        let r = from_seen (has_text 2 domain) suggestion_seen (rows_named db (codes "d_suggestion")) x there in
         let u = on_unit r.0 r.1 in
         let own : text_at 1 u.0 ≡ domain = u.2 ∙ texts_are_one (text_at 2 r.0) domain r.2 in (
           unit_seen u.0,
-          to_view (has_text 1 domain) unit_seen (rows_named db (codes "d_unit")) u.0 u.1 (is_text 1 domain u.0 own),
+          to_seen (has_text 1 domain) unit_seen (rows_named db (codes "d_unit")) u.0 u.1 (is_text 1 domain u.0 own),
           u.3 ∙ ap (text_at 2) (sym r.3),
           u.4 ∙ ap (text_at 3) (sym r.3),
         )
 
     entry_places : HoldsIntegers 0 (seen_in domain (rows_named db) (codes "template"))
     entry_places x there =
-        let r = from_view (has_text 1 domain) entry_seen (rows_named db (codes "d_template")) x there in
+        let r = from_seen (has_text 1 domain) entry_seen (rows_named db (codes "d_template")) x there in
         subst (λ y. column y 0 ≡ Int (integer_at 0 y)) (sym r.3) (whole 2 r.0 (d_entry_places db ready.schema ready.sound r.0 r.1))
 
     -- what a column of the units that are seen holds is what a column of those behind them does
     of_unit : (P : Row → Type 0) → ((row : Row) → Has (rows_named db (codes "d_unit")) row → P (unit_seen row)) → (x : Row) → Has (seen_in domain (rows_named db) (codes "unit")) x → P x
-    of_unit P each x there = let r = from_view (has_text 1 domain) unit_seen (rows_named db (codes "d_unit")) x there in subst P (sym r.3) (each r.0 r.1)
+    of_unit P each x there = let r = from_seen (has_text 1 domain) unit_seen (rows_named db (codes "d_unit")) x there in subst P (sym r.3) (each r.0 r.1)
 
     of_suggestion : (P : Row → Type 0) → ((row : Row) → Has (rows_named db (codes "d_suggestion")) row → P (suggestion_seen row)) → (x : Row) → Has (seen_in domain (rows_named db) (codes "suggestion")) x → P x
-    of_suggestion P each x there = let r = from_view (has_text 2 domain) suggestion_seen (rows_named db (codes "d_suggestion")) x there in subst P (sym r.3) (each r.0 r.1)
+    of_suggestion P each x there = let r = from_seen (has_text 2 domain) suggestion_seen (rows_named db (codes "d_suggestion")) x there in subst P (sym r.3) (each r.0 r.1)
 
     typed : AreTypedRows (seen_in domain (rows_named db))
     typed = record {

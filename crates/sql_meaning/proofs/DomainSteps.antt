@@ -15,10 +15,10 @@ use Rattle.po_text.specs.Texts.{Text}
 use Rattle.sql_schema.specs.Inside.{AreOfficeTablesOf, PutsRow, PutsIn, HoldsValues}
 use Rattle.sql_schema.specs.Keys.{text_at, key_texts, first_text, first_texts, first_three, row_number, domain_place, has_text}
 use Rattle.sql_schema.specs.Layouts.{by_domain, NamedRows, rows_named, SparesOthers}
-use Rattle.sql_schema.specs.Views.{viewed, entry_seen, language_seen, unit_seen, suggestion_seen, is_vote_in, vote_seen, seen_in, AreSame, AreSameByName}
-use Rattle.sql_schema.proofs.DomainViews.{is_text, unit_put_seen}
+use Rattle.sql_schema.specs.SeenRows.{rows_seen, entry_seen, language_seen, unit_seen, suggestion_seen, is_vote_in, vote_seen, seen_in, AreSame, AreSameByName}
+use Rattle.sql_schema.proofs.DomainsSeen.{is_text, unit_put_seen}
 use Rattle.sql_schema.proofs.Layouts.{names_differ}
-use Rattle.sql_schema.proofs.Views.{from_view, removed_seen, none_removed}
+use Rattle.sql_schema.proofs.SeenRows.{from_seen, removed_seen, none_removed}
 use Rattle.sql_statements.specs.Added.{AddsRow}
 use Rattle.sql_statements.specs.DomainCleared.{ClearsDomainUnit}
 use Rattle.sql_statements.specs.DomainRenewed.{HaveNextRevisionsInDomains, UnapprovesDomainUnits}
@@ -37,11 +37,11 @@ office_others : (domain : Text) (old new : NamedRows) (table : Text) → SparesO
     → codes "d_language" ≢ table → SparesOthers table (seen_in domain old) (seen_in domain new)
 office_others domain old new table stays unit suggestion vote template language =
     by_seen_name (λ name. name ≢ table → seen_in domain new name ≡ seen_in domain old name)
-    (λ d. ap (viewed (has_text 1 domain) unit_seen) (stays (codes "d_unit") unit))
-    (λ d. ap (viewed (has_text 2 domain) suggestion_seen) (stays (codes "d_suggestion") suggestion))
-    (λ d i. viewed (is_vote_in domain (stays (codes "d_suggestion") suggestion i)) vote_seen (stays (codes "d_vote") vote i))
-    (λ d. ap (viewed (has_text 1 domain) entry_seen) (stays (codes "d_template") template))
-    (λ d. ap (viewed (has_text 1 domain) language_seen) (stays (codes "d_language") language))
+    (λ d. ap (rows_seen (has_text 1 domain) unit_seen) (stays (codes "d_unit") unit))
+    (λ d. ap (rows_seen (has_text 2 domain) suggestion_seen) (stays (codes "d_suggestion") suggestion))
+    (λ d i. rows_seen (is_vote_in domain (stays (codes "d_suggestion") suggestion i)) vote_seen (stays (codes "d_vote") vote i))
+    (λ d. ap (rows_seen (has_text 1 domain) entry_seen) (stays (codes "d_template") template))
+    (λ d. ap (rows_seen (has_text 1 domain) language_seen) (stays (codes "d_language") language))
     (λ d. stays (codes "team") d)
     (λ d. stays (codes "policy") d)
     (λ d. stays (codes "record") d)
@@ -51,10 +51,10 @@ other_than_units : (domain : Text) (old new : NamedRows) → SparesOthers (codes
 other_than_units domain old new stays =
     by_seen_name (λ name. name ≢ codes "unit" → seen_in domain new name ≡ seen_in domain old name)
     (λ d. absurd (d refl))
-    (λ d. ap (viewed (has_text 2 domain) suggestion_seen) (stays (codes "d_suggestion") (names_differ refl)))
-    (λ d i. viewed (is_vote_in domain (stays (codes "d_suggestion") (names_differ refl) i)) vote_seen (stays (codes "d_vote") (names_differ refl) i))
-    (λ d. ap (viewed (has_text 1 domain) entry_seen) (stays (codes "d_template") (names_differ refl)))
-    (λ d. ap (viewed (has_text 1 domain) language_seen) (stays (codes "d_language") (names_differ refl)))
+    (λ d. ap (rows_seen (has_text 2 domain) suggestion_seen) (stays (codes "d_suggestion") (names_differ refl)))
+    (λ d i. rows_seen (is_vote_in domain (stays (codes "d_suggestion") (names_differ refl) i)) vote_seen (stays (codes "d_vote") (names_differ refl) i))
+    (λ d. ap (rows_seen (has_text 1 domain) entry_seen) (stays (codes "d_template") (names_differ refl)))
+    (λ d. ap (rows_seen (has_text 1 domain) language_seen) (stays (codes "d_language") (names_differ refl)))
     (λ d. stays (codes "team") (names_differ refl))
     (λ d. stays (codes "policy") (names_differ refl))
     (λ d. stays (codes "record") (names_differ refl))
@@ -150,11 +150,11 @@ module _ (domain : Text) {old new : Database} where
       others : (other : Text) → other ≢ codes "suggestion" → other ≢ codes "vote" → sees domain new other ≡ sees domain old other
       others =
           by_seen_name (λ name. name ≢ codes "suggestion" → name ≢ codes "vote" → sees domain new name ≡ sees domain old name)
-          (λ s v. ap (viewed (has_text 1 domain) unit_seen) (stays (codes "d_unit") (names_differ refl) (names_differ refl) (names_differ refl)))
+          (λ s v. ap (rows_seen (has_text 1 domain) unit_seen) (stays (codes "d_unit") (names_differ refl) (names_differ refl) (names_differ refl)))
           (λ s v. absurd (s refl))
           (λ s v. absurd (v refl))
-          (λ s v. ap (viewed (has_text 1 domain) entry_seen) (stays (codes "d_template") (names_differ refl) (names_differ refl) (names_differ refl)))
-          (λ s v. ap (viewed (has_text 1 domain) language_seen) (stays (codes "d_language") (names_differ refl) (names_differ refl) (names_differ refl)))
+          (λ s v. ap (rows_seen (has_text 1 domain) entry_seen) (stays (codes "d_template") (names_differ refl) (names_differ refl) (names_differ refl)))
+          (λ s v. ap (rows_seen (has_text 1 domain) language_seen) (stays (codes "d_language") (names_differ refl) (names_differ refl) (names_differ refl)))
           (λ s v. stays (codes "team") (names_differ refl) (names_differ refl) (names_differ refl))
           (λ s v. stays (codes "policy") (names_differ refl) (names_differ refl) (names_differ refl))
           (λ s v. stays (codes "record") (names_differ refl) (names_differ refl) (names_differ refl))
@@ -173,7 +173,7 @@ module _ (domain : Text) {old new : Database} where
 
       fresh : (x : Row) → Has (sees domain old (codes "suggestion")) x → first_text x ≢ first_text puts.row
       fresh x there e =
-          let r = from_view (has_text 2 domain) suggestion_seen (rows_named old (codes "d_suggestion")) x there in
+          let r = from_seen (has_text 2 domain) suggestion_seen (rows_named old (codes "d_suggestion")) x there in
           it.fresh r.0 r.1 (ap first_text (sym r.3) ∙ (e ∙ (ap first_text puts.is_row.1 ∙ sym (ap first_text it.puts.is_row.1))))
 
   -- a vote on a suggestion of the domain
@@ -195,7 +195,7 @@ module _ (domain : Text) {old new : Database} where
 
   pub vote_taken_seen : {test : Row → Bool} → TakesRows (codes "d_vote") test old new → TakesIn (codes "vote") test (sees domain old) (sees domain new)
   vote_taken_seen {test} it = record {
-    rows = subst (λ (suggestions : List Row). IsRemoved test (sees domain old (codes "vote")) (viewed (is_vote_in domain suggestions) vote_seen (rows_named new (codes "d_vote")))) (sym (suggestions_stay it))
+    rows = subst (λ (suggestions : List Row). IsRemoved test (sees domain old (codes "vote")) (rows_seen (is_vote_in domain suggestions) vote_seen (rows_named new (codes "d_vote")))) (sym (suggestions_stay it))
         (removed_seen (is_vote_in domain (rows_named old (codes "d_suggestion"))) vote_seen test test (rows_named old (codes "d_vote")) (rows_named new (codes "d_vote")) (λ v passes. refl) it.rows);
     others = other_than_votes (rows_named old) (rows_named new) it.others domain;
   }
@@ -204,7 +204,7 @@ module _ (domain : Text) {old new : Database} where
       → AreSameByName (sees domain old) (sees domain new)
   votes_left_seen {test} it stays =
       same_by_name (codes "vote") (sees domain old) (sees domain new)
-      (subst (λ (suggestions : List Row). AreSame (sees domain old (codes "vote")) (viewed (is_vote_in domain suggestions) vote_seen (rows_named new (codes "d_vote")))) (sym (suggestions_stay it))
+      (subst (λ (suggestions : List Row). AreSame (sees domain old (codes "vote")) (rows_seen (is_vote_in domain suggestions) vote_seen (rows_named new (codes "d_vote")))) (sym (suggestions_stay it))
       (none_removed (is_vote_in domain (rows_named old (codes "d_suggestion"))) vote_seen test (rows_named old (codes "d_vote")) (rows_named new (codes "d_vote")) stays it.rows))
       (other_than_votes (rows_named old) (rows_named new) it.others domain)
 

@@ -14,10 +14,10 @@ use Rattle.sql_columns.specs.Written.{ArePrevious}
 use Rattle.sql_schema.specs.Keys.{text_at, first_text, first_texts, first_three}
 use Rattle.sql_schema.specs.Inside.{AreOfficeTablesOf, PutsRow, PutsIn, HoldsValues}
 use Rattle.sql_schema.specs.Layouts.{by_domain, NamedRows, rows_named}
-use Rattle.sql_schema.specs.Views.{unit_seen, seen_in}
+use Rattle.sql_schema.specs.SeenRows.{unit_seen, seen_in}
 use Rattle.sql_schema.proofs.Layouts.{names_differ}
 use Rattle.sql_schema.proofs.DomainRows.{one_domain}
-use Rattle.sql_schema.proofs.DomainViews.{unit_put_seen, units_stay_seen}
+use Rattle.sql_schema.proofs.DomainsSeen.{unit_put_seen, units_stay_seen}
 use Rattle.sql_meaning.specs.Cells.{unit_cells}
 use Rattle.sql_meaning.specs.Meaning.{template_in, headers_in, team_in, policy_in, suggestions_in, project_of_rows}
 use Rattle.sql_meaning.specs.Domains.{domain_of_rows, office_of_rows}

@@ -14,8 +14,8 @@ use Rattle.sql_schema.specs.Creation.{HaveNoRows}
 use Rattle.sql_schema.specs.Inside.{PutsRow}
 use Rattle.sql_schema.specs.Keys.{text_at, first_text, has_text}
 use Rattle.sql_schema.specs.Layouts.{NamedRows, rows_named}
-use Rattle.sql_schema.specs.Views.{viewed, entry_seen, language_seen, unit_seen, suggestion_seen, is_vote_in, vote_seen, seen_in}
-use Rattle.sql_schema.proofs.DomainViews.{is_text}
+use Rattle.sql_schema.specs.SeenRows.{rows_seen, entry_seen, language_seen, unit_seen, suggestion_seen, is_vote_in, vote_seen, seen_in}
+use Rattle.sql_schema.proofs.DomainsSeen.{is_text}
 use Rattle.sql_schema.proofs.Layouts.{names_differ}
 use Rattle.sql_statements.proofs.SeenChanges.{by_seen_name}
 use Rattle.sql_meaning.specs.Meaning.{AreNumbered}
@@ -30,11 +30,11 @@ use Rattle.sql_meaning.proofs.DomainSteps.{all_unseen, member_seen, policy_seen,
 none_seen : (domain : Text) (rows : NamedRows) → HaveNoRows rows → HaveNoRows (seen_in domain rows)
 none_seen domain rows none =
     by_seen_name (λ name. seen_in domain rows name ≡ [])
-    (ap (viewed (has_text 1 domain) unit_seen) (none (codes "d_unit")))
-    (ap (viewed (has_text 2 domain) suggestion_seen) (none (codes "d_suggestion")))
-    (ap (viewed (is_vote_in domain (rows (codes "d_suggestion"))) vote_seen) (none (codes "d_vote")))
-    (ap (viewed (has_text 1 domain) entry_seen) (none (codes "d_template")))
-    (ap (viewed (has_text 1 domain) language_seen) (none (codes "d_language")))
+    (ap (rows_seen (has_text 1 domain) unit_seen) (none (codes "d_unit")))
+    (ap (rows_seen (has_text 2 domain) suggestion_seen) (none (codes "d_suggestion")))
+    (ap (rows_seen (is_vote_in domain (rows (codes "d_suggestion"))) vote_seen) (none (codes "d_vote")))
+    (ap (rows_seen (has_text 1 domain) entry_seen) (none (codes "d_template")))
+    (ap (rows_seen (has_text 1 domain) language_seen) (none (codes "d_language")))
     (none (codes "team"))
     (none (codes "policy"))
     (none (codes "record"))

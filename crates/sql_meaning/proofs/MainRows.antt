@@ -8,11 +8,11 @@ use Rattle.sql_laws.proofs.RowMaps.{get-is}
 use Rattle.po_text.specs.Texts.{Text, text_cmp}
 use Rattle.units.specs.Orders.{text_total, text_IsAntisymmetric}
 use Rattle.units.specs.Office.{main, same_domain}
-use Rattle.deliveries.specs.MainAlone.{main_alone}
-use Rattle.deliveries.proofs.domains.InDomains.{equal_domains, its_own_domain}
+use Rattle.office_specification.specs.MainAlone.{main_alone}
+use Rattle.office_specification.proofs.domains.InDomains.{equal_domains, its_own_domain}
 use Rattle.sql_schema.specs.Keys.{first_text}
 use Rattle.sql_schema.specs.Layouts.{NamedRows}
-use Rattle.sql_schema.specs.Views.{seen_in}
+use Rattle.sql_schema.specs.SeenRows.{seen_in}
 use Rattle.sql_meaning.specs.Meaning.{project_of_rows, meaning_in}
 use Rattle.sql_meaning.specs.Domains.{domain_of_rows, domains_in, office_of_rows, meaning_by_domain}
 

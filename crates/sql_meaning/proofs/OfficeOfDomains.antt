@@ -16,15 +16,15 @@ use Rattle.units.specs.Office.{Domain, main, empty_domain, same_domain, as_proje
 use Rattle.units.specs.Project.{Project}
 use Rattle.units.specs.declared.unit.Policy.{Policy}
 use Rattle.request_book.specs.Book.{Book, OfficeWithBook}
-use Rattle.deliveries.specs.MainAlone.{main_alone}
-use Rattle.deliveries.proofs.domains.InDomains.{equal_domains}
-use Rattle.deliveries.proofs.domains.MainAlone.{in-main}
-use Rattle.deliveries.proofs.rules.DomainsKept.{get-under}
+use Rattle.office_specification.specs.MainAlone.{main_alone}
+use Rattle.office_specification.proofs.domains.InDomains.{equal_domains}
+use Rattle.office_specification.proofs.domains.MainAlone.{in-main}
+use Rattle.office_specification.proofs.rules.DomainsKept.{get-under}
 use Rattle.sql_schema.specs.Keys.{text_at, first_text, has_text}
 use Rattle.sql_schema.specs.Layouts.{NamedRows}
-use Rattle.sql_schema.specs.Views.{viewed, entry_seen, language_seen, unit_seen, seen_in, AreSameByName}
-use Rattle.sql_schema.proofs.DomainViews.{is_text}
-use Rattle.sql_schema.proofs.Views.{from_view}
+use Rattle.sql_schema.specs.SeenRows.{rows_seen, entry_seen, language_seen, unit_seen, seen_in, AreSameByName}
+use Rattle.sql_schema.proofs.DomainsSeen.{is_text}
+use Rattle.sql_schema.proofs.SeenRows.{from_seen}
 use Rattle.sql_meaning.specs.Meaning.{book_in, team_in, policy_in, project_of_rows, meaning_in}
 use Rattle.sql_meaning.specs.Domains.{project_seen, domain_of_rows, domains_in, office_of_rows, is_domain, AreOwned, HoldsOwnDomains}
 use Rattle.sql_meaning.specs.RowKeys.{AreKeyedRows}
@@ -112,9 +112,9 @@ no_row [] none = refl
 no_row (row ∷ rows) none = absurd (none row (inl refl))
 
 module _ (rows : NamedRows) (held : HoldsOwnDomains rows) (domain : Text) (missing : is_domain rows domain ≡ false) where
-  none_seen : (place : ℕ) (name : List ℕ) (seen : Row → Row) → AreOwned place name rows → (row : Row) → Has (viewed (has_text place domain) seen (rows name)) row → ⊥
+  none_seen : (place : ℕ) (name : List ℕ) (seen : Row → Row) → AreOwned place name rows → (row : Row) → Has (rows_seen (has_text place domain) seen (rows name)) row → ⊥
   none_seen place name seen owned row there =
-      let it = from_view (has_text place domain) seen (rows name) row there in
+      let it = from_seen (has_text place domain) seen (rows name) row there in
       let own : is_domain rows domain ≡ true = subst (λ d. is_domain rows d ≡ true) (texts_are_one (text_at place it.0) domain it.2) (owned it.0 it.1) in
       cc
 

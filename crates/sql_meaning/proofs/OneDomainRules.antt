@@ -12,12 +12,12 @@ use Rattle.units.specs.Project.{Project, Place, place_cmp}
 use Rattle.units.specs.Projects.{IsProject}
 use Rattle.units.specs.declared.unit.Unit.{Unit}
 use Rattle.request_book.specs.Book.{Book}
-use Rattle.deliveries.specs.MainAlone.{main_alone}
-use Rattle.deliveries.specs.OfficeRules.{numbers_in, KeepsRules}
-use Rattle.deliveries.proofs.domains.InDomains.{HasShared, contains-put_there, equal_domains, its_own_domain, project_own}
-use Rattle.deliveries.proofs.domains.MainAlone.{has-main, in-main, in-another, numbers-main}
-use Rattle.deliveries.proofs.rules.DomainNumbers.{numbers_there}
-use Rattle.deliveries.proofs.rules.Numbering.{own_from}
+use Rattle.office_specification.specs.MainAlone.{main_alone}
+use Rattle.office_specification.specs.OfficeRules.{numbers_in, KeepsRules}
+use Rattle.office_specification.proofs.domains.InDomains.{HasShared, contains-put_there, equal_domains, its_own_domain, project_own}
+use Rattle.office_specification.proofs.domains.MainAlone.{has-main, in-main, in-another, numbers-main}
+use Rattle.office_specification.proofs.rules.DomainNumbers.{numbers_there}
+use Rattle.office_specification.proofs.rules.Numbering.{own_from}
 
 -- ---- an office whose one domain is `main`
 

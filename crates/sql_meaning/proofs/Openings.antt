@@ -14,9 +14,9 @@ use Rattle.units.specs.Units.{no_previous}
 use Rattle.units.specs.declared.unit.Policy.{Policy}
 use Rattle.units.specs.declared.unit.Role.TheVariants.{Translator, Manager}
 use Rattle.request_book.specs.Book.{OfficeWithBook}
-use Rattle.deliveries.specs.MainAlone.{main_alone}
-use Rattle.deliveries.specs.OfficeRules.{KeepsRules}
-use Rattle.deliveries.proofs.rules.StartLemmas.{demo_starts, opening_starts}
+use Rattle.office_specification.specs.MainAlone.{main_alone}
+use Rattle.office_specification.specs.OfficeRules.{KeepsRules}
+use Rattle.office_specification.proofs.rules.StartLemmas.{demo_starts, opening_starts}
 use Rattle.sql_columns.specs.Readings.{texts_read}
 use Rattle.sql_columns.specs.Written.{ArePrevious, IsHeaderEntry, texts_text}
 use Rattle.sql_columns.proofs.Keys.{parts_of_text}

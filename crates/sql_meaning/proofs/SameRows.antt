@@ -13,7 +13,7 @@ use Rattle.units.specs.Project.{place_cmp}
 use Rattle.units.specs.Orders.{text_total, text_IsAntisymmetric, place_total, place_IsAntisymmetric}
 use Rattle.sql_schema.specs.Keys.{text_at, first_text, has_text, is_on_unit}
 use Rattle.sql_schema.specs.Layouts.{NamedRows}
-use Rattle.sql_schema.specs.Views.{AreSame, AreSameByName}
+use Rattle.sql_schema.specs.SeenRows.{AreSame, AreSameByName}
 use Rattle.sql_meaning.specs.Values.{integer_at, vote_at}
 use Rattle.sql_meaning.specs.Meaning.{entry_of_row, template_in, header_of_row, headers_in, votes_in, suggestion_of_row, suggestions_in, place_of_row, unit_of_row, units_in, project_of_rows}
 use Rattle.sql_meaning.proofs.MapEntries.{map_of-agreeing}

@@ -7,7 +7,7 @@ use Rattle.sqlite.specs.State.{State, HasCleanDisk}
 use Rattle.po_text.specs.Texts.{Text}
 use Rattle.units.specs.Office.{main}
 use Rattle.units.specs.Openings.{plain_entry, demo_header, demo_unit, demo_domain}
-use Rattle.deliveries.specs.Tally.{counts_in}
+use Rattle.office_specification.specs.Tally.{counts_in}
 use Rattle.sql_columns.specs.Written.{texts_text, header_text}
 use Rattle.sql_schema.specs.Creation.{IsBlank, MakesTables}
 use Rattle.sql_schema.specs.Inside.{PutsRow, HoldsValues, Then}

@@ -8,7 +8,7 @@ use Rattle.units.specs.declared.unit.Unit.{Unit}
 use Rattle.units.specs.declared.unit.Suggestion.{Suggestion}
 use Rattle.units.specs.declared.votes.VoteValue.{VoteValue}
 use Rattle.request_book.specs.declared.book.Record.{Record}
-use Rattle.deliveries.specs.declared.tally.Tally.{Tally}
+use Rattle.office_specification.specs.declared.tally.Tally.{Tally}
 use Rattle.request_book.specs.Acts.{vote_number}
 use Rattle.request_book.specs.Words.{number_text}
 use Rattle.sql_columns.specs.Numbers.{state_number, flag_number}

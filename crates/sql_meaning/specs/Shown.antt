@@ -12,7 +12,7 @@ use Rattle.units.specs.declared.unit.Suggestion.{Suggestion}
 use Rattle.units.specs.declared.unit.Policy.{Policy}
 use Rattle.units.specs.declared.votes.VoteValue.{VoteValue}
 use Rattle.request_book.specs.Book.{Recorded}
-use Rattle.deliveries.specs.declared.tally.Tally.{Tally}
+use Rattle.office_specification.specs.declared.tally.Tally.{Tally}
 use Rattle.sql_columns.specs.Readings.{previous_read, header_read}
 use Rattle.sql_schema.specs.Keys.{text_at}
 use Rattle.sql_meaning.specs.Values.{natural_at, text_or_null_at, texts_at, flag_at, state_at, vote_at}

@@ -15,7 +15,7 @@ pub mod TablesSoFar
 pub mod Queries
 pub mod OrderedQueries
 pub mod TextQueries
-pub mod Views
-pub mod DomainViews
+pub mod SeenRows
+pub mod DomainsSeen
 pub mod MoreTables
 pub mod TablesByDomain

@@ -5,7 +5,7 @@
 //!   makes them where there was none (`make_tables_by_domain`)
 //!
 //! Specs: `Schema` (the tables), `Layouts` (their forms, and in which trees their rows may be), `Keys`, `Rows` (rows as
-//! they are written), `Views` (what a domain sees), `Creation`, `Inside` (what a statement inside a transaction does,
+//! they are written), `SeenRows` (what a domain sees), `Creation`, `Inside` (what a statement inside a transaction does,
 //! and keeps however it ends), `Cleared`, `Whole` (transactions).
 //!
 //! What is said of values is said while the disk returns what was written.

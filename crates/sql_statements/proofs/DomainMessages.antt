@@ -25,12 +25,12 @@ use Rattle.sql_streams.proofs.Joins.{joined_permuted, joined_in_order}
 use Rattle.sql_schema.specs.Layouts.{by_domain, Layout, made_last, from_first, from_second, schema_of, placed, rows_named}
 use Rattle.sql_schema.specs.Schema.{d_template_table, d_unit_table}
 use Rattle.sql_schema.specs.Keys.{text_at, has_text, columns}
-use Rattle.sql_schema.specs.Views.{entry_seen, unit_seen, seen_in}
+use Rattle.sql_schema.specs.SeenRows.{entry_seen, unit_seen, seen_in}
 use Rattle.sql_schema.specs.Inside.{IsReadyFor}
 use Rattle.sql_schema.proofs.Layouts.{d_template_placed, d_unit_placed}
 use Rattle.sql_schema.proofs.Queries.{Asks, rows_read, filtered_same}
 use Rattle.sql_schema.proofs.DomainRows.{d_entry_texts, d_unit_texts, one_d_unit}
-use Rattle.sql_schema.proofs.Views.{from_view, to_view}
+use Rattle.sql_schema.proofs.SeenRows.{from_seen, to_seen}
 use Rattle.sql_statements.specs.Queries.{AreUnits, ShowsMessagesIn, by_column, entry_places, unit_places}
 use Rattle.sql_statements.proofs.OnePassing.{none_passing, one_passing}
 use Rattle.sql_statements.proofs.Seen.{mapped_seen}
@@ -120,8 +120,8 @@ module _ (domain lang : List ℕ) (s : State) (ready : IsReadyFor by_domain s) w
 
     unit_there : (row : Row) → Has entries row → has_text 1 domain row ≡ true → (unit : Row) × IsUnit row unit
     unit_there row there own =
-        let listed = to_view (has_text 1 domain) entry_seen entries row there own in
-        let u = from_view (has_text 1 domain) unit_seen units (unit_of (entry_seen row)) (are.there (entry_seen row) listed) in
+        let listed = to_seen (has_text 1 domain) entry_seen entries row there own in
+        let u = from_seen (has_text 1 domain) unit_seen units (unit_of (entry_seen row)) (are.there (entry_seen row) listed) in
         let keyed = are.keyed (entry_seen row) listed in
         let of_lang : text_at 1 (unit_of (entry_seen row)) ≡ lang = cc in
         let of_key : text_at 2 (unit_of (entry_seen row)) ≡ text_at 3 row = cc in

@@ -24,7 +24,7 @@ use Rattle.sql_laws.proofs.Comparisons.{ints_compared}
 use Rattle.sql_schema.specs.Layouts.{by_domain, Layout, made_last, from_first, from_second, schema_of, placed, rows_named}
 use Rattle.sql_schema.specs.Schema.{d_unit_table}
 use Rattle.sql_schema.specs.Keys.{has_text, columns}
-use Rattle.sql_schema.specs.Views.{unit_seen, seen_in}
+use Rattle.sql_schema.specs.SeenRows.{unit_seen, seen_in}
 use Rattle.sql_schema.specs.Inside.{IsReadyFor}
 use Rattle.sql_schema.proofs.Layouts.{d_unit_placed}
 use Rattle.sql_schema.proofs.OrderedQueries.{IsOrderedQueryOf}

@@ -24,7 +24,7 @@ use Rattle.sql_schema.proofs.Queries.{IsQueryOf, ReadsAllOf, ReadsLastOf, AreTes
 use Rattle.sql_schema.proofs.OrderedQueries.{IsOrderedQueryOf, reads_in_order}
 use Rattle.sql_schema.proofs.TextLists.{texts_of_row}
 use Rattle.sql_schema.proofs.TextQueries.{are_given}
-use Rattle.sql_schema.proofs.DomainViews.{is_text}
+use Rattle.sql_schema.proofs.DomainsSeen.{is_text}
 use Rattle.sql_schema.proofs.DomainRows.{one_d_number, d_suggestion_texts, d_suggestion_units}
 use Rattle.sql_statements.specs.DomainCleared.{is_on_domain_unit}
 use Rattle.sql_statements.specs.DomainAnswers.{ShowsDomainSuggestions, ShowsPlaces, ShowsSuggestionOf, ShowsPlaceOf}

@@ -5,7 +5,7 @@ use Rattle.sqlite.specs.Listing.{understood}
 use Rattle.sqlite_tied.specs.Compute.{everything}
 use Rattle.sql_schema.specs.Layouts.{by_domain, made_last, from_first, from_second, rows_named}
 use Rattle.sql_schema.specs.Schema.{d_template_table, d_language_table, d_unit_table, d_suggestion_table}
-use Rattle.sql_schema.specs.Views.{entry_seen, language_seen, unit_seen, suggestion_seen, seen_in}
+use Rattle.sql_schema.specs.SeenRows.{entry_seen, language_seen, unit_seen, suggestion_seen, seen_in}
 use Rattle.sql_schema.proofs.Layouts.{d_template_placed, d_language_placed, d_unit_placed, d_suggestion_placed}
 use Rattle.sql_schema.proofs.Queries.{ReadsAllOf, is_given}
 use Rattle.sql_schema.proofs.DomainRows.{d_entry_texts, d_language_texts, d_unit_texts, d_suggestion_units}

@@ -23,7 +23,7 @@ use Rattle.sql_streams.proofs.Joins.{joined_permuted, joined_in_order}
 use Rattle.sql_schema.specs.Layouts.{by_domain, Layout, made_last, from_first, from_second, schema_of, placed, rows_named}
 use Rattle.sql_schema.specs.Schema.{d_vote_table, d_suggestion_table}
 use Rattle.sql_schema.specs.Keys.{first_text, has_text, columns}
-use Rattle.sql_schema.specs.Views.{is_vote_in, vote_seen, seen_in}
+use Rattle.sql_schema.specs.SeenRows.{is_vote_in, vote_seen, seen_in}
 use Rattle.sql_schema.specs.Inside.{IsReadyFor}
 use Rattle.sql_schema.proofs.Layouts.{d_vote_placed, d_suggestion_placed}
 use Rattle.sql_schema.proofs.Queries.{Asks, ReadsAllOf, queries_inside, rows_read, filtered_same}

@@ -36,4 +36,4 @@ pub mod LookedUp
 pub mod SeenChanges
 pub mod SeenAnswers
 pub mod OwnersRead
-pub mod ViewSeen
+pub mod ContextSeen

@@ -11,7 +11,7 @@ use Rattle.sqlite.specs.Table.{Table}
 use Rattle.sqlite_rules.specs.Lists.{Has}
 use Rattle.sql_schema.specs.Layouts.{Form, by_domain, Layout, NamedRows, rows_named, IsPlaced}
 use Rattle.sql_schema.specs.Keys.{has_text, columns}
-use Rattle.sql_schema.specs.Views.{viewed, seen_in}
+use Rattle.sql_schema.specs.SeenRows.{rows_seen, seen_in}
 use Rattle.sql_schema.proofs.TextKeys.{HoldsTextsOf}
 use Rattle.sql_schema.proofs.Queries.{ReadsAllOf, is_given, given_is}
 use Rattle.sql_statements.specs.Tables.{by_columns, ShowsTableIn, ShowsPart}
@@ -28,11 +28,11 @@ mapped_seen shown own seen (row ∷ rows) same =
     λ i. first i ∷ rest i
 
 -- those that pass two tests, the second of what is seen of them
-pub filtered_seen : (test own : Row → Bool) (seen : Row → Row) (rows : List Row) → map seen (filter (λ row. test row && own (seen row)) rows) ≡ filter own (viewed test seen rows)
+pub filtered_seen : (test own : Row → Bool) (seen : Row → Row) (rows : List Row) → map seen (filter (λ row. test row && own (seen row)) rows) ≡ filter own (rows_seen test seen rows)
 filtered_seen test own seen [] = refl
 filtered_seen test own seen (row ∷ rows) = by (test row) (own (seen row)) refl (filtered_seen test own seen rows)
   where
-    by : (a b : Bool) → own (seen row) ≡ b → map seen (filter (λ row. test row && own (seen row)) rows) ≡ filter own (viewed test seen rows)
+    by : (a b : Bool) → own (seen row) ≡ b → map seen (filter (λ row. test row && own (seen row)) rows) ≡ filter own (rows_seen test seen rows)
         → map seen (cond (a && b) (row ∷ filter (λ row. test row && own (seen row)) rows) (filter (λ row. test row && own (seen row)) rows)) ≡ filter own (map seen (cond a (row ∷ filter test rows) (filter test rows)))
     by false b e rest = rest
     by true true e rest = rw e (ap (λ more. seen row ∷ more) rest)
@@ -68,7 +68,7 @@ module _ (text : List ℕ) (table : Table) (is_placed : (layout : Layout by_doma
       (λ db has sound tables row there. rw (given_is (Text domain ∷ []) row place 0 domain (texts db has sound row there) refl) (and-true _)) alike
 
   -- are a table that the domain sees
-  module _ (name : List ℕ) (seen : Row → Row) (own : List ℕ) (is_seen : (tables : NamedRows) → viewed (has_text place domain) seen (tables table.name) ≡ seen_in domain tables name)
+  module _ (name : List ℕ) (seen : Row → Row) (own : List ℕ) (is_seen : (tables : NamedRows) → rows_seen (has_text place domain) seen (tables table.name) ≡ seen_in domain tables name)
       (same : (row : Row) → columns places row ≡ columns own (seen row)) where
     pub reads_seen : ReadsAllOf by_domain text (Text domain ∷ []) (λ db rows. ShowsTableIn name own order (seen_in domain (rows_named db)) rows)
     reads_seen = answers_mapped text (Text domain ∷ []) (ShowsPart table.name (has_text place domain) places order) (λ db rows. ShowsTableIn name own order (seen_in domain (rows_named db)) rows)

@@ -13,19 +13,19 @@ use Rattle.sql_laws.proofs.RowMaps.{texts_are_one, text_ties_itself}
 use Rattle.sql_schema.specs.Layouts.{rows_named}
 use Rattle.sql_schema.specs.Keys.{text_at, key_texts, first_text, second_text, has_text, is_on_unit, columns}
 use Rattle.sql_schema.specs.Inside.{IsInOrder}
-use Rattle.sql_schema.specs.Views.{suggestion_seen, is_vote_in, vote_seen, seen_in}
+use Rattle.sql_schema.specs.SeenRows.{suggestion_seen, is_vote_in, vote_seen, seen_in}
 use Rattle.sql_schema.proofs.Queries.{filtered_same}
-use Rattle.sql_schema.proofs.Views.{IsView, found_seen}
-use Rattle.sql_schema.proofs.DomainViews.{is_text, languages_viewed}
+use Rattle.sql_schema.proofs.SeenRows.{IsKeyedAlike, found_seen}
+use Rattle.sql_schema.proofs.DomainsSeen.{is_text, languages_alike}
 use Rattle.sql_statements.specs.DomainCleared.{is_on_domain_unit}
 use Rattle.sql_statements.specs.DomainAnswers.{ShowsDomainEntry, ShowsDomainLanguage, ShowsDomainSuggestions, ShowsDomainVotes, ShowsSuggestionOf}
 use Rattle.sql_statements.proofs.Seen.{mapped_seen, filtered_seen}
-use Rattle.sql_statements.proofs.SeenChanges.{entry_keys_viewed}
+use Rattle.sql_statements.proofs.SeenChanges.{entry_keys_alike}
 
 pub entry_found_seen : (domain key : List ℕ) (db : Database) (found : Option Row) → ShowsDomainEntry domain key db found
     → IsFound second_text (columns (3 ∷ 4 ∷ 5 ∷ 6 ∷ [])) (seen_in domain (rows_named db) (codes "template")) key found
 entry_found_seen domain key db found it =
-    found_seen (entry_keys_viewed domain) (columns (4 ∷ 5 ∷ 6 ∷ 7 ∷ [])) (columns (3 ∷ 4 ∷ 5 ∷ 6 ∷ [])) (rows_named db (codes "d_template")) (domain ∷ key ∷ []) key
+    found_seen (entry_keys_alike domain) (columns (4 ∷ 5 ∷ 6 ∷ 7 ∷ [])) (columns (3 ∷ 4 ∷ 5 ∷ 6 ∷ [])) (rows_named db (codes "d_template")) (domain ∷ key ∷ []) key
     (λ r e. let name : text_at 1 r ≡ domain = cc in let of_key : text_at 3 r ≡ key = cc in (is_text 1 domain r name, of_key))
     (λ r passes e. let name = texts_are_one (text_at 1 r) domain passes in let of_key : text_at 3 r ≡ key = e in λ i. name i ∷ of_key i ∷ [])
     (λ r. refl) found it
@@ -33,7 +33,7 @@ entry_found_seen domain key db found it =
 pub language_found_seen : (domain lang : List ℕ) (db : Database) (found : Option Row) → ShowsDomainLanguage domain lang db found
     → IsFound first_text (columns (2 ∷ 3 ∷ [])) (seen_in domain (rows_named db) (codes "language")) lang found
 language_found_seen domain lang db found it =
-    found_seen (languages_viewed domain) (columns (3 ∷ 4 ∷ [])) (columns (2 ∷ 3 ∷ [])) (rows_named db (codes "d_language")) (domain ∷ lang ∷ []) lang
+    found_seen (languages_alike domain) (columns (3 ∷ 4 ∷ [])) (columns (2 ∷ 3 ∷ [])) (rows_named db (codes "d_language")) (domain ∷ lang ∷ []) lang
     (λ r e. let name : text_at 1 r ≡ domain = cc in let of_lang : text_at 2 r ≡ lang = cc in (is_text 1 domain r name, of_lang))
     (λ r passes e. let name = texts_are_one (text_at 1 r) domain passes in let of_lang : text_at 2 r ≡ lang = e in λ i. name i ∷ of_lang i ∷ [])
     (λ r. refl) found it
@@ -49,8 +49,8 @@ suggestions_shown_seen domain lang key db rows it =
     )
 
 -- a suggestion by its number and its unit
-suggestions_viewed : (domain : List ℕ) → IsView (has_text 2 domain) suggestion_seen (key_texts (1 ∷ 2 ∷ 3 ∷ 4 ∷ [])) (key_texts (1 ∷ 2 ∷ 3 ∷ []))
-suggestions_viewed domain = record {
+suggestions_alike : (domain : List ℕ) → IsKeyedAlike (has_text 2 domain) suggestion_seen (key_texts (1 ∷ 2 ∷ 3 ∷ 4 ∷ [])) (key_texts (1 ∷ 2 ∷ 3 ∷ []))
+suggestions_alike domain = record {
   alike = λ r s e. let same : text_at 2 r ≡ text_at 2 s = cc in ap (λ t. is_eq (slice_cmp nat_cmp t domain)) same;
   forth = λ r s e.
       let number : text_at 1 r ≡ text_at 1 s = cc in
@@ -68,7 +68,7 @@ suggestions_viewed domain = record {
 pub suggestion_found_seen : (domain lang key number : List ℕ) (db : Database) (found : Option Row) → ShowsSuggestionOf domain lang key number db found
     → IsFound (key_texts (1 ∷ 2 ∷ 3 ∷ [])) (columns (1 ∷ 4 ∷ 5 ∷ 6 ∷ [])) (seen_in domain (rows_named db) (codes "suggestion")) (number ∷ lang ∷ key ∷ []) found
 suggestion_found_seen domain lang key number db found it =
-    found_seen (suggestions_viewed domain) (columns (1 ∷ 5 ∷ 6 ∷ 7 ∷ [])) (columns (1 ∷ 4 ∷ 5 ∷ 6 ∷ [])) (rows_named db (codes "d_suggestion")) (number ∷ domain ∷ lang ∷ key ∷ []) (number ∷ lang ∷ key ∷ [])
+    found_seen (suggestions_alike domain) (columns (1 ∷ 5 ∷ 6 ∷ 7 ∷ [])) (columns (1 ∷ 4 ∷ 5 ∷ 6 ∷ [])) (rows_named db (codes "d_suggestion")) (number ∷ domain ∷ lang ∷ key ∷ []) (number ∷ lang ∷ key ∷ [])
     (λ r e.
     let of_number : text_at 1 r ≡ number = cc in
     let name : text_at 2 r ≡ domain = cc in

@@ -14,10 +14,10 @@ use Rattle.sql_laws.proofs.RowMaps.{texts_are_one}
 use Rattle.sql_schema.specs.Layouts.{NamedRows, SparesOthers}
 use Rattle.sql_schema.specs.Keys.{text_at, key_texts, first_text, first_texts, second_text, row_number, domain_place, has_text}
 use Rattle.sql_schema.specs.Inside.{PutsIn}
-use Rattle.sql_schema.specs.Views.{viewed, entry_seen, unit_seen, language_seen, suggestion_seen, is_vote_in, vote_seen, seen_in, AreSame, AreSameByName}
+use Rattle.sql_schema.specs.SeenRows.{rows_seen, entry_seen, unit_seen, language_seen, suggestion_seen, is_vote_in, vote_seen, seen_in, AreSame, AreSameByName}
 use Rattle.sql_schema.proofs.Layouts.{by_name, names_differ}
-use Rattle.sql_schema.proofs.Views.{IsView, from_view, to_view, put_seen, put_unseen, removed_seen, none_removed}
-use Rattle.sql_schema.proofs.DomainViews.{is_text, not_text, languages_viewed}
+use Rattle.sql_schema.proofs.SeenRows.{IsKeyedAlike, from_seen, to_seen, put_seen, put_unseen, removed_seen, none_removed}
+use Rattle.sql_schema.proofs.DomainsSeen.{is_text, not_text, languages_alike}
 use Rattle.sql_statements.specs.DomainEntries.{is_entry_of}
 use Rattle.sql_statements.specs.Renewed.{AreRenewed, is_approved_row, unapproved_row}
 use Rattle.sql_statements.specs.DomainRenewed.{is_approved_in_domain, unapproved_in_domain}
@@ -25,8 +25,8 @@ use Rattle.sql_statements.specs.DomainRenewed.{is_approved_in_domain, unapproved
 -- ---- keys
 
 -- an entry by its place
-pub entries_viewed : (domain : List ℕ) → IsView (has_text 1 domain) entry_seen domain_place row_number
-entries_viewed domain = record {
+pub entries_alike : (domain : List ℕ) → IsKeyedAlike (has_text 1 domain) entry_seen domain_place row_number
+entries_alike domain = record {
   alike = λ r s e. let same : text_at 1 r ≡ text_at 1 s = ap (λ (p : List ℕ × Value). p.0) e in ap (λ t. is_eq (slice_cmp nat_cmp t domain)) same;
   forth = λ r s e. ap (λ (p : List ℕ × Value). p.1) e;
   back = λ r s in_r in_s e.
@@ -36,8 +36,8 @@ entries_viewed domain = record {
 }
 
 -- and by its key
-pub entry_keys_viewed : (domain : List ℕ) → IsView (has_text 1 domain) entry_seen (key_texts (1 ∷ 3 ∷ [])) second_text
-entry_keys_viewed domain = record {
+pub entry_keys_alike : (domain : List ℕ) → IsKeyedAlike (has_text 1 domain) entry_seen (key_texts (1 ∷ 3 ∷ [])) second_text
+entry_keys_alike domain = record {
   alike = λ r s e. let same : text_at 1 r ≡ text_at 1 s = cc in ap (λ t. is_eq (slice_cmp nat_cmp t domain)) same;
   forth = λ r s e. cc;
   back = λ r s in_r in_s e.
@@ -46,8 +46,8 @@ entry_keys_viewed domain = record {
       λ i. same i ∷ key i ∷ [];
 }
 
-pub votes_viewed : (domain : List ℕ) (suggestions : List Row) → IsView (is_vote_in domain suggestions) vote_seen first_texts first_texts
-votes_viewed domain suggestions = record {
+pub votes_alike : (domain : List ℕ) (suggestions : List Row) → IsKeyedAlike (is_vote_in domain suggestions) vote_seen first_texts first_texts
+votes_alike domain suggestions = record {
   alike = λ r s e. let same : first_text r ≡ first_text s = cc in ap (λ t. list_any (λ suggestion. has_text 1 t suggestion && has_text 2 domain suggestion) suggestions) same;
   forth = λ r s e. e;
   back = λ r s in_r in_s e. e;
@@ -88,11 +88,11 @@ same_by_name at old new same others name =
 
 pub other_than_templates : (old new : NamedRows) → SparesOthers (codes "d_template") old new → (domain : List ℕ) → SparesOthers (codes "template") (seen_in domain old) (seen_in domain new)
 other_than_templates old new others domain = by_seen_name (λ name. name ≢ codes "template" → seen_in domain new name ≡ seen_in domain old name)
-    (λ d. ap (viewed (has_text 1 domain) unit_seen) (others (codes "d_unit") (names_differ refl)))
-    (λ d. ap (viewed (has_text 2 domain) suggestion_seen) (others (codes "d_suggestion") (names_differ refl)))
-    (λ d i. viewed (is_vote_in domain (others (codes "d_suggestion") (names_differ refl) i)) vote_seen (others (codes "d_vote") (names_differ refl) i))
+    (λ d. ap (rows_seen (has_text 1 domain) unit_seen) (others (codes "d_unit") (names_differ refl)))
+    (λ d. ap (rows_seen (has_text 2 domain) suggestion_seen) (others (codes "d_suggestion") (names_differ refl)))
+    (λ d i. rows_seen (is_vote_in domain (others (codes "d_suggestion") (names_differ refl) i)) vote_seen (others (codes "d_vote") (names_differ refl) i))
     (λ d. absurd (d refl))
-    (λ d. ap (viewed (has_text 1 domain) language_seen) (others (codes "d_language") (names_differ refl)))
+    (λ d. ap (rows_seen (has_text 1 domain) language_seen) (others (codes "d_language") (names_differ refl)))
     (λ d. others (codes "team") (names_differ refl))
     (λ d. others (codes "policy") (names_differ refl))
     (λ d. others (codes "record") (names_differ refl))
@@ -100,10 +100,10 @@ other_than_templates old new others domain = by_seen_name (λ name. name ≢ cod
 
 pub other_than_languages : (old new : NamedRows) → SparesOthers (codes "d_language") old new → (domain : List ℕ) → SparesOthers (codes "language") (seen_in domain old) (seen_in domain new)
 other_than_languages old new others domain = by_seen_name (λ name. name ≢ codes "language" → seen_in domain new name ≡ seen_in domain old name)
-    (λ d. ap (viewed (has_text 1 domain) unit_seen) (others (codes "d_unit") (names_differ refl)))
-    (λ d. ap (viewed (has_text 2 domain) suggestion_seen) (others (codes "d_suggestion") (names_differ refl)))
-    (λ d i. viewed (is_vote_in domain (others (codes "d_suggestion") (names_differ refl) i)) vote_seen (others (codes "d_vote") (names_differ refl) i))
-    (λ d. ap (viewed (has_text 1 domain) entry_seen) (others (codes "d_template") (names_differ refl)))
+    (λ d. ap (rows_seen (has_text 1 domain) unit_seen) (others (codes "d_unit") (names_differ refl)))
+    (λ d. ap (rows_seen (has_text 2 domain) suggestion_seen) (others (codes "d_suggestion") (names_differ refl)))
+    (λ d i. rows_seen (is_vote_in domain (others (codes "d_suggestion") (names_differ refl) i)) vote_seen (others (codes "d_vote") (names_differ refl) i))
+    (λ d. ap (rows_seen (has_text 1 domain) entry_seen) (others (codes "d_template") (names_differ refl)))
     (λ d. absurd (d refl))
     (λ d. others (codes "team") (names_differ refl))
     (λ d. others (codes "policy") (names_differ refl))
@@ -112,11 +112,11 @@ other_than_languages old new others domain = by_seen_name (λ name. name ≢ cod
 
 pub other_than_votes : (old new : NamedRows) → SparesOthers (codes "d_vote") old new → (domain : List ℕ) → SparesOthers (codes "vote") (seen_in domain old) (seen_in domain new)
 other_than_votes old new others domain = by_seen_name (λ name. name ≢ codes "vote" → seen_in domain new name ≡ seen_in domain old name)
-    (λ d. ap (viewed (has_text 1 domain) unit_seen) (others (codes "d_unit") (names_differ refl)))
-    (λ d. ap (viewed (has_text 2 domain) suggestion_seen) (others (codes "d_suggestion") (names_differ refl)))
+    (λ d. ap (rows_seen (has_text 1 domain) unit_seen) (others (codes "d_unit") (names_differ refl)))
+    (λ d. ap (rows_seen (has_text 2 domain) suggestion_seen) (others (codes "d_suggestion") (names_differ refl)))
     (λ d. absurd (d refl))
-    (λ d. ap (viewed (has_text 1 domain) entry_seen) (others (codes "d_template") (names_differ refl)))
-    (λ d. ap (viewed (has_text 1 domain) language_seen) (others (codes "d_language") (names_differ refl)))
+    (λ d. ap (rows_seen (has_text 1 domain) entry_seen) (others (codes "d_template") (names_differ refl)))
+    (λ d. ap (rows_seen (has_text 1 domain) language_seen) (others (codes "d_language") (names_differ refl)))
     (λ d. others (codes "team") (names_differ refl))
     (λ d. others (codes "policy") (names_differ refl))
     (λ d. others (codes "record") (names_differ refl))
@@ -133,11 +133,11 @@ module _ (table : List ℕ) (unseen : (table ≡ codes "domain") ⊎ ((table ≡
 
   pub nothing_seen : (domain name : List ℕ) → seen_in domain new name ≡ seen_in domain old name
   nothing_seen domain = by_seen_name (λ name. seen_in domain new name ≡ seen_in domain old name)
-      (ap (viewed (has_text 1 domain) unit_seen) (stays (codes "d_unit") (names_differ refl) (names_differ refl) (names_differ refl)))
-      (ap (viewed (has_text 2 domain) suggestion_seen) (stays (codes "d_suggestion") (names_differ refl) (names_differ refl) (names_differ refl)))
-      (λ i. viewed (is_vote_in domain (stays (codes "d_suggestion") (names_differ refl) (names_differ refl) (names_differ refl) i)) vote_seen (stays (codes "d_vote") (names_differ refl) (names_differ refl) (names_differ refl) i))
-      (ap (viewed (has_text 1 domain) entry_seen) (stays (codes "d_template") (names_differ refl) (names_differ refl) (names_differ refl)))
-      (ap (viewed (has_text 1 domain) language_seen) (stays (codes "d_language") (names_differ refl) (names_differ refl) (names_differ refl)))
+      (ap (rows_seen (has_text 1 domain) unit_seen) (stays (codes "d_unit") (names_differ refl) (names_differ refl) (names_differ refl)))
+      (ap (rows_seen (has_text 2 domain) suggestion_seen) (stays (codes "d_suggestion") (names_differ refl) (names_differ refl) (names_differ refl)))
+      (λ i. rows_seen (is_vote_in domain (stays (codes "d_suggestion") (names_differ refl) (names_differ refl) (names_differ refl) i)) vote_seen (stays (codes "d_vote") (names_differ refl) (names_differ refl) (names_differ refl) i))
+      (ap (rows_seen (has_text 1 domain) entry_seen) (stays (codes "d_template") (names_differ refl) (names_differ refl) (names_differ refl)))
+      (ap (rows_seen (has_text 1 domain) language_seen) (stays (codes "d_language") (names_differ refl) (names_differ refl) (names_differ refl)))
       (stays (codes "team") (names_differ refl) (names_differ refl) (names_differ refl))
       (stays (codes "policy") (names_differ refl) (names_differ refl) (names_differ refl))
       (stays (codes "record") (names_differ refl) (names_differ refl) (names_differ refl))
@@ -154,14 +154,14 @@ module _ (IsRow : Row → Type 0) (domain : List ℕ) (old new : NamedRows) (put
   entry_put_seen IsSeen is_seen = record {
     row = entry_seen put.row;
     is_row = is_seen put.row put.is_row;
-    put = put_seen (entries_viewed domain) (old (codes "d_template")) (new (codes "d_template")) put.row put.put (is_text 1 domain put.row own);
+    put = put_seen (entries_alike domain) (old (codes "d_template")) (new (codes "d_template")) put.row put.put (is_text 1 domain put.row own);
     others = other_than_templates old new put.others domain;
   }
 
   -- and each other domain what it saw
   pub templates_stay_seen : (other : List ℕ) → other ≢ domain → AreSameByName (seen_in other old) (seen_in other new)
   templates_stay_seen other differ = same_by_name (codes "template") (seen_in other old) (seen_in other new)
-      (put_unseen (entries_viewed other) (old (codes "d_template")) (new (codes "d_template")) put.row put.put (not_text 1 other put.row (λ e. differ (sym e ∙ own)))) (other_than_templates old new put.others other)
+      (put_unseen (entries_alike other) (old (codes "d_template")) (new (codes "d_template")) put.row put.put (not_text 1 other put.row (λ e. differ (sym e ∙ own)))) (other_than_templates old new put.others other)
 
 module _ (IsRow : Row → Type 0) (domain : List ℕ) (old new : NamedRows) (put : PutsIn (codes "d_language") (key_texts (1 ∷ 2 ∷ [])) IsRow old new) (own : text_at 1 put.row ≡ domain) where
   -- its domain sees it put
@@ -169,14 +169,14 @@ module _ (IsRow : Row → Type 0) (domain : List ℕ) (old new : NamedRows) (put
   language_put_seen IsSeen is_seen = record {
     row = language_seen put.row;
     is_row = is_seen put.row put.is_row;
-    put = put_seen (languages_viewed domain) (old (codes "d_language")) (new (codes "d_language")) put.row put.put (is_text 1 domain put.row own);
+    put = put_seen (languages_alike domain) (old (codes "d_language")) (new (codes "d_language")) put.row put.put (is_text 1 domain put.row own);
     others = other_than_languages old new put.others domain;
   }
 
   -- and each other domain what it saw
   pub languages_stay_seen : (other : List ℕ) → other ≢ domain → AreSameByName (seen_in other old) (seen_in other new)
   languages_stay_seen other differ = same_by_name (codes "language") (seen_in other old) (seen_in other new)
-      (put_unseen (languages_viewed other) (old (codes "d_language")) (new (codes "d_language")) put.row put.put (not_text 1 other put.row (λ e. differ (sym e ∙ own)))) (other_than_languages old new put.others other)
+      (put_unseen (languages_alike other) (old (codes "d_language")) (new (codes "d_language")) put.row put.put (not_text 1 other put.row (λ e. differ (sym e ∙ own)))) (other_than_languages old new put.others other)
 
 module _ (IsRow : Row → Type 0) (old new : NamedRows) (put : PutsIn (codes "d_vote") first_texts IsRow old new) where
   suggestions_stay : new (codes "d_suggestion") ≡ old (codes "d_suggestion")
@@ -187,15 +187,15 @@ module _ (IsRow : Row → Type 0) (old new : NamedRows) (put : PutsIn (codes "d_
   vote_put_seen domain on = record {
     row = put.row;
     is_row = put.is_row;
-    put = subst (λ suggestions. IsPut first_texts (seen_in domain old (codes "vote")) (viewed (is_vote_in domain suggestions) vote_seen (new (codes "d_vote"))) put.row) (sym suggestions_stay)
-        (put_seen (votes_viewed domain (old (codes "d_suggestion"))) (old (codes "d_vote")) (new (codes "d_vote")) put.row put.put on);
+    put = subst (λ suggestions. IsPut first_texts (seen_in domain old (codes "vote")) (rows_seen (is_vote_in domain suggestions) vote_seen (new (codes "d_vote"))) put.row) (sym suggestions_stay)
+        (put_seen (votes_alike domain (old (codes "d_suggestion"))) (old (codes "d_vote")) (new (codes "d_vote")) put.row put.put on);
     others = other_than_votes old new put.others domain;
   }
 
   pub votes_stay_seen : (other : List ℕ) → is_vote_in other (old (codes "d_suggestion")) put.row ≡ false → AreSameByName (seen_in other old) (seen_in other new)
   votes_stay_seen other off = same_by_name (codes "vote") (seen_in other old) (seen_in other new)
-      (subst (λ suggestions. AreSame (seen_in other old (codes "vote")) (viewed (is_vote_in other suggestions) vote_seen (new (codes "d_vote")))) (sym suggestions_stay)
-      (put_unseen (votes_viewed other (old (codes "d_suggestion"))) (old (codes "d_vote")) (new (codes "d_vote")) put.row put.put off)) (other_than_votes old new put.others other)
+      (subst (λ suggestions. AreSame (seen_in other old (codes "vote")) (rows_seen (is_vote_in other suggestions) vote_seen (new (codes "d_vote")))) (sym suggestions_stay)
+      (put_unseen (votes_alike other (old (codes "d_suggestion"))) (old (codes "d_vote")) (new (codes "d_vote")) put.row put.put off)) (other_than_votes old new put.others other)
 
 -- ---- a domain's template is emptied
 
@@ -226,22 +226,22 @@ module _ (domain key : List ℕ) (old new : NamedRows) (taken : IsRemoved (is_en
 
 -- rows that are renewed are renewed among those that are seen
 pub renewed_seen : (test : Row → Bool) (seen : Row → Row) (passes own : Row → Bool) (renewed renewed_own : Row → Row) (old new : List Row) → ((r : Row) → passes r ≡ own (seen r))
-    → ((r : Row) → test (renewed r) ≡ test r) → ((r : Row) → seen (renewed r) ≡ renewed_own (seen r)) → AreRenewed passes renewed old new → AreRenewed own renewed_own (viewed test seen old) (viewed test seen new)
+    → ((r : Row) → test (renewed r) ≡ test r) → ((r : Row) → seen (renewed r) ≡ renewed_own (seen r)) → AreRenewed passes renewed old new → AreRenewed own renewed_own (rows_seen test seen old) (rows_seen test seen new)
 renewed_seen test seen passes own renewed renewed_own old new same stays becomes it = record {
-  only = λ x there. let r = from_view test seen new x there in by x r.0 r.2 r.3 (it.only r.0 r.1);
+  only = λ x there. let r = from_seen test seen new x there in by x r.0 r.2 r.3 (it.only r.0 r.1);
   kept = λ x there out.
-      let r = from_view test seen old x there in
-      subst (Has (viewed test seen new)) (sym r.3) (to_view test seen new r.0 (it.kept r.0 r.1 (same r.0 ∙ ap own (sym r.3) ∙ out)) r.2);
+      let r = from_seen test seen old x there in
+      subst (Has (rows_seen test seen new)) (sym r.3) (to_seen test seen new r.0 (it.kept r.0 r.1 (same r.0 ∙ ap own (sym r.3) ∙ out)) r.2);
   made = λ x there in_x.
-      let r = from_view test seen old x there in
-      subst (Has (viewed test seen new)) (becomes r.0 ∙ ap renewed_own (sym r.3)) (to_view test seen new (renewed r.0) (it.made r.0 r.1 (same r.0 ∙ ap own (sym r.3) ∙ in_x)) (stays r.0 ∙ r.2));
+      let r = from_seen test seen old x there in
+      subst (Has (rows_seen test seen new)) (becomes r.0 ∙ ap renewed_own (sym r.3)) (to_seen test seen new (renewed r.0) (it.made r.0 r.1 (same r.0 ∙ ap own (sym r.3) ∙ in_x)) (stays r.0 ∙ r.2));
 }
   where
     by : (x r : Row) → test r ≡ true → x ≡ seen r → (Has old r × (passes r ≡ false)) ⊎ ((q : Row) × Has old q × (passes q ≡ true) × (r ≡ renewed q))
-        → (Has (viewed test seen old) x × (own x ≡ false)) ⊎ ((q : Row) × Has (viewed test seen old) q × (own q ≡ true) × (x ≡ renewed_own q))
-    by x r passed at (inl (was, out)) = inl (subst (Has (viewed test seen old)) (sym at) (to_view test seen old r was passed), ap own at ∙ sym (same r) ∙ out)
+        → (Has (rows_seen test seen old) x × (own x ≡ false)) ⊎ ((q : Row) × Has (rows_seen test seen old) q × (own q ≡ true) × (x ≡ renewed_own q))
+    by x r passed at (inl (was, out)) = inl (subst (Has (rows_seen test seen old)) (sym at) (to_seen test seen old r was passed), ap own at ∙ sym (same r) ∙ out)
     by x r passed at (inr (q, was, in_q, is)) =
-        inr (seen q, to_view test seen old q was (sym (stays q) ∙ ap test (sym is) ∙ passed), sym (same q) ∙ in_q, at ∙ ap seen is ∙ becomes q)
+        inr (seen q, to_seen test seen old q was (sym (stays q) ∙ ap test (sym is) ∙ passed), sym (same q) ∙ in_q, at ∙ ap seen is ∙ becomes q)
 
 -- those of each domain that were approved
 pub units_unapproved_seen : (old new : NamedRows) → AreRenewed is_approved_in_domain unapproved_in_domain (old (codes "d_unit")) (new (codes "d_unit")) → (domain : List ℕ)

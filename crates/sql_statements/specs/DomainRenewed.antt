@@ -8,7 +8,7 @@ use Rattle.sqlite_rules.specs.Edit.{id_in}
 use Rattle.sqlite_rules.specs.Lists.{Has}
 use Rattle.sql_schema.specs.Keys.{columns}
 use Rattle.sql_schema.specs.Layouts.{rows_named, SparesOthers}
-use Rattle.sql_schema.specs.Views.{unit_seen}
+use Rattle.sql_schema.specs.SeenRows.{unit_seen}
 use Rattle.sql_statements.specs.Renewed.{RenewsRows, is_approved_row, unapproved_row}
 
 -- a unit's row becomes what it becomes without its domain

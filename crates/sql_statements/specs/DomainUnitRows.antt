@@ -6,7 +6,7 @@ use Rattle.sqlite.specs.Effect.{Database}
 use Rattle.sql_statements.specs.declared.unit_rows.SuggestionRows.{SuggestionRows}
 use Rattle.sql_statements.specs.declared.unit_rows.OfficeRows.{OfficeRows}
 use Rattle.sql_statements.specs.declared.unit_rows.UnitRows.{UnitRows}
-use Rattle.sql_statements.specs.declared.unit_rows.ViewRows.{ViewRows}
+use Rattle.sql_statements.specs.declared.unit_rows.ContextRows.{ContextRows}
 use Rattle.sql_statements.specs.Answers.{ShowsMember, ShowsPolicy}
 use Rattle.sql_statements.specs.DomainAnswers.{ShowsDomainEntry, ShowsDomainLanguage, ShowsDomainSuggestions, ShowsDomainUnit, ShowsDomainVotes, ShowsSuggestionOf}
 use Rattle.sql_statements.specs.UnitRows.{suggestion_of}
@@ -40,7 +40,7 @@ pub record ShowsDomainUnitRows (domain lang key : List ℕ) (db : Database) (row
   pub votes : All (ShowsDomainVotesOn db) rows.suggestions.items
 
 -- both
-pub record ShowsDomainViewRows (domain lang key name : List ℕ) (db : Database) (rows : ViewRows) : Type 0 where
+pub record ShowsDomainContextRows (domain lang key name : List ℕ) (db : Database) (rows : ContextRows) : Type 0 where
   pub office : ShowsDomainOfficeRows domain lang name db rows.office
   pub unit : ShowsDomainUnitRows domain lang key db rows.unit
 
@@ -53,7 +53,7 @@ pub record ShowsDomainUnitAlone (domain lang key : List ℕ) (db : Database) (ro
   pub none : rows.suggestions.items ≡ []
 
 -- with the office's rows
-pub record ShowsDomainViewAlone (domain lang key name : List ℕ) (db : Database) (rows : ViewRows) : Type 0 where
+pub record ShowsDomainContextAlone (domain lang key name : List ℕ) (db : Database) (rows : ContextRows) : Type 0 where
   pub office : ShowsDomainOfficeRows domain lang name db rows.office
   pub unit : ShowsDomainUnitAlone domain lang key db rows.unit
 

@@ -11,7 +11,7 @@ use Rattle.sql_schema.specs.Layouts.{NamedRows}
 use Rattle.sql_statements.specs.declared.unit_rows.SuggestionRows.{SuggestionRows}
 use Rattle.sql_statements.specs.declared.unit_rows.OfficeRows.{OfficeRows}
 use Rattle.sql_statements.specs.declared.unit_rows.UnitRows.{UnitRows}
-use Rattle.sql_statements.specs.declared.unit_rows.ViewRows.{ViewRows}
+use Rattle.sql_statements.specs.declared.unit_rows.ContextRows.{ContextRows}
 use Rattle.sql_statements.specs.Answers.{ShowsPolicyIn}
 
 -- the language, the policy, and the role of the one who asks
@@ -49,7 +49,7 @@ pub record ShowsUnitRows (lang key : List ℕ) (tables : NamedRows) (rows : Unit
   pub votes : All (ShowsVotesOn tables) rows.suggestions.items
 
 -- both
-pub record ShowsViewRows (lang key name : List ℕ) (tables : NamedRows) (rows : ViewRows) : Type 0 where
+pub record ShowsContextRows (lang key name : List ℕ) (tables : NamedRows) (rows : ContextRows) : Type 0 where
   pub office : ShowsOfficeRows lang name tables rows.office
   pub unit : ShowsUnitRows lang key tables rows.unit
 
@@ -62,7 +62,7 @@ pub record ShowsUnitAlone (lang key : List ℕ) (tables : NamedRows) (rows : Uni
   pub none : rows.suggestions.items ≡ []
 
 -- with the office's rows
-pub record ShowsViewAlone (lang key name : List ℕ) (tables : NamedRows) (rows : ViewRows) : Type 0 where
+pub record ShowsContextAlone (lang key name : List ℕ) (tables : NamedRows) (rows : ContextRows) : Type 0 where
   pub office : ShowsOfficeRows lang name tables rows.office
   pub unit : ShowsUnitAlone lang key tables rows.unit
 

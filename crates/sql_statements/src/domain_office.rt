@@ -3,7 +3,7 @@
 ghost use Rattle.std.specs.Prelude.{◌≡◌, false};
 ghost use Rattle.sqlite.specs.Held.{state};
 ghost use Rattle.sql_schema.specs.Layouts.{by_domain, rows_named};
-ghost use Rattle.sql_schema.specs.Views.{seen_in};
+ghost use Rattle.sql_schema.specs.SeenRows.{seen_in};
 ghost use Rattle.sql_schema.specs.Inside.{IsSteadyOver, IsReadOf};
 ghost use Rattle.sql_schema.specs.Whole.{IsIdleOver, IsLookUp};
 ghost use Rattle.sql_statements.specs.WholeOffice.{ShowsOfficeTablesIn, ShowsUnitTablesIn, ShowsWholeOfficeIn};

@@ -8,7 +8,7 @@ ghost use Rattle.sqlite.specs.Held.{state};
 ghost use Rattle.sqlite.specs.declared.types.Value.TheVariants.{Int, Text};
 ghost use Rattle.sql_laws.specs.DiskErrors.{BlamesTruly};
 ghost use Rattle.sql_schema.specs.Layouts.{by_domain, rows_named};
-ghost use Rattle.sql_schema.specs.Views.{seen_in};
+ghost use Rattle.sql_schema.specs.SeenRows.{seen_in};
 ghost use Rattle.sql_schema.specs.Inside.{IsSteadyOver, IsInsideOf, HoldsValues, IsReadOf};
 ghost use Rattle.sql_schema.specs.Keys.{first_text};
 ghost use Rattle.sql_statements.specs.Added.{AddsRow};

@@ -3,7 +3,7 @@ ghost use Rattle.std.specs.Prelude.{◌≡◌, codes};
 ghost use Rattle.sqlite.specs.Held.{state, state as state_of};
 ghost use Rattle.sql_laws.specs.DiskErrors.{BlamesTruly};
 ghost use Rattle.sql_schema.specs.Layouts.{by_domain, rows_named};
-ghost use Rattle.sql_schema.specs.Views.{seen_in};
+ghost use Rattle.sql_schema.specs.SeenRows.{seen_in};
 ghost use Rattle.sql_schema.specs.Inside.{IsSteadyOver, IsInsideOf, PutsRow, HoldsValues, IsReadOf};
 ghost use Rattle.sql_schema.specs.Keys.{first_three};
 ghost use Rattle.sql_statements.specs.DomainAnswers.{ShowsDomainUnit, ShowsLanguageUnits};

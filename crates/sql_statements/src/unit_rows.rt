@@ -26,7 +26,7 @@ pub struct UnitRows {
 
 /// All that is shown to a caller who looks at a unit.
 #[derive(Drop)]
-pub struct ViewRows {
+pub struct ContextRows {
     pub office: OfficeRows,
     pub unit: UnitRows,
 }

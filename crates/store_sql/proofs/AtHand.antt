@@ -6,14 +6,14 @@ use Rattle.sqlite.specs.Held.{Held, state}
 use Rattle.sqlite.specs.State.{State, HasCleanDisk}
 use Rattle.sqlite_trees.specs.declared.store.Store as store
 use Rattle.office_maps.specs.declared.office_maps.OfficeMaps.{OfficeMaps}
-use Rattle.tables.specs.Kept.{IsKept}
+use Rattle.tables.specs.KeptByCalls.{IsKept}
 use Rattle.tables.specs.Stops.{Nothing}
 use Rattle.tables.specs.declared.faults.Lost.{Lost}
 use Rattle.tables.specs.declared.faults.Lost.TheVariants.{Disk}
 use Rattle.sql_schema.specs.Whole.{IsLookUp}
 use Rattle.office_maps.specs.OfficeIn.{office_in}
 use Rattle.sql_meaning.specs.Domains.{office_of_rows}
-use Rattle.store_sql.specs.Kept.{KeepsOffice, IsAtHand, is_honest, is_whole, means, may_leave, faults, is_stopped}
+use Rattle.store_sql.specs.TablesInFile.{KeepsOffice, IsAtHand, is_honest, is_whole, means, may_leave, faults, is_stopped}
 use Rattle.store_sql.proofs.StillKept.{left_means, IsSettled}
 use Rattle.sql_schema.specs.Layouts.{rows_named}
 

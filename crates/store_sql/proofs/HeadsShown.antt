@@ -15,7 +15,7 @@ use Rattle.sql_statements.specs.RecordsInOrder.{is_behind, ShowsBehind}
 use Rattle.sql_decoding.specs.RowTests.{holds_text, holds_integer, any_text, is_number, is_status, is_record, is_record_row}
 use Rattle.sql_decoding.specs.RecordHeads.{is_head}
 use Rattle.sql_files.proofs.Listed.{file_read}
-use Rattle.store_sql.specs.Kept.{KeepsOffice}
+use Rattle.store_sql.specs.TablesInFile.{KeepsOffice}
 use Rattle.store_sql.specs.RecordsBehind.{AreHeads, HoldsHeads}
 
 -- a row that stands for a record shows its number and its reply's status

@@ -5,15 +5,15 @@ use Rattle.sqlite.specs.State.{State, HasCleanDisk}
 use Rattle.po_text.specs.Texts.{Text}
 use Rattle.units.specs.Office.{project_in}
 use Rattle.units.specs.Projects.{IsProject}
-use Rattle.deliveries.proofs.domains.InDomains.{no_domain_yet}
-use Rattle.deliveries.proofs.rules.DomainsKept.{any_project}
+use Rattle.office_specification.proofs.domains.InDomains.{no_domain_yet}
+use Rattle.office_specification.proofs.rules.DomainsKept.{any_project}
 use Rattle.sql_schema.specs.Layouts.{rows_named}
-use Rattle.sql_schema.specs.Views.{seen_in}
+use Rattle.sql_schema.specs.SeenRows.{seen_in}
 use Rattle.sql_meaning.specs.Domains.{project_seen, office_of_rows, is_domain}
 use Rattle.sql_meaning.proofs.DomainChanges.{has_domain_of_rows}
 use Rattle.sql_meaning.proofs.Openings.{no_template, no_headers, no_units}
 use Rattle.sql_files.proofs.InDomains.{SeesNothing, HasNoRow, sees_nothing, project_there}
-use Rattle.store_sql.specs.Kept.{KeepsOffice}
+use Rattle.store_sql.specs.TablesInFile.{KeepsOffice}
 use Rattle.store_sql.proofs.RowsHeld.{own_domains}
 
 without_rows : (rows : List Row) → HasNoRow rows → rows ≡ []

@@ -4,14 +4,14 @@ use Rattle.std.proofs.Common.{IsTrue}
 use Rattle.sqlite.specs.State.{State, HasCleanDisk}
 use Rattle.po_text.specs.Texts.{Text}
 use Rattle.sql_schema.specs.Layouts.{by_domain, rows_named}
-use Rattle.sql_schema.specs.Views.{seen_in}
+use Rattle.sql_schema.specs.SeenRows.{seen_in}
 use Rattle.sql_meaning.specs.Domains.{HoldsOwnDomains}
 use Rattle.sql_meaning.specs.RowKeys.{AreOfficeRows}
 use Rattle.sql_meaning.proofs.DomainOfficeRows.{domain_rows}
 use Rattle.sql_figures.specs.Figures.{HasFigures}
 use Rattle.sql_files.specs.Files.{IsOfficeDatabase}
 use Rattle.sql_files.proofs.Listed.{file_read}
-use Rattle.store_sql.specs.Kept.{KeepsOffice}
+use Rattle.store_sql.specs.TablesInFile.{KeepsOffice}
 
 module _ (s : State) (keeps : KeepsOffice s) (clean : HasCleanDisk s) (is_open : IsTrue s.is_open) where
   pub own_file : IsOfficeDatabase by_domain s.now

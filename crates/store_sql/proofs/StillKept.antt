@@ -7,8 +7,8 @@ use Rattle.sqlite.specs.Tree.{Trees}
 use Rattle.sqlite_trees.specs.declared.store.Store as store
 use Rattle.sql_laws.proofs.Transactions.{on_ok_mapped}
 use Rattle.request_book.specs.Book.{OfficeWithBook}
-use Rattle.deliveries.specs.OfficeRules.{KeepsRules}
-use Rattle.tables.specs.Kept.{IsKept}
+use Rattle.office_specification.specs.OfficeRules.{KeepsRules}
+use Rattle.tables.specs.KeptByCalls.{IsKept}
 use Rattle.tables.specs.Stops.{Nothing}
 use Rattle.tables.specs.declared.faults.Lost.{Lost}
 use Rattle.tables.specs.declared.faults.Lost.TheVariants.{Disk}
@@ -18,7 +18,7 @@ use Rattle.sql_meaning.specs.Meaning.{AreNumbered}
 use Rattle.sql_meaning.specs.Domains.{meaning_by_domain, meaning_for, TreesMean}
 use Rattle.sql_files.specs.Files.{IsOfficeFile, MakesFiles}
 use Rattle.sql_files.proofs.Stops.{look_up_keeps, look_up_leaves, commit_keeps, commit_leaves}
-use Rattle.store_sql.specs.Kept.{KeepsOffice, LeavesItsOwn, LeavesOwnTrees, LeavesReadable, is_honest, is_whole, means, may_leave, faults, is_stopped}
+use Rattle.store_sql.specs.TablesInFile.{KeepsOffice, LeavesItsOwn, LeavesOwnTrees, LeavesReadable, is_honest, is_whole, means, may_leave, faults, is_stopped}
 use Rattle.sql_schema.specs.Layouts.{by_domain, schema_of, rows_named}
 use Rattle.sql_files.proofs.Listed.{database_means, database_means_only}
 

@@ -4,14 +4,14 @@ use Rattle.sqlite.specs.Order.{Row}
 use Rattle.sqlite.specs.State.{State, HasCleanDisk}
 use Rattle.po_text.specs.Texts.{Text}
 use Rattle.units.specs.Office.{project_in}
-use Rattle.deliveries.specs.Tally.{counts_of}
+use Rattle.office_specification.specs.Tally.{counts_of}
 use Rattle.sql_statements.specs.DomainAnswers.{ShowsTally}
 use Rattle.sql_schema.specs.Layouts.{rows_named}
 use Rattle.sql_meaning.specs.Domains.{office_of_rows}
 use Rattle.sql_meaning.specs.Shown.{shown_tally}
 use Rattle.sql_figures.specs.KeptTallies.{office_counts}
 use Rattle.sql_figures.proofs.TallyRows.{tally_found}
-use Rattle.store_sql.specs.Kept.{KeepsOffice}
+use Rattle.store_sql.specs.TablesInFile.{KeepsOffice}
 use Rattle.store_sql.proofs.RowsHeld.{own_figures}
 
 pub reads_tally : (s : State) (domain lang asked_domain asked_lang : Text) (found : Option Row) → KeepsOffice s → asked_domain ≡ domain → asked_lang ≡ lang → HasCleanDisk s → IsTrue s.is_open

@@ -1,9 +1,9 @@
 -- Changes of an office that an adoption can read back of their rows. This project's own rule.
 use Rattle.std.specs.Prelude.{⊤}
-use Rattle.deliveries.specs.declared.values.Change.{Change}
-use Rattle.deliveries.specs.declared.values.Change.TheVariants.{OneRole, NewPolicy, NewDomain, InDomain}
-use Rattle.deliveries.specs.declared.values.DomainChange.{DomainChange}
-use Rattle.deliveries.specs.declared.values.DomainChange.TheVariants.{NewLanguage, NewTemplate}
+use Rattle.office_specification.specs.declared.values.Change.{Change}
+use Rattle.office_specification.specs.declared.values.Change.TheVariants.{OneRole, NewPolicy, NewDomain, InDomain}
+use Rattle.office_specification.specs.declared.values.DomainChange.{DomainChange}
+use Rattle.office_specification.specs.declared.values.DomainChange.TheVariants.{NewLanguage, NewTemplate}
 use Rattle.sql_keepable.specs.Keepable.{IsNamed, AreKeepableUnits, AreKeepablePlans, IsKeepableLanguage, AreKeepableEntries}
 
 abbrev pub IsKeepableDomainChange : DomainChange → Type 0

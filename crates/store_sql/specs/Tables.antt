@@ -7,7 +7,7 @@ use Rattle.store_sql.specs.declared.sqlite_tables.SqliteTables.{SqliteTables}
 module _ {S : Type 0} (g : store.Ghosts S) where
   -- what their connection holds, whether they are stopped, and whether the office is at hand
   abbrev pub held_by : SqliteTables S g → Held S × (Bool × Bool)
-  held_by tables = tables.rows
+  held_by tables = tables.held
 
   -- their connection
   abbrev pub connection_of : SqliteTables S g → Held S

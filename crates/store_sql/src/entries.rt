@@ -8,7 +8,7 @@ ghost use Rattle.sql_schema.specs.Layouts.{rows_named};
 ghost use Rattle.sql_schema.specs.Whole.{IsLookUp};
 ghost use Rattle.sql_meaning.specs.Domains.{office_of_rows};
 ghost use Rattle.sql_exports.specs.Handing.{Gives};
-ghost use Rattle.store_sql.specs.Kept.{KeepsOffice};
+ghost use Rattle.store_sql.specs.TablesInFile.{KeepsOffice};
 
 use crate::look_ups::look;
 use sql_exports::export_entries;

@@ -4,7 +4,7 @@ ghost use Rattle.sql_files.specs.Files.{IsKeepable, IsKeepableWrite};
 ghost use Rattle.request_book.specs.Contents.{IsContent};
 ghost use Rattle.store_sql.specs.Changes.{IsKeepableChange, IsKeepableDomainChange};
 
-use deliveries::{Change, DomainChange, UnitWrite};
+use office_specification::{Change, DomainChange, UnitWrite};
 use request_book::Record;
 use sql_keepable::{
     entries_fit, key_fits, lang_fits, language_fits, name_fits, plans_fit, suggestion_fits,

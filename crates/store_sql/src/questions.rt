@@ -6,7 +6,7 @@ ghost use Rattle.sql_statements.specs.Answers.{ShowsMember, ShowsPolicy, ShowsRe
 ghost use Rattle.sql_statements.specs.DomainAnswers.{ShowsDomainSuggestions, ShowsTally};
 ghost use Rattle.sql_schema.specs.Inside.{IsSteadyOver, IsReadOf};
 ghost use Rattle.sql_statements.specs.RecordsInOrder.{ShowsPlace};
-ghost use Rattle.sql_statements.specs.DomainUnitRows.{ShowsDomainOfficeRows, ShowsDomainUnitRows, ShowsDomainUnitAlone, ShowsDomainViewRows, ShowsDomainViewAlone, ShowsOneDomainSuggestion, ShowsWithDomainVotes, ShowsEachWithDomainVotes};
+ghost use Rattle.sql_statements.specs.DomainUnitRows.{ShowsDomainOfficeRows, ShowsDomainUnitRows, ShowsDomainUnitAlone, ShowsDomainContextRows, ShowsDomainContextAlone, ShowsOneDomainSuggestion, ShowsWithDomainVotes, ShowsEachWithDomainVotes};
 ghost use Rattle.sql_schema.specs.Layouts.{by_domain};
 
 use crate::look_ups::Question;
@@ -19,7 +19,7 @@ use sql_statements::policy::find_policy;
 use sql_statements::records::{find_place, find_record};
 use sql_statements::tallies::find_tally;
 use sql_statements::team::find_member;
-use sql_statements::unit_rows::{OfficeRows, SuggestionRows, UnitRows, ViewRows};
+use sql_statements::unit_rows::{OfficeRows, SuggestionRows, UnitRows, ContextRows};
 use sqlite::{Alter, Error, Row, Transaction};
 use std::alloc::Global;
 
@@ -195,14 +195,14 @@ pub(crate) struct ViewOf<'a> {
 }
 
 impl Question for ViewOf<'_> {
-    type Answer = ViewRows;
+    type Answer = ContextRows;
 
-    ghost Shows = { λ q. ShowsDomainViewRows q.domain.now q.lang.now q.key.now q.name.now };
+    ghost Shows = { λ q. ShowsDomainContextRows q.domain.now q.lang.now q.key.now q.name.now };
 
-    fn ask<S: Alter>(self, tx: &mut Transaction<'_, S>) -> Result<ViewRows, Error> {
+    fn ask<S: Alter>(self, tx: &mut Transaction<'_, S>) -> Result<ContextRows, Error> {
         let office = office_part(tx, self.domain, self.lang, self.name)?;
         let unit = unit_part(tx, self.domain, self.lang, self.key)?;
-        Ok(ViewRows { office, unit })
+        Ok(ContextRows { office, unit })
     }
 }
 
@@ -240,14 +240,14 @@ pub(crate) struct UnitOf<'a> {
 }
 
 impl Question for UnitOf<'_> {
-    type Answer = ViewRows;
+    type Answer = ContextRows;
 
-    ghost Shows = { λ q. ShowsDomainViewAlone q.domain.now q.lang.now q.key.now q.name.now };
+    ghost Shows = { λ q. ShowsDomainContextAlone q.domain.now q.lang.now q.key.now q.name.now };
 
-    fn ask<S: Alter>(self, tx: &mut Transaction<'_, S>) -> Result<ViewRows, Error> {
+    fn ask<S: Alter>(self, tx: &mut Transaction<'_, S>) -> Result<ContextRows, Error> {
         let office = office_part(tx, self.domain, self.lang, self.name)?;
         let unit = unit_alone(tx, self.alloc, self.domain, self.lang, self.key)?;
-        Ok(ViewRows { office, unit })
+        Ok(ContextRows { office, unit })
     }
 }
 

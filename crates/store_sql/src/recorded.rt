@@ -29,7 +29,7 @@ pub enum HandingFault<R: Drop> {
 }
 
 /// What a walk that was cut short comes to: the query's failure, or what the sink says.
-fn told<R: Drop>(fault: WalkFault<R>) -> HandingFault<R>
+fn walk_fault<R: Drop>(fault: WalkFault<R>) -> HandingFault<R>
     ensures { IsTold fault result }
 {
     match fault {
@@ -80,7 +80,7 @@ fn hand_every<S: Alter, K: RowSink>(
 {
     match walk_records(connection, sink) {
         Ok(()) => Ok(()),
-        Err(fault) => Err(told(fault)),
+        Err(fault) => Err(walk_fault(fault)),
     }
 }
 
@@ -117,7 +117,7 @@ fn hand_behind<S: Alter, K: RowSink>(
 {
     match walk_records_behind(connection, place, sink) {
         Ok(()) => Ok(()),
-        Err(fault) => Err(told(fault)),
+        Err(fault) => Err(walk_fault(fault)),
     }
 }
 

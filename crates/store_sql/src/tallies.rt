@@ -2,15 +2,15 @@
 ghost use Rattle.std.specs.Prelude.{◌≡◌, false};
 ghost use Rattle.sqlite.specs.Held.{state};
 ghost use Rattle.units.specs.Office.{project_in};
-ghost use Rattle.deliveries.specs.Tally.{counts_of};
+ghost use Rattle.office_specification.specs.Tally.{counts_of};
 ghost use Rattle.sql_schema.specs.Layouts.{rows_named};
 ghost use Rattle.sql_schema.specs.Whole.{IsLookUp};
 ghost use Rattle.sql_meaning.specs.Domains.{office_of_rows};
-ghost use Rattle.store_sql.specs.Kept.{KeepsOffice};
+ghost use Rattle.store_sql.specs.TablesInFile.{KeepsOffice};
 
 use crate::look_ups::look_up;
 use crate::questions::TallyOf;
-use deliveries::Tally;
+use office_specification::Tally;
 use sql_decoding::{Failure, tally_in};
 use sqlite::{Alter, Connection};
 use units::{Lang, Name};

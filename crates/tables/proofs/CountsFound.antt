@@ -4,11 +4,11 @@ use Rattle.std.specs.BTreeMap.{get_by}
 use Rattle.po_text.specs.declared.entry.Entry.{Entry}
 use Rattle.po_text.specs.Texts.{Text, text_cmp}
 use Rattle.units.specs.Project.{units_of}
-use Rattle.deliveries.specs.declared.values.Language.{Language}
-use Rattle.deliveries.specs.Tally.{counts_in, counts_of}
+use Rattle.office_specification.specs.declared.values.Language.{Language}
+use Rattle.office_specification.specs.Tally.{counts_in, counts_of}
 use Rattle.office_maps.specs.declared.project_maps.ProjectMaps.{ProjectMaps}
 use Rattle.office_maps.specs.OfficeIn.{lent_project}
-use Rattle.office_maps.proofs.OfficeViews.{header_at}
+use Rattle.office_maps.proofs.OfficeLookUps.{header_at}
 
 map_either : {A B C : Type 0} (f : A → B) (x : C) (o : Option A) → option_map (λ (a : A). x) o ≡ option_map (λ (b : B). x) (option_map f o)
 map_either f x None = refl

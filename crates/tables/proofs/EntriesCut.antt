@@ -8,12 +8,12 @@ use Rattle.units.specs.Units.{key_of, all_empty}
 use Rattle.units.specs.Project.{Project, place_cmp, units_of}
 use Rattle.units.specs.declared.unit.Key.{Key}
 use Rattle.units.specs.declared.unit.Unit.{Unit}
-use Rattle.deliveries.specs.declared.values.Language.{Language}
-use Rattle.deliveries.specs.ExportedEntries.{catalogue_of, translated, obsolete_entry}
-use Rattle.deliveries.specs.EntryTexts.{with_its_unit}
+use Rattle.office_specification.specs.declared.values.Language.{Language}
+use Rattle.office_specification.specs.ExportedEntries.{catalogue_of, translated, obsolete_entry}
+use Rattle.office_specification.specs.EntryTexts.{with_its_unit}
 use Rattle.office_maps.specs.declared.project_maps.ProjectMaps.{ProjectMaps}
 use Rattle.office_maps.specs.OfficeIn.{lent_project, place_of}
-use Rattle.office_maps.proofs.OfficeViews.{header_at, unit_at}
+use Rattle.office_maps.proofs.OfficeLookUps.{header_at, unit_at}
 use Rattle.tables.specs.Entries.{entries_of}
 use Rattle.office_maps.specs.declared.place.Place.{Place}
 use Rattle.office_maps.specs.LanguageUnits.{taken}

@@ -6,8 +6,8 @@ use Rattle.po_text.specs.declared.entry.Entry.{Entry}
 use Rattle.po_text.specs.Texts.{Text, text_cmp}
 use Rattle.units.specs.Project.{Project, units_of}
 use Rattle.units.specs.Office.{Office, project_in, as_project, empty_domain}
-use Rattle.deliveries.proofs.domains.InDomains.{no_domain_yet}
-use Rattle.deliveries.specs.Tally.{counts_in, counts_of}
+use Rattle.office_specification.proofs.domains.InDomains.{no_domain_yet}
+use Rattle.office_specification.specs.Tally.{counts_in, counts_of}
 
 pub nothing_counted : (office : Office) (domain : Text) → maps.contains_key office.domains domain ≡ false → (lang : Text) → counts_of (project_in office domain) lang ≡ None
 nothing_counted office domain missing lang =

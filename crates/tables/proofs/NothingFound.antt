@@ -12,17 +12,17 @@ use Rattle.units.specs.declared.unit.Key.{Key}
 use Rattle.units.specs.declared.unit.Unit.{Unit}
 use Rattle.units.specs.declared.unit.UnitView.{UnitView}
 use Rattle.review.specs.Parts.{without_votes}
-use Rattle.deliveries.specs.declared.values.UnitWrite.{UnitWrite}
+use Rattle.office_specification.specs.declared.values.UnitWrite.{UnitWrite}
 use Rattle.std.specs.Prelude.{option_map, option_and_then}
-use Rattle.deliveries.specs.ExportedEntries.{catalogue_of}
-use Rattle.deliveries.specs.UnitAccess.{found_of, suggestions_at, suggestion_at, view_written, written_at}
-use Rattle.deliveries.proofs.domains.InDomains.{no_domain_yet}
+use Rattle.office_specification.specs.ExportedEntries.{catalogue_of}
+use Rattle.office_specification.specs.UnitAccess.{context_of, suggestions_at, suggestion_at, view_written, written_at}
+use Rattle.office_specification.proofs.domains.InDomains.{no_domain_yet}
 use Rattle.tables.specs.Entries.{entries_of}
 
 module _ (office : Office) (domain : Text) (missing : maps.contains_key office.domains domain ≡ false) where
-  pub nothing_found : (lang : Text) (key : Key) (name : Text) → found_of (project_in office domain) lang key name ≡ None
+  pub nothing_found : (lang : Text) (key : Key) (name : Text) → context_of (project_in office domain) lang key name ≡ None
   nothing_found lang key name =
-      ap (λ (p : Project). found_of p lang key name) (no_domain_yet office domain missing)
+      ap (λ (p : Project). context_of p lang key name) (no_domain_yet office domain missing)
       ∙ ap (option_map (λ (h : Entry). record {
         rule = rule_at (as_project office empty_domain) lang;
         policy = office.policy;

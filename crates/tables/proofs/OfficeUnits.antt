@@ -9,15 +9,15 @@ use Rattle.units.specs.Project.{Project, Place as OfficePlace, place_cmp, units_
 use Rattle.units.specs.Projects.{IsProject, IsUnit}
 use Rattle.units.specs.Orders.{place_total}
 use Rattle.units.specs.declared.unit.Unit.{Unit}
-use Rattle.deliveries.proofs.rules.Replaced.{all_rows, all_found}
+use Rattle.office_specification.proofs.rules.Replaced.{all_rows, all_found}
 use Rattle.office_maps.specs.declared.project_maps.ProjectMaps.{ProjectMaps}
 use Rattle.office_maps.specs.declared.place.Place.{Place}
 use Rattle.office_maps.specs.OfficeIn.{lent_project, place_of}
-use Rattle.office_maps.specs.MapViews.{viewed}
+use Rattle.office_maps.specs.MapEntries.{mapped}
 use Rattle.office_maps.proofs.AfterChanges.{unit_entries}
-use Rattle.deliveries.specs.Tally.{counts_in}
-use Rattle.deliveries.specs.Counting.{AreWithin}
-use Rattle.deliveries.proofs.tallies.Countings.{counts_within}
+use Rattle.office_specification.specs.Tally.{counts_in}
+use Rattle.office_specification.specs.Counting.{AreWithin}
+use Rattle.office_specification.proofs.tallies.Countings.{counts_within}
 
 all_filtered : {X : Type 0} (P : X → Type 0) (test : X → Bool) (xs : List X) → AllByRecursion P xs → AllByRecursion P (filter test xs)
 all_filtered P test [] h = tt
@@ -36,7 +36,7 @@ all_mapped P f (x ∷ xs) h = (h.0, all_mapped P f xs h.1)
 abbrev pub HasItsKey : Place × Unit → Type 0
 HasItsKey e = e.1.key ≡ e.0.key.key
 
-keys_viewed : (es : List (Place × Unit)) → AllByRecursion (λ (e : OfficePlace × Unit). e.1.key ≡ e.0.1) (viewed place_of (λ unit. unit) es) → AllByRecursion HasItsKey es
+keys_viewed : (es : List (Place × Unit)) → AllByRecursion (λ (e : OfficePlace × Unit). e.1.key ≡ e.0.1) (mapped place_of (λ unit. unit) es) → AllByRecursion HasItsKey es
 keys_viewed [] h = tt
 keys_viewed (e ∷ es) h = (h.0, keys_viewed es h.1)
 

@@ -11,14 +11,14 @@ use Rattle.po_text.specs.Texts.{Text, text_cmp}
 use Rattle.units.specs.Orders.{text_total, text_IsAntisymmetric}
 use Rattle.request_book.specs.Book.{row_of, with_record}
 use Rattle.request_book.specs.declared.book.Record.{Record}
-use Rattle.office_maps.specs.MapViews.{viewed}
-use Rattle.office_maps.proofs.Views.{get-viewed, insert-viewed}
+use Rattle.office_maps.specs.MapEntries.{mapped}
+use Rattle.office_maps.proofs.MapEntries.{get-mapped, insert-mapped}
 use Rattle.tables.specs.declared.record_maps.Maps.{Maps}
 use Rattle.tables.specs.declared.record_maps.Kept.{Kept}
 use Rattle.tables.specs.MapsMeaning.{meaning, recorded_of}
 
 pub record_at : (t : Maps) (number : Text) → maps.get (meaning t).book number ≡ option_map recorded_of (get_by (λ k. text_cmp number k) t.records)
-record_at t number = get-viewed text_cmp (λ k. k) recorded_of text_total t.records number
+record_at t number = get-mapped text_cmp (λ k. k) recorded_of text_total t.records number
 
 -- the answer of a read, from what the map has
 pub row_at : (t : Maps) (number : Text) (found : Option Kept) → found ≡ get_by (λ k. text_cmp number k) t.records → option_map (λ kept. row_of number (recorded_of kept)) found ≡ option_map (row_of number) (maps.get (meaning t).book number)
@@ -31,7 +31,7 @@ row_at t number found e = two found ∙ ap (λ o. option_map (row_of number) (op
 -- a record put in
 pub records-put : (t : Maps) (records : BTreeMap Text Kept) (number : Text) (kept : Kept) → records.entries ≡ insert_entry text_cmp t.records.entries number kept
     → (meaning (record t { records = records })).book ≡ maps.insert (meaning t).book number (recorded_of kept)
-records-put t records number kept e = insert-viewed text_cmp (λ k. k) recorded_of text_total text_IsAntisymmetric t.records records number kept e
+records-put t records number kept e = insert-mapped text_cmp (λ k. k) recorded_of text_total text_IsAntisymmetric t.records records number kept e
 
 nothing : {X Y : Type 0} (f : X → Y) (o : Option X) → IsTrue (is_none (option_map f o)) → o ≡ None
 nothing f None h = refl
@@ -61,7 +61,7 @@ put_and_removed {K} {X} cmp k v (e ∷ es) tie absent =
 
 -- the book with one more record
 pub one_more_record : (t : Maps) (records : BTreeMap Text Kept) (kept : Kept) (row : Record) → records.entries ≡ insert_entry text_cmp t.records.entries row.number kept
-    → recorded_of kept ≡ record { content = row.content; reply = row.reply } → maps.from_entries {R = text_cmp} (viewed (λ number. number) recorded_of records.entries) ≡ with_record (meaning t).book row
+    → recorded_of kept ≡ record { content = row.content; reply = row.reply } → maps.from_entries {R = text_cmp} (mapped (λ number. number) recorded_of records.entries) ≡ with_record (meaning t).book row
 one_more_record t records kept row recorded is = records-put t records row.number kept recorded ∙ ap (maps.insert (meaning t).book row.number) is
 
 -- a new record, taken out again
@@ -73,6 +73,6 @@ forgotten t more left number kept new recorded removed =
 
 pub forgotten_book : (t : Maps) (more left : BTreeMap Text Kept) (number : Text) (kept : Kept) → IsTrue (is_none (maps.get (meaning t).book number))
     → more.entries ≡ insert_entry text_cmp t.records.entries number kept → left.entries ≡ remove_entry (is_at (text_cmp number)) more.entries
-    → maps.from_entries {R = text_cmp} (viewed (λ number. number) recorded_of left.entries) ≡ (meaning t).book
+    → maps.from_entries {R = text_cmp} (mapped (λ number. number) recorded_of left.entries) ≡ (meaning t).book
 forgotten_book t more left number kept new recorded removed =
-    ap (λ es. maps.from_entries {R = text_cmp} (viewed (λ number. number) recorded_of es)) (forgotten t more left number kept new recorded removed)
+    ap (λ es. maps.from_entries {R = text_cmp} (mapped (λ number. number) recorded_of es)) (forgotten t more left number kept new recorded removed)

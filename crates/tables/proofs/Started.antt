@@ -1,8 +1,8 @@
 -- What tables begin with keeps the rules.
 use Rattle.std.proofs.Common.{◌≡◌, sym, subst, ◌∙◌}
 use Rattle.std.specs.FinMap as maps
-use Rattle.deliveries.specs.OfficeRules.{KeepsRules}
-use Rattle.deliveries.proofs.rules.StartLemmas.{demo_starts, opening_starts}
+use Rattle.office_specification.specs.OfficeRules.{KeepsRules}
+use Rattle.office_specification.proofs.rules.StartLemmas.{demo_starts, opening_starts}
 use Rattle.office_maps.specs.declared.office_maps.OfficeMaps.{OfficeMaps}
 use Rattle.office_maps.specs.OfficeIn.{office_in}
 use Rattle.tables.specs.declared.record_maps.Maps.{Maps}

@@ -7,11 +7,11 @@ use Rattle.units.specs.Project.{entry_of}
 use Rattle.units.specs.declared.unit.Unit.{Unit}
 use Rattle.units.specs.declared.unit.UnitState.{UnitState}
 use Rattle.units.specs.declared.unit.UnitState.TheVariants.{Untranslated, NeedsEditing, Translated, Approved}
-use Rattle.deliveries.specs.declared.tally.Tally.{Tally}
-use Rattle.deliveries.specs.Tally.{counts_in}
-use Rattle.deliveries.specs.Counting.{plus}
+use Rattle.office_specification.specs.declared.tally.Tally.{Tally}
+use Rattle.office_specification.specs.Tally.{counts_in}
+use Rattle.office_specification.specs.Counting.{plus}
 use Rattle.tables.specs.Tallies.{none_approved}
-use Rattle.deliveries.proofs.tallies.Countings.{counts_more}
+use Rattle.office_specification.proofs.tallies.Countings.{counts_more}
 
 one_unapproved : (template : List Entry) (u : Unit) → counts_in template (unapproved u ∷ []) ≡ none_approved (counts_in template (u ∷ []))
 one_unapproved template u = by u.obsolete refl (is_read_only (entry_of template u.key)) refl u.state refl

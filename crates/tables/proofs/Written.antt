@@ -7,8 +7,8 @@ use Rattle.units.specs.Project.{Project, Place, with_unit}
 use Rattle.units.specs.declared.unit.Key.{Key}
 use Rattle.units.specs.declared.unit.Unit.{Unit}
 use Rattle.units.specs.declared.unit.UnitView.{UnitView}
-use Rattle.deliveries.specs.declared.values.UnitWrite.{UnitWrite}
-use Rattle.deliveries.specs.UnitAccess.{with_view, written_at, with_write_in}
+use Rattle.office_specification.specs.declared.values.UnitWrite.{UnitWrite}
+use Rattle.office_specification.specs.UnitAccess.{with_view, written_at, with_write_in}
 
 -- the project with this unit at a place, if there is one
 abbrev left_project : Project → Place → Option Unit → Project

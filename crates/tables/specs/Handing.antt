@@ -3,7 +3,7 @@ use Rattle.std.specs.Prelude.{◌≡◌, ◌≢◌, List, ◌++◌, map, filter,
 use Rattle.po_text.specs.declared.entry.Entry.{Entry}
 use Rattle.units.specs.Units.{all_empty}
 use Rattle.units.specs.declared.unit.Unit.{Unit}
-use Rattle.deliveries.specs.ExportedEntries.{obsolete_entry}
+use Rattle.office_specification.specs.ExportedEntries.{obsolete_entry}
 use Rattle.tables.specs.declared.faults.EachFault.{EachFault}
 use Rattle.tables.specs.declared.faults.EachFault.TheVariants.{NoTables}
 use Rattle.tables.specs.declared.faults.Lost.TheVariants.{Disk}

@@ -2,7 +2,7 @@ pub mod Faults
 pub mod Stops
 pub mod Sinks
 pub mod Entries
-pub mod Kept
+pub mod KeptByCalls
 pub mod Starts
 pub mod Handing
 pub mod MapsMeaning

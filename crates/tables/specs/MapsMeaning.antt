@@ -1,7 +1,7 @@
 -- What tables in maps stand for: an office with its book. This project's own rule.
 use Rattle.std.specs.FinMap as maps
 use Rattle.request_book.specs.Book.{OfficeWithBook, Recorded}
-use Rattle.office_maps.specs.MapViews.{viewed}
+use Rattle.office_maps.specs.MapEntries.{mapped}
 use Rattle.office_maps.specs.OfficeIn.{office_in}
 use Rattle.tables.specs.declared.record_maps.Kept.{Kept}
 use Rattle.tables.specs.declared.record_maps.Maps.{Maps}
@@ -14,5 +14,5 @@ recorded_of kept = record { content = kept.content; reply = kept.reply }
 abbrev pub meaning : Maps → OfficeWithBook
 meaning held = record {
   office = office_in held.office;
-  book = maps.from_entries (viewed (λ number. number) recorded_of held.records.entries);
+  book = maps.from_entries (mapped (λ number. number) recorded_of held.records.entries);
 }

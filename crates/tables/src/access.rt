@@ -4,22 +4,22 @@ ghost use Rattle.std.specs.FinMap as maps;
 ghost use Rattle.request_book.specs.Book.{OfficeWithBook, row_of, with_record};
 ghost use Rattle.units.specs.Project.{role_in};
 ghost use Rattle.units.specs.Office.{project_in};
-ghost use Rattle.deliveries.specs.UnitAccess.{found_of, without_suggestions, suggestions_at, suggestion_at, with_write_in, IsPossibleWrite};
-ghost use Rattle.deliveries.specs.OfficeChanges.{changed_by, IsPossibleChange};
-ghost use Rattle.deliveries.specs.OfficeRules.{KeepsRules};
+ghost use Rattle.office_specification.specs.UnitAccess.{context_of, without_suggestions, suggestions_at, suggestion_at, with_write_in, IsPossibleWrite};
+ghost use Rattle.office_specification.specs.OfficeChanges.{changed_by, IsPossibleChange};
+ghost use Rattle.office_specification.specs.OfficeRules.{KeepsRules};
 ghost use Rattle.request_book.specs.Contents.{IsContent};
 ghost use Rattle.tables.specs.Stops.{Nothing, LeavesOnly, IsReadable};
-ghost use Rattle.tables.specs.Kept.{IsKept};
+ghost use Rattle.tables.specs.KeptByCalls.{IsKept};
 ghost use Rattle.tables.specs.Sinks.{WasCutShort};
 ghost use Rattle.tables.specs.Entries.{entries_of};
-ghost use Rattle.deliveries.specs.Tally.{counts_of};
+ghost use Rattle.office_specification.specs.Tally.{counts_of};
 ghost use Rattle.office_maps.specs.OfficeIn.{office_in};
 ghost use Rattle.tables.specs.declared.faults.Lost.TheVariants.{Disk};
 ghost use Rattle.tables.specs.declared.faults.EachFault.TheVariants.{NoTables};
 
 use crate::faults::{EachFault, Lost};
 use crate::sink::EntrySink;
-use deliveries::{ActContext, Change, Tally, UnitWrite};
+use office_specification::{ActContext, Change, Tally, UnitWrite};
 use office_maps::OfficeMaps;
 use po_text::Items;
 use request_book::Record;
@@ -81,14 +81,14 @@ pub trait Tables: Drop {
 
     /// What an act on a unit needs to know: the language's plural rule, the policy, the caller's role, and the unit's view, if there
     /// is one. Nothing where the domain or its language isn't there.
-    fn view_of(
+    fn context_of(
         &mut self,
         domain: &Name,
         lang: &Lang,
         key: &Key,
         name: &Name,
     ) -> Result<Option<ActContext>, Lost>
-        ensures answer { is_honest self.new → IfOk result (λ r. r ≡ found_of (project_in (means self.old).office domain.now) lang.now key.now name.now) }
+        ensures answer { is_honest self.new → IfOk result (λ r. r ≡ context_of (project_in (means self.old).office domain.now) lang.now key.now name.now) }
         ensures same { is_honest self.new → is_whole self.new → means self.new ≡ means self.old }
         ensures kept { IsKept is_honest is_whole means may_leave faults is_stopped self.old self.new result Disk Nothing };
 
@@ -100,7 +100,7 @@ pub trait Tables: Drop {
         key: &Key,
         name: &Name,
     ) -> Result<Option<ActContext>, Lost>
-        ensures answer { is_honest self.new → IfOk result (λ r. r ≡ without_suggestions (found_of (project_in (means self.old).office domain.now) lang.now key.now name.now)) }
+        ensures answer { is_honest self.new → IfOk result (λ r. r ≡ without_suggestions (context_of (project_in (means self.old).office domain.now) lang.now key.now name.now)) }
         ensures same { is_honest self.new → is_whole self.new → means self.new ≡ means self.old }
         ensures kept { IsKept is_honest is_whole means may_leave faults is_stopped self.old self.new result Disk Nothing };
 
@@ -128,7 +128,7 @@ pub trait Tables: Drop {
         ensures kept { IsKept is_honest is_whole means may_leave faults is_stopped self.old self.new result Disk Nothing };
 
     /// Reads what acts on the office need: team, policy, and each domain's template, headers and units. `office` then shows it.
-    fn office_rows(&mut self) -> Result<(), Lost>
+    fn load_whole_office(&mut self) -> Result<(), Lost>
         ensures loaded { OnOk result (is_loaded self.new) }
         ensures same { is_honest self.new → is_whole self.new → means self.new ≡ means self.old }
         ensures kept { IsKept is_honest is_whole means may_leave faults is_stopped self.old self.new result Disk Nothing };

@@ -6,9 +6,9 @@ ghost use Rattle.units.specs.Offices.{IsOffice};
 ghost use Rattle.units.specs.Project.{units_of};
 ghost use Rattle.units.specs.Projects.{IsProject};
 ghost use Rattle.office_maps.specs.OfficeIn.{lent_project, office_in};
-ghost use Rattle.deliveries.specs.Tally.{counts_in, counts_of};
+ghost use Rattle.office_specification.specs.Tally.{counts_in, counts_of};
 
-use deliveries::Tally;
+use office_specification::Tally;
 use office_maps::{OfficeMaps, Place, ProjectMaps};
 use std::alloc::{AllocError, Global};
 use units::{Lang, Name};

@@ -2,7 +2,7 @@
 
 ghost use Rattle.std.specs.Prelude.{◌≡◌, Some, IfOk, option_map};
 ghost use Rattle.units.specs.Office.{project_in};
-ghost use Rattle.deliveries.specs.UnitAccess.{found_of, without_suggestions, suggestions_at, suggestion_at, written_at};
+ghost use Rattle.office_specification.specs.UnitAccess.{context_of, without_suggestions, suggestions_at, suggestion_at, written_at};
 ghost use Rattle.office_maps.specs.OfficeIn.{office_in};
 ghost use Rattle.tables.specs.Handing.{Hands};
 ghost use Rattle.tables.specs.Entries.{entries_of};
@@ -10,7 +10,7 @@ ghost use Rattle.tables.specs.Entries.{entries_of};
 use crate::faults::EachFault;
 use crate::handing::hand_entries;
 use crate::sink::EntrySink;
-use deliveries::{ActContext, UnitWrite};
+use office_specification::{ActContext, UnitWrite};
 use office_maps::OfficeMaps;
 use po_text::Items;
 use std::alloc::{AllocError, Global};
@@ -18,23 +18,23 @@ use units::{Key, Lang, Name, Suggestion, Unit};
 use uuid::Uuid;
 
 /// What a unit act needs to know; nothing where the domain or its language isn't there.
-pub(crate) fn found_in(
+pub(crate) fn context_in(
     office: &OfficeMaps,
     domain: &Name,
     lang: &Lang,
     key: &Key,
     name: &Name,
 ) -> Result<Option<ActContext>, AllocError>
-    ensures { IfOk result (λ r. r ≡ found_of (project_in (office_in office.now) domain.now) lang.now key.now name.now) }
+    ensures { IfOk result (λ r. r ≡ context_of (project_in (office_in office.now) domain.now) lang.now key.now name.now) }
 {
     match office.project(domain) {
-        Some(project) => project.view_of(lang, key, name),
+        Some(project) => project.context_of(lang, key, name),
         None => Ok(None),
     }
 }
 
 /// The same but for the unit's suggestions: the view has none.
-pub(crate) fn bare_found_in(
+pub(crate) fn bare_context_in(
     alloc: Global,
     office: &OfficeMaps,
     domain: &Name,
@@ -42,10 +42,10 @@ pub(crate) fn bare_found_in(
     key: &Key,
     name: &Name,
 ) -> Result<Option<ActContext>, AllocError>
-    ensures { IfOk result (λ r. r ≡ without_suggestions (found_of (project_in (office_in office.now) domain.now) lang.now key.now name.now)) }
+    ensures { IfOk result (λ r. r ≡ without_suggestions (context_of (project_in (office_in office.now) domain.now) lang.now key.now name.now)) }
 {
     match office.project(domain) {
-        Some(project) => project.bare_view_of(alloc, lang, key, name),
+        Some(project) => project.bare_context_of(alloc, lang, key, name),
         None => Ok(None),
     }
 }

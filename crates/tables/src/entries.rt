@@ -1,7 +1,7 @@
 //! The entries of a language's text.
 
 ghost use Rattle.std.specs.Prelude.{◌≡◌, ◌++◌, IfOk, OnOk};
-ghost use Rattle.deliveries.specs.ExportedEntries as spec;
+ghost use Rattle.office_specification.specs.ExportedEntries as spec;
 
 use po_text::{Duplicate, Entry, Forms, Items, PoString, Previous, Text};
 use std::alloc::{AllocError, Global};

@@ -5,7 +5,7 @@ ghost use Rattle.units.specs.Units as spec;
 ghost use Rattle.units.specs.Project.{units_of};
 ghost use Rattle.office_maps.specs.OfficeIn.{lent_project};
 ghost use Rattle.po_text.specs.declared.entry.Entry.{Entry as EntryValue};
-ghost use Rattle.deliveries.specs.EntryTexts.{with_its_unit};
+ghost use Rattle.office_specification.specs.EntryTexts.{with_its_unit};
 ghost use Rattle.tables.specs.Entries.{entries_of};
 ghost use Rattle.tables.specs.Handing.{Hands, obsolete_entries};
 

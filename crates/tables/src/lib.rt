@@ -21,7 +21,7 @@
 //! - `domain_reads`: what is found in a domain: nothing, where it isn't there
 //! - `plain_start`: what these tables begin with
 //!
-//! Specs: `Kept` (what a call keeps), `Stops` (what a stop may leave), `Sinks`, `Entries`, `Starts`, `Faults`,
+//! Specs: `KeptByCalls` (what a call keeps), `Stops` (what a stop may leave), `Sinks`, `Entries`, `Starts`, `Faults`,
 //! `Tallies` (counts that are kept); of tables in maps `MapsMeaning` (the office with its book that the maps stand for), `PlainMeaning` (the
 //! same of `PlainTables`); `Handing`, for inner functions.
 #![tactic(auto)]

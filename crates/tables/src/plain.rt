@@ -1,7 +1,7 @@
 //! Tables in ordered maps.
 
-ghost use Rattle.deliveries.specs.OfficeRules.{KeepsRules};
-ghost use Rattle.deliveries.specs.OneProof.{rules_prop};
+ghost use Rattle.office_specification.specs.OfficeRules.{KeepsRules};
+ghost use Rattle.office_specification.specs.OneProof.{rules_prop};
 ghost use Rattle.tables.specs.MapsMeaning.{meaning};
 
 use crate::faults::Lost;

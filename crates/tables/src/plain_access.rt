@@ -8,7 +8,7 @@ use crate::domain_reads::hand_in;
 use crate::faults::{EachFault, Lost};
 use crate::plain::PlainTables;
 use crate::sink::EntrySink;
-use deliveries::{ActContext, Change, Tally, UnitWrite};
+use office_specification::{ActContext, Change, Tally, UnitWrite};
 use office_maps::OfficeMaps;
 use po_text::Items;
 use request_book::Record;
@@ -58,14 +58,14 @@ impl Tables for PlainTables {
         Ok(self.maps.office.role_of(name))
     }
 
-    fn view_of(
+    fn context_of(
         &mut self,
         domain: &Name,
         lang: &Lang,
         key: &Key,
         name: &Name,
     ) -> Result<Option<ActContext>, Lost> {
-        self.maps.view_of(domain, lang, key, name)
+        self.maps.context_of(domain, lang, key, name)
     }
 
     fn unit_of(
@@ -97,7 +97,7 @@ impl Tables for PlainTables {
         self.maps.suggestion_of(domain, lang, key, number)
     }
 
-    fn office_rows(&mut self) -> Result<(), Lost> {
+    fn load_whole_office(&mut self) -> Result<(), Lost> {
         Ok(())
     }
 

@@ -11,9 +11,9 @@ ghost use Rattle.units.specs.Office.{project_in, with_project};
 ghost use Rattle.office_maps.specs.OfficeIn.{office_in};
 ghost use Rattle.tables.specs.declared.faults.Lost.TheVariants.{Memory};
 
-use crate::domain_reads::{bare_found_in, found_in, suggestion_in, suggestions_in, written_in};
+use crate::domain_reads::{bare_context_in, context_in, suggestion_in, suggestions_in, written_in};
 use crate::faults::Lost;
-use deliveries::{ActContext, Change, UnitWrite};
+use office_specification::{ActContext, Change, UnitWrite};
 use office_maps::{OfficeMaps, Place};
 use po_text::{Duplicate, Items, Text};
 use request_book::{Record, Reply};
@@ -74,8 +74,8 @@ pub(crate) struct Maps {
 
 impl Maps {
     ghost use Rattle.tables.specs.MapsMeaning.{meaning, place_of};
-    ghost use Rattle.deliveries.specs.UnitAccess.{found_of, without_suggestions, suggestions_at, suggestion_at, with_write_in};
-    ghost use Rattle.deliveries.specs.OfficeChanges.{changed, changed_by, IsPossible, IsPossibleChange};
+    ghost use Rattle.office_specification.specs.UnitAccess.{context_of, without_suggestions, suggestions_at, suggestion_at, with_write_in};
+    ghost use Rattle.office_specification.specs.OfficeChanges.{changed, changed_by, IsPossible, IsPossibleChange};
 
     /// An office of which nothing is recorded.
     pub(crate) fn new(alloc: Global, office: OfficeMaps) -> Maps
@@ -99,17 +99,17 @@ impl Maps {
     }
 
     /// What a unit act needs to know; nothing where the domain or its language isn't there.
-    pub(crate) fn view_of(
+    pub(crate) fn context_of(
         &self,
         domain: &Name,
         lang: &Lang,
         key: &Key,
         name: &Name,
     ) -> Result<Option<ActContext>, Lost>
-        ensures answer { IfOk result (λ r. r ≡ found_of (project_in (meaning self.now).office domain.now) lang.now key.now name.now) }
+        ensures answer { IfOk result (λ r. r ≡ context_of (project_in (meaning self.now).office domain.now) lang.now key.now name.now) }
         ensures memory { IfErr result (λ e. e ≡ Memory) }
     {
-        Ok(found_in(&self.office, domain, lang, key, name)?)
+        Ok(context_in(&self.office, domain, lang, key, name)?)
     }
 
     /// The same but for the unit's suggestions: the view has none.
@@ -121,10 +121,10 @@ impl Maps {
         key: &Key,
         name: &Name,
     ) -> Result<Option<ActContext>, Lost>
-        ensures answer { IfOk result (λ r. r ≡ without_suggestions (found_of (project_in (meaning self.now).office domain.now) lang.now key.now name.now)) }
+        ensures answer { IfOk result (λ r. r ≡ without_suggestions (context_of (project_in (meaning self.now).office domain.now) lang.now key.now name.now)) }
         ensures memory { IfErr result (λ e. e ≡ Memory) }
     {
-        Ok(bare_found_in(alloc, &self.office, domain, lang, key, name)?)
+        Ok(bare_context_in(alloc, &self.office, domain, lang, key, name)?)
     }
 
     /// The suggestions on a unit, without the votes on them; none where the unit isn't there.

@@ -10,7 +10,7 @@ use Rattle.std.proofs.lemmas.List.Folds.{find-append}
 use Rattle.units.specs.Units.{key_cmp}
 use Rattle.units.specs.declared.unit.Key.{Key}
 use Rattle.units.specs.Orders.{place_IsAntisymmetric, key_total}
-use Rattle.template_update.specs.Views.{first_with, IsIndexOf}
+use Rattle.template_update.specs.KeyIndexes.{first_with, IsIndexOf}
 
 pub same_key : (x y : Key) → key_cmp x y ≡ Equal → x ≡ y
 same_key x y e = ap (λ place. place.1) (place_IsAntisymmetric ([], x) ([], y) e)

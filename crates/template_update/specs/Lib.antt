@@ -1,4 +1,4 @@
-pub mod Views
+pub mod KeyIndexes
 pub mod Marks
 pub mod Templates
 pub mod Units

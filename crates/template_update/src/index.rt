@@ -4,7 +4,7 @@ ghost use Rattle.std.specs.Prelude.{◌≡◌, IfOk, is_some};
 ghost use Rattle.std.specs.Option.{option_copied};
 ghost use Rattle.std.specs.BTreeMap.{get_by};
 ghost use Rattle.units.specs.Units.{key_cmp};
-ghost use Rattle.template_update.specs.Views.{IsIndexOf};
+ghost use Rattle.template_update.specs.KeyIndexes.{IsIndexOf};
 
 use std::alloc::{AllocError, Global};
 use std::collections::BTreeMap;

@@ -8,7 +8,7 @@
 //! - `index`: entries and units by their keys
 //! - `laws`: what each plan and each load keeps
 //!
-//! Specs: `Templates`, `Updates`, `Units`, `Loads`, `Laws`; inner functions have `Moves`, `Steps` and `Views`.
+//! Specs: `Templates`, `Updates`, `Units`, `Loads`, `Laws`; inner functions have `Moves`, `Steps` and `KeyIndexes`.
 #![tactic(auto)]
 
 mod index;

@@ -7,7 +7,7 @@ ghost use Rattle.units.specs.Units.{key_of};
 ghost use Rattle.units.specs.Project.{entry_of};
 ghost use Rattle.template_update.specs.Loads as spec;
 ghost use Rattle.template_update.specs.Templates.{is_fuzzy};
-ghost use Rattle.template_update.specs.Views.{IsIndexOf};
+ghost use Rattle.template_update.specs.KeyIndexes.{IsIndexOf};
 
 use crate::index::KeyIndex;
 use crate::planning::within_limit;

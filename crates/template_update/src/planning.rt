@@ -10,7 +10,7 @@ ghost use Rattle.template_update.specs.Units.{new_unit};
 ghost use Rattle.template_update.specs.Updates.{added, plan_of};
 ghost use Rattle.template_update.specs.Moves.{updated_within};
 ghost use Rattle.template_update.specs.PlannedUnits.{AreUpdated, HaveUpdates};
-ghost use Rattle.template_update.specs.Views.{IsIndexOf};
+ghost use Rattle.template_update.specs.KeyIndexes.{IsIndexOf};
 
 use crate::index::KeyIndex;
 use crate::plans::{Counts, Plan};

@@ -13,7 +13,7 @@ use Rattle.request_book.specs.Words.{object_of, natural}
 use Rattle.views.specs.Parts.{text_or_null}
 use Rattle.views.specs.UnitTexts.{suggestion_fields, unit_fields}
 use Rattle.views.specs.CountsTexts.{counts_fields}
-use Rattle.deliveries.specs.declared.tally.Tally.{Tally}
+use Rattle.office_specification.specs.declared.tally.Tally.{Tally}
 
 whole_is_flat : (z : ℤ) → is_float (of_integer z) ≡ false
 whole_is_flat (pos n) = refl

@@ -6,7 +6,7 @@ ghost use Rattle.request_book.specs.Words.{object_of};
 ghost use Rattle.views.specs.CountsTexts.{counts_fields, counts_text_of};
 
 use crate::parts::object_value;
-use deliveries::Tally;
+use office_specification::Tally;
 use serde_json::{Map, Value, put};
 use std::alloc::{AllocError, Global};
 use units::Memory;

@@ -5,7 +5,7 @@ use crate::desk_rows::unit_told;
 use crate::stream_rows::streams::{Kept, Streams};
 use crate::stream_rows::table_rows::push_rows;
 use commands::AtLost;
-use file_commands::{
+use store_commands::{
     Closed, Unopened, close_desk, deliver_store, export_store, init_store, open_desk,
     records_store, say_ready, tell_store_fault,
 };

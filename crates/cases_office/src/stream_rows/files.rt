@@ -3,7 +3,7 @@
 use crate::stream_rows::command_told::told;
 use crate::stream_rows::deeds::{Deed, closed, done};
 use crate::stream_rows::streams::Streams;
-use file_commands::Closed;
+use store_commands::Closed;
 use sqlite::{Connection, Files, Options};
 use sqlite_disk::{Disk, Memory};
 use std::alloc::Global;

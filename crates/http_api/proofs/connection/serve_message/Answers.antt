@@ -4,7 +4,7 @@ use Rattle.std.proofs.Math.Seq.{drop-drop}
 use Rattle.http_messages.specs.Arrivals.{asking_in}
 use Rattle.office.specs.Writers.{writer_at}
 use Rattle.http_api.specs.declared.connection.Next.{Next}
-use Rattle.http_api.specs.Steps.{next_of}
+use Rattle.http_api.specs.ConnectionSteps.{next_of}
 use Rattle.http_api.proofs.Counting.{tells_failures, failures_and, failures_then, on_ok_and}
 use Rattle.http_api.proofs.Handing.{writes_handed, writes_and, ok_and, at_ok}
 use Rattle.http_api.proofs.connection.serve_message.Goals as goal

@@ -2,7 +2,7 @@ use Rattle.std.proofs.Common.{sym, ◌∙◌, subst}
 use Rattle.std.specs.Prelude.{IfOk}
 use Rattle.std.proofs.lemmas.Result.{err_from_is_err_and}
 use Rattle.request_book.specs.Book.{OfficeWithBook}
-use Rattle.deliveries.specs.Step.{step}
+use Rattle.office_specification.specs.Step.{step}
 use Rattle.outcomes.specs.Settled.{IsSettled}
 use Rattle.office.proofs.RoleAsked.{refused_by_role}
 use Rattle.office.proofs.Stopped.{alike, read_done, read_failed, read_then, read_then_memory}

@@ -2,7 +2,7 @@ use Rattle.std.proofs.Common.{◌∙◌, Option, IfSome, subst}
 use Rattle.std.specs.Prelude.{IfOk}
 use Rattle.std.proofs.lemmas.Result.{err_from_is_err_and}
 use Rattle.request_book.specs.Book.{OfficeWithBook}
-use Rattle.deliveries.specs.declared.values.UnitOutcome.{UnitOutcome}
+use Rattle.office_specification.specs.declared.values.UnitOutcome.{UnitOutcome}
 use Rattle.office.specs.UnitReads.{found_for, Decides}
 use Rattle.office.proofs.Stopped.{alike, read_done, read_failed, read_then}
 use Rattle.office.proofs.delivery.decide_vote_or_acceptance.Goals as goal

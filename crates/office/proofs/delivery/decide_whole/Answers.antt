@@ -1,6 +1,6 @@
 use Rattle.std.proofs.Common.{Option, subst}
 use Rattle.std.proofs.lemmas.Result.{err_from_is_err_and}
-use Rattle.deliveries.specs.declared.values.ActContext.{ActContext}
+use Rattle.office_specification.specs.declared.values.ActContext.{ActContext}
 use Rattle.office.specs.UnitReads.{Decides}
 use Rattle.office.proofs.Stopped.{read_done, read_failed, read_then_memory}
 use Rattle.office.proofs.delivery.decide_whole.Goals as goal

@@ -2,8 +2,8 @@ use Rattle.std.proofs.Common.{◌≡◌, ◌∙◌, Option, IfSome, sym, subst}
 use Rattle.std.specs.Prelude.{IfOk}
 use Rattle.std.proofs.lemmas.Result.{err_from_is_err_and}
 use Rattle.request_book.specs.Book.{OfficeWithBook}
-use Rattle.deliveries.specs.declared.values.UnitOutcome.{UnitOutcome}
-use Rattle.deliveries.specs.UnitAccess.{without_suggestions}
+use Rattle.office_specification.specs.declared.values.UnitOutcome.{UnitOutcome}
+use Rattle.office_specification.specs.UnitAccess.{without_suggestions}
 use Rattle.office.specs.UnitReads.{found_for, Decides}
 use Rattle.office.proofs.Stopped.{alike, read_done, read_failed, read_then, read_then_memory}
 use Rattle.office.proofs.delivery.read_and_decide.Goals as goal

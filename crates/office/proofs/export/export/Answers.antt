@@ -1,7 +1,7 @@
 use Rattle.std.proofs.Common.{rules, subst, sym}
-use Rattle.deliveries.specs.ExportText.{export_text}
-use Rattle.deliveries.specs.OfficeRules.{KeepsRules}
-use Rattle.deliveries.proofs.rules.DomainsKept.{any_project}
+use Rattle.office_specification.specs.ExportText.{export_text}
+use Rattle.office_specification.specs.OfficeRules.{KeepsRules}
+use Rattle.office_specification.proofs.rules.DomainsKept.{any_project}
 use Rattle.units.specs.Office.{project_in}
 use Rattle.tables.specs.Entries.{entries_of}
 use Rattle.office.specs.declared.export.ExportReceipt.{ExportReceipt}
@@ -24,8 +24,8 @@ returns-in-Err-clause-err g c = λ honest.
     let cut : WasCut (export_text project lang) (taken old) (taken now) (failed old) (failed now) (fault_of each) =
     subst (λ t. WasCut t (taken old) (taken now) (failed old) (failed now) (fault_of each)) (sym (text_there project lang))
     (sink_cut (λ s. s.w.ghost_name) (λ s. taken s.w.now) (λ s. failed s.w.now) (λ s. s.checksum) (λ s. s.text.now.begun) (λ s. s.begun) _ _ _ each c.text_writer-text.ensures c.new.ensures (c.in-Err.ensures.cut honest)) in
-    told_on (export_text project lang) (taken old) (failed old) (fault_of each) c.from.result c.told.result (search rules) (search rules)
-    c.failures-before.ensures c.failures-after.ensures c.from.ensures cut c.told.ensures.failed c.told.ensures.others
+    told_on (export_text project lang) (taken old) (failed old) (fault_of each) c.from.result c.fault_to_tell.result (search rules) (search rules)
+    c.failures-before.ensures c.failures-after.ensures c.from.ensures cut c.fault_to_tell.ensures.failed c.fault_to_tell.ensures.others
 
 pub returns-then-not-begun-clause-err : goal.returns-then-not-begun-clause-err
 returns-then-not-begun-clause-err g c = λ honest.

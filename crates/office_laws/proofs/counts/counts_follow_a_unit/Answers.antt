@@ -1,9 +1,9 @@
 use Rattle.std.proofs.Common.{ap}
 use Rattle.std.specs.Prelude.{Some}
 use Rattle.units.specs.Office.{Office, project_in}
-use Rattle.deliveries.specs.UnitAccess.{with_view}
-use Rattle.deliveries.proofs.domains.InDomains.{with_project-same}
-use Rattle.deliveries.specs.Tally.{counts_of}
+use Rattle.office_specification.specs.UnitAccess.{with_view}
+use Rattle.office_specification.proofs.domains.InDomains.{with_project-same}
+use Rattle.office_specification.specs.Tally.{counts_of}
 use Rattle.office_laws.proofs.OfficeCounts.{unit_moves, unit_stays, elsewhere_stays}
 use Rattle.office_laws.proofs.counts.counts_follow_a_unit.Goals as goal
 

@@ -1,6 +1,6 @@
 use Rattle.std.proofs.Common.{ap}
 use Rattle.units.specs.Office.{Office, project_in}
-use Rattle.deliveries.specs.ExportText.{export_text}
+use Rattle.office_specification.specs.ExportText.{export_text}
 use Rattle.office_laws.proofs.AlongHistories.{right_reply, all_replies, right_office, right_order}
 use Rattle.office_laws.proofs.histories.sender_over_a_desk.Goals as goal
 

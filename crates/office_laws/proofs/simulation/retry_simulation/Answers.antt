@@ -1,6 +1,6 @@
 use Rattle.std.proofs.Common.{ap}
 use Rattle.units.specs.Office.{Office, project_in}
-use Rattle.deliveries.specs.ExportText.{export_text}
+use Rattle.office_specification.specs.ExportText.{export_text}
 use Rattle.office_laws.proofs.Reached.{replies_once, office_once, recorded_in_order}
 use Rattle.office_laws.proofs.simulation.retry_simulation.Goals as goal
 

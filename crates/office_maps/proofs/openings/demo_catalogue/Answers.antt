@@ -3,7 +3,7 @@ use Rattle.std.specs.Prelude.{MatchOption, codes}
 use Rattle.po_text.specs.declared.entry.Entry.{Entry}
 use Rattle.po_text.specs.Valid.{IsValid}
 use Rattle.units.specs.Openings.{plain_entry}
-use Rattle.deliveries.proofs.rules.StartLemmas.{valid_template}
+use Rattle.office_specification.proofs.rules.StartLemmas.{valid_template}
 use Rattle.office_maps.proofs.openings.demo_catalogue.Goals as goal
 
 -- what `try_new` makes of entries

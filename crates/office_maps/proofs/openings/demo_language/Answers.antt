@@ -1,4 +1,4 @@
-use Rattle.deliveries.proofs.rules.Demo.{ruled}
+use Rattle.office_specification.proofs.rules.Demo.{ruled}
 use Rattle.office_maps.proofs.openings.demo_language.Goals as goal
 
 pub invariant_of-result : goal.invariant_of-result

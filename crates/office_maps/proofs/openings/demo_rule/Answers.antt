@@ -1,4 +1,4 @@
-use Rattle.deliveries.proofs.rules.Demo.{no_fault}
+use Rattle.office_specification.proofs.rules.Demo.{no_fault}
 use Rattle.office_maps.proofs.openings.demo_rule.Goals as goal
 
 pub unreachable-requires : goal.unreachable-requires

@@ -2,8 +2,8 @@ use Rattle.std.proofs.Common.{Option, sym, ap, ◌∙◌}
 use Rattle.std.proofs.lemmas.Result.{IfOk-weaker}
 use Rattle.po_text.specs.declared.entry.Entry.{Entry}
 use Rattle.units.specs.declared.unit.Unit.{Unit}
-use Rattle.deliveries.specs.declared.values.UnitWrite.{UnitWrite}
-use Rattle.deliveries.specs.UnitAccess.{view_written}
+use Rattle.office_specification.specs.declared.values.UnitWrite.{UnitWrite}
+use Rattle.office_specification.specs.UnitAccess.{view_written}
 use Rattle.office_maps.proofs.unit_parts.unit_written.Goals as goal
 
 abbrev left_of : Unit → Option Entry → UnitWrite → Unit

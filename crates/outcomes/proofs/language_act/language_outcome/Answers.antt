@@ -1,5 +1,5 @@
 use Rattle.std.proofs.Common.{ap, ◌∙◌}
-use Rattle.deliveries.proofs.rules.PlanRows.{read_valid}
+use Rattle.office_specification.proofs.rules.PlanRows.{read_valid}
 use Rattle.outcomes.specs.Settled.{told}
 use Rattle.outcomes.proofs.language_act.language_outcome.Goals as goal
 

@@ -11,8 +11,8 @@ use Rattle.units.specs.Project.{Project, place_eq}
 use Rattle.units.specs.Projects.{IsProject}
 use Rattle.units.specs.declared.unit.Refusal.TheVariants.{PastLimit}
 use Rattle.replies.specs.Bodies.{Stepped, refuse}
-use Rattle.deliveries.specs.ProjectActs.{placed, loaded, with_rule}
-use Rattle.deliveries.proofs.acts.PlansApart.{load_apart}
+use Rattle.office_specification.specs.ProjectActs.{placed, loaded, with_rule}
+use Rattle.office_specification.proofs.acts.PlansApart.{load_apart}
 use Rattle.outcomes.specs.declared.outcome.DomainOutcome.{DomainOutcome}
 use Rattle.outcomes.specs.Settled.{IsSettledIn}
 use Rattle.office_maps.specs.OfficeIn.{lent_project}

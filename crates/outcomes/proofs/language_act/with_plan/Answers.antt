@@ -5,8 +5,8 @@ use Rattle.po_text.specs.declared.entry.Entry.{Entry}
 use Rattle.po_text.specs.Texts.{Text}
 use Rattle.units.specs.Project.{Place, place_eq}
 use Rattle.units.specs.declared.unit.Unit.{Unit}
-use Rattle.deliveries.specs.ProjectActs.{placed, with_language}
-use Rattle.deliveries.specs.Tally.{counts_in}
+use Rattle.office_specification.specs.ProjectActs.{placed, with_language}
+use Rattle.office_specification.specs.Tally.{counts_in}
 use Rattle.outcomes.proofs.language_act.with_plan.Goals as goal
 
 pub returns-in-Ok : goal.returns-in-Ok

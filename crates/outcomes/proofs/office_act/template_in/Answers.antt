@@ -1,4 +1,4 @@
-use Rattle.deliveries.specs.ProjectActs.{template_step}
+use Rattle.office_specification.specs.ProjectActs.{template_step}
 use Rattle.office_maps.specs.OfficeIn.{office_in, lent_project}
 use Rattle.outcomes.proofs.Settling.{settled_in}
 use Rattle.outcomes.proofs.office_act.template_in.Goals as goal

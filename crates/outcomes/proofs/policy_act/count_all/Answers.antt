@@ -1,6 +1,6 @@
 use Rattle.std.proofs.Common.{◌∙◌}
 use Rattle.std.proofs.lemmas.Map.Iter.{rest_all}
-use Rattle.deliveries.specs.OfficeActs.{turned}
+use Rattle.office_specification.specs.OfficeActs.{turned}
 use Rattle.office_maps.specs.declared.domain_maps.DomainMaps.{DomainMaps}
 use Rattle.office_maps.specs.OfficeIn.{domain_in}
 use Rattle.outcomes.proofs.Policies.{sum_in, all_counted}

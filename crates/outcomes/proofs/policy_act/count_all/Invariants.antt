@@ -1,7 +1,7 @@
 use Rattle.std.proofs.Common.{◌≡◌, ◌+◌}
 use Rattle.std.specs.Prelude.{sum_by}
 use Rattle.std.specs.Map.{values_of}
-use Rattle.deliveries.specs.OfficeActs.{turned}
+use Rattle.office_specification.specs.OfficeActs.{turned}
 use Rattle.office_maps.specs.OfficeIn.{domain_in}
 use Rattle.outcomes.proofs.policy_act.count_all.Given as goal
 

@@ -2,7 +2,7 @@ use Rattle.std.proofs.Common.{◌∙◌, rules, tests}
 use Rattle.std.specs.Map.{values_of}
 use Rattle.std.proofs.lemmas.Iterator.Search.{any_from_yields_List}
 use Rattle.std.proofs.lemmas.Iterator.Consumers.{YieldsList-from_rest}
-use Rattle.deliveries.specs.OfficeActs.{passes}
+use Rattle.office_specification.specs.OfficeActs.{passes}
 use Rattle.office_maps.specs.declared.domain_maps.DomainMaps.{DomainMaps}
 use Rattle.office_maps.specs.OfficeIn.{domain_in}
 use Rattle.outcomes.proofs.Policies.{any_domain_in}

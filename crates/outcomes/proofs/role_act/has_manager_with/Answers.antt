@@ -3,7 +3,7 @@ use Rattle.std.proofs.lemmas.Iterator.Search.{any_from_yields_List}
 use Rattle.std.proofs.lemmas.Iterator.Consumers.{YieldsList-from_rest}
 use Rattle.po_text.specs.Texts.{text_eq}
 use Rattle.units.specs.declared.unit.Role.{Role}
-use Rattle.deliveries.specs.OfficeActs.{is_manager}
+use Rattle.office_specification.specs.OfficeActs.{is_manager}
 use Rattle.office_maps.specs.Rows.{team_in}
 use Rattle.outcomes.proofs.Teams.{own_manager, manager_among_others}
 use Rattle.outcomes.proofs.role_act.has_manager_with.Goals as goal

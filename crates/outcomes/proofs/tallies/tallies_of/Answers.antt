@@ -1,9 +1,9 @@
 use Rattle.std.proofs.Common.{[], ◌∷◌, ◌++◌, map, sym, ap, ◌∙◌}
 use Rattle.template_update.proofs.Taken.{map-next, all_taken}
 use Rattle.po_text.specs.Texts.{Text}
-use Rattle.deliveries.specs.declared.tally.Tally.{Tally}
-use Rattle.deliveries.specs.ProjectActs.{LanguagePlan}
-use Rattle.deliveries.specs.Tally.{counts_in}
+use Rattle.office_specification.specs.declared.tally.Tally.{Tally}
+use Rattle.office_specification.specs.ProjectActs.{LanguagePlan}
+use Rattle.office_specification.specs.Tally.{counts_in}
 use Rattle.outcomes.proofs.tallies.tallies_of.Goals as goal
 
 pub loop-lang-preserved : goal.loop-lang-preserved

@@ -1,6 +1,6 @@
 use Rattle.std.proofs.Common.{◌≡◌, map, take}
-use Rattle.deliveries.specs.ProjectActs.{LanguagePlan}
-use Rattle.deliveries.specs.Tally.{counts_in}
+use Rattle.office_specification.specs.ProjectActs.{LanguagePlan}
+use Rattle.office_specification.specs.Tally.{counts_in}
 use Rattle.outcomes.proofs.tallies.tallies_of.Given as goal
 
 abbrev pub invariant-loop-lang : goal.invariant-loop-lang

@@ -1,6 +1,6 @@
 use Rattle.std.proofs.Common.{◌≡◌, drop}
-use Rattle.deliveries.specs.Tally.{counts_in}
-use Rattle.deliveries.specs.Counting.{plus}
+use Rattle.office_specification.specs.Tally.{counts_in}
+use Rattle.office_specification.specs.Counting.{plus}
 use Rattle.outcomes.proofs.tallies.tally_of.Given as goal
 
 -- what is counted, and what is left to count

@@ -8,7 +8,7 @@ use Rattle.template_update.specs.Templates.{template_of}
 use Rattle.units.specs.Project.{Project}
 use Rattle.units.specs.declared.unit.Refusal.TheVariants.{PastLimit}
 use Rattle.replies.specs.Bodies.{Stepped, refuse}
-use Rattle.deliveries.specs.ProjectActs.{plans, updated, LanguagePlan}
+use Rattle.office_specification.specs.ProjectActs.{plans, updated, LanguagePlan}
 use Rattle.office_maps.specs.OfficeIn.{lent_project}
 use Rattle.outcomes.specs.declared.outcome.DomainOutcome.{DomainOutcome}
 use Rattle.outcomes.specs.Settled.{IsSettledIn}

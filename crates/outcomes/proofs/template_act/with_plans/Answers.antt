@@ -1,11 +1,11 @@
 use Rattle.std.proofs.Common.{List, map, sym, ap, ◌∙◌}
 use Rattle.po_text.specs.declared.entry.Entry.{Entry}
 use Rattle.replies.specs.Bodies.{reply, template_fields}
-use Rattle.deliveries.specs.ProjectActs.{LanguagePlan, with_template}
-use Rattle.deliveries.specs.Tally.{counts_in}
-use Rattle.deliveries.proofs.acts.Possible.{plans_of_all, none_goes}
-use Rattle.deliveries.proofs.acts.PlansApart.{plans_apart}
-use Rattle.deliveries.proofs.acts.StaysThere.{stays_there}
+use Rattle.office_specification.specs.ProjectActs.{LanguagePlan, with_template}
+use Rattle.office_specification.specs.Tally.{counts_in}
+use Rattle.office_specification.proofs.acts.Possible.{plans_of_all, none_goes}
+use Rattle.office_specification.proofs.acts.PlansApart.{plans_apart}
+use Rattle.office_specification.proofs.acts.StaysThere.{stays_there}
 use Rattle.outcomes.proofs.template_act.with_plans.Goals as goal
 
 pub returns-in-Ok : goal.returns-in-Ok

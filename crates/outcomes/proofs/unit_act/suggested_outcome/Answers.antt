@@ -1,8 +1,8 @@
 use Rattle.std.proofs.Common.{◌≡◌, ◌∙◌, ap, subst, Option}
-use Rattle.deliveries.specs.declared.values.ActContext.{ActContext}
-use Rattle.deliveries.specs.declared.values.Outcome.{Outcome}
-use Rattle.deliveries.specs.UnitAccess.{without_suggestions}
-use Rattle.deliveries.specs.UnitOutcomes.{outcome_of}
+use Rattle.office_specification.specs.declared.values.ActContext.{ActContext}
+use Rattle.office_specification.specs.declared.values.Outcome.{Outcome}
+use Rattle.office_specification.specs.UnitAccess.{without_suggestions}
+use Rattle.office_specification.specs.UnitOutcomes.{outcome_of}
 use Rattle.outcomes.specs.UnitParts.{shown}
 use Rattle.outcomes.proofs.ByParts.{WritesLast, suggested_is}
 use Rattle.outcomes.proofs.unit_act.suggested_outcome.Goals as goal

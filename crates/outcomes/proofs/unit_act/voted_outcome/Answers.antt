@@ -1,8 +1,8 @@
 use Rattle.std.proofs.Common.{◌≡◌, ◌∙◌, ap, List, Option}
 use Rattle.units.specs.declared.unit.Suggestion.{Suggestion}
-use Rattle.deliveries.specs.declared.values.ActContext.{ActContext}
-use Rattle.deliveries.specs.UnitAccess.{without_suggestions}
-use Rattle.deliveries.specs.UnitOutcomes.{outcome_of}
+use Rattle.office_specification.specs.declared.values.ActContext.{ActContext}
+use Rattle.office_specification.specs.UnitAccess.{without_suggestions}
+use Rattle.office_specification.specs.UnitOutcomes.{outcome_of}
 use Rattle.review.specs.Parts.{at_most_one}
 use Rattle.outcomes.specs.UnitParts.{shown, of_vote}
 use Rattle.outcomes.proofs.ByParts.{voted_told}

@@ -1,7 +1,7 @@
 use Rattle.std.proofs.Common.{◌≡◌, nat_eq, map, drop}
 use Rattle.std.specs.List.{find, starts_with}
 use Rattle.plural_expr.specs.Tokens.{Written}
-use Rattle.plural_expr.specs.Views.{spelled}
+use Rattle.plural_expr.specs.PlainTrees.{spelled}
 use Rattle.plural_expr.proofs.lexer.first_spelled.Given as goal
 
 -- none of the spellings so far stands at the front

@@ -1,6 +1,6 @@
 use Rattle.std.proofs.Common.{◌≡◌, length}
 use Rattle.po_lex.specs.Reading.{skip_white}
-use Rattle.po_lex.specs.Views.{IsSliceOf}
+use Rattle.po_lex.specs.PlainTokens.{IsSliceOf}
 use denote.Shadow.{shadow}
 use denote.Text.{Utf8}
 use Rattle.po_lex.proofs.forms.skip_white.Given as goal

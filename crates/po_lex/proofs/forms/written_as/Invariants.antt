@@ -2,7 +2,7 @@ use Rattle.std.proofs.Common.{◌≡◌, ℕ, List, map, drop}
 use Rattle.std.specs.Str.{bytes_eq}
 use Rattle.std.specs.List.{find}
 use Rattle.po_lex.specs.declared.line.Keyword.{Keyword}
-use Rattle.po_lex.specs.Views.{spelled}
+use Rattle.po_lex.specs.PlainTokens.{spelled}
 use Rattle.po_lex.proofs.forms.written_as.Given as goal
 
 -- none of the keywords so far is written as the word

@@ -2,7 +2,7 @@ use Rattle.std.proofs.Common.{Ok, subst}
 use Rattle.sqlite.specs.Held.{state}
 use Rattle.sqlite.specs.declared.error.Error.{Error}
 use Rattle.sql_schema.specs.Layouts.{by_domain, rows_named}
-use Rattle.sql_schema.specs.Views.{seen_in}
+use Rattle.sql_schema.specs.SeenRows.{seen_in}
 use Rattle.sql_schema.specs.Whole.{IsLookUp}
 use Rattle.sql_statements.specs.WholeOffice.{ShowsWholeOfficeIn}
 use Rattle.sql_adoption.specs.Reading.{AddsDomain}

@@ -1,7 +1,7 @@
 use Rattle.std.proofs.Common.{◌≡◌, Ok, Some, rules, ap, sym, subst}
 use Rattle.sqlite.specs.Effect.{Database}
 use Rattle.sqlite.specs.Held.{state}
-use Rattle.deliveries.specs.declared.tally.Tally.{Tally}
+use Rattle.office_specification.specs.declared.tally.Tally.{Tally}
 use Rattle.sql_decoding.specs.declared.faults.Failure.{Failure}
 use Rattle.sql_decoding.specs.declared.units_read.UnitNumbers.{UnitNumbers}
 use Rattle.sql_schema.specs.Inside.{AreOfficeTablesOf}

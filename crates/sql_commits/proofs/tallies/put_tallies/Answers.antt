@@ -9,7 +9,7 @@ use Rattle.sql_commits.proofs.WritesInTurn.{write_then, write_told, nothing_put}
 use Rattle.sql_commits.proofs.tallies.put_tallies.Goals as goal
 use Rattle.sqlite.specs.Effect.{Database}
 use Rattle.po_text.specs.Texts.{Text}
-use Rattle.deliveries.specs.declared.tally.Tally.{Tally}
+use Rattle.office_specification.specs.declared.tally.Tally.{Tally}
 use Rattle.sql_figures.specs.Figures.{with_tallies, FiguresFollow}
 use Rattle.sql_figures.proofs.FigureSteps.{nothing_follows}
 use Rattle.sql_commits.proofs.FiguresInTurn.{tallies_next}

@@ -1,7 +1,7 @@
 use Rattle.std.proofs.Common.{[], ◌∷◌, ap, ◌∙◌}
-use Rattle.deliveries.specs.Counting.{plus}
-use Rattle.deliveries.specs.Tally.{counts_in}
-use Rattle.deliveries.proofs.tallies.Countings.{none_and}
+use Rattle.office_specification.specs.Counting.{plus}
+use Rattle.office_specification.specs.Tally.{counts_in}
+use Rattle.office_specification.proofs.tallies.Countings.{none_and}
 use Rattle.sql_commits.proofs.unit_counts.counted.Goals as goal
 
 pub returns : goal.returns

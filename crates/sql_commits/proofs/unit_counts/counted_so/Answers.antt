@@ -1,6 +1,6 @@
 use Rattle.std.proofs.Common.{ap, ◌∙◌}
 use Rattle.units.specs.Units.{shown_state}
-use Rattle.deliveries.specs.declared.tally.Tally.{Tally}
+use Rattle.office_specification.specs.declared.tally.Tally.{Tally}
 use Rattle.sql_commits.proofs.UnitTallied.{obsolete_counted, shown_counted}
 use Rattle.sql_commits.proofs.unit_counts.counted_so.Goals as goal
 

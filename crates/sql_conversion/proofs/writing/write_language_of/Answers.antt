@@ -5,10 +5,10 @@ use Rattle.std.specs.Option.{option_copied}
 use Rattle.sqlite.specs.Held.{state}
 use Rattle.units.specs.Office.{same_domain, project_in}
 use Rattle.units.specs.Project.{Project, units_of}
-use Rattle.deliveries.specs.declared.values.Language.{Language}
+use Rattle.office_specification.specs.declared.values.Language.{Language}
 use Rattle.office_maps.specs.OfficeIn.{lent_project, office_in}
 use Rattle.sql_decoding.specs.declared.faults.Failure.{Failure}
-use Rattle.sql_schema.specs.Views.{AreSameByName}
+use Rattle.sql_schema.specs.SeenRows.{AreSameByName}
 use Rattle.sql_changes.specs.Commits.{PutsLanguage}
 use Rattle.sql_changes.specs.OnDomains.{MakesIf, OnDomain}
 use Rattle.sql_changes.proofs.DomainWrites.{seen, on_domain_then, on_domain_as, spares_last, tally_on_domains, nothing_on_domain}

@@ -1,5 +1,5 @@
 use Rattle.std.proofs.Common.{◌&&◌, ap, ◌∙◌}
-use Rattle.sql_decoding.specs.ShownFound.{header_of_column}
+use Rattle.sql_decoding.specs.ShownContexts.{header_of_column}
 use Rattle.sql_decoding.specs.RowTests.{is_header, is_rule_of}
 use Rattle.sql_decoding.proofs.ColumnsTested.{language_stands}
 use Rattle.sql_decoding.proofs.kept_rule.is_of.Goals as goal

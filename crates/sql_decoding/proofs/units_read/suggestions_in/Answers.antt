@@ -1,7 +1,7 @@
 use Rattle.std.specs.List.{list_all}
 use Rattle.std.proofs.Common.{[], ◌∷◌, ◌++◌, sym, ap, ◌∙◌}
 use Rattle.std.proofs.lemmas.List.{map_more}
-use Rattle.sql_decoding.specs.ShownFound.{suggestion_shown}
+use Rattle.sql_decoding.specs.ShownContexts.{suggestion_shown}
 use Rattle.sql_decoding.specs.RowTests.{is_suggestion_with_votes}
 use Rattle.sql_decoding.proofs.RowsTold.{handed_on, more_stand, all_stand, one_fails}
 use Rattle.sql_decoding.proofs.units_read.suggestions_in.Goals as goal

@@ -1,7 +1,7 @@
 use Rattle.std.proofs.Common.{◌≡◌, true, take}
 use Rattle.std.specs.List.{list_all}
 use Rattle.std.specs.Prelude.{map}
-use Rattle.sql_decoding.specs.ShownFound.{suggestion_shown}
+use Rattle.sql_decoding.specs.ShownContexts.{suggestion_shown}
 use Rattle.sql_decoding.specs.RowTests.{is_suggestion_with_votes}
 use Rattle.sql_decoding.proofs.units_read.suggestions_in.Given as goal
 

@@ -10,7 +10,7 @@ use Rattle.sql_exports.proofs.Pieces.{same_now}
 use Rattle.sql_exports.proofs.RowsInTurn.{entries_are}
 use Rattle.sql_exports.proofs.export.export_entries.Goals as goal
 use Rattle.sql_schema.specs.Layouts.{rows_named}
-use Rattle.sql_schema.specs.Views.{seen_in}
+use Rattle.sql_schema.specs.SeenRows.{seen_in}
 use Rattle.units.specs.Projects.{IsProject}
 
 pub returns-in-Ok-Some-clause-handed : goal.returns-in-Ok-Some-clause-handed

@@ -12,7 +12,7 @@ use Rattle.sql_exports.proofs.UnitsThere.{unit_at, units_there}
 use Rattle.sql_exports.proofs.Whole.{messages_read}
 use Rattle.sql_exports.proofs.export.hand_rows.Goals as goal
 use Rattle.sql_schema.specs.Layouts.{rows_named}
-use Rattle.sql_schema.specs.Views.{seen_in}
+use Rattle.sql_schema.specs.SeenRows.{seen_in}
 
 pub returns-in-Ok-clause-handed : goal.returns-in-Ok-clause-handed
 returns-in-Ok-clause-handed g c clean =

@@ -8,7 +8,7 @@ use Rattle.sql_exports.proofs.HeaderRead.{header_read}
 use Rattle.sql_exports.proofs.Results.{look_up_mapped}
 use Rattle.sql_exports.proofs.header.look_up_header.Goals as goal
 use Rattle.sql_schema.specs.Layouts.{rows_named}
-use Rattle.sql_schema.specs.Views.{seen_in}
+use Rattle.sql_schema.specs.SeenRows.{seen_in}
 
 pub returns-in_ok-header-in-Some : goal.returns-in_ok-header-in-Some
 returns-in_ok-header-in-Some g c =

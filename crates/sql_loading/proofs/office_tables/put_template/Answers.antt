@@ -2,7 +2,7 @@ use Rattle.std.proofs.Common.{refl, ◌∙◌}
 use Rattle.std.specs.Prelude.{flat_map}
 use Rattle.std.specs.FinMap as maps
 use Rattle.units.specs.Project.{Project, place_cmp}
-use Rattle.deliveries.specs.ProjectActs.{placed, with_template}
+use Rattle.office_specification.specs.ProjectActs.{placed, with_template}
 use Rattle.office_maps.specs.OfficeIn.{office_in}
 use Rattle.sql_loading.specs.DomainChanged.{lending}
 use Rattle.sql_loading.proofs.Lending.{made_in}

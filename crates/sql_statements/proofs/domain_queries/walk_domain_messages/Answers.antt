@@ -3,7 +3,7 @@ use Rattle.sqlite.specs.Held.{state}
 use Rattle.sqlite.specs.State.{HasCleanDisk}
 use Rattle.sqlite.specs.declared.types.Value.TheVariants.{Text}
 use Rattle.sql_schema.specs.Layouts.{rows_named}
-use Rattle.sql_schema.specs.Views.{seen_in}
+use Rattle.sql_schema.specs.SeenRows.{seen_in}
 use Rattle.sql_streams.proofs.Answers.{hands_out}
 use Rattle.sql_statements.specs.Queries.{ShowsMessagesIn}
 use Rattle.sql_statements.proofs.DomainMessages.{messages_text, messages_plain, messages_all, messages_begun}

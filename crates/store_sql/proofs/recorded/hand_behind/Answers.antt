@@ -23,5 +23,5 @@ returns-in-Err-clause-handed g c number is clean =
     let heads = c.requires.heads early (c.requires.is_open early) in
     let n = c.args.place in
     let same : to_z w64 (of_z w64 n) ≡ n = search rules in
-    cut_handed g.K.RowSink.Took g.K.RowSink.Refuses (Some number) db (ShowsBehind (Some n) db) (λ rows shown. (n, is, shown, heads (Some n) rows shown)) c.args.sink.now c.walk_records_behind.new.sink c.in-Err.fault c.told.result c.told.ensures
+    cut_handed g.K.RowSink.Took g.K.RowSink.Refuses (Some number) db (ShowsBehind (Some n) db) (λ rows shown. (n, is, shown, heads (Some n) rows shown)) c.args.sink.now c.walk_records_behind.new.sink c.in-Err.fault c.walk_fault.result c.walk_fault.ensures
     (subst (λ p. CutShort g.K.RowSink.Took g.K.RowSink.Refuses (ShowsBehind (Some p) db) c.args.sink.now c.walk_records_behind.new.sink c.in-Err.fault) same (c.in-Err.ensures.handed clean))

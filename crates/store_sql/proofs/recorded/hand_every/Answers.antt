@@ -17,4 +17,4 @@ returns-in-Err-clause-handed g c clean =
     let old = state g.S.Store c.args.connection.now in
     let early : HasCleanDisk old = omega (arith, clean, c.in-Err.ensures.looked.survives.clean) in
     let heads = c.requires.heads early (c.requires.is_open early) in
-    cut_handed g.K.RowSink.Took g.K.RowSink.Refuses None old.now (ShowsBehind None old.now) (λ rows shown. (shown, heads None rows shown)) c.args.sink.now c.walk_records.new.sink c.in-Err.fault c.told.result c.told.ensures (c.in-Err.ensures.handed clean)
+    cut_handed g.K.RowSink.Took g.K.RowSink.Refuses None old.now (ShowsBehind None old.now) (λ rows shown. (shown, heads None rows shown)) c.args.sink.now c.walk_records.new.sink c.in-Err.fault c.walk_fault.result c.walk_fault.ensures (c.in-Err.ensures.handed clean)

@@ -8,10 +8,10 @@ use Rattle.std.proofs.lemmas.Map.Iter.{rest_more}
 use Rattle.units.specs.Project.{place_cmp, entry_of}
 use Rattle.office_maps.specs.LanguageUnits.{taken}
 use Rattle.office_maps.specs.OfficeIn.{place_of}
-use Rattle.deliveries.specs.declared.tally.Tally.{Tally}
-use Rattle.deliveries.specs.Tally.{counts_in}
-use Rattle.deliveries.specs.Counting.{plus}
-use Rattle.deliveries.proofs.tallies.Countings.{none_and, next_counted}
+use Rattle.office_specification.specs.declared.tally.Tally.{Tally}
+use Rattle.office_specification.specs.Tally.{counts_in}
+use Rattle.office_specification.specs.Counting.{plus}
+use Rattle.office_specification.proofs.tallies.Countings.{none_and, next_counted}
 use Rattle.tables.proofs.LanguageUnits.{starts, next_own}
 use Rattle.tables.proofs.OfficeUnits.{HasItsKey, have_keys}
 use Rattle.tables.proofs.counting.count_units.Goals as goal

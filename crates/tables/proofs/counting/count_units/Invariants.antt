@@ -4,8 +4,8 @@ use Rattle.office_maps.specs.LanguageUnits.{taken}
 use Rattle.office_maps.proofs.Ranges.{own_of}
 use Rattle.office_maps.specs.OfficeIn.{lent_project}
 use Rattle.units.specs.Projects.{IsProject}
-use Rattle.deliveries.specs.Tally.{counts_in}
-use Rattle.deliveries.specs.Counting.{plus}
+use Rattle.office_specification.specs.Tally.{counts_in}
+use Rattle.office_specification.specs.Counting.{plus}
 use Rattle.tables.proofs.OfficeUnits.{HasItsKey}
 use Rattle.tables.proofs.counting.count_units.Given as goal
 

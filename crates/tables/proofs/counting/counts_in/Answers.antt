@@ -2,7 +2,7 @@ use Rattle.std.proofs.Common.{◌≡◌, sym, subst}
 use Rattle.std.specs.Prelude.{IfOk}
 use Rattle.units.specs.Project.{Project}
 use Rattle.units.specs.Projects.{IsProject}
-use Rattle.deliveries.specs.Tally.{counts_of}
+use Rattle.office_specification.specs.Tally.{counts_of}
 use Rattle.office_maps.specs.OfficeIn.{office_in}
 use Rattle.tables.proofs.NothingCounted.{nothing_counted}
 use Rattle.tables.proofs.counting.counts_in.Goals as goal

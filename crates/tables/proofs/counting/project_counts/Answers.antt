@@ -1,9 +1,9 @@
 use Rattle.std.proofs.Common.{Bor, Option, Some, None, option_map, sym, ap, ◌∙◌}
 use Rattle.std.specs.Option.{option_copied}
 use Rattle.units.specs.Project.{units_of}
-use Rattle.deliveries.specs.declared.values.Language.{Language}
+use Rattle.office_specification.specs.declared.values.Language.{Language}
 use Rattle.office_maps.specs.OfficeIn.{lent_project}
-use Rattle.deliveries.specs.Tally.{counts_in}
+use Rattle.office_specification.specs.Tally.{counts_in}
 use Rattle.tables.proofs.CountsFound.{counts_by}
 use Rattle.tables.proofs.counting.project_counts.Goals as goal
 

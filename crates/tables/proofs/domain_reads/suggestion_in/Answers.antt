@@ -1,7 +1,7 @@
 use Rattle.std.proofs.Common.{◌≡◌, sym, subst}
 use Rattle.std.specs.Prelude.{IfOk}
 use Rattle.units.specs.Project.{Project}
-use Rattle.deliveries.specs.UnitAccess.{suggestion_at}
+use Rattle.office_specification.specs.UnitAccess.{suggestion_at}
 use Rattle.office_maps.specs.OfficeIn.{office_in}
 use Rattle.tables.proofs.NothingFound.{no_suggestion}
 use Rattle.tables.proofs.domain_reads.suggestion_in.Goals as goal

@@ -1,7 +1,7 @@
 use Rattle.std.proofs.Common.{◌≡◌, sym, subst, ◌∙◌}
 use Rattle.std.specs.Prelude.{IfOk}
 use Rattle.units.specs.Project.{Project}
-use Rattle.deliveries.specs.UnitAccess.{suggestions_at}
+use Rattle.office_specification.specs.UnitAccess.{suggestions_at}
 use Rattle.office_maps.specs.OfficeIn.{office_in}
 use Rattle.tables.proofs.NothingFound.{nothing_suggested}
 use Rattle.tables.proofs.domain_reads.suggestions_in.Goals as goal

@@ -2,7 +2,7 @@ use Rattle.std.proofs.Common.{◌≡◌, sym, subst}
 use Rattle.std.specs.Prelude.{IfOk, Some, option_map}
 use Rattle.units.specs.Project.{Project}
 use Rattle.units.specs.declared.unit.UnitView.{UnitView}
-use Rattle.deliveries.specs.UnitAccess.{written_at}
+use Rattle.office_specification.specs.UnitAccess.{written_at}
 use Rattle.office_maps.specs.OfficeIn.{office_in}
 use Rattle.tables.proofs.NothingFound.{nothing_written}
 use Rattle.tables.proofs.domain_reads.written_in.Goals as goal

@@ -1,7 +1,7 @@
 use Rattle.std.proofs.Common.{map, drop, ap, refl}
 use Rattle.po_write.proofs.Pieces.{next_left}
 use Rattle.office_maps.specs.OfficeIn.{lent_project}
-use Rattle.deliveries.specs.EntryTexts.{with_its_unit}
+use Rattle.office_specification.specs.EntryTexts.{with_its_unit}
 use Rattle.tables.proofs.Handings.{more, stopped}
 use Rattle.tables.proofs.handing.hand_template.Goals as goal
 

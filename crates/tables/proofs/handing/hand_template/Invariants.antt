@@ -1,6 +1,6 @@
 use Rattle.std.proofs.Common.{map, drop}
 use Rattle.office_maps.specs.OfficeIn.{lent_project}
-use Rattle.deliveries.specs.EntryTexts.{with_its_unit}
+use Rattle.office_specification.specs.EntryTexts.{with_its_unit}
 use Rattle.tables.specs.Handing.{HandedSoFar}
 use Rattle.tables.proofs.handing.hand_template.Given as goal
 

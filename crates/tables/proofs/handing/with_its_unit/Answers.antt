@@ -1,8 +1,8 @@
 use Rattle.std.proofs.Common.{◌≡◌, Some, None, ◌∙◌}
 use Rattle.std.proofs.lemmas.Result.{IfOk-weaker}
 use Rattle.office_maps.specs.OfficeIn.{lent_project}
-use Rattle.deliveries.specs.ExportedEntries.{translated}
-use Rattle.deliveries.specs.EntryTexts.{with_its_unit}
+use Rattle.office_specification.specs.ExportedEntries.{translated}
+use Rattle.office_specification.specs.EntryTexts.{with_its_unit}
 use Rattle.tables.proofs.EntriesCut.{with_unit_found}
 use Rattle.tables.proofs.handing.with_its_unit.Goals as goal
 

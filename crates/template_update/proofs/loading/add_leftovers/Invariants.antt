@@ -2,7 +2,7 @@ use Rattle.std.proofs.Common.{◌≡◌, ◌≤◌, ◌++◌, List, length, map,
 use Rattle.po_text.specs.declared.entry.Entry.{Entry}
 use Rattle.units.specs.Units.{key_of}
 use Rattle.template_update.specs.Loads.{leftover, leftovers}
-use Rattle.template_update.specs.Views.{IsIndexOf}
+use Rattle.template_update.specs.KeyIndexes.{IsIndexOf}
 use Rattle.template_update.proofs.loading.add_leftovers.Given as goal
 
 abbrev pub invariant-loop-found : goal.invariant-loop-found

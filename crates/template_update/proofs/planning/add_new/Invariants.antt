@@ -2,7 +2,7 @@ use Rattle.std.proofs.Common.{◌≡◌, ◌≤◌, ◌++◌, List, length, map,
 use Rattle.units.specs.declared.unit.Unit.{Unit}
 use Rattle.template_update.specs.Units.{new_unit}
 use Rattle.template_update.specs.Updates.{added}
-use Rattle.template_update.specs.Views.{IsIndexOf}
+use Rattle.template_update.specs.KeyIndexes.{IsIndexOf}
 use Rattle.template_update.proofs.planning.add_new.Given as goal
 
 abbrev pub invariant-loop-entry : goal.invariant-loop-entry

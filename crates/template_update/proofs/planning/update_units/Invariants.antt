@@ -2,7 +2,7 @@ use Rattle.std.proofs.Common.{List, take}
 use Rattle.po_text.specs.declared.entry.Entry.{Entry}
 use Rattle.units.specs.Units.{key_of}
 use Rattle.template_update.specs.PlannedUnits.{AreUpdated}
-use Rattle.template_update.specs.Views.{IsIndexOf}
+use Rattle.template_update.specs.KeyIndexes.{IsIndexOf}
 use Rattle.template_update.proofs.planning.update_units.Given as goal
 
 abbrev pub invariant-loop-unit : goal.invariant-loop-unit

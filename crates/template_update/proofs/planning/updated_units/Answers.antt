@@ -3,7 +3,7 @@ use Rattle.std.proofs.lemmas.Result.{IfOk-weaker}
 use Rattle.po_text.specs.declared.entry.Entry.{Entry}
 use Rattle.units.specs.Units.{key_of}
 use Rattle.template_update.specs.PlannedUnits.{HaveUpdates}
-use Rattle.template_update.specs.Views.{IsIndexOf}
+use Rattle.template_update.specs.KeyIndexes.{IsIndexOf}
 use Rattle.template_update.proofs.planning.updated_units.Goals as goal
 
 pub returns : goal.returns

@@ -1,5 +1,5 @@
 use Rattle.std.proofs.Common.{sym, ◌∙◌}
-use Rattle.deliveries.proofs.retries.Delivered.{IsDelivery, repeated, first_delivery, each_ok}
+use Rattle.office_specification.proofs.retries.Delivered.{IsDelivery, repeated, first_delivery, each_ok}
 use Rattle.office.proofs.desk.Desk.deliver.Goals as goal
 
 pub returns-in-Some-clause-reply : goal.returns-in-Some-clause-reply

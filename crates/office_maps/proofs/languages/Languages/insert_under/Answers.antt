@@ -8,7 +8,7 @@ use Rattle.std.specs.declared.cmp.Ordering.TheVariants.{Less, Equal, Greater}
 use Rattle.po_text.specs.Texts.{text_cmp}
 use Rattle.units.specs.Limits.{is_lang}
 use Rattle.units.specs.Orders.{text_total, text_IsAntisymmetric}
-use Rattle.office_maps.proofs.Views.{insert-viewed}
+use Rattle.office_maps.proofs.MapEntries.{insert-mapped}
 use Rattle.office_maps.proofs.Plans.{both_hold}
 use Rattle.office_maps.proofs.languages.Languages.insert_under.Goals as goal
 
@@ -45,4 +45,4 @@ invariant_of-self c = record {
 
 pub returns-clause-ok : goal.returns-clause-ok
 returns-clause-ok c =
-    on_ok_weaker c.put_in.result (insert-viewed text_cmp string_bytes (λ language. language.header) text_total text_IsAntisymmetric c.args.self.now.rows c.put_in.new.map c.args.own c.args.language) c.put_in.ensures.ok
+    on_ok_weaker c.put_in.result (insert-mapped text_cmp string_bytes (λ language. language.header) text_total text_IsAntisymmetric c.args.self.now.rows c.put_in.new.map c.args.own c.args.language) c.put_in.ensures.ok

@@ -3,7 +3,7 @@ use Rattle.std.specs.Prelude.{option_map}
 use Rattle.units.specs.declared.unit.Suggestion.{Suggestion}
 use Rattle.review.specs.Parts.{bare}
 use Rattle.office_maps.specs.OfficeIn.{place_of}
-use Rattle.office_maps.proofs.OfficeViews.{view_at}
+use Rattle.office_maps.proofs.OfficeLookUps.{view_at}
 use Rattle.office_maps.proofs.project_maps.ProjectMaps.bare_unit_at.Goals as goal
 
 pub returns-in_default : goal.returns-in_default

@@ -2,7 +2,7 @@ use Rattle.std.proofs.Common.{sym, ap, ◌∙◌}
 use Rattle.std.specs.FinMap as maps
 use Rattle.units.specs.Project.{Place as OfficePlace}
 use Rattle.office_maps.specs.OfficeIn.{lent_project, place_of}
-use Rattle.office_maps.proofs.OfficeViews.{unit_at}
+use Rattle.office_maps.proofs.OfficeLookUps.{unit_at}
 use Rattle.office_maps.proofs.project_maps.ProjectMaps.unit_there.Goals as goal
 
 pub returns : goal.returns

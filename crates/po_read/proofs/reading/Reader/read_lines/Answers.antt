@@ -1,6 +1,6 @@
 use Rattle.std.proofs.Common.{◌+◌, sym, ◌∙◌, ap, subst}
 use Rattle.std.proofs.lemmas.Result.{err_from_is_err_and}
-use Rattle.po_lex.specs.Views.{Rest}
+use Rattle.po_lex.specs.PlainTokens.{Rest}
 use Rattle.po_read.proofs.TextLines.{Handing, hand_none, token_sound, token_fault, token_reached, reached_here, line_told, token_next, end_of_text, handed_whole}
 use Rattle.po_read.proofs.reading.Reader.read_lines.Goals as goal
 

@@ -1,4 +1,4 @@
-use Rattle.office_rules.proofs.GivenLemmas.{none_noted}
+use Rattle.rule_tests.proofs.GivenLemmas.{none_noted}
 use Rattle.sql_adoption.proofs.statuses.Statuses.new.Goals as goal
 
 pub returns : goal.returns

@@ -1,7 +1,7 @@
 use Rattle.std.proofs.Common.{◌≡◌, Option, OnOk, sym, subst}
 use Rattle.request_book.specs.Book.{with_record}
-use Rattle.deliveries.specs.declared.values.Change.{Change}
-use Rattle.deliveries.specs.OfficeChanges.{changed_by, IsPossibleChange}
+use Rattle.office_specification.specs.declared.values.Change.{Change}
+use Rattle.office_specification.specs.OfficeChanges.{changed_by, IsPossibleChange}
 use Rattle.tables.specs.MapsMeaning.{meaning}
 use Rattle.tables.proofs.record_maps.Maps.commit_office.Goals as goal
 

@@ -1,9 +1,9 @@
 use Rattle.std.proofs.Common.{◌≡◌, Option, OnOk, sym, subst}
 use Rattle.request_book.specs.Book.{with_record}
-use Rattle.deliveries.specs.declared.values.UnitWrite.{UnitWrite}
-use Rattle.deliveries.specs.UnitAccess.{with_write_in}
+use Rattle.office_specification.specs.declared.values.UnitWrite.{UnitWrite}
+use Rattle.office_specification.specs.UnitAccess.{with_write_in}
 use Rattle.units.specs.Office.{Office}
-use Rattle.deliveries.proofs.domains.InDomains.{with_project-same}
+use Rattle.office_specification.proofs.domains.InDomains.{with_project-same}
 use Rattle.tables.specs.MapsMeaning.{meaning}
 use Rattle.tables.proofs.record_maps.Maps.commit_unit.Goals as goal
 

@@ -1,7 +1,7 @@
 use Rattle.std.proofs.Common.{◌≡◌, Some, OnOk, sym, subst, ◌∙◌}
 use Rattle.request_book.specs.Book.{with_record}
 use Rattle.units.specs.Office.{Office}
-use Rattle.deliveries.proofs.domains.InDomains.{with_project-same}
+use Rattle.office_specification.proofs.domains.InDomains.{with_project-same}
 use Rattle.tables.specs.MapsMeaning.{meaning}
 use Rattle.tables.proofs.Written.{written_office, left_office}
 use Rattle.tables.proofs.record_maps.Maps.commit_write.Goals as goal

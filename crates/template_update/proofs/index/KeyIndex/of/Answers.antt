@@ -1,5 +1,5 @@
 use Rattle.std.proofs.Common.{[], ◌∷◌, ◌++◌, take, refl, sym, subst, ◌∙◌}
-use Rattle.template_update.specs.Views.{IsIndexOf}
+use Rattle.template_update.specs.KeyIndexes.{IsIndexOf}
 use Rattle.template_update.proofs.Found.{found_stays, found_more}
 use Rattle.template_update.proofs.Taken.{next_taken}
 use Rattle.template_update.proofs.index.KeyIndex.of.Goals.{then-not-contains_key+in_ok-insert, else-not-contains_key}

@@ -1,5 +1,5 @@
 use Rattle.std.proofs.Common.{take}
-use Rattle.template_update.specs.Views.{IsIndexOf}
+use Rattle.template_update.specs.KeyIndexes.{IsIndexOf}
 use Rattle.template_update.proofs.index.KeyIndex.of.Given as goal
 
 abbrev pub invariant-loop-item : goal.invariant-loop-item

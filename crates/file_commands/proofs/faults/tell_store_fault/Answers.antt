@@ -1,5 +1,0 @@
-use Rattle.office.proofs.Streaming.{all_or_part}
-use Rattle.file_commands.proofs.faults.tell_store_fault.Goals as goal
-
-pub returns-clause-told : goal.returns-clause-told
-returns-clause-told g c = all_or_part _ _ _ c.send_store_fault.result c.send_store_fault.ensures

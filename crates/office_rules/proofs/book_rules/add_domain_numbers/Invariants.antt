@@ -1,5 +1,0 @@
-use Rattle.office_rules.proofs.BookTests.{unit_numbers, IsGathered}
-use Rattle.office_rules.proofs.book_rules.add_domain_numbers.Given as goal
-
-abbrev pub invariant-loop-place : goal.invariant-loop-place
-invariant-loop-place l = IsGathered unit_numbers l.domain.units.entries l._place-iterator l.fn.seen l.seen

@@ -1,6 +1,0 @@
-use Rattle.std.proofs.Common.{take}
-use Rattle.office_rules.proofs.BookTests.{IsAdded}
-use Rattle.office_rules.proofs.book_rules.add_numbers.Given as goal
-
-abbrev pub invariant-loop-suggestion : goal.invariant-loop-suggestion
-invariant-loop-suggestion l = IsAdded l.fn.seen l.seen (take l.suggestion-index l.suggestion-items)

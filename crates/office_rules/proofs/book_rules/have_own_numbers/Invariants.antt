@@ -1,5 +1,0 @@
-use Rattle.office_rules.proofs.BookTests.{domain_numbers, IsGathered}
-use Rattle.office_rules.proofs.book_rules.have_own_numbers.Given as goal
-
-abbrev pub invariant-loop-name : goal.invariant-loop-name
-invariant-loop-name l = IsGathered domain_numbers l.maps.domains.entries l._name-iterator l.initial.seen l.seen

@@ -1,7 +1,0 @@
-use Rattle.std.proofs.Common.{take}
-use Rattle.std.specs.Prelude.{All}
-use Rattle.office_rules.proofs.BookTests.{HasStatus}
-use Rattle.office_rules.proofs.book_rules.is_recorded.Given as goal
-
-abbrev pub invariant-loop-suggestion : goal.invariant-loop-suggestion
-invariant-loop-suggestion l = All (HasStatus l.statuses) (take l.suggestion-index l.suggestion-items)

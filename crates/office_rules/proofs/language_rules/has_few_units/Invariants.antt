@@ -1,5 +1,0 @@
-use Rattle.office_rules.proofs.LanguageTests.{IsCounted}
-use Rattle.office_rules.proofs.language_rules.has_few_units.Given as goal
-
-abbrev pub invariant-loop-place : goal.invariant-loop-place
-invariant-loop-place l = IsCounted l.project l.fn.lang l.count l.place-iterator

@@ -1,8 +1,0 @@
-use Rattle.std.proofs.Common.{take}
-use Rattle.std.specs.Prelude.{All}
-use Rattle.office_maps.specs.OfficeIn.{lent_project}
-use Rattle.office_rules.proofs.LanguageTests.{KeepsIfThere}
-use Rattle.office_rules.proofs.language_rules.keep_languages.Given as goal
-
-abbrev pub invariant-loop-lang : goal.invariant-loop-lang
-invariant-loop-lang l = All (KeepsIfThere (lent_project l.project)) (take l.lang-index l.langs)

@@ -1,0 +1,89 @@
+use Rattle.std.specs.Prelude.{is_some}
+use Rattle.std.proofs.Common.{◌≡◌, Ok, Err, ap, sym, subst, IsTrue}
+use Rattle.sqlite.specs.Held.{state}
+use Rattle.sqlite.specs.State.{HasCleanDisk}
+use Rattle.office_specification.specs.OfficeChanges.{IsPossibleChange}
+use Rattle.office_specification.specs.OfficeRules.{KeepsRules}
+use Rattle.tables.specs.KeptByCalls.{IsKept}
+use Rattle.tables.specs.declared.faults.Lost.{Lost}
+use Rattle.tables.specs.declared.faults.Lost.TheVariants.{Disk}
+use Rattle.sql_meaning.specs.Domains.{meaning_by_domain}
+use Rattle.store_sql.specs.TablesInFile.{is_honest, is_whole, means, may_leave, faults, is_stopped}
+use Rattle.store_sql.proofs.AtHand.{none_at_hand}
+use Rattle.store_sql.proofs.ChangesCommitted.{left_by_change, change_keeps, change_done, change_kept}
+use Rattle.sqlite.specs.Effect.{Database}
+use Rattle.store_sql.proofs.office_connection.OfficeConnection.commit_office.Goals as goal
+use Rattle.sql_schema.specs.Layouts.{rows_named}
+
+pub invariant_of-self : goal.invariant_of-self
+invariant_of-self g c =
+    let old = c.self.inside.connection in
+    let possible : HasCleanDisk (state g.S.Store old) → IsPossibleChange (meaning_by_domain (rows_named (state g.S.Store old).now)).office c.args.change.now =
+    subst (λ t. is_honest g.S.Store t → IsPossibleChange (means g.S.Store t).office c.args.change.now) (sym c.self.view_is) c.requires.possible in
+    let rules : HasCleanDisk (state g.S.Store old) → KeepsRules (left_by_change (rows_named (state g.S.Store old).now) c.args.row.now c.args.change.now) =
+    subst (λ t. is_honest g.S.Store t → KeepsRules (left_by_change (rows_named (state g.S.Store t.0).now) c.args.row.now c.args.change.now)) (sym c.self.view_is) c.requires.rules in (
+      c.in-Ok.ensures.committed.ended,
+      change_keeps g.S.Store old c.commit_change.new.connection (Ok c.in-Ok.field-0) c.args.row.now c.args.change.now c.self.invariant.1 c.record_fits.ensures c.change_fits.ensures possible rules c.in-Ok.ensures.committed,
+      none_at_hand (state g.S.Store c.commit_change.new.connection) c.forget.new.office c.forget.ensures,
+    )
+
+pub invariant_of-self-in-Err : goal.invariant_of-self-in-Err
+invariant_of-self-in-Err g c =
+    let old = c.self.inside.connection in
+    let possible : HasCleanDisk (state g.S.Store old) → IsPossibleChange (meaning_by_domain (rows_named (state g.S.Store old).now)).office c.args.change.now =
+    subst (λ t. is_honest g.S.Store t → IsPossibleChange (means g.S.Store t).office c.args.change.now) (sym c.self.view_is) c.requires.possible in
+    let rules : HasCleanDisk (state g.S.Store old) → KeepsRules (left_by_change (rows_named (state g.S.Store old).now) c.args.row.now c.args.change.now) =
+    subst (λ t. is_honest g.S.Store t → KeepsRules (left_by_change (rows_named (state g.S.Store t.0).now) c.args.row.now c.args.change.now)) (sym c.self.view_is) c.requires.rules in (
+      c.in-Err.ensures.committed.ended,
+      change_keeps g.S.Store old c.commit_change.new.connection (Err c.in-Err.failure) c.args.row.now c.args.change.now c.self.invariant.1 c.record_fits.ensures c.change_fits.ensures possible rules c.in-Err.ensures.committed,
+      none_at_hand (state g.S.Store c.commit_change.new.connection) c.forget.new.office c.forget.ensures,
+    )
+
+pub returns-in-Ok-clause-done : goal.returns-in-Ok-clause-done
+returns-in-Ok-clause-done g c =
+    let old = c.self.inside.connection in
+    let possible : HasCleanDisk (state g.S.Store old) → IsPossibleChange (meaning_by_domain (rows_named (state g.S.Store old).now)).office c.args.change.now =
+    subst (λ t. is_honest g.S.Store t → IsPossibleChange (means g.S.Store t).office c.args.change.now) (sym c.self.view_is) c.requires.possible in
+    let rules : HasCleanDisk (state g.S.Store old) → KeepsRules (left_by_change (rows_named (state g.S.Store old).now) c.args.row.now c.args.change.now) =
+    subst (λ t. is_honest g.S.Store t → KeepsRules (left_by_change (rows_named (state g.S.Store t.0).now) c.args.row.now c.args.change.now)) (sym c.self.view_is) c.requires.rules in
+    subst (λ t. HasCleanDisk (state g.S.Store c.commit_change.new.connection) → meaning_by_domain (rows_named (state g.S.Store c.commit_change.new.connection).now) ≡ left_by_change (rows_named (state g.S.Store t.0).now) c.args.row.now c.args.change.now)
+    c.self.view_is
+    (change_done g.S.Store old c.commit_change.new.connection (Ok c.in-Ok.field-0) c.args.row.now c.args.change.now c.self.invariant.1 c.record_fits.ensures c.change_fits.ensures possible rules c.in-Ok.ensures.committed)
+
+pub returns-in-Ok-clause-kept : goal.returns-in-Ok-clause-kept
+returns-in-Ok-clause-kept g c =
+    let old = c.self.inside.connection in
+    let possible : HasCleanDisk (state g.S.Store old) → IsPossibleChange (meaning_by_domain (rows_named (state g.S.Store old).now)).office c.args.change.now =
+    subst (λ t. is_honest g.S.Store t → IsPossibleChange (means g.S.Store t).office c.args.change.now) (sym c.self.view_is) c.requires.possible in
+    let rules : HasCleanDisk (state g.S.Store old) → KeepsRules (left_by_change (rows_named (state g.S.Store old).now) c.args.row.now c.args.change.now) =
+    subst (λ t. is_honest g.S.Store t → KeepsRules (left_by_change (rows_named (state g.S.Store t.0).now) c.args.row.now c.args.change.now)) (sym c.self.view_is) c.requires.rules in
+    subst (λ t. IsKept {A = Unit} {E = Lost} (is_honest g.S.Store) (is_whole g.S.Store) (means g.S.Store) (may_leave g.S.Store) (faults g.S.Store) (is_stopped g.S.Store) t
+    (c.commit_change.new.connection, (c.self.inside.stopped, is_some c.forget.new.office)) (Ok c.in-Ok.field-0) Disk (λ m. m ≡ left_by_change (rows_named (state g.S.Store t.0).now) c.args.row.now c.args.change.now))
+    c.self.view_is
+    (change_kept g.S.Store old c.commit_change.new.connection (Ok c.in-Ok.field-0) c.args.row.now c.args.change.now c.self.invariant.1 c.record_fits.ensures c.change_fits.ensures possible rules c.in-Ok.ensures.committed
+    (Ok c.in-Ok.field-0) (c.self.inside.stopped, is_some c.self.inside.office) (c.self.inside.stopped, is_some c.forget.new.office)
+    (λ h db is_open left. g.met.S.Store.settled h.store db is_open left) c.if-self.false (λ is_open. is_open) tt (λ stopped. absurd (let no = c.if-self.false in let yes = stopped in cc)))
+
+pub returns-in-Err-clause-kept : goal.returns-in-Err-clause-kept
+returns-in-Err-clause-kept g c =
+    let old = c.self.inside.connection in
+    let possible : HasCleanDisk (state g.S.Store old) → IsPossibleChange (meaning_by_domain (rows_named (state g.S.Store old).now)).office c.args.change.now =
+    subst (λ t. is_honest g.S.Store t → IsPossibleChange (means g.S.Store t).office c.args.change.now) (sym c.self.view_is) c.requires.possible in
+    let rules : HasCleanDisk (state g.S.Store old) → KeepsRules (left_by_change (rows_named (state g.S.Store old).now) c.args.row.now c.args.change.now) =
+    subst (λ t. is_honest g.S.Store t → KeepsRules (left_by_change (rows_named (state g.S.Store t.0).now) c.args.row.now c.args.change.now)) (sym c.self.view_is) c.requires.rules in
+    let kept = change_kept g.S.Store old c.commit_change.new.connection (Err c.in-Err.failure) c.args.row.now c.args.change.now c.self.invariant.1 c.record_fits.ensures c.change_fits.ensures possible rules c.in-Err.ensures.committed
+    (Err c.lost.result) (c.self.inside.stopped, is_some c.self.inside.office) c.lost.new.self.1
+    (λ h db is_open left. g.met.S.Store.settled h.store db is_open left) c.if-self.false (λ is_open. tt) c.lost.ensures.stops (λ stopped. ap Err (c.lost.ensures.runs c.if-self.false stopped)) in
+    subst (λ t. IsKept {A = Unit} {E = Lost} (is_honest g.S.Store) (is_whole g.S.Store) (means g.S.Store) (may_leave g.S.Store) (faults g.S.Store) (is_stopped g.S.Store) t c.lost.new.self (Err c.lost.result) Disk
+    (λ m. m ≡ left_by_change (rows_named (state g.S.Store t.0).now) c.args.row.now c.args.change.now))
+    c.self.view_is
+    (subst (λ h. IsKept {A = Unit} {E = Lost} (is_honest g.S.Store) (is_whole g.S.Store) (means g.S.Store) (may_leave g.S.Store) (faults g.S.Store) (is_stopped g.S.Store) (old, (c.self.inside.stopped, is_some c.self.inside.office))
+    (h, c.lost.new.self.1) (Err c.lost.result) Disk (λ m. m ≡ left_by_change (rows_named (state g.S.Store old).now) c.args.row.now c.args.change.now))
+    (sym c.lost.ensures.connection) kept)
+
+pub returns-in-Err-clause-same : goal.returns-in-Err-clause-same
+returns-in-Err-clause-same g c =
+    let new = c.commit_change.new.connection in
+    subst (λ h. HasCleanDisk (state g.S.Store h) → IsTrue (state g.S.Store h).is_open → meaning_by_domain (rows_named (state g.S.Store h).now) ≡ means g.S.Store c.args.self.now) (sym c.lost.ensures.connection)
+    (λ clean is_open. subst (λ t. meaning_by_domain (rows_named (state g.S.Store new).now) ≡ means g.S.Store t) c.self.view_is
+    (ap (λ (db : Database). meaning_by_domain (rows_named db)) (c.in-Err.ensures.committed.same clean is_open).now))

@@ -1,0 +1,63 @@
+use Rattle.std.specs.Prelude.{is_some}
+use Rattle.std.proofs.Common.{◌≡◌, Ok, Option, subst, IsTrue, Err, ap, sym}
+use Rattle.units.specs.Office.{project_in}
+use Rattle.office_specification.specs.UnitAccess.{context_of, without_suggestions}
+use Rattle.office_specification.specs.declared.values.ActContext.{ActContext}
+use Rattle.sqlite.specs.Effect.{Database}
+use Rattle.sqlite.specs.Held.{state}
+use Rattle.tables.specs.KeptByCalls.{IsKept}
+use Rattle.tables.specs.Stops.{Nothing}
+use Rattle.tables.specs.declared.faults.Lost.{Lost}
+use Rattle.tables.specs.declared.faults.Lost.TheVariants.{Disk}
+use Rattle.sql_meaning.specs.Domains.{office_of_rows, meaning_by_domain}
+use Rattle.store_sql.specs.TablesInFile.{is_honest, is_whole, means, may_leave, faults, is_stopped}
+use Rattle.store_sql.proofs.AtHand.{at_hand_still, none_at_hand}
+use Rattle.store_sql.proofs.StillKept.{keeps_still, kept_looked_up}
+use Rattle.sqlite.specs.State.{HasCleanDisk}
+use Rattle.store_sql.proofs.office_connection.OfficeConnection.unit_of.Goals as goal
+use Rattle.sql_schema.specs.Layouts.{rows_named}
+
+pub invariant_of-self : goal.invariant_of-self
+invariant_of-self g c =
+    let old = c.self.inside.connection in
+    let new = c.read_unit.new.connection in
+    let P : Database → Option ActContext → Type 0 = (λ (db : Database) (r : Option ActContext). r ≡ without_suggestions (context_of (project_in (office_of_rows (rows_named db)) c.args.domain.now) c.args.lang.now c.args.key.now c.args.name.now)) in (
+      c.in-Ok.ensures.found.ended,
+      keeps_still g.S.Store old new (Ok c.in-Ok.found) P c.self.invariant.1 c.in-Ok.ensures.found,
+      at_hand_still (state g.S.Store old) (state g.S.Store new) c.in-Ok.found P c.self.inside.office c.in-Ok.ensures.found c.self.invariant.2,
+    )
+
+pub returns-in-Ok-clause-answer : goal.returns-in-Ok-clause-answer
+returns-in-Ok-clause-answer g c = λ clean.
+    subst (λ t. c.in-Ok.found ≡ without_suggestions (context_of (project_in (means g.S.Store t).office c.args.domain.now) c.args.lang.now c.args.key.now c.args.name.now)) c.self.view_is (c.in-Ok.ensures.found.answer clean)
+
+pub returns-in-Ok-clause-kept : goal.returns-in-Ok-clause-kept
+returns-in-Ok-clause-kept g c =
+    subst (λ old. IsKept {A = Option ActContext} {E = Lost} (is_honest g.S.Store) (is_whole g.S.Store) (means g.S.Store) (may_leave g.S.Store) (faults g.S.Store) (is_stopped g.S.Store) old (c.read_unit.new.connection, (c.self.inside.stopped, is_some c.self.inside.office)) (Ok c.in-Ok.found) Disk Nothing)
+    c.self.view_is
+    (kept_looked_up g.S.Store c.self.inside.connection c.read_unit.new.connection (Ok c.in-Ok.found) (λ db r. r ≡ without_suggestions (context_of (project_in (office_of_rows (rows_named db)) c.args.domain.now) c.args.lang.now c.args.key.now c.args.name.now))
+    c.self.invariant.1 c.in-Ok.ensures.found (Ok c.in-Ok.found) (c.self.inside.stopped, is_some c.self.inside.office) (c.self.inside.stopped, is_some c.self.inside.office)
+    (λ h db is_open left. g.met.S.Store.settled h.store db is_open left) (λ h is_open. g.met.S.Store.stays h.store is_open) c.if-self.false (λ is_open. is_open) tt (λ stopped. absurd (let no = c.if-self.false in let yes = stopped in cc)))
+
+pub invariant_of-self-in-Err : goal.invariant_of-self-in-Err
+invariant_of-self-in-Err g c =
+    let old = c.self.inside.connection in
+    let new = c.read_unit.new.connection in
+    let P : Database → Option ActContext → Type 0 = (λ (db : Database) (r : Option ActContext). r ≡ without_suggestions (context_of (project_in (office_of_rows (rows_named db)) c.args.domain.now) c.args.lang.now c.args.key.now c.args.name.now)) in (
+      c.in-Err.ensures.found.ended,
+      keeps_still g.S.Store old new (Err c.in-Err.failure) P c.self.invariant.1 c.in-Err.ensures.found,
+      none_at_hand (state g.S.Store new) c.forget.new.office c.forget.ensures,
+    )
+
+pub returns-in-Ok-clause-same : goal.returns-in-Ok-clause-same
+returns-in-Ok-clause-same g c = λ clean is_open.
+    let new = c.read_unit.new.connection in
+    subst (λ t. meaning_by_domain (rows_named (state g.S.Store new).now) ≡ means g.S.Store t) c.self.view_is
+    (ap (λ (db : Database). meaning_by_domain (rows_named db)) (c.in-Ok.ensures.found.same clean is_open).now)
+
+pub returns-in-Err-clause-same : goal.returns-in-Err-clause-same
+returns-in-Err-clause-same g c =
+    let new = c.read_unit.new.connection in
+    subst (λ h. HasCleanDisk (state g.S.Store h) → IsTrue (state g.S.Store h).is_open → meaning_by_domain (rows_named (state g.S.Store h).now) ≡ means g.S.Store c.args.self.now) (sym c.lost.ensures.connection)
+    (λ clean is_open. subst (λ t. meaning_by_domain (rows_named (state g.S.Store new).now) ≡ means g.S.Store t) c.self.view_is
+    (ap (λ (db : Database). meaning_by_domain (rows_named db)) (c.in-Err.ensures.found.same clean is_open).now))
