@@ -3,13 +3,13 @@ ghost use Rattle.std.specs.Prelude.{◌≡◌, false, IfOk};
 
 use crate::work::{Work, done, told_closed};
 use crate::{STOPPED, store_fault};
-use store_commands::Closed;
 use sqlite::{Connection, Error, ErrorCode, File, FileStore, Options, Unknown};
 use sqlite_std_file::OpenError;
 use std::fs;
 use std::hash::{BuildHasher, RandomState};
 use std::io::{ErrorKind, IsTerminal};
 use std::rt::HostRuntime;
+use store_commands::Closed;
 use store_sql::OpenFault;
 
 /// How many bytes a file has that is opened in more than two seconds.

@@ -5,11 +5,11 @@ use crate::faults::Faults;
 use crate::words::Langs;
 use crate::{DONE, second_output, store_fault};
 use commands::{FAILED, Output, export_text};
-use store_commands::{Closed, Unopened, close_desk, open_desk};
 use office::{Desk, ExportFault};
 use sqlite::{Alter, Connection};
 use std::fs::{self, File};
 use std::io::{self, BufWriter, Write};
+use store_commands::{Closed, Unopened, close_desk, open_desk};
 use tables::{Lost, Tables};
 use units::{Lang, Name};
 

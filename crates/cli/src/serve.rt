@@ -5,12 +5,12 @@ use crate::faults::Faults;
 use crate::words::Serve;
 use crate::{DONE, STOPPED, store_fault};
 use commands::FAILED;
-use store_commands::{Closed, Unopened, close_desk, open_desk};
 use office::Desk;
 use sockets::serve_next;
 use sqlite::{Alter, Connection};
 use std::io::Write;
 use std::net::{Ipv4Addr, TcpListener};
+use store_commands::{Closed, Unopened, close_desk, open_desk};
 use tables::Tables;
 
 /// Opens the office in a database, and serves it.

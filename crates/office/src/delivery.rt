@@ -24,7 +24,7 @@ ghost use Rattle.tables.specs.declared.faults.Lost.TheVariants.{Disk};
 
 use office_specification::{ActContext, Change, UnitOutcome, UnitWrite};
 use outcomes::{
-    OfficeOutcome, office_outcome, row_outcome, suggested_outcome, number_used, voted_outcome,
+    OfficeOutcome, number_used, office_outcome, row_outcome, suggested_outcome, voted_outcome,
     whole_outcome,
 };
 use po_text::{Duplicate, Text};

@@ -13,8 +13,8 @@ ghost use Rattle.tables.specs.declared.faults.Lost.TheVariants as lost;
 
 use crate::desk::Desk;
 use crate::faults::QueryFault;
-use office_specification::ActContext;
 use office_maps::OfficeMaps;
+use office_specification::ActContext;
 use std::alloc::{AllocError, Global};
 use tables::{Lost, Tables};
 use units::{Key, Lang, Name};

@@ -11,8 +11,8 @@ ghost use Rattle.office_maps.specs.OfficeIn.{office_in};
 
 use crate::bodies::domain_added;
 use crate::outcome::{DomainOutcome, OfficeOutcome};
-use office_specification::Change;
 use office_maps::OfficeMaps;
+use office_specification::Change;
 use po_text::Duplicate;
 use std::alloc::Global;
 use units::{DOMAIN_LIMIT, Memory, Name, Refusal};

@@ -12,8 +12,8 @@ ghost use Rattle.office_maps.specs.OfficeIn.{domain_in, office_in};
 
 use crate::bodies::policy_set;
 use crate::outcome::OfficeOutcome;
-use office_specification::Change;
 use office_maps::{DomainMaps, OfficeMaps};
+use office_specification::Change;
 use std::alloc::{AllocError, Global};
 use units::{Memory, Policy, Refusal, Revision, Unit, UnitState};
 

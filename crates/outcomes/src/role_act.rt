@@ -12,8 +12,8 @@ ghost use Rattle.office_maps.specs.OfficeIn.{office_in};
 
 use crate::bodies::role_set;
 use crate::outcome::OfficeOutcome;
-use office_specification::Change;
 use office_maps::OfficeMaps;
+use office_specification::Change;
 use po_text::Duplicate;
 use std::alloc::Global;
 use units::{Memory, Name, Refusal, Role, TEAM_LIMIT};

@@ -4,8 +4,8 @@ ghost use Rattle.std.specs.Prelude.{◌≡◌, [], ◌∷◌, map, IfOk, OnOk};
 ghost use Rattle.office_specification.specs.Tally.{counts_in};
 ghost use Rattle.office_specification.specs.Counting.{plus};
 
-use office_specification::Tally;
 use office_maps::{OrderedKey, Template};
+use office_specification::Tally;
 use po_text::Duplicate;
 use std::alloc::{AllocError, Global};
 use template_update::Plan;

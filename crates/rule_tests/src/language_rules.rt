@@ -11,8 +11,8 @@ ghost use Rattle.rule_tests.specs.Parts.{IsLanguage, HasUnit, KeepsLanguage};
 
 use crate::template_rules::is_header;
 use crate::unit_rules::hold_all;
-use office_specification::Language;
 use office_maps::{Place, ProjectMaps, key_of};
+use office_specification::Language;
 use po_text::{Catalogue, Duplicate, Entry, PoString};
 use std::alloc::{AllocError, Global};
 use units::{Lang, UNIT_LIMIT, Unit};

@@ -8,8 +8,8 @@ ghost use Rattle.office_maps.specs.OfficeIn.{lent_project, place_of};
 ghost use Rattle.rule_tests.specs.Parts.{StandsRight, IsPlaced, ArePlaced};
 
 use crate::unit_rules::{hold_all, is_unit};
-use office_specification::Language;
 use office_maps::{Place, ProjectMaps};
+use office_specification::Language;
 use units::{Keyed, Unit, UnitState};
 
 /// Whether a unit has the key of its place.

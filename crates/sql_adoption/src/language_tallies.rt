@@ -11,8 +11,8 @@ ghost use Rattle.sql_adoption.specs.FigureRows.{is_words, is_integer, is_row_of,
 ghost use Rattle.sql_adoption.specs.Reading.{HoldsAll};
 
 use crate::office_put::ReadOffice;
-use office_specification::Tally;
 use office_maps::OfficeMaps;
+use office_specification::Tally;
 use sqlite::Row;
 use sqlite::types::ValueRef;
 use std::alloc::{AllocError, Global};

@@ -12,8 +12,8 @@ ghost use Rattle.tables.specs.declared.faults.Lost.TheVariants.{Disk};
 ghost use Rattle.sql_adoption.specs.BookShown.{IsRecordRow};
 ghost use Rattle.sql_adoption.specs.NotedRecords.{has_status};
 
-use rule_tests::{is_content, is_status, note_status};
 use request_book::{Record, bytes_fit};
+use rule_tests::{is_content, is_status, note_status};
 use sql_columns::number_from;
 use sql_decoding::{Failure, record_in};
 use sql_streams::RowSink;

@@ -14,8 +14,8 @@ ghost use Rattle.sql_changes.specs.OnDomains.{OnDomain};
 ghost use Rattle.sql_figures.specs.Figures.{FiguresStay};
 ghost use Rattle.sql_conversion.specs.Conversion.{WritesKept, WritesThere, WritesLanguages, WritesProject, WritesAnew, FollowsLanguages, FollowsLanguagesIn};
 
-use office_specification::Tally;
 use office_maps::{OfficeMaps, Place, ProjectMaps};
+use office_specification::Tally;
 use sql_commits::{put_entries, put_language_of, put_policy_of, put_tally_of, write_planned};
 use sql_decoding::Failure;
 use sql_keepable::{entries_fit, language_fits, unit_fits};

@@ -16,7 +16,7 @@ use office_specification::ActContext;
 use plural_expr::PluralForms;
 use po_text::Entry;
 use sql_columns::{header_from, rule_from};
-use sql_statements::unit_rows::{SuggestionRows, UnitRows, ContextRows};
+use sql_statements::unit_rows::{ContextRows, SuggestionRows, UnitRows};
 use sqlite::Row;
 use std::alloc::Global;
 use tables::Lost;

@@ -15,6 +15,7 @@
 //! `RowsTold` rows), `ShownContexts`, `ShownEntries`, `RecordHeads`, `TablesRead`.
 #![tactic(auto)]
 
+mod act_contexts;
 mod columns;
 mod entries_read;
 mod faults;
@@ -25,8 +26,8 @@ mod records;
 mod tallies;
 mod texts;
 mod units_read;
-mod act_contexts;
 
+pub use act_contexts::{context_in, header_in, policy_in, role_in, suggestion_found};
 pub use columns::{
     domain_at, is_text, is_text_or_null, key_at, lang_at, name_text_at, natural_in, role_at,
     text_in,
@@ -41,4 +42,3 @@ pub use units_read::{
     UnitNumbers, entry_in, put_vote, suggestion_with, suggestions_without_votes, template_entry,
     unit_numbers, unit_with,
 };
-pub use act_contexts::{context_in, header_in, policy_in, role_in, suggestion_found};

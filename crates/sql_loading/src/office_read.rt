@@ -13,8 +13,8 @@ ghost use Rattle.tables.specs.declared.faults.Lost.TheVariants.{Disk};
 
 use crate::office_tables::{put_languages, put_policy, put_team, put_template};
 use crate::unit_tables::{all_suggestions, suggestions_on};
-use office_specification::Change;
 use office_maps::{OfficeMaps, OrderedKey, Place};
+use office_specification::Change;
 use po_text::{Duplicate, Items};
 use sql_decoding::{Failure, key_at, lang_at, unit_with};
 use sql_statements::whole_office::{UnitTables, WholeOffice};

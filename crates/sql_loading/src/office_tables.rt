@@ -13,8 +13,8 @@ ghost use Rattle.std.specs.FinMap as finite;
 ghost use Rattle.office_maps.specs.Rows as maps_read;
 ghost use Rattle.sql_meaning.specs.Values as values;
 
-use office_specification::{Change, DomainChange, Language, Tally};
 use office_maps::OfficeMaps;
+use office_specification::{Change, DomainChange, Language, Tally};
 use po_text::{Catalogue, Duplicate, Entry, Items};
 use sql_columns::rule_from;
 use sql_decoding::{

@@ -35,16 +35,16 @@ ghost use Rattle.store_sql.specs.Making.{AreMade, IsHandedBack};
 ghost use Rattle.store_sql.specs.RecordsBehind.{WereHanded};
 ghost use Rattle.store_sql.specs.declared.recorded.HandingFault.TheVariants.{NoTables as Unreadable};
 
+use crate::act_contexts::{read_context, read_role, read_suggestion, read_suggestions, read_unit};
 use crate::entries::hand_entries;
 use crate::keepable_values::{change_fits, record_fits, write_fits};
 use crate::making::make;
 use crate::recorded::{HandingFault, hand_records};
 use crate::records::read_record;
 use crate::tallies::read_tally;
-use crate::act_contexts::{read_role, read_suggestion, read_suggestions, read_unit, read_context};
 use crate::whole_office::{forget, keep, read_office};
-use office_specification::{ActContext, Change, Tally, UnitWrite};
 use office_maps::OfficeMaps;
+use office_specification::{ActContext, Change, Tally, UnitWrite};
 use po_text::Items;
 use request_book::Record;
 use sql_adoption::OpenFault;

@@ -19,7 +19,7 @@ use sql_statements::policy::find_policy;
 use sql_statements::records::{find_place, find_record};
 use sql_statements::tallies::find_tally;
 use sql_statements::team::find_member;
-use sql_statements::unit_rows::{OfficeRows, SuggestionRows, UnitRows, ContextRows};
+use sql_statements::unit_rows::{ContextRows, OfficeRows, SuggestionRows, UnitRows};
 use sqlite::{Alter, Error, Row, Transaction};
 use std::alloc::Global;
 

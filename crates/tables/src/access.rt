@@ -19,8 +19,8 @@ ghost use Rattle.tables.specs.declared.faults.EachFault.TheVariants.{NoTables};
 
 use crate::faults::{EachFault, Lost};
 use crate::sink::EntrySink;
-use office_specification::{ActContext, Change, Tally, UnitWrite};
 use office_maps::OfficeMaps;
+use office_specification::{ActContext, Change, Tally, UnitWrite};
 use po_text::Items;
 use request_book::Record;
 use units::{Key, Lang, Name, Role, Suggestion};

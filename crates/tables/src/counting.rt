@@ -8,8 +8,8 @@ ghost use Rattle.units.specs.Projects.{IsProject};
 ghost use Rattle.office_maps.specs.OfficeIn.{lent_project, office_in};
 ghost use Rattle.office_specification.specs.Tally.{counts_in, counts_of};
 
-use office_specification::Tally;
 use office_maps::{OfficeMaps, Place, ProjectMaps};
+use office_specification::Tally;
 use std::alloc::{AllocError, Global};
 use units::{Lang, Name};
 

@@ -13,8 +13,8 @@ ghost use Rattle.tables.specs.declared.faults.Lost.TheVariants.{Memory};
 
 use crate::domain_reads::{bare_context_in, context_in, suggestion_in, suggestions_in, written_in};
 use crate::faults::Lost;
-use office_specification::{ActContext, Change, UnitWrite};
 use office_maps::{OfficeMaps, Place};
+use office_specification::{ActContext, Change, UnitWrite};
 use po_text::{Duplicate, Items, Text};
 use request_book::{Record, Reply};
 use std::alloc::{AllocError, Global};

@@ -5,13 +5,13 @@ use crate::desk_rows::unit_told;
 use crate::stream_rows::streams::{Kept, Streams};
 use crate::stream_rows::table_rows::push_rows;
 use commands::AtLost;
+use office::Desk;
+use sqlite::{Alter, Connection};
+use std::alloc::Global;
 use store_commands::{
     Closed, Unopened, close_desk, deliver_store, export_store, init_store, open_desk,
     records_store, say_ready, tell_store_fault,
 };
-use office::Desk;
-use sqlite::{Alter, Connection};
-use std::alloc::Global;
 use tables::{Start, Tables};
 use units::{Lang, Name};
 use uuid::Uuid;

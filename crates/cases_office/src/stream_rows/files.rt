@@ -3,10 +3,10 @@
 use crate::stream_rows::command_told::told;
 use crate::stream_rows::deeds::{Deed, closed, done};
 use crate::stream_rows::streams::Streams;
-use store_commands::Closed;
 use sqlite::{Connection, Files, Options};
 use sqlite_disk::{Disk, Memory};
 use std::alloc::Global;
+use store_commands::Closed;
 
 /// A file with these bytes.
 fn file_of(alloc: Global, bytes: &[u8]) -> Option<Files<Memory>> {
