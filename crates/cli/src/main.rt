@@ -27,7 +27,6 @@ use files::in_file;
 use office::Desk;
 use send::send_file;
 use stack::take_stack;
-use std::alloc::AllocError;
 use std::env::Args;
 use std::io::{self, BufWriter, ErrorKind, Stdout};
 use std::process::ExitCode;
@@ -45,6 +44,9 @@ fn main(rt: HostRuntime) -> ExitCode {
 }
 
 fn run(rt: &HostRuntime) -> io::Result<u8> {
+    if let Err(fault) = take_stack(rt.alloc()) {
+        return error_status(rt, &Error::from(fault));
+    }
     match std::env::args(rt) {
         Ok(words) => words_status(rt, words),
         Err(error) if error.kind() == ErrorKind::InvalidData => {
@@ -65,19 +67,8 @@ fn words_status(rt: &HostRuntime, words: Args) -> io::Result<u8> {
     status
 }
 
-/// Takes the stack, but where a catalogue alone is read, whose reader goes to no depth.
-fn take_depth(rt: &HostRuntime, asked: &Asked<'_>) -> Result<(), AllocError> {
-    match asked {
-        Asked::Canon => Ok(()),
-        _ => take_stack(rt.alloc()),
-    }
-}
-
 /// Does what the words ask for.
 fn asked_status(rt: &HostRuntime, asked: &Asked<'_>) -> io::Result<u8> {
-    if let Err(fault) = take_depth(rt, asked) {
-        return error_status(rt, &Error::from(fault));
-    }
     match asked {
         Asked::Init(options) => Ok(in_file(rt, options.store, Work::Make(&options.start))),
         Asked::Deliver(options) => deliver_standard(rt, options),
