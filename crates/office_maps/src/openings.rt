@@ -31,7 +31,7 @@ const DEMO_HEADER: &str =
 const DEMO_RULE: &str = "nplurals=2; plural=n != 1;";
 
 /// A policy that allows nothing but translations.
-fn closed_policy() -> Policy
+pub fn closed_policy() -> Policy
     ensures { result ≡ opens.closed_policy }
 {
     Policy {
@@ -89,7 +89,8 @@ fn plain_entry(alloc: Global, id: &str, form: &str) -> Result<Entry, AllocError>
     }
 }
 
-fn demo_unit(alloc: Global) -> Result<Unit, AllocError>
+/// The demo's one unit, `Hello`, which has no translation.
+pub fn demo_unit(alloc: Global) -> Result<Unit, AllocError>
     ensures { IfOk result (λ unit. unit ≡ opens.demo_unit) }
 {
     let id = string(alloc, "Hello")?;
@@ -124,7 +125,18 @@ fn demo_rule(alloc: Global) -> Result<PluralForms, AllocError>
     }
 }
 
-fn demo_language(alloc: Global) -> Result<Language, AllocError>
+/// The code of the demo's one language.
+pub fn demo_lang() -> Lang
+    ensures { result ≡ codes "de" }
+{
+    match Lang::try_new("de") {
+        Some(lang) => lang,
+        None => unreachable!(),
+    }
+}
+
+/// The demo's one language: its header, and the rule that this names.
+pub fn demo_language(alloc: Global) -> Result<Language, AllocError>
     ensures { IfOk result (λ language. language.header ≡ opens.plain_entry [] opens.demo_header) }
 {
     let header = plain_entry(alloc, "", DEMO_HEADER)?;
@@ -137,10 +149,17 @@ fn demo_language(alloc: Global) -> Result<Language, AllocError>
     }
 }
 
+/// The one entry of the demo's template, `Hello`.
+pub fn demo_entry(alloc: Global) -> Result<Entry, AllocError>
+    ensures { IfOk result (λ entry. entry ≡ opens.plain_entry (codes "Hello") []) }
+{
+    plain_entry(alloc, "Hello", "")
+}
+
 fn demo_catalogue(alloc: Global) -> Result<Catalogue, AllocError>
     ensures { IfOk result (λ catalogue. catalogue ≡ opens.demo_domain.template) }
 {
-    let entry = plain_entry(alloc, "Hello", "")?;
+    let entry = demo_entry(alloc)?;
     let mut entries = Vec::new(alloc);
     entries.push(entry)?;
     let made = Catalogue::try_new(alloc, entries)?;
@@ -245,9 +264,6 @@ impl OfficeMaps {
     pub fn demo(alloc: Global) -> Result<OfficeMaps, Memory>
         ensures { IfOk result (λ office. office_in office ≡ opens.demo) }
     {
-        let Some(lang) = Lang::try_new("de") else {
-            unreachable!();
-        };
-        Ok(demo_in(alloc, &lang)?)
+        Ok(demo_in(alloc, &demo_lang())?)
     }
 }

@@ -20,6 +20,7 @@ use Rattle.sql_schema.specs.Rows.{text_or_null, d_unit_row}
 use Rattle.sql_changes.specs.Commits.{PutsNumberedRecord, PutsPolicy, policy_row, language_cells, entry_row, PutsEntry, PutsEntries}
 use Rattle.sql_changes.specs.UnitWrites.{LeavesRows, WritesPlanned, WritesUnits, WritesUnitsBack, WritesPlansBack}
 use Rattle.sql_commits.specs.Changes.{WritesUnlessStays}
+use Rattle.sql_commits.specs.Rows.{PutsPolicyOf, PutsEntryOf, PutsLanguageOf}
 use Rattle.sql_commits.proofs.WritesInTurn.{write_left}
 use Rattle.sqlite.specs.Order.{Row}
 use Rattle.units.specs.declared.unit.Policy.{Policy}
@@ -131,21 +132,33 @@ plans_all all left old new none (done, is, written) = subst (λ ps. WritesPlansB
 
 -- ---- what is written, by the columns that are given
 
+pub language_row_told : (domain name lang code column rule : Text) (header : Entry) (old new : Database) → name ≡ domain → code ≡ lang → column ≡ header_text header → rule ≡ unwrap_or (plural_field (Some header)) []
+    → PutsRow (codes "d_language") (key_texts (1 ∷ 2 ∷ [])) (HoldsValues (Words name ∷ Words code ∷ Words column ∷ Words rule ∷ [])) old new → PutsLanguageOf domain lang header old new
+language_row_told domain name lang code column rule header old new is_name is_code is_column is_rule put =
+    let same : Words name ∷ Words code ∷ Words column ∷ Words rule ∷ [] ≡ Words domain ∷ language_cells lang header = cc in
+    subst (λ cells. PutsRow (codes "d_language") (key_texts (1 ∷ 2 ∷ [])) (HoldsValues cells) old new) same put
+
 pub language_told : (domain name lang code column rule : Text) (header : Entry) (old new : Database) → name ≡ domain → code ≡ lang → column ≡ header_text header → rule ≡ unwrap_or (plural_field (Some header)) []
     → AreOfficeTablesOf by_domain old → PutsRow (codes "d_language") (key_texts (1 ∷ 2 ∷ [])) (HoldsValues (Words name ∷ Words code ∷ Words column ∷ Words rule ∷ [])) old new
     → OnDomain domain (PutsIn (codes "language") first_text (HoldsValues (language_cells lang header))) old new
 language_told domain name lang code column rule header old new is_name is_code is_column is_rule ready put =
-    let same : Words name ∷ Words code ∷ Words column ∷ Words rule ∷ [] ≡ Words domain ∷ language_cells lang header = cc in
-    language_on_domain ready (subst (λ cells. PutsRow (codes "d_language") (key_texts (1 ∷ 2 ∷ [])) (HoldsValues cells) old new) same put)
+    language_on_domain ready (language_row_told domain name lang code column rule header old new is_name is_code is_column is_rule put)
+
+pub entry_row_told : (domain name : Text) (place : ℕ) (at : ℤ) (key extracted references flags : Text) (plural : Option Text) (entry : Entry) (old new : Database) → name ≡ domain → at ≡ pos place → key ≡ key_text (key_of entry)
+    → plural ≡ entry.plural → extracted ≡ texts_text entry.extracted → references ≡ texts_text entry.references → flags ≡ texts_text entry.flags
+    → PutsRow (codes "d_template") domain_place (HoldsValues (Words name ∷ Int at ∷ Words key ∷ text_or_null plural ∷ Words extracted ∷ Words references ∷ Words flags ∷ [])) old new
+    → PutsEntryOf domain place entry old new
+entry_row_told domain name place at key extracted references flags plural entry old new is_name is_at is_key is_plural is_extracted is_references is_flags put =
+    let same : Words name ∷ Int at ∷ Words key ∷ text_or_null plural ∷ Words extracted ∷ Words references ∷ Words flags ∷ []
+    ≡ Words domain ∷ Int (pos place) ∷ Words (key_text (key_of entry)) ∷ text_or_null entry.plural ∷ Words (texts_text entry.extracted) ∷ Words (texts_text entry.references) ∷ Words (texts_text entry.flags) ∷ [] = cc in
+    subst (λ cells. PutsRow (codes "d_template") domain_place (HoldsValues cells) old new) same put
 
 pub entry_told : (domain name : Text) (place : ℕ) (at : ℤ) (key extracted references flags : Text) (plural : Option Text) (entry : Entry) (old new : Database) → name ≡ domain → at ≡ pos place → key ≡ key_text (key_of entry)
     → plural ≡ entry.plural → extracted ≡ texts_text entry.extracted → references ≡ texts_text entry.references → flags ≡ texts_text entry.flags → AreOfficeTablesOf by_domain old
     → PutsRow (codes "d_template") domain_place (HoldsValues (Words name ∷ Int at ∷ Words key ∷ text_or_null plural ∷ Words extracted ∷ Words references ∷ Words flags ∷ [])) old new
     → OnDomain domain (PutsIn (codes "template") row_number (λ row. row ≡ entry_row place entry)) old new
 entry_told domain name place at key extracted references flags plural entry old new is_name is_at is_key is_plural is_extracted is_references is_flags ready put =
-    let same : Words name ∷ Int at ∷ Words key ∷ text_or_null plural ∷ Words extracted ∷ Words references ∷ Words flags ∷ []
-    ≡ Words domain ∷ Int (pos place) ∷ Words (key_text (key_of entry)) ∷ text_or_null entry.plural ∷ Words (texts_text entry.extracted) ∷ Words (texts_text entry.references) ∷ Words (texts_text entry.flags) ∷ [] = cc in
-    entry_on_domain ready (subst (λ cells. PutsRow (codes "d_template") domain_place (HoldsValues cells) old new) same put)
+    entry_on_domain ready (entry_row_told domain name place at key extracted references flags plural entry old new is_name is_at is_key is_plural is_extracted is_references is_flags put)
 
 pub record_told : (row : Record) (number content body : Text) (status : ℤ) (old new : Database) → number ≡ number_text row.number → content ≡ row.content → status ≡ pos row.reply.status → body ≡ row.reply.body
     → IsNumber row.number → PutsRow (codes "record") first_text (HoldsValues (Words number ∷ Words content ∷ Int status ∷ Words body ∷ [])) old new → OnEach (PutsNumberedRecord row) old new
@@ -154,8 +167,11 @@ record_told row number content body status old new is_number is_content is_statu
     on_each_as (PutsIn (codes "record") first_text (HoldsValues (record_cells row))) (PutsNumberedRecord row) (λ d made. (made, valid))
     (record_on_each (subst (λ cells. PutsRow (codes "record") first_text (HoldsValues cells) old new) same put))
 
+pub policy_row_told : (policy : Policy) (row : Row) (old new : Database) → row ≡ policy_row policy → PutsRow (codes "policy") row_number (λ r. r ≡ row) old new → PutsPolicyOf policy old new
+policy_row_told policy row old new is put = subst (λ cells. PutsRow (codes "policy") row_number (λ r. r ≡ cells) old new) is put
+
 pub policy_told : (policy : Policy) (row : Row) (old new : Database) → row ≡ policy_row policy → PutsRow (codes "policy") row_number (λ r. r ≡ row) old new → OnEach (PutsPolicy policy) old new
-policy_told policy row old new is put = policy_on_each (subst (λ cells. PutsRow (codes "policy") row_number (λ r. r ≡ cells) old new) is put)
+policy_told policy row old new is put = policy_on_each (policy_row_told policy row old new is put)
 
 pub unit_told : (domain lang key : Text) (plural : Option Text) (forms : Text) (stored obsolete revision : ℤ) (comment previous : Text) (unit : Unit) (old new : Database) → key ≡ key_text unit.key
     → plural ≡ unit.plural → forms ≡ texts_text unit.forms → stored ≡ state_number unit.state → obsolete ≡ flag_number unit.obsolete → revision ≡ pos unit.revision → comment ≡ texts_text unit.comment

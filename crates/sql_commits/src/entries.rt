@@ -8,6 +8,7 @@ ghost use Rattle.sql_schema.specs.Inside.{IsSteadyOver, IsInsideOf};
 ghost use Rattle.sql_changes.specs.OnDomains.{OnDomain};
 ghost use Rattle.sql_changes.specs.Commits.{PutsEntry, PutsEntries};
 ghost use Rattle.sql_commits.specs.Columns.{columns_of_entry};
+ghost use Rattle.sql_commits.specs.Rows.{PutsEntryOf};
 ghost use Rattle.sql_figures.specs.Figures.{FiguresStay};
 
 use po_text::{Entry, Text};
@@ -72,7 +73,7 @@ fn key_column(alloc: Global, entry: &Entry) -> Result<Text, AllocError>
 }
 
 /// Writes an entry of a domain's template at its place, where none stands.
-pub(crate) fn put_entry<S: Alter>(
+pub fn put_entry<S: Alter>(
     tx: &mut Transaction<'_, S>,
     alloc: Global,
     domain: &Name,
@@ -84,6 +85,7 @@ pub(crate) fn put_entry<S: Alter>(
     ensures same_reference { tx.new.conn.ghost_name ≡ tx.old.conn.ghost_name }
     ensures put { IsInsideOf by_domain (state S.Store tx.old.conn.now) (state S.Store tx.new.conn.now) result (OnDomain domain.now (PutsEntry place entry.now)) }
     ensures figures { IsInsideOf by_domain (state S.Store tx.old.conn.now) (state S.Store tx.new.conn.now) result FiguresStay }
+    ensures row { IsInsideOf by_domain (state S.Store tx.old.conn.now) (state S.Store tx.new.conn.now) result (PutsEntryOf domain.now place entry.now) }
 {
     entry_key_fits(entry);
     let columns = columns_of(alloc, entry)?;

@@ -6,6 +6,7 @@ ghost use Rattle.sql_schema.specs.Layouts.{by_domain};
 ghost use Rattle.sql_schema.specs.Inside.{IsSteadyOver, IsInsideOf};
 ghost use Rattle.sql_changes.specs.OnDomains.{OnDomain};
 ghost use Rattle.sql_changes.specs.Commits.{PutsLanguage, WritesLanguage};
+ghost use Rattle.sql_commits.specs.Rows.{PutsLanguageOf};
 ghost use Rattle.sql_figures.specs.Figures.{with_tally, FiguresFollow, FiguresStay};
 
 use crate::planned_units::write_units;
@@ -52,6 +53,7 @@ pub fn put_language_of<S: Alter>(
     ensures same_reference { tx.new.conn.ghost_name ≡ tx.old.conn.ghost_name }
     ensures put { IsInsideOf by_domain (state S.Store tx.old.conn.now) (state S.Store tx.new.conn.now) result (OnDomain domain.now (PutsLanguage lang.now header.now)) }
     ensures figures { IsInsideOf by_domain (state S.Store tx.old.conn.now) (state S.Store tx.new.conn.now) result FiguresStay }
+    ensures row { IsInsideOf by_domain (state S.Store tx.old.conn.now) (state S.Store tx.new.conn.now) result (PutsLanguageOf domain.now lang.now header.now) }
 {
     language_fits(lang, header);
     let column = header_column(alloc, header)?;

@@ -10,7 +10,7 @@
 //!
 //! A conversion of tables of an earlier form writes by the same functions.
 //!
-//! The spec `Acts` says what a commit makes of the tables; `Changes`, `Columns`, `Counted`, `Votes`,
+//! The spec `Acts` says what a commit makes of the tables, `Rows` which rows are written; `Changes`, `Columns`, `Counted`, `Votes`,
 //! `Figures`, `Entries` and `Ends` are for inner functions.
 #![tactic(auto)]
 
@@ -30,9 +30,11 @@ mod unit_parts;
 mod unit_writes;
 
 pub use acts::{commit_act, commit_change};
-pub use entries::put_entries;
+pub use entries::{put_entries, put_entry};
 pub use languages::put_language_of;
 pub use planned_units::write_planned;
 pub use policies::put_policy_of;
+pub use roles::write_role;
 pub use tallies::put_tally_of;
 pub use transactions::finish;
+pub use unit_writes::write_row;

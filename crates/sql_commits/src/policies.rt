@@ -7,6 +7,7 @@ ghost use Rattle.sql_meaning.specs.RowChanges.{HaveNextIn};
 ghost use Rattle.sql_changes.specs.OnDomains.{OnDomainsWhere, OnEach};
 ghost use Rattle.sql_changes.specs.Commits.{PutsPolicy, WritesPolicy};
 ghost use Rattle.sql_commits.specs.Figures.{FollowsPolicy};
+ghost use Rattle.sql_commits.specs.Rows.{PutsPolicyOf};
 
 use sql_columns::policy_columns;
 use sql_statements::domain_units::unapprove_domain_units;
@@ -41,6 +42,7 @@ pub fn put_policy_of<S: Alter>(tx: &mut Transaction<'_, S>, policy: &Policy) -> 
     ensures same_reference { tx.new.conn.ghost_name ≡ tx.old.conn.ghost_name }
     ensures put { IsInsideOf by_domain (state S.Store tx.old.conn.now) (state S.Store tx.new.conn.now) result (OnEach (PutsPolicy policy.now)) }
     ensures others { IsInsideOf by_domain (state S.Store tx.old.conn.now) (state S.Store tx.new.conn.now) result (OnRows (SparesOthers (codes "policy"))) }
+    ensures row { IsInsideOf by_domain (state S.Store tx.old.conn.now) (state S.Store tx.new.conn.now) result (PutsPolicyOf policy.now) }
 {
     let columns = policy_columns(policy);
     set_policy(

@@ -1,8 +1,9 @@
 //! A member's role.
-ghost use Rattle.std.specs.Prelude.{◌≡◌};
+ghost use Rattle.std.specs.Prelude.{◌≡◌, ℤ, Some};
 ghost use Rattle.sqlite.specs.Held.{state};
 ghost use Rattle.sql_schema.specs.Layouts.{by_domain};
 ghost use Rattle.sql_schema.specs.Inside.{IsSteadyOver, IsInsideOf};
+ghost use Rattle.sql_meaning.specs.Beginnings.{PutsMember};
 ghost use Rattle.sql_changes.specs.OnDomains.{OnEach};
 ghost use Rattle.sql_columns.specs.Numbers.{role_number};
 ghost use Rattle.sql_changes.specs.Commits.{WritesRole};
@@ -23,6 +24,7 @@ pub fn write_role<S: Alter>(
     ensures same_reference { tx.new.conn.ghost_name ≡ tx.old.conn.ghost_name }
     ensures put { IsInsideOf by_domain (state S.Store tx.old.conn.now) (state S.Store tx.new.conn.now) result (OnEach (WritesRole name.now (role_number role))) }
     ensures figures { IsInsideOf by_domain (state S.Store tx.old.conn.now) (state S.Store tx.new.conn.now) result FiguresStay }
+    ensures member { (column : ℤ) → role_number role ≡ Some column → IsInsideOf by_domain (state S.Store tx.old.conn.now) (state S.Store tx.new.conn.now) result (PutsMember name.now column) }
 {
     match role_column(role) {
         Some(column) => set_member(tx, name, column),

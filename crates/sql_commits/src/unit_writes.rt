@@ -9,6 +9,7 @@ ghost use Rattle.sql_schema.specs.Keys.{first_texts};
 ghost use Rattle.sql_changes.specs.OnDomains.{OnDomain};
 ghost use Rattle.sql_meaning.specs.Cells.{vote_cells};
 ghost use Rattle.sql_changes.specs.UnitWrites.{AddsNumberedSuggestion, AddsNumberedSuggestions, PutsUnitRow, WritesNumberedUnit};
+ghost use Rattle.sql_commits.specs.Rows.{PutsUnitOf};
 ghost use Rattle.sql_commits.specs.Columns.{columns_of_unit};
 ghost use Rattle.sql_commits.specs.Votes.{AddsSummed, PutsVotesOn};
 ghost use Rattle.sql_figures.specs.Figures.{FiguresStay};
@@ -61,6 +62,7 @@ pub fn write_row<S: Alter>(
     ensures same_reference { tx.new.conn.ghost_name ≡ tx.old.conn.ghost_name }
     ensures put { IsInsideOf by_domain (state S.Store tx.old.conn.now) (state S.Store tx.new.conn.now) result (OnDomain domain.now (PutsUnitRow lang.now unit.now)) }
     ensures figures { IsInsideOf by_domain (state S.Store tx.old.conn.now) (state S.Store tx.new.conn.now) result FiguresStay }
+    ensures row { IsInsideOf by_domain (state S.Store tx.old.conn.now) (state S.Store tx.new.conn.now) result (PutsUnitOf domain.now lang.now unit.now) }
 {
     let columns = columns_of(alloc, unit)?;
     put_row(tx, domain.as_str(), lang.as_str(), unit, &columns)
@@ -126,6 +128,7 @@ fn put_row<S: Alter>(
     ensures same_reference { tx.new.conn.ghost_name ≡ tx.old.conn.ghost_name }
     ensures put { IsInsideOf by_domain (state S.Store tx.old.conn.now) (state S.Store tx.new.conn.now) result (OnDomain domain.now (PutsUnitRow lang.now unit.now)) }
     ensures figures { IsInsideOf by_domain (state S.Store tx.old.conn.now) (state S.Store tx.new.conn.now) result FiguresStay }
+    ensures row { IsInsideOf by_domain (state S.Store tx.old.conn.now) (state S.Store tx.new.conn.now) result (PutsUnitOf domain.now lang.now unit.now) }
 {
     put_domain_unit(
         tx,

@@ -117,7 +117,7 @@ impl<S: Alter> OfficeConnection<S> {
         ensures handed_back { IfErr result (λ refusal. IsHandedBack start.now (state S.Store connection) (state S.Store refusal.1)) }
     {
         let mut connection = connection;
-        match make(&mut connection, start) {
+        match make(&mut connection, alloc, start) {
             Ok(()) => Ok(OfficeConnection {
                 connection,
                 stopped: false,

@@ -7,7 +7,8 @@ use Rattle.sql_schema.specs.Inside.{PutsIn}
 use Rattle.sql_schema.specs.Keys.{row_number}
 use Rattle.sql_changes.specs.Commits.{entry_row}
 use Rattle.sql_changes.specs.OnDomains.{OnDomain}
-use Rattle.sql_commits.proofs.PlannedWrites.{leaves_with, entry_told}
+use Rattle.sql_commits.specs.Rows.{PutsEntryOf}
+use Rattle.sql_commits.proofs.PlannedWrites.{leaves_with, entry_told, entry_row_told}
 use Rattle.sql_commits.proofs.WritesInTurn.{write_mapped, write_ready}
 use Rattle.sql_figures.specs.Figures.{FiguresStay}
 use Rattle.sql_figures.proofs.FigureSteps.{put_beside, entry_beside}
@@ -30,4 +31,16 @@ returns-clause-put g c =
 pub returns-clause-figures : goal.returns-clause-figures
 returns-clause-figures g c =
     write_mapped (state g.S.Store c.args.tx.now.conn.now) (state g.S.Store c.put_domain_entry.new.tx.conn.now) c.put_domain_entry.result c.map_err.result _ _ FiguresStay c.map_err.ensures.cases (put_beside entry_beside)
+    c.put_domain_entry.ensures.put
+
+pub returns-clause-row : goal.returns-clause-row
+returns-clause-row g c =
+    let old = state g.S.Store c.args.tx.now.conn.now in
+    let new = state g.S.Store c.put_domain_entry.new.tx.conn.now in
+    let entry = c.args.entry.now in
+    let place = c.args.place in
+    let domain = c.args.domain.now in
+    write_mapped old new c.put_domain_entry.result c.map_err.result _ _ (PutsEntryOf domain place entry) c.map_err.ensures.cases
+    (entry_row_told domain c.as_str.result.now place _ c.as_str-2.result.now c.as_str-3.result.now c.as_str-4.result.now c.as_str-5.result.now _ entry old.now new.now (search rules)
+    (to_z_pos w64 place (omega (arith, c.requires.fits))) (search rules) (search rules) (search rules) (search rules) (search rules))
     c.put_domain_entry.ensures.put

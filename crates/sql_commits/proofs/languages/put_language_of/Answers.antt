@@ -6,7 +6,8 @@ use Rattle.sql_schema.specs.Inside.{HoldsValues, PutsIn}
 use Rattle.sql_schema.specs.Keys.{first_text}
 use Rattle.sql_changes.specs.Commits.{language_cells}
 use Rattle.sql_changes.specs.OnDomains.{OnDomain}
-use Rattle.sql_commits.proofs.PlannedWrites.{leaves_with_both, language_told}
+use Rattle.sql_commits.specs.Rows.{PutsLanguageOf}
+use Rattle.sql_commits.proofs.PlannedWrites.{leaves_with_both, language_told, language_row_told}
 use Rattle.sql_commits.proofs.WritesInTurn.{write_mapped, write_ready}
 use Rattle.sql_figures.specs.Figures.{FiguresStay}
 use Rattle.sql_figures.proofs.FigureSteps.{put_beside, language_beside}
@@ -28,4 +29,15 @@ returns-clause-put g c =
 pub returns-clause-figures : goal.returns-clause-figures
 returns-clause-figures g c =
     write_mapped (state g.S.Store c.args.tx.now.conn.now) (state g.S.Store c.put_domain_language.new.tx.conn.now) c.put_domain_language.result c.map_err.result _ _ FiguresStay c.map_err.ensures.cases (put_beside language_beside)
+    c.put_domain_language.ensures.put
+
+pub returns-clause-row : goal.returns-clause-row
+returns-clause-row g c =
+    let old = state g.S.Store c.args.tx.now.conn.now in
+    let new = state g.S.Store c.put_domain_language.new.tx.conn.now in
+    let domain = c.args.domain.now in
+    let lang = c.args.lang.now in
+    let header = c.args.header.now in
+    write_mapped old new c.put_domain_language.result c.map_err.result _ _ (PutsLanguageOf domain lang header) c.map_err.ensures.cases
+    (language_row_told domain c.as_str.result.now lang c.as_str-2.result.now c.as_str-3.result.now c.rule_text.result.now header old.now new.now (search rules) (search rules) (search rules) (search rules))
     c.put_domain_language.ensures.put

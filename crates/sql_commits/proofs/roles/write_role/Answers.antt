@@ -1,9 +1,10 @@
-use Rattle.std.proofs.Common.{ℤ, [], ◌∷◌, subst, codes}
+use Rattle.std.proofs.Common.{◌≡◌, ℤ, [], ◌∷◌, Some, None, ◌∙◌, subst, codes}
 use Rattle.sqlite.specs.Held.{state}
 use Rattle.sqlite.specs.declared.types.Value.TheVariants.{Int, Text as Words}
-use Rattle.sql_schema.specs.Inside.{PutsRow, PutsIn, HoldsValues}
+use Rattle.sql_schema.specs.Inside.{IsInsideOf, PutsRow, PutsIn, HoldsValues}
 use Rattle.sql_schema.specs.Keys.{first_text, has_text}
 use Rattle.sql_schema.specs.Layouts.{by_domain}
+use Rattle.sql_meaning.specs.Beginnings.{PutsMember}
 use Rattle.sql_meaning.specs.RowChanges.{TakesIn}
 use Rattle.sql_changes.specs.OnDomains.{OnEach}
 use Rattle.sql_changes.proofs.DomainWrites.{member_on_each, members_taken_on_each}
@@ -37,3 +38,16 @@ returns-in-Some-clause-figures g c =
 pub returns-in-None-clause-figures : goal.returns-in-None-clause-figures
 returns-in-None-clause-figures g c =
     write_as (state g.S.Store c.args.tx.now.conn.now) (state g.S.Store c.remove_member.new.tx.conn.now) c.remove_member.result _ FiguresStay (taken_beside team_beside) (c.remove_member.ensures.taken by_domain c.requires.steady)
+
+pub returns-in-Some-clause-member : goal.returns-in-Some-clause-member
+returns-in-Some-clause-member g c = λ column is.
+    let old = state g.S.Store c.args.tx.now.conn.now in
+    let new = state g.S.Store c.set_member.new.tx.conn.now in
+    let name = c.args.name.now in
+    let both : Some c.in-Some.column ≡ Some column = c.in-Some.ensures ∙ is in
+    let same : c.in-Some.column ≡ column = cc in
+    subst (λ z. IsInsideOf by_domain old new c.set_member.result (PutsMember name z)) same (write_as old new c.set_member.result _ (PutsMember name c.in-Some.column)
+    (λ put. subst (λ z. PutsMember name z old.now new.now) (role_through c.args.role c.in-Some.column c.in-Some.ensures) put) (c.set_member.ensures.put by_domain c.requires.steady))
+
+pub returns-in-None-clause-member : goal.returns-in-None-clause-member
+returns-in-None-clause-member g c = λ column is. absurd (let none : None ≡ Some column = c.in-None.ensures ∙ is in cc)

@@ -1,5 +1,11 @@
+use Rattle.std.proofs.Common.{◌≡◌, rules, subst}
 use Rattle.sqlite.specs.Held.{state}
+use Rattle.units.specs.Office.{main}
+use Rattle.sql_schema.specs.Inside.{IsInsideOf}
+use Rattle.sql_schema.specs.Layouts.{by_domain}
 use Rattle.sql_schema.proofs.Sequences.{writes_both, steady_write}
+use Rattle.sql_meaning.specs.Beginnings.{PutsDomain, MakesMainTables}
+use Rattle.sql_commits.proofs.WritesInTurn.{write_mapped}
 use Rattle.store_sql.proofs.create.make_main_tables.Goals as goal
 
 pub put_domain-requires : goal.put_domain-requires
@@ -7,5 +13,9 @@ put_domain-requires g c = record { steady = steady_write (state g.S.Store c.args
 
 pub returns-clause-made : goal.returns-clause-made
 returns-clause-made g c =
-    writes_both (state g.S.Store c.args.tx.now.conn.now) (state g.S.Store c.make_tables_by_domain.new.tx.conn.now) (state g.S.Store c.put_domain.new.tx.conn.now) _ _ _ _
-    c.in_ok-make_tables_by_domain.ensures.made c.put_domain.ensures.put
+    let old = state g.S.Store c.args.tx.now.conn.now in
+    let mid = state g.S.Store c.make_tables_by_domain.new.tx.conn.now in
+    let new = state g.S.Store c.put_domain.new.tx.conn.now in
+    let named : c.as_str.result.now ≡ main = search rules in
+    let put = subst (λ name. IsInsideOf by_domain mid new c.put_domain.result (PutsDomain name)) named c.put_domain.ensures.put in
+    write_mapped old new c.put_domain.result c.map_err.result _ _ MakesMainTables c.map_err.ensures.cases (λ made. made) (writes_both old mid new _ _ _ _ c.in_ok-make_tables_by_domain.ensures.made put)
