@@ -68,12 +68,14 @@ fn with_one_more(unit: &Unit, suggestion: Suggestion) -> Result<Unit, AllocError
     with_suggestions(unit, suggestions)
 }
 
-/// A copy of a view's unit, with the suggestions that are on the unit there.
+/// A view's unit, with copies of the suggestions that are on the unit there.
 fn with_its_suggestions(view: UnitView, there: &Unit) -> Result<Unit, AllocError>
     ensures { IfOk result (λ u. u ≡ record view.unit { suggestions = there.now.suggestions }) }
 {
     let suggestions = there.suggestions.duplicate()?;
-    with_suggestions(&view.unit, suggestions)
+    let mut unit = unit_of(view);
+    unit.suggestions = suggestions;
+    Ok(unit)
 }
 
 /// A copy of a unit with a voter's vote on its suggestion of a number.

@@ -2,7 +2,7 @@ pub mod ReadTexts
 pub mod Settling
 pub mod ActsSettled
 pub mod Objects
-pub mod Flat
+pub mod ValueTexts
 pub mod Teams
 pub mod Policies
 pub mod Counted

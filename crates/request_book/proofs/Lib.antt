@@ -7,4 +7,6 @@ mod Readers
 mod Three
 pub mod PartsLemmas
 mod PutLemmas
+mod TokenLemmas
+mod TokenReads
 mod Ends

@@ -6,4 +6,5 @@ pub mod Book
 pub mod Faults
 pub mod Fields
 pub mod Puts
+pub mod Tokens
 pub mod Contents

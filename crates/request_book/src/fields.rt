@@ -7,7 +7,7 @@ ghost use Rattle.request_book.specs.Acts.{IsNumber};
 ghost use Rattle.serde_json.specs.Data.{Data};
 ghost use Rattle.serde_json.specs.Find.{as_bool, as_str};
 ghost use Rattle.serde_json.specs.View.{view, items_view, members_view};
-ghost use Rattle.request_book.specs.Fields.{text_of, name_of, lang_of, revision_of, accept_at_of, role_of, each_of, forms_of, lines_of, vote_of, number_of, take, take_as, take_optional, take_optional_as, take_domain, optional_as, is_over};
+ghost use Rattle.request_book.specs.Fields.{text_of, name_of, lang_of, revision_of, accept_at_of, role_of, each_of, forms_of, lines_of, vote_of, number_written, number_of, take, take_as, take_optional, take_optional_as, take_domain, optional_as, is_over};
 ghost use Rattle.request_book.specs.declared.fault.RequestFault.TheVariants.{Malformed};
 
 use crate::fault::RequestFault;
@@ -322,16 +322,20 @@ fn number_from(value: &Value) -> Result<Uuid, RequestFault>
     let Some(text) = value.as_str() else {
         return Err(RequestFault::Malformed);
     };
-    let Some(number) = parsed_number(text) else {
-        return Err(RequestFault::Malformed);
-    };
+    match number_in(text) {
+        Some(number) => Ok(number),
+        None => Err(RequestFault::Malformed),
+    }
+}
+
+/// The number that is written so.
+pub(crate) fn number_in(text: &str) -> Option<Uuid>
+    ensures { result ≡ number_written text.now }
+{
+    let number = parsed_number(text)?;
     let mut buffer = Uuid::encode_buffer();
     let written: &str = number.hyphenated().encode_lower(&mut buffer);
-    if written == text {
-        Ok(number)
-    } else {
-        Err(RequestFault::Malformed)
-    }
+    if written == text { Some(number) } else { None }
 }
 
 fn parsed_number(text: &str) -> Option<Uuid>

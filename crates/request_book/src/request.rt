@@ -1,22 +1,18 @@
 //! Requests as JSON texts.
-ghost use Rattle.std.specs.Prelude.{◌≡◌, true, false, Err, IfOk, string_bytes};
+ghost use Rattle.std.specs.Prelude.{◌≡◌, Err, IfOk, IsUtf8};
 ghost use Rattle.uuid.specs.Parts.{zero_bytes};
 ghost use Rattle.request_book.specs.Acts.{IsRequest, IsRequestText, IsContentText, content_text, IsAct, IsActText, act_text};
 ghost use Rattle.request_book.specs.declared.act.Act.{Act as ActValue};
 ghost use Rattle.request_book.specs.Fields.{to_request, to_content, to_act};
-ghost use Rattle.serde_json.specs.Written.{compact_text, has_float};
-ghost use Rattle.serde_json.specs.Data.{object};
-ghost use Rattle.serde_json.specs.View.{members_view};
 ghost use Rattle.request_book.specs.declared.fault.RequestFault.TheVariants.{Malformed};
 
 use crate::act::{Act, Request};
 use crate::fault::RequestFault;
 use crate::fields::bytes_fit;
 use crate::parts::{Parts, parts_from_text};
-use crate::written::{act_map, content_map};
+use crate::written::{act_bytes, content_bytes};
 use po_text::Text;
-use serde_json::{Map, Value};
-use std::alloc::{AllocError, Global};
+use std::alloc::Global;
 use units::Memory;
 use uuid::Uuid;
 
@@ -118,7 +114,7 @@ fn bare(parts: Parts) -> Option<Act>
 
 /// The canonical text of a request's content: its caller and act as compact JSON, keys in byte order. Requests
 /// with one canonical text have one caller and one act.
-#[tactic(auto, using(crate::proofs::CanonLemmas::no_floats, crate::proofs::CanonLemmas::one_content), unfolding(crate::specs::Acts::content_text))]
+#[tactic(auto, using(crate::proofs::CanonLemmas::one_content), unfolding(crate::specs::Acts::content_text))]
 pub fn canon(alloc: Global, request: &Request) -> Result<Text, Memory>
     ensures value { IfOk result (λ s. s ≡ content_text request.now) }
     ensures alone { IfOk result
@@ -127,8 +123,8 @@ pub fn canon(alloc: Global, request: &Request) -> Result<Text, Memory>
     ensures limits { IfOk result (λ _. IsRequest request.now) }
 {
     bytes_fit(request.number.as_bytes());
-    let map = content_map(alloc, request)?;
-    Ok(Text::from_string(object_text(alloc, map)?))
+    let bytes = content_bytes(alloc, request)?;
+    Ok(text_of(bytes))
 }
 
 impl Act {
@@ -155,15 +151,18 @@ impl Act {
         ensures is { IfOk result (λ s. IsActText s self.now) }
         ensures alone { IfOk result (λ s. (other : ActValue) → IsAct other → act_text other ≡ s → other ≡ self.now) }
     {
-        let map = act_map(alloc, self)?;
-        Ok(Text::from_string(object_text(alloc, map)?))
+        let bytes = act_bytes(alloc, self)?;
+        Ok(text_of(bytes))
     }
 }
 
-fn object_text(alloc: Global, map: Map<String, Value>) -> Result<String, AllocError>
-    requires { has_float (object (members_view map.entries)) ≡ false }
-    ensures { IfOk result
-        (λ s. string_bytes s ≡ compact_text (object (members_view map.entries))) }
+// The text that these bytes are.
+fn text_of(bytes: Vec<u8>) -> Text
+    requires { IsUtf8 bytes.items }
+    ensures { result ≡ bytes.items }
 {
-    Value::Object(map).to_string(alloc)
+    match String::from_utf8(bytes) {
+        Ok(text) => Text::from_string(text),
+        Err(_) => unreachable!(),
+    }
 }

@@ -4,7 +4,7 @@ use Rattle.serde_json.specs.Data.{object}
 use Rattle.serde_json.specs.View.{members_view}
 use Rattle.request_book.proofs.PartsLemmas.{parts_of_object, no_object, no_parts}
 use Rattle.request_book.proofs.Three.{same_err}
-use Rattle.request_book.proofs.parts.parts_from_text.Goals as goal
+use Rattle.request_book.proofs.parts.parts_by_keys.Goals as goal
 
 pub returns-clause-ok : goal.returns-clause-ok
 returns-clause-ok c =
