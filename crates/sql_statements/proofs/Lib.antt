@@ -37,3 +37,4 @@ pub mod SeenChanges
 pub mod SeenAnswers
 pub mod OwnersRead
 pub mod ContextSeen
+pub mod ReadsBlame

@@ -1,6 +1,6 @@
 //! The entries of a domain's template, each beside its unit.
 
-ghost use Rattle.std.specs.Prelude.{◌≡◌, ⊤, false, IsTrue};
+ghost use Rattle.std.specs.Prelude.{◌≡◌, ⊤, false, IsTrue, IfErr};
 ghost use Rattle.sqlite.specs.Held.{state};
 ghost use Rattle.sqlite.specs.Order.{Row as RowValue};
 ghost use Rattle.sqlite.specs.State.{HasCleanDisk};
@@ -8,7 +8,7 @@ ghost use Rattle.sql_schema.specs.Layouts.{by_domain, rows_named};
 ghost use Rattle.sql_schema.specs.SeenRows.{seen_in};
 ghost use Rattle.sql_schema.specs.Whole.{IsIdleOver, IsLookUp};
 ghost use Rattle.sql_statements.specs.Queries.{AreUnits, ShowsMessagesIn, ShowsObsoleteIn};
-ghost use Rattle.sql_streams.specs.Walks.{HandsOut};
+ghost use Rattle.sql_streams.specs.Walks.{HandsOut, FailsTruly};
 
 use sql_streams::{RowSink, WalkFault, walk};
 use sqlite::{Alter, Connection, params};
@@ -26,6 +26,7 @@ pub fn walk_domain_messages<'a, S: Alter, K: RowSink>(
     ensures handed { (unit_of : RowValue → RowValue) → AreUnits lang.now (seen_in domain.now (rows_named (state S.Store connection.old).now)) unit_of → HasCleanDisk (state S.Store connection.new)
         → HandsOut K.Took K.Refuses (ShowsMessagesIn unit_of (seen_in domain.now (rows_named (state S.Store connection.old).now))) sink.old sink.new result }
     ensures looked { IsLookUp (state S.Store connection.old) (state S.Store connection.new) result (λ _ _. ⊤) }
+    ensures disk { HasCleanDisk (state S.Store connection.new) → IfErr result (FailsTruly (state S.Store connection.old) (state S.Store connection.new)) }
 {
     walk(
         connection,
@@ -48,6 +49,7 @@ pub fn walk_domain_obsolete<'a, S: Alter, K: RowSink>(
     ensures handed { HasCleanDisk (state S.Store connection.new)
         → HandsOut K.Took K.Refuses (ShowsObsoleteIn lang.now (seen_in domain.now (rows_named (state S.Store connection.old).now))) sink.old sink.new result }
     ensures looked { IsLookUp (state S.Store connection.old) (state S.Store connection.new) result (λ _ _. ⊤) }
+    ensures disk { HasCleanDisk (state S.Store connection.new) → IfErr result (FailsTruly (state S.Store connection.old) (state S.Store connection.new)) }
 {
     walk(
         connection,

@@ -1,13 +1,13 @@
 //! Of which domain each row is that has a column for one.
 
-ghost use Rattle.std.specs.Prelude.{◌≡◌, ⊤, false, IsTrue};
+ghost use Rattle.std.specs.Prelude.{◌≡◌, ⊤, false, IsTrue, IfErr};
 ghost use Rattle.sqlite.specs.Held.{state};
 ghost use Rattle.sqlite.specs.State.{HasCleanDisk};
 ghost use Rattle.sql_schema.specs.Layouts.{by_domain};
 ghost use Rattle.sql_schema.specs.Whole.{IsIdleOver, IsLookUp};
 ghost use Rattle.sql_statements.specs.Owners as spec;
 ghost use Rattle.sql_statements.specs.Owners.{owned_name, owned_place, ShowsOwners};
-ghost use Rattle.sql_streams.specs.Walks.{HandsOut};
+ghost use Rattle.sql_streams.specs.Walks.{HandsOut, FailsTruly};
 
 use sql_streams::{RowSink, WalkFault, walk};
 use sqlite::{Alter, Connection};
@@ -45,6 +45,7 @@ pub fn walk_owners<S: Alter, K: RowSink>(
     ensures handed { HasCleanDisk (state S.Store connection.new)
         → HandsOut K.Took K.Refuses (ShowsOwners (owned_name table) (owned_place table) (state S.Store connection.old).now) sink.old sink.new result }
     ensures looked { IsLookUp (state S.Store connection.old) (state S.Store connection.new) result (λ _ _. ⊤) }
+    ensures disk { HasCleanDisk (state S.Store connection.new) → IfErr result (FailsTruly (state S.Store connection.old) (state S.Store connection.new)) }
 {
     walk(connection, owners_text(table), &[], sink)
 }

@@ -1,13 +1,13 @@
 //! Records, handed on one at a time: in the order in which the office took them, and by number with their contents.
 
-ghost use Rattle.std.specs.Prelude.{◌≡◌, ⊤, false, Some, None, IsTrue};
+ghost use Rattle.std.specs.Prelude.{◌≡◌, ⊤, false, Some, None, IsTrue, IfErr};
 ghost use Rattle.sqlite.specs.Held.{state};
 ghost use Rattle.sqlite.specs.State.{HasCleanDisk};
 ghost use Rattle.sql_schema.specs.Layouts.{Form};
 ghost use Rattle.sql_schema.specs.Whole.{IsIdleOver, IsLookUp};
 ghost use Rattle.sql_statements.specs.RecordTable.{ShowsRecords};
 ghost use Rattle.sql_statements.specs.RecordsInOrder.{ShowsBehind};
-ghost use Rattle.sql_streams.specs.Walks.{HandsOut};
+ghost use Rattle.sql_streams.specs.Walks.{HandsOut, FailsTruly};
 
 use sql_streams::{RowSink, WalkFault, walk};
 use sqlite::{Alter, Connection, params};
@@ -23,6 +23,7 @@ pub fn walk_records<S: Alter, K: RowSink>(
     ensures handed { HasCleanDisk (state S.Store connection.new)
         → HandsOut K.Took K.Refuses (ShowsBehind None (state S.Store connection.old).now) sink.old sink.new result }
     ensures looked { IsLookUp (state S.Store connection.old) (state S.Store connection.new) result (λ _ _. ⊤) }
+    ensures disk { HasCleanDisk (state S.Store connection.new) → IfErr result (FailsTruly (state S.Store connection.old) (state S.Store connection.new)) }
 {
     walk(
         connection,
@@ -45,6 +46,7 @@ pub fn walk_records_behind<S: Alter, K: RowSink>(
     ensures handed { HasCleanDisk (state S.Store connection.new)
         → HandsOut K.Took K.Refuses (ShowsBehind (Some place) (state S.Store connection.old).now) sink.old sink.new result }
     ensures looked { IsLookUp (state S.Store connection.old) (state S.Store connection.new) result (λ _ _. ⊤) }
+    ensures disk { HasCleanDisk (state S.Store connection.new) → IfErr result (FailsTruly (state S.Store connection.old) (state S.Store connection.new)) }
 {
     walk(
         connection,
@@ -66,6 +68,7 @@ pub fn walk_contents<S: Alter, K: RowSink>(
     ensures handed { HasCleanDisk (state S.Store connection.new)
         → HandsOut K.Took K.Refuses (ShowsRecords (state S.Store connection.old).now) sink.old sink.new result }
     ensures looked { IsLookUp (state S.Store connection.old) (state S.Store connection.new) result (λ _ _. ⊤) }
+    ensures disk { HasCleanDisk (state S.Store connection.new) → IfErr result (FailsTruly (state S.Store connection.old) (state S.Store connection.new)) }
 {
     walk(
         connection,

@@ -108,6 +108,8 @@ fn office_tables<S: Alter>(tx: &mut Transaction<'_, S>) -> Result<OfficeTables, 
     ensures same_reference { tx.new.conn.ghost_name ≡ tx.old.conn.ghost_name }
     ensures found { (figures : Bool) → IsSteadyOver (for_main figures) (state S.Store tx.old.conn.now)
         → IsReadOf (for_main figures) (state S.Store tx.old.conn.now) (state S.Store tx.new.conn.now) result ShowsOfficeTables }
+    ensures disk { (figures : Bool) → IsSteadyOver (for_main figures) (state S.Store tx.old.conn.now)
+        → BlamesTruly (state S.Store tx.old.conn.now) (state S.Store tx.new.conn.now) result }
 {
     let policy = find_policy(tx)?;
     let team = all_members(tx)?;
@@ -126,6 +128,8 @@ fn unit_tables<S: Alter>(tx: &mut Transaction<'_, S>) -> Result<UnitTables, Erro
     ensures same_reference { tx.new.conn.ghost_name ≡ tx.old.conn.ghost_name }
     ensures found { (figures : Bool) → IsSteadyOver (for_main figures) (state S.Store tx.old.conn.now)
         → IsReadOf (for_main figures) (state S.Store tx.old.conn.now) (state S.Store tx.new.conn.now) result ShowsUnitTables }
+    ensures disk { (figures : Bool) → IsSteadyOver (for_main figures) (state S.Store tx.old.conn.now)
+        → BlamesTruly (state S.Store tx.old.conn.now) (state S.Store tx.new.conn.now) result }
 {
     let units = all_units(tx)?;
     let suggestions = all_suggestions(tx)?;
@@ -142,6 +146,8 @@ fn all_tables<S: Alter>(tx: &mut Transaction<'_, S>) -> Result<WholeOffice, Erro
     ensures same_reference { tx.new.conn.ghost_name ≡ tx.old.conn.ghost_name }
     ensures found { (figures : Bool) → IsSteadyOver (for_main figures) (state S.Store tx.old.conn.now)
         → IsReadOf (for_main figures) (state S.Store tx.old.conn.now) (state S.Store tx.new.conn.now) result ShowsWholeOffice }
+    ensures disk { (figures : Bool) → IsSteadyOver (for_main figures) (state S.Store tx.old.conn.now)
+        → BlamesTruly (state S.Store tx.old.conn.now) (state S.Store tx.new.conn.now) result }
 {
     let office = office_tables(tx)?;
     let units = unit_tables(tx)?;
@@ -153,6 +159,8 @@ pub fn look_up_office<S: Alter>(connection: &mut Connection<S>) -> Result<WholeO
     requires autocommit { connection.old.in_transaction ≡ false }
     ensures found { (figures : Bool) → IsIdleOver (for_main figures) (state S.Store connection.old)
         → IsLookUp (state S.Store connection.old) (state S.Store connection.new) result ShowsWholeOffice }
+    ensures disk { (figures : Bool) → IsIdleOver (for_main figures) (state S.Store connection.old)
+        → BlamesTruly (state S.Store connection.old) (state S.Store connection.new) result }
 {
     let mut tx = connection.transaction();
     let rows = all_tables(&mut tx)?;
