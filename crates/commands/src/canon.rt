@@ -158,7 +158,7 @@ fn canon_bytes<W: ByteSink, E: ByteSink>(alloc: Global, bytes: &[u8], w: &mut W,
 /// line 0 stands for the whole text). Where memory runs out the kind is 10.
 ///
 /// The answer is the exit status: 0, or 1 for a named fault or a failed stream. It is for a program that ends with it: the
-/// catalogue's memory isn't given back.
+/// text's memory isn't given back.
 pub fn canon_text<R: ByteSource, W: ByteSink, E: ByteSink>(
     alloc: Global,
     source: &mut R,
