@@ -11,22 +11,19 @@ use Rattle.std.specs.declared.cmp.Ordering.TheVariants.{Less}
 use Rattle.std.specs.Cmp.{IsTotalOrder}
 use Rattle.std.specs.FinMap.{IsAntisymmetric, entries, from_entries, from_sorted, get-from_entries, get-from_sorted, entries-from_sorted, same_map}
 use Rattle.std.specs.FinMap.Entries.{is_sorted, below_all}
+use Rattle.std.proofs.lemmas.Bool.{and_from}
 use Rattle.office_maps.specs.MapEntries.{mapped}
-
-both : (a b : Bool) → a ≡ true → b ≡ true → (a && b) ≡ true
-both true b p q = q
-both false b p q = p
 
 all_below : {K X B Y : Type 0} (R : B → B → Ordering) (f : K → B) (g : X → Y) (k : K) (es : List (K × X))
     → AllByRecursion (λ x. R (f k) (f x) ≡ Less) (keys_of es) → below_all R (f k) (mapped f g es) ≡ true
 all_below R f g k [] h = refl
-all_below R f g k (e ∷ es) h = both (is_lt (R (f k) (f e.0))) (below_all R (f k) (mapped f g es)) (ap is_lt h.0) (all_below R f g k es h.1)
+all_below R f g k (e ∷ es) h = and_from (is_lt (R (f k) (f e.0))) (below_all R (f k) (mapped f g es)) (ap is_lt h.0) (all_below R f g k es h.1)
 
 sorted-mapped : {K X B Y : Type 0} (R : B → B → Ordering) (f : K → B) (g : X → Y) (es : List (K × X))
     → IsStrictlySortedBy (λ x y. R (f x) (f y)) (keys_of es) → is_sorted R (mapped f g es) ≡ true
 unfolding IsStrictlySortedBy
 sorted-mapped R f g [] h = refl
-sorted-mapped R f g (e ∷ es) h = both (below_all R (f e.0) (mapped f g es)) (is_sorted R (mapped f g es)) (all_below R f g e.0 es h.0) (sorted-mapped R f g es h.1)
+sorted-mapped R f g (e ∷ es) h = and_from (below_all R (f e.0) (mapped f g es)) (is_sorted R (mapped f g es)) (all_below R f g e.0 es h.0) (sorted-mapped R f g es h.1)
 
 passes : (b : Bool) → b ≡ true → T b
 passes true e = tt

@@ -1,7 +1,7 @@
 -- A piece that was written is read again, and it stands in one line.
 use Rattle.std.proofs.Common.{◌≡◌, ℕ, ◌≤◌, List, [], ◌∷◌, ◌++◌, Bool, true, false, not, ◌&&◌, ◌==◌, cond, refl, ◌∙◌, ap, append_assoc, Ok}
 use Rattle.std.specs.List.{list_all, AllByRecursion}
-use Rattle.std.proofs.lemmas.Bool.{ne_eqb}
+use Rattle.std.proofs.lemmas.Bool.{and_from, ne_eqb}
 use Rattle.std.proofs.lemmas.List.Folds.{list_all-append}
 use Rattle.po_lex.specs.Reading.{◌>>=◌}
 use Rattle.po_lex.specs.Escapes.{quote, with_front, raw_at, unescaped, letter_of, escaped_byte, escaped, quoted}
@@ -28,12 +28,8 @@ piece_again string h = ap (λ r. r >>= λ raw. Ok (unescaped raw)) (read_again s
 abbrev pub has_no_lf : List ℕ → Bool
 has_no_lf line = list_all (λ b. not (b == 10)) line
 
-both : (a b : Bool) → a ≡ true → b ≡ true → (a && b) ≡ true
-both true b h k = k
-both false b h k = cc
-
 pub no_lf_both : (a b : List ℕ) → has_no_lf a ≡ true → has_no_lf b ≡ true → has_no_lf (a ++ b) ≡ true
-no_lf_both a b h k = list_all-append (λ b. not (b == 10)) a b ∙ both (has_no_lf a) (has_no_lf b) h k
+no_lf_both a b h k = list_all-append (λ b. not (b == 10)) a b ∙ and_from (has_no_lf a) (has_no_lf b) h k
 
 byte_no_lf : (c : ℕ) → has_no_lf (escaped_byte (letter_of c) c) ≡ true
 byte_no_lf c = by_table (λ c. has_no_lf (escaped_byte (letter_of c) c) ≡ true) c refl refl refl refl refl refl refl refl refl (λ h. rw (no_letter c h, ne_eqb c 10 h.lf) refl)

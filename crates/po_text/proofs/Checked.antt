@@ -7,7 +7,7 @@ use Rattle.std.specs.Option.{IfSome}
 use Rattle.std.specs.Str.{byte, bytes_eq}
 use Rattle.std.specs.BTreeSet.{BTreeSet, contains, Updates}
 use Rattle.std.proofs.Math.Seq.{drop-cons}
-use Rattle.std.proofs.lemmas.Bool.{false≢true, ltb-true, lt-ltb}
+use Rattle.std.proofs.lemmas.Bool.{and_from, false≢true, ltb-true, lt-ltb}
 use Rattle.std.proofs.lemmas.List.{take_more, take_all, take-append-drop}
 use Rattle.std.proofs.lemmas.List.Folds.{list_any-append}
 use Rattle.std.proofs.lemmas.Slice.Eq.{bytes_eq-Decides}
@@ -82,10 +82,6 @@ second_true : (a b : Bool) → (a && b) ≡ true → b ≡ true
 second_true true b h = h
 second_true false b h = cc
 
-both : (a b : Bool) → a ≡ true → b ≡ true → (a && b) ≡ true
-both true b h k = k
-both false b h k = cc
-
 -- an answer that is such a test
 pub told : {P : Type 0} (result test : Bool) → result ≡ test → ((test ≡ true) ↔ P) → (result ≡ true) ↔ P
 told result test same d = (λ e. d.0 (sym same ∙ e), λ p. same ∙ d.1 p)
@@ -111,8 +107,8 @@ flag_is text u = (there, back)
 
     back : IsFlag text → is_flag text ≡ true
     back f =
-        both (nat_lt 0 (length text)) _ (lt-ltb 0 (length text) f.some)
-        (both (is_comment_text text) _ f.line.1 (both (no_comma text) _ f.one ((bytes_eq-Decides (trim text) text).1 f.trimmed)))
+        and_from (nat_lt 0 (length text)) _ (lt-ltb 0 (length text) f.some)
+        (and_from (is_comment_text text) _ f.line.1 (and_from (no_comma text) _ f.one ((bytes_eq-Decides (trim text) text).1 f.trimmed)))
 
 pub flag_told : (text flag : Text) (b : Bool) → IsUtf8 text → text ≡ flag → b ≡ is_flag text → (b ≡ true) ↔ IsFlag flag
 flag_told text flag b u same e = subst (λ (f : Text). (b ≡ true) ↔ IsFlag f) same (subst (λ (r : Bool). (r ≡ true) ↔ IsFlag text) (sym e) (flag_is text u))
@@ -168,7 +164,7 @@ pub flags_are : (flags : List Text) (distinct each : Bool) → ((distinct ≡ tr
 flags_are flags distinct each d f =
     let l = fuzzy_first flags in (
       λ e. let rest = second_true distinct _ e in record { each = f.0 (first_true each _ rest); distinct = d.0 (first_true distinct _ e); fuzzy_first = l.0 (second_true each _ rest) },
-      λ h. both distinct _ (d.1 h.distinct) (both each _ (f.1 h.each) (l.1 h.fuzzy_first)),
+      λ h. and_from distinct _ (d.1 h.distinct) (and_from each _ (f.1 h.each) (l.1 h.fuzzy_first)),
     )
 
 pub flags_told : (flags : List Text) (result distinct each lacks : Bool) → result ≡ (distinct && (each && lacks)) → lacks ≡ lacks_fuzzy flags → ((distinct ≡ true) ↔ AreDistinct flags) → ((each ≡ true) ↔ AllByRecursion IsFlag flags) → (result ≡ true) ↔ AreFlags flags
@@ -233,7 +229,7 @@ entry_is e flagged commented h f c =
             most = h.most;
             single = s.0 (second_true commented _ rest);
           },
-      λ v. both flagged _ (f.1 v.flags) (both commented _ (c.1 (record { translator = v.translator; extracted = v.extracted; references = v.references })) (s.1 v.single)),
+      λ v. and_from flagged _ (f.1 v.flags) (and_from commented _ (c.1 (record { translator = v.translator; extracted = v.extracted; references = v.references })) (s.1 v.single)),
     )
 
 pub entry_told : (e : Entry) (result flagged commented single : Bool) (flags : List Text) → result ≡ (flagged && (commented && single)) → single ≡ is_single e → flags ≡ e.flags → AreStrings e
@@ -325,8 +321,8 @@ like_header e = (λ h. there h, λ h. by (is_header_key e.ctx e.id) refl h)
 
     whole : IsHeader e → header_rest e ≡ true
     whole header =
-        both (is_none e.plural) _ (ap is_none header.plural)
-        (both (not e.obsolete) _ (ap not header.obsolete) (tests_all has_charset (λ form. IsTrue (has_charset form)) (λ form t. t) e.forms header.charset))
+        and_from (is_none e.plural) _ (ap is_none header.plural)
+        (and_from (not e.obsolete) _ (ap not header.obsolete) (tests_all has_charset (λ form. IsTrue (has_charset form)) (λ form t. t) e.forms header.charset))
 
     by : (b : Bool) → is_header_key e.ctx e.id ≡ b → (HasHeaderKey e → IsHeader e) → (not b || header_rest e) ≡ true
     by true k h = whole (h (header_key e.ctx e.id k))
@@ -340,7 +336,7 @@ header_first [] = (λ e. tt, λ h. refl)
 header_first (x ∷ es) =
     let l = like_header x in (
       λ t. (l.0 (first_true (is_header_like x) _ t), all_tested no_header_key (λ e. HasHeaderKey e → ⊥) there es (second_true (is_header_like x) _ t)),
-      λ h. both (is_header_like x) _ (l.1 h.0) (tests_all no_header_key (λ e. HasHeaderKey e → ⊥) back es h.1),
+      λ h. and_from (is_header_like x) _ (l.1 h.0) (tests_all no_header_key (λ e. HasHeaderKey e → ⊥) back es h.1),
     )
   where
     there : (e : Entry) → not (is_header_key e.ctx e.id) ≡ true → HasHeaderKey e → ⊥
@@ -357,7 +353,7 @@ pub catalogue_is : (es : List Entry) (unique each : Bool) → ((unique ≡ true)
 catalogue_is es unique each u v =
     let h = header_first es in (
       λ t. let rest = second_true unique _ t in record { each = v.0 (first_true each _ rest); unique = u.0 (first_true unique _ t); header = h.0 (second_true each _ rest) },
-      λ valid. both unique _ (u.1 valid.unique) (both each _ (v.1 valid.each) (h.1 valid.header)),
+      λ valid. and_from unique _ (u.1 valid.unique) (and_from each _ (v.1 valid.each) (h.1 valid.header)),
     )
 
 pub catalogue_told : (es : List Entry) (result unique each first : Bool) → result ≡ (unique && (each && first)) → first ≡ has_header_first es → ((unique ≡ true) ↔ HasUniqueKeys es) → ((each ≡ true) ↔ AllByRecursion IsValidEntry es) → (result ≡ true) ↔ IsValid es

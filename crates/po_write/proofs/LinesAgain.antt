@@ -7,6 +7,7 @@ use Rattle.std.proofs.lemmas.Str.{IsUtf8-nil, IsUtf8-append, IsUtf8-from_is_utf8
 use Rattle.std.proofs.lemmas.List.{append-nil}
 use Rattle.std.proofs.lemmas.List.Folds.{list_all-append}
 use Rattle.std.proofs.lemmas.Bool.Decides.{eqb_tells, nat_tests}
+use Rattle.std.proofs.lemmas.Bool.{and_from}
 use Rattle.po_lex.specs.declared.line.Keyword.{Keyword}
 use Rattle.po_lex.specs.declared.line.Keyword.TheVariants.{Msgctxt, Msgid, MsgidPlural, Msgstr, MsgstrAt}
 use Rattle.po_lex.specs.Reading.{◌>>=◌, is_all_white, trim}
@@ -21,10 +22,6 @@ use Rattle.po_read.proofs.Leaves.{utf8_front, utf8_back, utf8_ascii}
 use Rattle.po_read.proofs.Sound.{IsDigitKey}
 use Rattle.po_write.specs.Text.{spaced, further, flags_line, message_mark, previous_mark}
 use Rattle.po_write.proofs.Written.{IsLine, Written, none_written, line_written}
-
-both : (a b : Bool) → a ≡ true → b ≡ true → (a && b) ≡ true
-both true b h k = k
-both false b h k = cc
 
 apart : (a b : Bool) → (a && b) ≡ true → (a ≡ true) × (b ≡ true)
 apart true b h = (refl, h)
@@ -170,7 +167,7 @@ text_no_lf : (text : Text) → is_comment_text text ≡ true → has_no_lf text 
 text_no_lf [] h = refl
 text_no_lf (c ∷ text) h =
     let f = apart ((c == 9) || not (nat_lt c 32)) (is_comment_text text) h in
-    both (not (c == 10)) (has_no_lf text) (other c f.0) (text_no_lf text f.1)
+    and_from (not (c == 10)) (has_no_lf text) (other c f.0) (text_no_lf text f.1)
   where
     other : (c : ℕ) → ((c == 9) || not (nat_lt c 32)) ≡ true → not (c == 10) ≡ true
     other c h = grind (arith, nat_tests)
@@ -258,7 +255,7 @@ flags_text : (flag : Text) (others : List Text) → IsFlag flag → AllByRecursi
 flags_text flag [] f h = ap is_comment_text (append-nil flag) ∙ f.line.1
 flags_text flag (other ∷ others) f h =
     list_all-append (λ b. (b == 9) || not (nat_lt b 32)) flag (44 ∷ behind_mark other others)
-    ∙ both (is_comment_text flag) (is_comment_text (behind_mark other others)) f.line.1 (flags_text other others h.0 h.1)
+    ∙ and_from (is_comment_text flag) (is_comment_text (behind_mark other others)) f.line.1 (flags_text other others h.0 h.1)
 
 flags_utf8 : (flag : Text) (others : List Text) → IsFlag flag → AllByRecursion IsFlag others → IsUtf8 (behind_mark flag others)
 flags_utf8 flag [] f h = utf8_ascii 32 (flag ++ []) (lit< tt) (IsUtf8-append flag [] f.line.0 IsUtf8-nil)
@@ -268,7 +265,7 @@ flags_utf8 flag (other ∷ others) f h =
 
 some_each : (texts : List Text) → AllByRecursion IsFlag texts → list_all (λ item. nat_lt 0 (length item)) texts ≡ true
 some_each [] h = refl
-some_each (text ∷ texts) h = both (nat_lt 0 (length text)) (list_all (λ item. nat_lt 0 (length item)) texts) (let more : 0 < length text = h.0.some in grind arith) (some_each texts h.1)
+some_each (text ∷ texts) h = and_from (nat_lt 0 (length text)) (list_all (λ item. nat_lt 0 (length item)) texts) (let more : 0 < length text = h.0.some in grind arith) (some_each texts h.1)
 
 flags_read : (flag : Text) (others : List Text) → IsFlag flag → AllByRecursion IsFlag others → IsLine (35 ∷ 44 ∷ behind_mark flag others) (flags (flag ∷ others))
 unfolding line_of

@@ -5,6 +5,7 @@ use Rattle.std.specs.BTreeMap.{insert_entry}
 use Rattle.std.specs.Ordering.{match_ordering}
 use Rattle.std.specs.declared.cmp.Ordering.{Ordering}
 use Rattle.std.specs.declared.cmp.Ordering.TheVariants.{Less, Equal, Greater}
+use Rattle.std.proofs.lemmas.Bool.{and_from}
 use Rattle.po_text.specs.Texts.{text_cmp}
 use Rattle.units.specs.Limits.{is_lang}
 use Rattle.units.specs.Orders.{text_total, text_IsAntisymmetric}
@@ -12,20 +13,16 @@ use Rattle.office_maps.proofs.MapEntries.{insert-mapped}
 use Rattle.office_maps.proofs.Plans.{both_hold}
 use Rattle.office_maps.proofs.languages.Languages.insert_under.Goals as goal
 
-both : (a b : Bool) → a ≡ true → b ≡ true → (a && b) ≡ true
-both true b p q = q
-both false b p q = cc
-
 -- what holds of all keys, and of one more, holds of all keys then
 all_keys-insert : {K X : Type 0} (p : K → Bool) (cmp : K → K → Ordering) (k : K) (v : X) (es : List (K × X)) → p k ≡ true → list_all (λ (e : K × X). p e.0) es ≡ true
     → list_all (λ (e : K × X). p e.0) (insert_entry cmp es k v) ≡ true
-all_keys-insert {K} {X} p cmp k v [] own all = both (p k) true own refl
+all_keys-insert {K} {X} p cmp k v [] own all = and_from (p k) true own refl
 all_keys-insert {K} {X} p cmp k v (e ∷ es) own all =
     let parts = both_hold (p e.0) (list_all (λ (x : K × X). p x.0) es) all in
     elim (cmp k e.0) as (λ r. list_all (λ (x : K × X). p x.0) (match_ordering r ((k, v) ∷ e ∷ es) ((e.0, v) ∷ es) (e ∷ insert_entry cmp es k v)) ≡ true) [
-      | Less ↦ both (p k) (list_all (λ (x : K × X). p x.0) (e ∷ es)) own all
+      | Less ↦ and_from (p k) (list_all (λ (x : K × X). p x.0) (e ∷ es)) own all
       | Equal ↦ all
-      | Greater ↦ both (p e.0) (list_all (λ (x : K × X). p x.0) (insert_entry cmp es k v)) parts.0 (all_keys-insert p cmp k v es own parts.1)
+      | Greater ↦ and_from (p e.0) (list_all (λ (x : K × X). p x.0) (insert_entry cmp es k v)) parts.0 (all_keys-insert p cmp k v es own parts.1)
     ]
 
 -- after a call that put an entry in, or left the entries as they were
