@@ -168,7 +168,9 @@ fn view_with(
 }
 
 /// The view of a unit, if there is one.
-fn view_in(alloc: Global, key: &Key, rows: &UnitRows) -> Result<Option<UnitView>, Failure>
+///
+/// `Memory` where a growth was refused, and `Disk` exactly where a row stands for no value.
+pub fn view_in(alloc: Global, key: &Key, rows: &UnitRows) -> Result<Option<UnitView>, Failure>
     ensures shown { IfOk result (λ v. v ≡ shown_view key.now rows.now) }
     ensures stands { OnOk result (are_unit_rows rows.now ≡ true) }
     ensures unread { IfErr result (IsUnread (are_unit_rows rows.now)) }

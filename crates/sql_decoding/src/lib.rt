@@ -27,7 +27,7 @@ mod tallies;
 mod texts;
 mod units_read;
 
-pub use act_contexts::{context_in, header_in, policy_in, role_in, suggestion_found};
+pub use act_contexts::{context_in, header_in, policy_in, role_in, suggestion_found, view_in};
 pub use columns::{
     domain_at, is_text, is_text_or_null, key_at, lang_at, name_text_at, natural_in, role_at,
     text_in,
