@@ -27,13 +27,14 @@ use files::in_file;
 use office::Desk;
 use send::send_file;
 use stack::take_stack;
+use std::alloc::{AllocError, Global};
 use std::env::Args;
 use std::io::{self, BufWriter, ErrorKind, Stdout};
 use std::process::ExitCode;
 use store_commands::tell_store_fault;
 use store_sql::OpenFault;
 use tables::PlainTables;
-use words::{Asked, Deliver, Plural, error_code, no_text, read_words};
+use words::{Asked, Deliver, Plural, are_canon, error_code, no_text, read_words};
 use work::Work;
 
 fn main(rt: HostRuntime) -> ExitCode {
@@ -44,11 +45,8 @@ fn main(rt: HostRuntime) -> ExitCode {
 }
 
 fn run(rt: &HostRuntime) -> io::Result<u8> {
-    if let Err(fault) = take_stack(rt.alloc()) {
-        return error_status(rt, &Error::from(fault));
-    }
     match std::env::args(rt) {
-        Ok(words) => words_status(rt, words),
+        Ok(words) => args_status(rt, words),
         Err(error) if error.kind() == ErrorKind::InvalidData => {
             error_status(rt, &no_text(rt.alloc()))
         }
@@ -56,15 +54,31 @@ fn run(rt: &HostRuntime) -> io::Result<u8> {
     }
 }
 
-fn words_status(rt: &HostRuntime, words: Args) -> io::Result<u8> {
-    let alloc = rt.alloc();
-    let words: Vec<String> = words.collect(alloc)?;
-    let status = match read_words(alloc, words.as_slice()) {
-        Ok(asked) => asked_status(rt, &asked),
-        Err(error) => error_status(rt, &error),
-    };
+fn args_status(rt: &HostRuntime, words: Args) -> io::Result<u8> {
+    let words: Vec<String> = words.collect(rt.alloc())?;
+    let status = words_status(rt, words.as_slice());
     drop(words);
     status
+}
+
+/// Takes the stack, and does what the words ask for.
+fn words_status(rt: &HostRuntime, words: &[String]) -> io::Result<u8> {
+    let alloc = rt.alloc();
+    if let Err(fault) = take_depth(alloc, words) {
+        return error_status(rt, &Error::from(fault));
+    }
+    match read_words(alloc, words) {
+        Ok(asked) => asked_status(rt, &asked),
+        Err(error) => error_status(rt, &error),
+    }
+}
+
+/// Takes the stack, but where a catalogue alone is read, whose reader goes to no depth.
+fn take_depth(alloc: Global, words: &[String]) -> Result<(), AllocError> {
+    if are_canon(words) {
+        return Ok(());
+    }
+    take_stack(alloc)
 }
 
 /// Does what the words ask for.

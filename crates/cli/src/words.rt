@@ -146,6 +146,11 @@ pub(crate) fn no_text(alloc: Global) -> Error {
     ))
 }
 
+/// Whether the words are those of `office canon`, as far as can be told before they are read.
+pub(crate) fn are_canon(words: &[String]) -> bool {
+    matches!(words, [_, word] if word.as_str() == "canon")
+}
+
 /// What the words ask for; or what to tell of them: help, the version, or what is wrong with them.
 pub(crate) fn read_words<'a>(alloc: Global, words: &'a [String]) -> Result<Asked<'a>, Error> {
     let matches = office_command(alloc)?.try_get_matches_from(words)?;
