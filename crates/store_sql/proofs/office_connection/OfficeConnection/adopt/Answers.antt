@@ -9,6 +9,7 @@ invariant_of-result g c = (
   c.in-Ok.ensures.taken.ended,
   keeps_adopted g.S.Store c.args.connection c.take_over.new.connection c.in-Ok.ensures.taken (λ h db is_open left. g.met.S.Store.settled h.store db is_open left),
   tt,
+  (λ clean is_open. tt),
 )
 
 pub returns-in-Ok-clause-adopted : goal.returns-in-Ok-clause-adopted

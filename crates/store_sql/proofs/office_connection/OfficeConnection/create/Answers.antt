@@ -9,6 +9,7 @@ invariant_of-result g c = (
   keeps_made g.S.Store c.args.start.now (state g.S.Store c.args.connection) c.make.new.connection c.in-Ok.field-0 c.in-Ok.ensures.committed
       (λ h db is_open left. g.met.S.Store.settled h.store db is_open left),
   tt,
+  (λ clean is_open. tt),
 )
 
 pub returns-in-Ok-clause-made : goal.returns-in-Ok-clause-made
