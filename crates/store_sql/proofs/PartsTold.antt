@@ -34,26 +34,26 @@ without_view project lang name view None = refl
 without_view project lang name view (Some header) = refl
 
 module _ (office : Office) (domain lang name : Text) where
-  abbrev project : Project
-  project = project_in office domain
+  abbrev its_project : Project
+  its_project = project_in office domain
 
-  told_of : (view : Option UnitView) (header : Option Entry) → maps.get project.headers lang ≡ header → (part : OfficePart)
-      → option_map (part_with domain lang name) (told_at project lang name view header) ≡ Some part → IsPartOf office part
+  told_of : (view : Option UnitView) (header : Option Entry) → maps.get its_project.headers lang ≡ header → (part : OfficePart)
+      → option_map (part_with domain lang name) (told_at its_project lang name view header) ≡ Some part → IsPartOf office part
   told_of view None at part is = absurd (let no : false ≡ true = ap is_some is in cc)
   told_of view (Some header) at part is =
-      let first : OfficePart = part_with domain lang name (told_with project lang name view) in
+      let first : OfficePart = part_with domain lang name (told_with its_project lang name view) in
       subst (IsPartOf office) (ap (λ (o : Option OfficePart). unwrap_or o first) is) (record { language = ap is_some at; rule = refl; policy = refl; role = refl })
 
   pub told_in_context : (key : Key) (found : Option ActContext) (part : OfficePart) → found ≡ context_of (project_in office domain) lang key name
       → option_map (part_with domain lang name) found ≡ Some part → IsPartOf office part
   told_in_context key found part is told =
-      told_of (view_of project (lang, key)) (maps.get project.headers lang) refl part (subst (λ f. option_map (part_with domain lang name) f ≡ Some part) is told)
+      told_of (view_of its_project (lang, key)) (maps.get its_project.headers lang) refl part (subst (λ f. option_map (part_with domain lang name) f ≡ Some part) is told)
 
   pub told_without : (key : Key) (found : Option ActContext) (part : OfficePart) → found ≡ without_suggestions (context_of (project_in office domain) lang key name)
       → option_map (part_with domain lang name) found ≡ Some part → IsPartOf office part
   told_without key found part is told =
-      told_of (option_map bare (view_of project (lang, key))) (maps.get project.headers lang) refl part
-      (subst (λ f. option_map (part_with domain lang name) f ≡ Some part) (is ∙ without_view project lang name (view_of project (lang, key)) (maps.get project.headers lang)) told)
+      told_of (option_map bare (view_of its_project (lang, key))) (maps.get its_project.headers lang) refl part
+      (subst (λ f. option_map (part_with domain lang name) f ≡ Some part) (is ∙ without_view its_project lang name (view_of its_project (lang, key)) (maps.get its_project.headers lang)) told)
 
 -- ---- with a unit's view
 

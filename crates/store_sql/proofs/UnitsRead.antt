@@ -120,16 +120,16 @@ module _ (s : State) (domain lang : Text) (key : Key) (asked_domain asked_lang c
 module _ (s : State) (part : OfficePart) (key : Key) (asked_domain asked_lang column : Text) (rows : UnitRows) (found : Option ActContext) (keeps : KeepsOffice s) (valid : HasStrings key)
     (is_domain : asked_domain ≡ part.domain) (is_lang : asked_lang ≡ part.lang) (is_key : column ≡ key_text key) (clean : HasCleanDisk s) (is_open : IsTrue s.is_open)
     (told : IsPartOf (office_of_rows (rows_named s.now)) part) (is : found ≡ Some (context_with part (shown_view key rows))) where
-  abbrev project : Project
-  project = project_in (office_of_rows (rows_named s.now)) part.domain
+  abbrev its_project : Project
+  its_project = project_in (office_of_rows (rows_named s.now)) part.domain
 
   pub reads_context_beside : ShowsDomainUnitRows asked_domain asked_lang column s.now rows → found ≡ context_of (project_in (office_of_rows (rows_named s.now)) part.domain) part.lang key part.name
   reads_context_beside shows =
       is ∙ (ap (λ (view : Option UnitView). Some (context_with part view)) (sym (reads_view s part.domain part.lang key asked_domain asked_lang column rows keeps valid is_domain is_lang is_key clean is_open shows))
-      ∙ sym (context_told project key part told))
+      ∙ sym (context_told its_project key part told))
 
   pub reads_unit_beside : ShowsDomainUnitAlone asked_domain asked_lang column s.now rows
       → found ≡ without_suggestions (context_of (project_in (office_of_rows (rows_named s.now)) part.domain) part.lang key part.name)
   reads_unit_beside shows =
       is ∙ (ap (λ (view : Option UnitView). Some (context_with part view)) (sym (reads_bare_view s part.domain part.lang key asked_domain asked_lang column rows keeps valid is_domain is_lang is_key clean is_open shows))
-      ∙ sym (ap without_suggestions (context_told project key part told)))
+      ∙ sym (ap without_suggestions (context_told its_project key part told)))
