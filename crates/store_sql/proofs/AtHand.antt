@@ -1,5 +1,5 @@
--- The office at hand, and what calls keep that answer from it.
-use Rattle.std.specs.Prelude.{is_some}
+-- The office at hand, or a part of it, and what calls keep that answer from it.
+use Rattle.std.specs.Prelude.{is_some, Result, IfSome}
 use Rattle.std.proofs.Common.{◌≡◌, inl, Bool, true, false, Option, Some, None, Ok, IsTrue, sym, subst, ap, ◌∙◌, arith}
 use Rattle.sqlite.specs.Effect.{Database}
 use Rattle.sqlite.specs.Held.{Held, state}
@@ -13,7 +13,9 @@ use Rattle.tables.specs.declared.faults.Lost.TheVariants.{Disk}
 use Rattle.sql_schema.specs.Whole.{IsLookUp}
 use Rattle.office_maps.specs.OfficeIn.{office_in}
 use Rattle.sql_meaning.specs.Domains.{office_of_rows}
-use Rattle.store_sql.specs.TablesInFile.{KeepsOffice, IsAtHand, is_honest, is_whole, means, may_leave, faults, is_stopped}
+use Rattle.store_sql.specs.declared.office_part.OfficePart.{OfficePart}
+use Rattle.store_sql.specs.OfficeParts.{IsPartOf}
+use Rattle.store_sql.specs.TablesInFile.{KeepsOffice, IsAtHand, IsPartAtHand, is_honest, is_whole, means, may_leave, faults, is_stopped}
 use Rattle.store_sql.proofs.StillKept.{left_means, IsSettled}
 use Rattle.sql_schema.specs.Layouts.{rows_named}
 
@@ -47,6 +49,22 @@ at_hand_open s (Some maps) there h clean = (h clean).0
 
 pub at_hand_is : (s : State) (office : Option OfficeMaps) (maps : OfficeMaps) → office ≡ Some maps → IsAtHand s office → HasCleanDisk s → IsTrue s.is_open × (office_in maps ≡ office_of_rows (rows_named s.now))
 at_hand_is s office maps is h clean = subst (IsAtHand s) is h clean
+
+-- ---- a part of the office
+
+-- after a look-up it is still at hand, whatever came of it
+pub part_still : (old new : State) {A E : Type 0} (r : Result A E) (P : Database → A → Type 0) (part : Option OfficePart) → IsLookUp old new r P → IsPartAtHand old part → IsPartAtHand new part
+part_still old new r P part looked held = λ clean is_open.
+    let same = looked.same clean is_open in
+    let early : HasCleanDisk old = omega (arith, clean, looked.survives.clean) in
+    subst (λ (d : Database). IfSome part (IsPartOf (office_of_rows (rows_named d)))) (sym same.now) (held early same.was_open)
+
+-- the one that is told by what was found
+pub part_found : (old new : State) {A E : Type 0} (x : A) (P : Database → A → Type 0) (Told : OfficePart → Type 0) (part : Option OfficePart) → IsLookUp {E = E} old new (Ok x) P → IfSome part Told
+    → ((db : Database) (p : OfficePart) → P db x → Told p → IsPartOf (office_of_rows (rows_named db)) p) → IsPartAtHand new part
+part_found old new x P Told None looked told tells = λ clean is_open. tt
+part_found old new x P Told (Some p) looked told tells = λ clean is_open.
+    subst (λ (d : Database). IsPartOf (office_of_rows (rows_named d)) p) (sym (looked.same clean is_open).now) (tells old.now p (looked.answer clean) told)
 
 module _ {S : Type 0} (g : store.Ghosts S) where
   -- a call that asks nothing of the connection, since the office is at hand

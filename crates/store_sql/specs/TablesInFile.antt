@@ -19,6 +19,8 @@ use Rattle.sql_files.specs.Files.{KeepsFile, LeavesFiles}
 use Rattle.tables.specs.Stops.{LeavesOnly, IsReadable}
 use Rattle.store_sql.specs.OneMeaning.{meaning_set}
 use Rattle.sql_schema.specs.Layouts.{by_domain, rows_named}
+use Rattle.store_sql.specs.declared.office_part.OfficePart.{OfficePart}
+use Rattle.store_sql.specs.OfficeParts.{IsPartOf}
 
 -- A stop leaves trees of a connection, and an opening can read them.
 abbrev pub LeavesReadableTrees : State → Type 0
@@ -101,3 +103,7 @@ pub record KeepsOffice (s : State) : Type 0 where
 -- An office at hand is that of the rows, of a connection that isn't shut.
 abbrev pub IsAtHand : State → Option OfficeMaps → Type 0
 IsAtHand s office = IfSome office (λ maps. HasCleanDisk s → IsTrue s.is_open × (office_in maps ≡ office_of_rows (rows_named s.now)))
+
+-- What is kept of the office is what it tells, of a connection that isn't shut.
+abbrev pub IsPartAtHand : State → Option OfficePart → Type 0
+IsPartAtHand s part = HasCleanDisk s → IsTrue s.is_open → IfSome part (IsPartOf (office_of_rows (rows_named s.now)))

@@ -30,7 +30,7 @@ ghost use Rattle.sql_files.specs.Files.{IsOfficeFile, IsLost, KeepsFile, LeavesF
 ghost use Rattle.sqlite.specs.Effect.{IsDatabase};
 ghost use Rattle.store_sql.specs.Adopting.{AreAdopted};
 ghost use Rattle.store_sql.specs.Faults.{RefusesIn};
-ghost use Rattle.store_sql.specs.TablesInFile.{KeepsOffice, KeepsOwnRules, LeavesItsOwn, LeavesOwnTrees, LeavesReadable, IsAtHand, is_honest, is_whole, means, may_leave, faults, is_stopped, is_loaded};
+ghost use Rattle.store_sql.specs.TablesInFile.{KeepsOffice, KeepsOwnRules, LeavesItsOwn, LeavesOwnTrees, LeavesReadable, IsAtHand, IsPartAtHand, is_honest, is_whole, means, may_leave, faults, is_stopped, is_loaded};
 ghost use Rattle.store_sql.specs.Making.{AreMade, IsHandedBack};
 ghost use Rattle.store_sql.specs.RecordsBehind.{WereHanded};
 ghost use Rattle.store_sql.specs.declared.recorded.HandingFault.TheVariants.{NoTables as Unreadable};
@@ -39,6 +39,7 @@ use crate::act_contexts::{read_context, read_role, read_suggestion, read_suggest
 use crate::entries::hand_entries;
 use crate::keepable_values::{change_fits, record_fits, write_fits};
 use crate::making::make;
+use crate::office_part::{Kept, nothing_kept};
 use crate::recorded::{HandingFault, hand_records};
 use crate::records::read_record;
 use crate::tallies::read_tally;
@@ -50,7 +51,7 @@ use request_book::Record;
 use sql_adoption::OpenFault;
 use sql_commits::{commit_act, commit_change};
 use sql_conversion::take_over;
-use sql_decoding::{Failure, KeptRule};
+use sql_decoding::Failure;
 use sql_keepable::key_fits;
 use sql_streams::RowSink;
 use sqlite::{Alter, Connection};
@@ -66,8 +67,8 @@ pub(crate) struct OfficeConnection<S: Alter> {
     /// A failure of the disk came: nothing is asked of the connection any more.
     stopped: bool,
     alloc: Global,
-    /// The plural rule that the last look read: what it is beside its columns is the type's own promise.
-    kept_rule: Option<KeptRule>,
+    /// What the last looks at units kept.
+    kept: Kept,
     /// The office, where it was read whole and nothing was written since.
     office: Option<OfficeMaps>,
 }
@@ -79,7 +80,7 @@ impl<S: Alter> Model for OfficeConnection<S> {
 
     ghost view = { λ t. (t.connection, (t.stopped, is_some t.office)) };
 
-    ghost invariant = { λ t. (t.connection.in_transaction ≡ false) × KeepsOffice (state S.Store t.connection) × IsAtHand (state S.Store t.connection) t.office };
+    ghost invariant = { λ t. (t.connection.in_transaction ≡ false) × KeepsOffice (state S.Store t.connection) × IsAtHand (state S.Store t.connection) t.office × IsPartAtHand (state S.Store t.connection) t.kept.part };
 }
 
 // It is written out, so that a caller does not prove again how each part is dropped.
@@ -89,10 +90,10 @@ impl<S: Alter + Drop> Drop for OfficeConnection<S> {
             connection,
             stopped: _,
             alloc: _,
-            kept_rule,
+            kept,
             office,
         } = self;
-        drop(kept_rule);
+        drop(kept);
         drop(office);
         drop(connection);
     }
@@ -122,7 +123,7 @@ impl<S: Alter> OfficeConnection<S> {
                 connection,
                 stopped: false,
                 alloc,
-                kept_rule: None,
+                kept: nothing_kept(),
                 office: None,
             }),
             Err(fault) => Err((fault, connection)),
@@ -147,7 +148,7 @@ impl<S: Alter> OfficeConnection<S> {
                 connection,
                 stopped: false,
                 alloc,
-                kept_rule: None,
+                kept: nothing_kept(),
                 office: None,
             }),
             Err(fault) => Err((fault, connection)),
@@ -166,10 +167,10 @@ impl<S: Alter> OfficeConnection<S> {
             connection,
             stopped: _,
             alloc: _,
-            kept_rule,
+            kept,
             office,
         } = self;
-        drop(kept_rule);
+        drop(kept);
         drop(office);
         connection
     }
@@ -258,7 +259,7 @@ impl<S: Alter> OfficeConnection<S> {
             lang,
             key,
             name,
-            &mut self.kept_rule,
+            &mut self.kept,
         ) {
             Ok(found) => Ok(found),
             Err(failure) => {
@@ -290,7 +291,7 @@ impl<S: Alter> OfficeConnection<S> {
             lang,
             key,
             name,
-            &mut self.kept_rule,
+            &mut self.kept,
         ) {
             Ok(found) => Ok(found),
             Err(failure) => {
@@ -509,6 +510,7 @@ impl<S: Alter> OfficeConnection<S> {
         record_fits(row);
         change_fits(change);
         forget(self.alloc, &mut self.office);
+        self.kept.part = None;
         match commit_change(&mut self.connection, self.alloc, row, change) {
             Ok(()) => Ok(()),
             Err(failure) => Err(self.lost(failure)),

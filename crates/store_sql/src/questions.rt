@@ -251,6 +251,43 @@ impl Question for UnitOf<'_> {
     }
 }
 
+/// What a look at a domain's unit takes of it: its row, its template's entry, and its suggestions with the votes on each.
+#[derive(Drop)]
+pub(crate) struct UnitRowsOf<'a> {
+    pub(crate) domain: &'a str,
+    pub(crate) lang: &'a str,
+    pub(crate) key: &'a str,
+}
+
+impl Question for UnitRowsOf<'_> {
+    type Answer = UnitRows;
+
+    ghost Shows = { λ q. ShowsDomainUnitRows q.domain.now q.lang.now q.key.now };
+
+    fn ask<S: Alter>(self, tx: &mut Transaction<'_, S>) -> Result<UnitRows, Error> {
+        unit_part(tx, self.domain, self.lang, self.key)
+    }
+}
+
+/// The same but for its suggestions, which aren't read.
+#[derive(Drop)]
+pub(crate) struct UnitAloneOf<'a> {
+    pub(crate) alloc: Global,
+    pub(crate) domain: &'a str,
+    pub(crate) lang: &'a str,
+    pub(crate) key: &'a str,
+}
+
+impl Question for UnitAloneOf<'_> {
+    type Answer = UnitRows;
+
+    ghost Shows = { λ q. ShowsDomainUnitAlone q.domain.now q.lang.now q.key.now };
+
+    fn ask<S: Alter>(self, tx: &mut Transaction<'_, S>) -> Result<UnitRows, Error> {
+        unit_alone(tx, self.alloc, self.domain, self.lang, self.key)
+    }
+}
+
 /// The suggestions on a domain's unit, in the order of their places; no vote on them is read.
 #[derive(Drop)]
 pub(crate) struct SuggestionsOn<'a> {

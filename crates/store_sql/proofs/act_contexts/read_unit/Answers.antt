@@ -1,23 +1,44 @@
-use Rattle.std.proofs.Common.{rules, ◌≡◌}
+use Rattle.std.proofs.Common.{◌≡◌, Option, Some, option_map, subst}
+use Rattle.sqlite.specs.Effect.{Database}
 use Rattle.sqlite.specs.Held.{state}
-use Rattle.sqlite.specs.declared.error.Error.{Error}
+use Rattle.po_text.specs.Texts.{Text}
 use Rattle.units.specs.Office.{project_in}
 use Rattle.office_specification.specs.UnitAccess.{context_of, without_suggestions}
-use Rattle.sql_statements.specs.DomainUnitRows.{ShowsDomainContextAlone}
-use Rattle.sql_meaning.specs.Domains.{office_of_rows}
-use Rattle.sql_decoding.specs.ShownContexts.{IsShownContext}
-use Rattle.sql_exports.proofs.Results.{look_up_answered}
-use Rattle.store_sql.proofs.ContextsRead.{reads_unit}
-use Rattle.store_sql.proofs.act_contexts.read_unit.Goals as goal
+use Rattle.office_specification.specs.declared.values.ActContext.{ActContext}
 use Rattle.sql_schema.specs.Layouts.{rows_named}
+use Rattle.sql_schema.specs.Whole.{IsLookUp}
+use Rattle.sql_meaning.specs.Domains.{office_of_rows}
+use Rattle.store_sql.specs.declared.office_part.OfficePart.{OfficePart}
+use Rattle.store_sql.specs.OfficeParts.{part_with}
+use Rattle.store_sql.specs.TablesInFile.{IsPartAtHand}
+use Rattle.store_sql.proofs.AtHand.{part_still, part_found}
+use Rattle.store_sql.proofs.PartsTold.{told_without}
+use Rattle.store_sql.proofs.act_contexts.read_unit.Goals as goal
 
-pub returns : goal.returns
-returns g c =
-    let old = state g.S.Store c.args.connection.now in
-    record {
-      found = look_up_answered old (state g.S.Store c.look_up.new.connection) {E = Error} c.in_ok-rows.rows _
-          (ShowsDomainContextAlone c.as_str.result.now c.as_str-2.result.now c.as_str-3.result.now c.as_str-4.result.now) (IsShownContext c.args.key.now c.in_ok-rows.rows)
-          (λ db r. r ≡ without_suggestions (context_of (project_in (office_of_rows (rows_named db)) c.args.domain.now) c.args.lang.now c.args.key.now c.args.name.now)) c.in_ok-rows.ensures.found c.context_in-found.ensures.shown
-          (λ clean is_open shows found shown. reads_unit old c.args.domain.now c.args.lang.now c.args.key.now c.args.name.now c.as_str.result.now c.as_str-2.result.now c.as_str-3.result.now c.as_str-4.result.now
-          c.in_ok-rows.rows found c.requires.keeps c.key_fits.ensures.strings c.as_str.ensures.value c.as_str-2.ensures.value (search rules) c.as_str-4.ensures.value clean is_open shown shows);
-    }
+pub read_unit_beside-requires-clause-held : goal.read_unit_beside-requires-clause-held
+read_unit_beside-requires-clause-held g c = subst (IsPartAtHand (state g.S.Store c.args.connection.now)) c.in-Some.ensures.kept c.requires.held
+
+pub returns-in-Some-clause-found : goal.returns-in-Some-clause-found
+returns-in-Some-clause-found g c =
+    subst (λ (asked : Text × Text × Text). IsLookUp (state g.S.Store c.args.connection.now) (state g.S.Store c.read_unit_beside.new.connection) c.read_unit_beside.result
+    (λ db r. r ≡ without_suggestions (context_of (project_in (office_of_rows (rows_named db)) asked.0) asked.1 c.args.key.now asked.2)))
+    (λ i. (c.in-Some.ensures.domain i, c.in-Some.ensures.lang i, c.in-Some.ensures.name i)) c.read_unit_beside.ensures.found
+
+pub returns-in-Some-clause-held : goal.returns-in-Some-clause-held
+returns-in-Some-clause-held g c =
+    part_still (state g.S.Store c.args.connection.now) (state g.S.Store c.read_unit_beside.new.connection) c.read_unit_beside.result _ c.args.kept.now.part c.read_unit_beside.ensures.found c.requires.held
+
+pub returns-in_err-found-clause-held : goal.returns-in_err-found-clause-held
+returns-in_err-found-clause-held g c =
+    part_still (state g.S.Store c.args.connection.now) (state g.S.Store c.read_unit_anew.new.connection) _ _ c.args.kept.now.part c.in_err-found.ensures.found c.requires.held
+
+pub returns-clause-held : goal.returns-clause-held
+returns-clause-held g c =
+    let domain = c.args.domain.now in
+    let lang = c.args.lang.now in
+    let name = c.args.name.now in
+    let found = c.in_ok-found.found in
+    let P : Database → Option ActContext → Type 0 = (λ (db : Database) (r : Option ActContext). r ≡ without_suggestions (context_of (project_in (office_of_rows (rows_named db)) domain) lang c.args.key.now name)) in
+    let Told : OfficePart → Type 0 = (λ (part : OfficePart). option_map (part_with domain lang name) found ≡ Some part) in
+    part_found (state g.S.Store c.args.connection.now) (state g.S.Store c.read_unit_anew.new.connection) found P Told c.part_to_keep.result c.in_ok-found.ensures.found c.part_to_keep.ensures
+    (λ db part is told. told_without (office_of_rows (rows_named db)) domain lang name c.args.key.now found part is told)

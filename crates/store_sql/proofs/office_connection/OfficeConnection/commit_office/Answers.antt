@@ -25,6 +25,7 @@ invariant_of-self g c =
       c.in-Ok.ensures.committed.ended,
       change_keeps g.S.Store old c.commit_change.new.connection (Ok c.in-Ok.field-0) c.args.row.now c.args.change.now c.self.invariant.1 c.record_fits.ensures c.change_fits.ensures possible rules c.in-Ok.ensures.committed,
       none_at_hand (state g.S.Store c.commit_change.new.connection) c.forget.new.office c.forget.ensures,
+      (λ clean is_open. tt),
     )
 
 pub invariant_of-self-in-Err : goal.invariant_of-self-in-Err
@@ -37,6 +38,7 @@ invariant_of-self-in-Err g c =
       c.in-Err.ensures.committed.ended,
       change_keeps g.S.Store old c.commit_change.new.connection (Err c.in-Err.failure) c.args.row.now c.args.change.now c.self.invariant.1 c.record_fits.ensures c.change_fits.ensures possible rules c.in-Err.ensures.committed,
       none_at_hand (state g.S.Store c.commit_change.new.connection) c.forget.new.office c.forget.ensures,
+      (λ clean is_open. tt),
     )
 
 pub returns-in-Ok-clause-done : goal.returns-in-Ok-clause-done

@@ -8,7 +8,7 @@ use Rattle.tables.specs.declared.faults.Lost.{Lost}
 use Rattle.tables.specs.declared.faults.Lost.TheVariants.{Disk}
 use Rattle.sql_meaning.specs.Domains.{meaning_by_domain}
 use Rattle.store_sql.specs.TablesInFile.{is_honest, is_whole, means, may_leave, faults, is_stopped}
-use Rattle.store_sql.proofs.ActsCommitted.{left_by_act, IsOfUnit, act_keeps, act_done, act_kept}
+use Rattle.store_sql.proofs.ActsCommitted.{left_by_act, IsOfUnit, act_keeps, act_tells, act_done, act_kept}
 use Rattle.store_sql.proofs.AtHand.{none_at_hand}
 use Rattle.sqlite.specs.Effect.{Database}
 use Rattle.store_sql.proofs.office_connection.OfficeConnection.commit_unit.Goals as goal
@@ -24,6 +24,8 @@ invariant_of-self g c =
       act_keeps g.S.Store c.self.inside.connection c.commit_act.new.connection (Ok c.in-Ok.field-0) c.args.row.now c.args.domain.now c.args.lang.now c.args.key.now c.args.write.now
           c.self.invariant.1 c.key_fits.ensures.strings c.record_fits.ensures c.write_fits.ensures possible rules c.in-Ok.ensures.committed,
       none_at_hand (state g.S.Store c.commit_act.new.connection) c.forget.new.office c.forget.ensures,
+      act_tells g.S.Store c.self.inside.connection c.commit_act.new.connection (Ok c.in-Ok.field-0) c.args.row.now c.args.domain.now c.args.lang.now c.args.key.now c.args.write.now
+          c.self.invariant.1 c.key_fits.ensures.strings c.record_fits.ensures c.write_fits.ensures possible rules c.in-Ok.ensures.committed c.self.inside.kept.part c.self.invariant.3,
     )
 
 pub invariant_of-self-in-Err : goal.invariant_of-self-in-Err
@@ -36,6 +38,8 @@ invariant_of-self-in-Err g c =
       act_keeps g.S.Store c.self.inside.connection c.commit_act.new.connection (Err c.in-Err.failure) c.args.row.now c.args.domain.now c.args.lang.now c.args.key.now c.args.write.now
           c.self.invariant.1 c.key_fits.ensures.strings c.record_fits.ensures c.write_fits.ensures possible rules c.in-Err.ensures.committed,
       none_at_hand (state g.S.Store c.commit_act.new.connection) c.forget.new.office c.forget.ensures,
+      act_tells g.S.Store c.self.inside.connection c.commit_act.new.connection (Err c.in-Err.failure) c.args.row.now c.args.domain.now c.args.lang.now c.args.key.now c.args.write.now
+          c.self.invariant.1 c.key_fits.ensures.strings c.record_fits.ensures c.write_fits.ensures possible rules c.in-Err.ensures.committed c.self.inside.kept.part c.self.invariant.3,
     )
 
 pub returns-in-Ok-clause-done : goal.returns-in-Ok-clause-done

@@ -25,6 +25,7 @@ invariant_of-self g c =
       c.in-Ok.ensures.found.ended,
       keeps_still g.S.Store old new (Ok c.in-Ok.found) P c.self.invariant.1 c.in-Ok.ensures.found,
       at_hand_still (state g.S.Store old) (state g.S.Store new) c.in-Ok.found P c.self.inside.office c.in-Ok.ensures.found c.self.invariant.2,
+      c.in-Ok.ensures.held,
     )
 
 pub returns-in-Ok-clause-answer : goal.returns-in-Ok-clause-answer
@@ -47,6 +48,7 @@ invariant_of-self-in-Err g c =
       c.in-Err.ensures.found.ended,
       keeps_still g.S.Store old new (Err c.in-Err.failure) P c.self.invariant.1 c.in-Err.ensures.found,
       none_at_hand (state g.S.Store new) c.forget.new.office c.forget.ensures,
+      c.in-Err.ensures.held,
     )
 
 pub returns-in-Ok-clause-same : goal.returns-in-Ok-clause-same

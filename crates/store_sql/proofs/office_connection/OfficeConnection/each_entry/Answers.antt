@@ -14,7 +14,7 @@ use Rattle.sql_meaning.specs.Domains.{office_of_rows, meaning_by_domain}
 use Rattle.store_sql.specs.TablesInFile.{is_honest, is_whole, means, may_leave, faults, is_stopped}
 use Rattle.store_sql.proofs.StillKept.{kept_looked_up_or, keeps_still}
 use Rattle.sqlite.specs.Effect.{Database}
-use Rattle.store_sql.proofs.AtHand.{none_at_hand, at_hand_still}
+use Rattle.store_sql.proofs.AtHand.{none_at_hand, at_hand_still, part_still}
 use Rattle.store_sql.proofs.office_connection.OfficeConnection.each_entry.Goals as goal
 use Rattle.sql_schema.specs.Layouts.{rows_named}
 
@@ -43,6 +43,7 @@ invariant_of-self g c =
       c.in-Ok.ensures.looked.ended,
       keeps_still g.S.Store old new (Ok (tt {0})) P c.self.invariant.1 c.in-Ok.ensures.looked,
       at_hand_still (state g.S.Store old) (state g.S.Store new) (tt {0}) P c.self.inside.office c.in-Ok.ensures.looked c.self.invariant.2,
+      part_still (state g.S.Store old) (state g.S.Store new) (Ok (tt {0})) P c.self.inside.kept.part c.in-Ok.ensures.looked c.self.invariant.3,
     )
 
 pub invariant_of-self-in-Err : goal.invariant_of-self-in-Err
@@ -53,6 +54,7 @@ invariant_of-self-in-Err g c =
       c.in-Err.ensures.looked.ended,
       keeps_still g.S.Store old new (Err c.in-Err.fault) P c.self.invariant.1 c.in-Err.ensures.looked,
       none_at_hand (state g.S.Store new) c.forget.new.office c.forget.ensures,
+      part_still (state g.S.Store old) (state g.S.Store new) (Err c.in-Err.fault) P c.self.inside.kept.part c.in-Err.ensures.looked c.self.invariant.3,
     )
 
 pub returns-in-Ok-clause-all : goal.returns-in-Ok-clause-all

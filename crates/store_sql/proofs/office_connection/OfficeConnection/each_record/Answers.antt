@@ -7,7 +7,7 @@ use Rattle.sql_streams.specs.Walks.{GaveAll}
 use Rattle.store_sql.specs.RecordsBehind.{AreBehind, WereCut}
 use Rattle.store_sql.proofs.HeadsShown.{holds_heads}
 use Rattle.store_sql.proofs.StillKept.{keeps_still}
-use Rattle.store_sql.proofs.AtHand.{none_at_hand, at_hand_still}
+use Rattle.store_sql.proofs.AtHand.{none_at_hand, at_hand_still, part_still}
 use Rattle.store_sql.proofs.office_connection.OfficeConnection.each_record.Goals as goal
 
 pub hand_records-requires-clause-heads : goal.hand_records-requires-clause-heads
@@ -21,6 +21,7 @@ invariant_of-self g c =
       c.in-Ok.ensures.looked.ended,
       keeps_still g.S.Store old new (Ok (tt {0})) P c.self.invariant.1 c.in-Ok.ensures.looked,
       at_hand_still (state g.S.Store old) (state g.S.Store new) (tt {0}) P c.self.inside.office c.in-Ok.ensures.looked c.self.invariant.2,
+      part_still (state g.S.Store old) (state g.S.Store new) (Ok (tt {0})) P c.self.inside.kept.part c.in-Ok.ensures.looked c.self.invariant.3,
     )
 
 pub invariant_of-self-in-Err : goal.invariant_of-self-in-Err
@@ -31,6 +32,7 @@ invariant_of-self-in-Err g c =
       c.in-Err.ensures.looked.ended,
       keeps_still g.S.Store old new (Err c.in-Err.fault) P c.self.invariant.1 c.in-Err.ensures.looked,
       none_at_hand (state g.S.Store new) c.forget.new.office c.forget.ensures,
+      part_still (state g.S.Store old) (state g.S.Store new) (Err c.in-Err.fault) P c.self.inside.kept.part c.in-Err.ensures.looked c.self.invariant.3,
     )
 
 pub returns-in-Ok-clause-handed : goal.returns-in-Ok-clause-handed

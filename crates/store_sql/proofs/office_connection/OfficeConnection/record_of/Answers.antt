@@ -12,7 +12,7 @@ use Rattle.tables.specs.declared.faults.Lost.TheVariants.{Disk}
 use Rattle.sql_meaning.specs.Meaning.{book_in}
 use Rattle.sql_meaning.specs.Domains.{meaning_by_domain}
 use Rattle.store_sql.specs.TablesInFile.{is_honest, is_whole, means, may_leave, faults, is_stopped}
-use Rattle.store_sql.proofs.AtHand.{at_hand_still, none_at_hand}
+use Rattle.store_sql.proofs.AtHand.{at_hand_still, none_at_hand, part_still}
 use Rattle.store_sql.proofs.StillKept.{keeps_still, kept_looked_up}
 use Rattle.sqlite.specs.State.{HasCleanDisk}
 use Rattle.store_sql.proofs.office_connection.OfficeConnection.record_of.Goals as goal
@@ -26,6 +26,7 @@ invariant_of-self g c =
       c.in-Ok.ensures.found.ended,
       keeps_still g.S.Store old new (Ok c.in-Ok.record) P c.self.invariant.1 c.in-Ok.ensures.found,
       at_hand_still (state g.S.Store old) (state g.S.Store new) c.in-Ok.record P c.self.inside.office c.in-Ok.ensures.found c.self.invariant.2,
+      part_still (state g.S.Store old) (state g.S.Store new) (Ok c.in-Ok.record) P c.self.inside.kept.part c.in-Ok.ensures.found c.self.invariant.3,
     )
 
 pub returns-in-Ok-clause-kept : goal.returns-in-Ok-clause-kept
@@ -44,6 +45,7 @@ invariant_of-self-in-Err g c =
       c.in-Err.ensures.found.ended,
       keeps_still g.S.Store old new (Err c.in-Err.failure) P c.self.invariant.1 c.in-Err.ensures.found,
       none_at_hand (state g.S.Store new) c.forget.new.office c.forget.ensures,
+      part_still (state g.S.Store old) (state g.S.Store new) (Err c.in-Err.failure) P c.self.inside.kept.part c.in-Err.ensures.found c.self.invariant.3,
     )
 
 pub returns-in-Ok-clause-same : goal.returns-in-Ok-clause-same
