@@ -100,6 +100,8 @@ def exported(path):
 def office_at(path, turn):
     """The office in a file, as it serves, and its port: one that no connection is given by itself, unless somebody has it."""
     for port in range(10_000 + turn % 7_000, 31_000, 7_000):
+        if is_taken(port):
+            continue
         words = [PROGRAM, "serve", "--store", path, "--port", str(port), "--connections", "1000000"]
         office = subprocess.Popen(words, stdout=subprocess.DEVNULL, stderr=subprocess.PIPE)
         if listens(port, office):
@@ -107,6 +109,15 @@ def office_at(path, turn):
         if (told := office.communicate()[1]) != b"port fault\n":
             sys.exit(f"the office ended: {told}")
     sys.exit("no free port")
+
+
+def is_taken(port):
+    """Whether somebody listens at the port."""
+    try:
+        socket.create_connection((HOST, port)).close()
+    except ConnectionRefusedError:
+        return False
+    return True
 
 
 def listens(port, process):
