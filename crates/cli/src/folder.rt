@@ -133,6 +133,7 @@ fn export_all<T: Tables>(rt: &HostRuntime, desk: &mut Desk<T>, domain: &Name, fo
         Ok(langs) => export_each(rt, desk, domain, langs.as_slice(), folder),
         Err(Lost::Memory) => tell_export_fault(rt, ExportFault::Memory),
         Err(Lost::Disk) => tell_export_fault(rt, ExportFault::Disk),
+        Err(Lost::Refused) => tell_export_fault(rt, ExportFault::Refused),
     }
 }
 

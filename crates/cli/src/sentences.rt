@@ -1,7 +1,7 @@
 //! What the faults mean that the program tells by numbers.
 
 /// What a line that tells a fault begins with, up to ` at N`, and what the fault means.
-const SENTENCES: [(&str, &str); 32] = [
+const SENTENCES: [(&str, &str); 35] = [
     ("store fault 1", "There was no memory to open the office."),
     (
         "store fault 2",
@@ -10,6 +10,10 @@ const SENTENCES: [(&str, &str); 32] = [
     (
         "store fault 3",
         "The file is a database, and no office's. It keeps its rows.",
+    ),
+    (
+        "store fault 5",
+        "The file refused what was asked of it. It keeps its rows.",
     ),
     (
         "store: exists",
@@ -63,6 +67,10 @@ const SENTENCES: [(&str, &str); 32] = [
         "The text would have more than 9,000,000,000,000,000 bytes.",
     ),
     (
+        "export fault 6",
+        "The file refused what was asked of it. The text is cut short.",
+    ),
+    (
         "records fault 1",
         "No record of the office has that number.",
     ),
@@ -74,6 +82,10 @@ const SENTENCES: [(&str, &str); 32] = [
     (
         "records fault 4",
         "The disk failed. The lines are cut short.",
+    ),
+    (
+        "records fault 5",
+        "The file refused what was asked of it. The lines are cut short.",
     ),
     (
         "plural fault 1",

@@ -120,7 +120,7 @@ pub(crate) const DELIVER: Subcommand = Subcommand {
             name: "stop-at-lost",
             value_name: "",
             value: Value::Flag,
-            help: "Delivers nothing behind the first line that is answered 503 or 507",
+            help: "Delivers nothing behind the first line that is answered 500, 503 or 507",
         },
     ],
     after_help: MAN_PAGE,

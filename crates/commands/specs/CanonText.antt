@@ -1,5 +1,5 @@
--- What `office canon` reads and prints: this project's own rule. Which catalogue a text spells, and what its faults are, is said by the
--- crate of PO texts after the GNU gettext manual, "The Format of PO Files".
+-- What `office canon` reads and prints: this project's own rule. Which catalogue a text spells, what its faults are, and what
+-- the canonical text of a catalogue is, `po_read` and `po_write` say, after the GNU gettext manual, "The Format of PO Files".
 use Rattle.std.specs.Prelude.{◌≡◌, ◌<◌, ◌≤◌, ◌⊎◌, ℕ, List, [], ◌∷◌, ◌++◌, length, codes, decimal, Option}
 use Rattle.byte_streams.specs.Streams.{prepend_known, IsAtEnd, RoseOrStands}
 use Rattle.po_lex.specs.declared.fault.FaultKind.{FaultKind}

@@ -99,6 +99,7 @@ impl ReadSink for Canonical {
     fn take(&mut self, entry: Entry) -> Result<(), AllocError> {
         match self.writer.push(&entry) {
             Ok(()) => Ok(()),
+            // A sink over memory that takes pieces of any length fails where a growth is refused.
             Err(_) => Err(AllocError),
         }
     }

@@ -4,6 +4,7 @@ use Rattle.std.specs.Prelude.{IfSome, IsErrAnd, ◌||◌, unwrap_or}
 use Rattle.request_book.specs.Book.{OfficeWithBook}
 use Rattle.office.specs.Writers.{Writer, TakesAll, TakesPart}
 use Rattle.office.proofs.Streaming.{took_none}
+use Rattle.tables.specs.RunsOn.{RunsSince, RunsOn}
 use Rattle.http_messages.specs.Asked.{Asked}
 use Rattle.http_messages.specs.Streams.{answer_limit, items_of}
 use Rattle.http_api.specs.declared.connection.Next.{Next}
@@ -19,7 +20,7 @@ use Rattle.http_api.specs.Connection.{ReadsNoMore, ReadsOn, AllServed, SomeServe
 use Rattle.http_api.proofs.Serving.{serves, none_served}
 use Rattle.http_api.proofs.Connecting.{HasRoom, has_room, Along, begins, goes_along, AllTaken, ends, ends_behind, is_full, lasts, lasts_read, full_read, SomeTaken, cut_off, breaks_off, wrote_more, gives_up, stops}
 
-module _ {S V : Type 0} (is_honest is_whole : S → Type 0) (means : S → OfficeWithBook) (is_stopped : S → Bool) (at : V → Writer) where
+module _ {S V : Type 0} (is_honest is_whole : S → Type 0) (means : S → OfficeWithBook) (faults : S → ℕ) (is_stopped : S → Bool) (at : V → Writer) where
   abbrev pub ServedTo : S → S → List Asked → List Outcome → Type 0
   ServedTo start now = HasServed (is_honest now) (is_whole now) (is_stopped now ≡ true) (means start) (means now)
 
@@ -32,6 +33,7 @@ module _ {S V : Type 0} (is_honest is_whole : S → Type 0) (means : S → Offic
     pub honest : is_honest now → is_honest start
     pub whole : is_honest now → is_whole now → is_whole start
     pub stopped : is_stopped start ≡ true → is_stopped now ≡ true
+    pub runs : RunsOn is_honest is_whole faults is_stopped start now
 
   pub serving : (start : S) (old now : V) (left : Option (List ℕ)) (failed : ℕ) (held : List ℕ) → TakesAll (at old) (at now) [] → held ≡ [] → Serving start start old now left left failed failed 0 held
   serving start old now left failed held wrote none = record {
@@ -39,6 +41,7 @@ module _ {S V : Type 0} (is_honest is_whole : S → Type 0) (means : S → Offic
     honest = λ h. h;
     whole = λ h w. w;
     stopped = λ s. s;
+    runs = λ since ran. ran;
   }
 
   -- nothing is served where the connection is given up before anything is read
@@ -87,7 +90,7 @@ module _ {S V : Type 0} (is_honest is_whole : S → Type 0) (means : S → Offic
     room_for less is = has_room answered so_far.along.room full so_far.along.within less is
 
     abbrev StepTo : Next → Type 0
-    StepTo next = Stepped Same (ComesTo is_honest is_whole is_stopped means s1 s2) WroteOne l1 l2 f1 f2 held now full next
+    StepTo next = Stepped Same (ComesTo is_honest is_whole faults is_stopped means s1 s2) WroteOne l1 l2 f1 f2 held now full next
 
     -- one message more
     pub one_more : answered < answer_limit → full ≡ (answered + 1 == answer_limit) → (next : Next) → next ≡ More → StepTo next → Serving s0 s2 v0 v2 l0 l2 f0 f2 (answered + 1) now
@@ -101,6 +104,7 @@ module _ {S V : Type 0} (is_honest is_whole : S → Type 0) (means : S → Offic
           honest = λ h. so_far.honest (one.came.did.honest h);
           whole = λ h w. so_far.whole (one.came.did.honest h) (one.came.did.whole h w);
           stopped = λ s. one.came.did.stopped (so_far.stopped s);
+          runs = λ since ran. one.came.did.runs since (so_far.runs since ran);
         }
 
     all_served : (count : ℕ) → AllTaken (ServedTo s0 s2) (WroteTo s2 v0 v2) l0 count → (bytes : List ℕ) × IfSome l0 (λ all. bytes ≡ all) × AllServed (is_honest s2) (is_whole s2) (is_stopped s2 ≡ true) (means s0) (means s2) bytes (at v0) (at v2) count
@@ -137,11 +141,20 @@ module _ {S V : Type 0} (is_honest is_whole : S → Type 0) (means : S → Offic
     pub ends_read_here : (next : Next) → next ≡ End → StepTo next → ReadsOn l0 l2 answered
     ends_read_here next end stepped = let step = subst StepTo end stepped in inl (ends_behind so_far.along step)
 
+    same_runs : Same → RunsOn is_honest is_whole faults is_stopped s0 s2
+    same_runs same since ran = subst (RunsSince is_honest is_whole faults is_stopped since) (sym same.0) (so_far.runs since ran)
+
+    -- whatever the step was
+    pub runs_behind : (next : Next) → StepTo next → RunsOn is_honest is_whole faults is_stopped s0 s2
+    runs_behind End stepped = same_runs stepped.same
+    runs_behind Last stepped = λ since ran. stepped.0.came.did.runs since (so_far.runs since ran)
+    runs_behind More stepped = λ since ran. stepped.0.came.did.runs since (so_far.runs since ran)
+
     -- the connection is given up
     abbrev GivenUpAt : ServeFault → List Outcome → List ℕ → Type 0
     GivenUpAt f os text = is_honest s2 → GivenUp (is_stopped s2 ≡ true) f0 f2 (at v0) (at v2) os text f
 
-    stops_here : (f : ServeFault) → answered < answer_limit → full ≡ (answered + 1 == answer_limit) → SteppedOff Same (ComesTo is_honest is_whole is_stopped means s1 s2) (WroteAt f) l1 l2 f1 f2 held full f → SomeTaken (ServedTo s0 s2) (GivenUpAt f) l0
+    stops_here : (f : ServeFault) → answered < answer_limit → full ≡ (answered + 1 == answer_limit) → SteppedOff Same (ComesTo is_honest is_whole faults is_stopped means s1 s2) (WroteAt f) l1 l2 f1 f2 held full f → SomeTaken (ServedTo s0 s2) (GivenUpAt f) l0
     stops_here f less is (unread cause same_fault same off) =
         subst (λ f. SomeTaken (ServedTo s0 s2) (GivenUpAt f) l0) (sym same_fault)
         (cut_off {Stopped = GivenUpAt (fault_of cause)} so_far.along off (same_served same)
@@ -151,11 +164,15 @@ module _ {S V : Type 0} (is_honest is_whole : S → Type 0) (means : S → Offic
         (λ qs os done. serves (is_honest s1) (is_whole s1) (is_stopped s1 ≡ true) (is_honest s2) (is_whole s2) (is_stopped s2 ≡ true) (means s0) (means s1) (means s2) qs os one.asking.asked one.outcome done one.came)
         (λ os text first. gives_up {w0 = at v0} {w1 = at v1} {w2 = at v2} one.outcome (one.asking.ends || full) f os text one.came.did.honest first one.wrote)
 
+    pub runs_given_up : (f : ServeFault) → SteppedOff Same (ComesTo is_honest is_whole faults is_stopped means s1 s2) (WroteAt f) l1 l2 f1 f2 held full f → RunsOn is_honest is_whole faults is_stopped s0 s2
+    runs_given_up f (unread cause same_fault same off) = same_runs same
+    runs_given_up f (broke_off one) = λ since ran. one.came.did.runs since (so_far.runs since ran)
+
     abbrev SomeServedAt : List ℕ → ServeFault → Type 0
     SomeServedAt bytes f = SomeServed (is_honest s2) (is_whole s2) (is_stopped s2 ≡ true) (means s0) (means s2) bytes f0 f2 (at v0) (at v2) f
 
     pub gives_up_here : {T : Type 0} (Q : List ℕ → T → Type 0) (r : Result T ServeFault) (f : ServeFault) → IsErrAnd r (λ x. x ≡ f) → answered < answer_limit → full ≡ (answered + 1 == answer_limit)
-        → SteppedOff Same (ComesTo is_honest is_whole is_stopped means s1 s2) (WroteAt f) l1 l2 f1 f2 held full f → (bytes : List ℕ) × IfSome l0 (λ all. bytes ≡ all) × MatchResult r (Q bytes) (SomeServedAt bytes)
+        → SteppedOff Same (ComesTo is_honest is_whole faults is_stopped means s1 s2) (WroteAt f) l1 l2 f1 f2 held full f → (bytes : List ℕ) × IfSome l0 (λ all. bytes ≡ all) × MatchResult r (Q bytes) (SomeServedAt bytes)
     gives_up_here Q (Ok x) f is less full off = absurd is
     gives_up_here Q (Err x) f is less full off =
         let some = stops_here f less full off in

@@ -1,5 +1,5 @@
 -- A list of messages with their outcomes, and one more.
-use Rattle.std.proofs.Common.{◌≡◌, List, [], ◌∷◌, ◌++◌, refl, sym, subst, ap, ◌∙◌, append_assoc, append-nil}
+use Rattle.std.proofs.Common.{◌≡◌, ℕ, List, [], ◌∷◌, ◌++◌, refl, sym, subst, ap, ◌∙◌, append_assoc, append-nil}
 use Rattle.units.specs.Office.{Office}
 use Rattle.request_book.specs.Book.{OfficeWithBook}
 use Rattle.http_messages.specs.Queries.{UnitName}
@@ -31,7 +31,7 @@ module _ (Honest Whole Stopped StillHonest StillWhole StillStopped : Type 0) (ho
   text_still name o (text_lost lost is disk) = text_lost lost is (λ e. still (disk e))
 
   is_still : (a : Asked) (o : Outcome) → IsOutcome Honest Whole Stopped office a o → IsOutcome StillHonest StillWhole StillStopped office a o
-  is_still (ask.refused refusal) o is = is
+  is_still (ask.refused _) o is = is
   is_still (ask.request number callers body) o is = is
   is_still (ask.export name) o is = text_still name o is
   is_still (ask.unit name) o is = unit_still name o is
@@ -56,8 +56,8 @@ each_more Honest Whole Stopped StillHonest StillWhole StillStopped honest whole 
       each_more Honest Whole Stopped StillHonest StillWhole StillStopped honest whole still start (before ++ exchange_in x) questions os a o each.1 (subst P (sym (append_assoc before (exchange_in x) (exchanges_of os))) is),
     )
 
-pub serves : (Honest Whole Stopped StillHonest StillWhole StillStopped : Type 0) (start old new : OfficeWithBook) (done : List Asked) (outcomes : List Outcome) (a : Asked) (o : Outcome)
-    → HasServed Honest Whole Stopped start old done outcomes → Came Honest Whole Stopped StillHonest StillWhole StillStopped old new a o → HasServed StillHonest StillWhole StillStopped start new (done ++ a ∷ []) (outcomes ++ o ∷ [])
+pub serves : {Runs StillRuns : ℕ → Type 0} (Honest Whole Stopped StillHonest StillWhole StillStopped : Type 0) (start old new : OfficeWithBook) (done : List Asked) (outcomes : List Outcome) (a : Asked) (o : Outcome)
+    → HasServed Honest Whole Stopped start old done outcomes → Came Honest Whole Stopped StillHonest StillWhole StillStopped Runs StillRuns old new a o → HasServed StillHonest StillWhole StillStopped start new (done ++ a ∷ []) (outcomes ++ o ∷ [])
 serves Honest Whole Stopped StillHonest StillWhole StillStopped start old new done outcomes a o served came =
     let P : List Exchange → Type 0 = λ xs. HasDelivered StillHonest StillWhole StillStopped start new xs in
     record {
@@ -70,5 +70,5 @@ pub none_served : (Honest Whole Stopped : Type 0) (start : OfficeWithBook) → H
 none_served Honest Whole Stopped start = record { delivered = record { run = record { left = λ h w. refl; answers = λ h. refl }; disk = tt }; each = tt }
 
 -- what came of a message, said of what it asks in other words
-pub asked_so : (Honest Whole Stopped StillHonest StillWhole StillStopped : Type 0) (old new : OfficeWithBook) (a b : Asked) (o : Outcome) → a ≡ b → Came Honest Whole Stopped StillHonest StillWhole StillStopped old new b o → Came Honest Whole Stopped StillHonest StillWhole StillStopped old new a o
-asked_so Honest Whole Stopped StillHonest StillWhole StillStopped old new a b o is came = let P : Asked → Type 0 = λ x. Came Honest Whole Stopped StillHonest StillWhole StillStopped old new x o in subst P (sym is) came
+pub asked_so : {Runs StillRuns : ℕ → Type 0} (Honest Whole Stopped StillHonest StillWhole StillStopped : Type 0) (old new : OfficeWithBook) (a b : Asked) (o : Outcome) → a ≡ b → Came Honest Whole Stopped StillHonest StillWhole StillStopped Runs StillRuns old new b o → Came Honest Whole Stopped StillHonest StillWhole StillStopped Runs StillRuns old new a o
+asked_so {Runs} {StillRuns} Honest Whole Stopped StillHonest StillWhole StillStopped old new a b o is came = let P : Asked → Type 0 = λ x. Came Honest Whole Stopped StillHonest StillWhole StillStopped Runs StillRuns old new x o in subst P (sym is) came

@@ -14,7 +14,7 @@ use Rattle.tables.specs.declared.faults.Lost.{Lost}
 use Rattle.tables.specs.declared.faults.Lost.TheVariants as lost
 use Rattle.http_api.specs.declared.answer_bytes.Content.TheVariants.{Json, PoText}
 use Rattle.http_messages.specs.declared.refusal.Refusal.{Refusal}
-use Rattle.http_messages.specs.declared.refusal.Refusal.TheVariants.{Malformed, NoLanguage, NoUnit, Memory, Disk, LongExport}
+use Rattle.http_messages.specs.declared.refusal.Refusal.TheVariants.{Malformed, NoLanguage, NoUnit, Memory, Disk, Refused, LongExport}
 use Rattle.http_api.specs.Statuses.{is_status}
 use Rattle.http_api.specs.Answers.{answer_text, refusal_text}
 use Rattle.http_messages.specs.Queries.{UnitName}
@@ -38,13 +38,14 @@ abbrev pub IsExported : Outcome → Type 0
 IsExported (posted exchange) = ⊥
 IsExported (shown text) = ⊥
 IsExported (exported text) = ⊤
-IsExported (failed refusal) = ⊥
+IsExported (failed _) = ⊥
 
 -- ---- the bytes
 
 abbrev pub lost_refusal : Lost → Refusal
 lost_refusal lost.Memory = Memory
 lost_refusal lost.Disk = Disk
+lost_refusal lost.Refused = Refused
 
 -- A recorded reply keeps its number. One that isn't a status of HTTP no office has given: the disk has.
 abbrev pub reply_answer : Reply → Bool → List ℕ

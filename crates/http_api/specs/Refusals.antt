@@ -1,7 +1,7 @@
 -- The answers that are errors: a status of HTTP, and a body in JSON (RFC 8259) of one word. This project's own rule.
 use Rattle.std.specs.Prelude.{ℕ, List, ◌++◌, codes}
 use Rattle.http_messages.specs.declared.refusal.Refusal.{Refusal}
-use Rattle.http_messages.specs.declared.refusal.Refusal.TheVariants.{LongHead, Malformed, TooLarge, NoRoute, Method, NoLength, NoLanguage, NoUnit, Memory, Disk, LongExport}
+use Rattle.http_messages.specs.declared.refusal.Refusal.TheVariants.{LongHead, Malformed, TooLarge, NoRoute, Method, NoLength, NoLanguage, NoUnit, Memory, Disk, Refused, LongExport}
 
 abbrev pub refusal_status : Refusal → ℕ
 refusal_status LongHead = 431
@@ -14,6 +14,7 @@ refusal_status NoLanguage = 404
 refusal_status NoUnit = 404
 refusal_status Memory = 503
 refusal_status Disk = 507
+refusal_status Refused = 500
 refusal_status LongExport = 507
 
 abbrev pub refusal_word : Refusal → List ℕ
@@ -27,6 +28,7 @@ refusal_word NoLanguage = codes "no-language"
 refusal_word NoUnit = codes "no-unit"
 refusal_word Memory = codes "memory"
 refusal_word Disk = codes "disk"
+refusal_word Refused = codes "refused"
 refusal_word LongExport = codes "long"
 
 -- `{"error":WORD}`

@@ -9,6 +9,7 @@ ghost use Rattle.http_api.specs.Outcomes.{Outcome, outcome_answer};
 ghost use Rattle.http_api.specs.Answering.{ComesTo, Tells, Writes, WroteBeginning, TellsFailures};
 ghost use Rattle.http_api.specs.declared.faults.ServeFault.TheVariants.{Read, Write, Disk};
 ghost use Rattle.http_api.specs.ConnectionSteps.{next_of, Stepped, SteppedOff, StepFailed, HandsOn};
+ghost use Rattle.tables.specs.RunsOn.{RunsOn};
 ghost use Rattle.http_api.specs.Connection.{AllServed, SomeServed, ReadsOn};
 
 use crate::answers::{answer, send_refusal};
@@ -86,7 +87,7 @@ fn answer_front<T: Tables, W: ByteSink>(
 ) -> Result<bool, ServeFault>
     requires within { lengths.head + lengths.body ≤ length inbox.now }
     ensures answered { (o : Outcome)
-        × ComesTo T.is_honest T.is_whole T.is_stopped T.means desk.old desk.new (asking_in inbox.now lengths.head lengths.body).asked o
+        × ComesTo T.is_honest T.is_whole T.faults T.is_stopped T.means desk.old desk.new (asking_in inbox.now lengths.head lengths.body).asked o
         × Writes (T.is_honest desk.new) (T.is_stopped desk.new ≡ true)
         (writer_at W.taken W.failed w.old) (writer_at W.taken W.failed w.new) o ((asking_in inbox.now lengths.head lengths.body).ends || full) result }
     ensures last { IfOk result (λ last. last ≡ ((asking_in inbox.now lengths.head lengths.body).ends || full)) }
@@ -116,7 +117,7 @@ fn serve_message<T: Tables, W: ByteSink>(
 ) -> Result<Next, ServeFault>
     requires within { lengths.head + lengths.body ≤ length inbox.old }
     ensures answered { (o : Outcome)
-        × ComesTo T.is_honest T.is_whole T.is_stopped T.means desk.old desk.new (asking_in inbox.old lengths.head lengths.body).asked o
+        × ComesTo T.is_honest T.is_whole T.faults T.is_stopped T.means desk.old desk.new (asking_in inbox.old lengths.head lengths.body).asked o
         × Writes (T.is_honest desk.new) (T.is_stopped desk.new ≡ true)
         (writer_at W.taken W.failed w.old) (writer_at W.taken W.failed w.new) o ((asking_in inbox.old lengths.head lengths.body).ends || full) result }
     ensures next { IfOk result (λ next. next ≡ next_of ((asking_in inbox.old lengths.head lengths.body).ends || full)) }
@@ -143,11 +144,11 @@ fn serve_one<T: Tables, R: MessagesBehind<W>, W: ByteSink>(
     requires handed_on { W.holds_back w.old ≡ false }
     ensures stepped { MatchResult result
         (Stepped ((desk.new ≡ desk.old) × (w.new ≡ w.old))
-        (ComesTo T.is_honest T.is_whole T.is_stopped T.means desk.old desk.new)
+        (ComesTo T.is_honest T.is_whole T.faults T.is_stopped T.means desk.old desk.new)
         (λ o last. T.is_honest desk.new → TakesAll (writer_at W.taken W.failed w.old) (writer_at W.taken W.failed w.new) (outcome_answer o last))
         (R.left source.old) (R.left source.new) (R.failed source.old) (R.failed source.new) inbox.old inbox.new full)
         (λ fault. SteppedOff ((desk.new ≡ desk.old) × (w.new ≡ w.old))
-        (ComesTo T.is_honest T.is_whole T.is_stopped T.means desk.old desk.new)
+        (ComesTo T.is_honest T.is_whole T.faults T.is_stopped T.means desk.old desk.new)
         (λ o last. T.is_honest desk.new
         → WroteBeginning (T.is_stopped desk.new ≡ true) (writer_at W.taken W.failed w.old) (writer_at W.taken W.failed w.new) o last fault)
         (R.left source.old) (R.left source.new) (R.failed source.old) (R.failed source.new) inbox.old full fault) }
@@ -170,8 +171,8 @@ fn serve_one<T: Tables, R: MessagesBehind<W>, W: ByteSink>(
 /// Answers how many messages were answered. After a fault the writer has taken a beginning of the answers, and the tables are those of
 /// a beginning of the requests that has each one whose answer was written whole: a request that was recorded and not answered gets its
 /// reply when it is sent again. `Read` and `Write` where the source or the writer failed; `Memory` where a growth was refused, for the
-/// routes before anything is read, to read, or within an export whose head was written; `Disk` where the disk failed within such an export. Want of memory and a failed disk are
-/// else answered, by 503 and 507.
+/// routes before anything is read, to read, or within an export whose head was written; `Disk` where the disk failed within such an export. Want of memory, a failed disk and a
+/// refusal are else answered, by 503, 507 and 500.
 pub fn serve<T: Tables, R: MessagesBehind<W>, W: ByteSink>(
     alloc: Global,
     desk: &mut Desk<T>,
@@ -197,6 +198,9 @@ pub fn serve<T: Tables, R: MessagesBehind<W>, W: ByteSink>(
     ensures honest { T.is_honest desk.new → T.is_honest desk.old }
     ensures whole { T.is_honest desk.new → T.is_whole desk.new → T.is_whole desk.old }
     ensures stopped { T.is_stopped desk.old ≡ true → T.is_stopped desk.new ≡ true }
+    // They run on, and no failure shuts them, unless the disk fails: so tables that ran and weren't shut are told as a failed disk only where it failed
+    // meanwhile.
+    ensures runs_on { RunsOn T.is_honest T.is_whole T.faults T.is_stopped desk.old desk.new }
 {
     let Ok(routes) = Routes::new(alloc) else {
         return Err(ServeFault::Memory);

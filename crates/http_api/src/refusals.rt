@@ -28,6 +28,7 @@ pub(crate) fn refusal_status(refusal: Refusal) -> StatusCode
         Refusal::NoLength => StatusCode::LENGTH_REQUIRED,
         Refusal::Memory => StatusCode::SERVICE_UNAVAILABLE,
         Refusal::Disk | Refusal::LongExport => StatusCode::INSUFFICIENT_STORAGE,
+        Refusal::Refused => StatusCode::INTERNAL_SERVER_ERROR,
     }
 }
 
@@ -46,6 +47,7 @@ pub(crate) fn refusal_body(refusal: Refusal) -> &'static str
         Refusal::NoUnit => "{\"error\":\"no-unit\"}",
         Refusal::Memory => lost_body(Lost::Memory),
         Refusal::Disk => lost_body(Lost::Disk),
+        Refusal::Refused => lost_body(Lost::Refused),
         Refusal::LongExport => "{\"error\":\"long\"}",
     }
 }

@@ -168,7 +168,7 @@ front_step bytes front n is len = rw is (ap (λ k. with_head (head_of front) (dr
 
 pub refused_head : (left : Option (List ℕ)) (bytes : List ℕ) (n : ℕ) (refusal : Refusal) → Some (take n bytes) ≡ first_head bytes → n ≤ length bytes → RefusesHead (head_of (take n bytes)) refusal
     → Arrives left bytes (arrival.Refused refusal)
-refused_head left bytes n refusal is within refuses = (
+refused_head left bytes n _ is within refuses = (
   some_bytes bytes (take n bytes) (sym is),
   whatever_follows (λ rest. front_step (bytes ++ rest) (take n bytes) n (head_stays bytes rest (take n bytes) (sym is)) (length-take-le n bytes within) ∙ refuses (drop n (bytes ++ rest))),
 )

@@ -30,7 +30,7 @@ pub record IsAsking (asking : AskingValue) (is : Asking) : Type 0 where
 
 -- what takes memory to be read: a unit's query
 abbrev pub MayTakeMemory : Asked → Type 0
-MayTakeMemory (refused refusal) = ⊥
+MayTakeMemory (refused _) = ⊥
 MayTakeMemory (request number callers body) = ⊥
 MayTakeMemory (export name) = ⊥
 MayTakeMemory (unit name) = ⊤

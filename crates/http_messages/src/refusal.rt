@@ -23,6 +23,8 @@ pub enum Refusal {
     Memory,
     /// 507 `disk`.
     Disk,
+    /// 500 `refused`: the file takes no such rows.
+    Refused,
     /// 507 `long`: the text is longer than an export may be.
     LongExport,
 }

@@ -110,6 +110,8 @@ sink_cut name taken failed sum begun flag old new es (NoTables lost.Memory) firs
     took_front es cut.front cut.rest cut.whole (subst (λ b. TookEntries (taken old) (taken new) (failed old) (failed new) (sum old) (sum new) b (begun new) cut.front) first cut.took.1)
 sink_cut name taken failed sum begun flag old new es (NoTables lost.Disk) first empty cut =
     took_front es cut.front cut.rest cut.whole (subst (λ b. TookEntries (taken old) (taken new) (failed old) (failed new) (sum old) (sum new) b (begun new) cut.front) first cut.took.1)
+sink_cut name taken failed sum begun flag old new es (NoTables lost.Refused) first empty cut =
+    took_front es cut.front cut.rest cut.whole (subst (λ b. TookEntries (taken old) (taken new) (failed old) (failed new) (sum old) (sum new) b (begun new) cut.front) first cut.took.1)
 sink_cut name taken failed sum begun flag old new es (NoSink e) first empty cut =
     entry_refused es cut.front cut.rest cut.entry e empty cut.whole
     (subst (λ b. TookEntries (taken old) (taken cut.mid) (failed old) (failed cut.mid) (sum old) (sum cut.mid) b (begun cut.mid) cut.front) first cut.took.1) cut.refused.1
@@ -123,6 +125,7 @@ told_is text t0 t1 f0 f1 fault.NoLanguage told cut failed other = other (λ is. 
 told_is text t0 t1 f0 f1 fault.Memory told cut failed other = other (λ is. cc)
 told_is text t0 t1 f0 f1 fault.Disk told cut failed other = other (λ is. cc)
 told_is text t0 t1 f0 f1 fault.Long told cut failed other = other (λ is. cc)
+told_is text t0 t1 f0 f1 fault.Refused told cut failed other = other (λ is. cc)
 
 -- what the tables say of a fault is told, of a writer that is where the sink's was
 pub told_on : (text t0 : Option (List ℕ)) {t1 t2 : Option (List ℕ)} (f0 : ℕ) {f1 f2 before after : ℕ} (e from told : ExportFault) → t1 ≡ t2 → f1 ≡ f2 → before ≡ f0 → after ≡ f2 → from ≡ e → WasCut text t0 t1 f0 f1 e

@@ -5,8 +5,9 @@ use Rattle.request_book.specs.Acts.{IsRequestText}
 use Rattle.request_book.specs.declared.act.Request.{Request}
 use Rattle.request_book.specs.Replies.{Reply}
 use Rattle.request_book.specs.Book.{OfficeWithBook}
+use Rattle.tables.specs.RunsOn.{RunsSince}
 use Rattle.tables.specs.declared.faults.Lost.{Lost}
-use Rattle.tables.specs.declared.faults.Lost.TheVariants.{Memory, Disk}
+use Rattle.tables.specs.declared.faults.Lost.TheVariants.{Memory, Disk, Refused}
 use Rattle.office.specs.Runs.{HasRun}
 
 -- ---- a line, and what came of it
@@ -48,6 +49,7 @@ reply_line reply = answer_line reply.status reply.body
 abbrev pub lost_body : Lost → List ℕ
 lost_body Memory = codes "{\"error\":\"memory\"}"
 lost_body Disk = codes "{\"error\":\"disk\"}"
+lost_body Refused = codes "{\"error\":\"refused\"}"
 
 abbrev pub malformed_body : List ℕ
 malformed_body = codes "{\"error\":\"malformed\"}"
@@ -55,6 +57,7 @@ malformed_body = codes "{\"error\":\"malformed\"}"
 abbrev pub lost_line : Lost → List ℕ
 lost_line Memory = answer_line 503 (lost_body Memory)
 lost_line Disk = answer_line 507 (lost_body Disk)
+lost_line Refused = answer_line 500 (lost_body Refused)
 
 abbrev pub result_line : Result Reply Lost → List ℕ
 result_line (Ok reply) = reply_line reply
@@ -87,6 +90,7 @@ abbrev pub DiskOnlyWhere : Type 0 → List (Result Reply Lost) → Type 0
 DiskOnlyWhere Stopped [] = ⊤
 DiskOnlyWhere Stopped (Ok reply ∷ results) = DiskOnlyWhere Stopped results
 DiskOnlyWhere Stopped (Err Memory ∷ results) = DiskOnlyWhere Stopped results
+DiskOnlyWhere Stopped (Err Refused ∷ results) = DiskOnlyWhere Stopped results
 DiskOnlyWhere Stopped (Err Disk ∷ results) = Stopped × DiskOnlyWhere Stopped results
 
 -- what the tables mean, and what was told, is what the requests of the lines leave and are told, the lost ones struck out
@@ -95,19 +99,22 @@ pub record HasDelivered (Honest Whole Stopped : Type 0) (before after : OfficeWi
   pub disk : DiskOnlyWhere Stopped (results_of xs)
 
 -- Whatever was delivered before, these came behind it.
-pub record GoesOn (Honest Whole Stopped StillHonest StillWhole StillStopped : Type 0) (old new : OfficeWithBook) (more : List Exchange) : Type 0 where
+pub record GoesOn (Honest Whole Stopped StillHonest StillWhole StillStopped : Type 0) (Runs StillRuns : ℕ → Type 0) (old new : OfficeWithBook) (more : List Exchange) : Type 0 where
   -- a disk that gave something else never becomes one that didn't
   pub honest : StillHonest → Honest
   -- tables that are shut stay so
   pub whole : StillHonest → StillWhole → Whole
   -- stopped ones too
   pub stopped : Stopped → StillStopped
+  -- those that ran on since so many failures of the disk, unless it failed, do so still
+  pub runs : (since : ℕ) → Runs since → StillRuns since
   pub behind : (start : OfficeWithBook) (done : List Exchange) → HasDelivered Honest Whole Stopped start old done → HasDelivered StillHonest StillWhole StillStopped start new (done ++ more)
 
 -- the same of tables, by the words that their type has for itself
-abbrev pub Delivers : {S : Type 0} → (S → Type 0) → (S → Type 0) → (S → Bool) → (S → OfficeWithBook) → S → S → List Exchange → Type 0
-Delivers is_honest is_whole is_stopped means old new =
-    GoesOn (is_honest old) (is_whole old) (is_stopped old ≡ true) (is_honest new) (is_whole new) (is_stopped new ≡ true) (means old) (means new)
+abbrev pub Delivers : {S : Type 0} → (S → Type 0) → (S → Type 0) → (S → ℕ) → (S → Bool) → (S → OfficeWithBook) → S → S → List Exchange → Type 0
+Delivers is_honest is_whole faults is_stopped means old new =
+    GoesOn (is_honest old) (is_whole old) (is_stopped old ≡ true) (is_honest new) (is_whole new) (is_stopped new ≡ true)
+    (λ since. RunsSince is_honest is_whole faults is_stopped since old) (λ since. RunsSince is_honest is_whole faults is_stopped since new) (means old) (means new)
 
 -- ---- lines that were answered
 

@@ -25,11 +25,12 @@ pub record Failed (taken_old taken_new : Option (List ℕ)) (failed_old failed_n
   pub count : RoseOrStands failed_old failed_new
 
 -- What each fault says: the language isn't there, and nothing was written; or the writer failed, or the text is longer than the
--- limit, behind a beginning of the text; or memory ran out or the tables' disk failed, which may come before it is known whether
--- the language is there, behind a beginning of what text there is.
+-- limit, behind a beginning of the text; or memory ran out, the tables' disk failed or their file refused, which may come before it is
+-- known whether the language is there, behind a beginning of what text there is.
 abbrev pub WasCut : Option (List ℕ) → Option (List ℕ) → Option (List ℕ) → ℕ → ℕ → ExportFault → Type 0
 WasCut text taken_old taken_new failed_old failed_new fault.NoLanguage = IsNone text × (taken_new ≡ taken_old)
 WasCut text taken_old taken_new failed_old failed_new fault.Device = IsSomeAnd text (Failed taken_old taken_new failed_old failed_new)
 WasCut text taken_old taken_new failed_old failed_new fault.Memory = TookBeginning taken_old taken_new (unwrap_or text [])
 WasCut text taken_old taken_new failed_old failed_new fault.Disk = TookBeginning taken_old taken_new (unwrap_or text [])
+WasCut text taken_old taken_new failed_old failed_new fault.Refused = TookBeginning taken_old taken_new (unwrap_or text [])
 WasCut text taken_old taken_new failed_old failed_new fault.Long = IsSomeAnd text (IsTooLong taken_old taken_new)

@@ -17,11 +17,13 @@ export_fault_number export.Device = 2
 export_fault_number export.Memory = 3
 export_fault_number export.Disk = 4
 export_fault_number export.Long = 5
+export_fault_number export.Refused = 6
 
 -- why an export failed, by why not all entries were taken
 abbrev pub fault_of : EachFault SendFault → ExportFault
 fault_of (NoTables lost.Memory) = export.Memory
 fault_of (NoTables lost.Disk) = export.Disk
+fault_of (NoTables lost.Refused) = export.Refused
 fault_of (NoSink send.Device) = export.Device
 fault_of (NoSink send.Memory) = export.Memory
 fault_of (NoSink send.Long) = export.Long
@@ -31,8 +33,10 @@ query_fault_number query.NoLanguage = 1
 query_fault_number query.NoUnit = 2
 query_fault_number query.Memory = 3
 query_fault_number query.Disk = 4
+query_fault_number query.Refused = 5
 
 -- what a question answers where the tables failed
 abbrev pub query_fault_of : Lost → QueryFault
 query_fault_of lost.Memory = query.Memory
 query_fault_of lost.Disk = query.Disk
+query_fault_of lost.Refused = query.Refused

@@ -12,6 +12,7 @@ ghost use Rattle.review.specs.UnitStep.{is_vote, named_by};
 ghost use Rattle.review.specs.Parts.{is_suggest};
 ghost use Rattle.office_specification.specs.Deliveries.{reply_from, first_delivered};
 ghost use Rattle.office_specification.specs.Step.{step};
+ghost use Rattle.office_specification.specs.Parts.{part_of};
 ghost use Rattle.office_specification.specs.UnitAccess.{without_suggestions, with_write_in, IsPossibleWrite};
 ghost use Rattle.office_specification.specs.OfficeChanges.{changed_by, IsPossibleChange};
 ghost use Rattle.office_specification.specs.OfficeRules.{KeepsRules};
@@ -22,7 +23,7 @@ ghost use Rattle.tables.specs.Stops.{Nothing};
 ghost use Rattle.tables.specs.KeptByCalls.{IsKept};
 ghost use Rattle.tables.specs.declared.faults.Lost.TheVariants.{Disk};
 
-use office_specification::{ActContext, Change, UnitOutcome, UnitWrite};
+use office_specification::{ActContext, Change, Part, UnitOutcome, UnitWrite};
 use outcomes::{
     OfficeOutcome, number_used, office_outcome, row_outcome, suggested_outcome, voted_outcome,
     whole_outcome,
@@ -276,24 +277,27 @@ fn deliver_unit_act<T: Tables>(
     )
 }
 
-/// What an act on the office comes to, over the office that is read for it.
-fn read_office_and_decide<T: Tables>(
+/// What an act on the office comes to, over the part of the office that is read for it.
+fn read_part_and_decide<T: Tables>(
     alloc: Global,
     tables: &mut T,
+    part: Part,
     request: &Request,
 ) -> Result<OfficeOutcome, Lost>
     requires act { is_unit_act request.now.act ≡ false }
+    requires part { part ≡ part_of request.now.act }
     ensures answer { T.is_honest tables.new → IfOk result
         (λ outcome. IsSettled (T.means tables.old).office outcome (step (T.means tables.old).office request.now)) }
     ensures same { T.is_honest tables.new → T.is_whole tables.new → T.means tables.new ≡ T.means tables.old }
     ensures kept { IsKept T.is_honest T.is_whole T.means T.may_leave T.faults T.is_stopped tables.old tables.new result Disk Nothing }
 {
-    tables.load_whole_office()?;
+    tables.load_part(part)?;
     let outcome = office_outcome(alloc, tables.office(), request);
     Ok(outcome?)
 }
 
-/// What an act on the office comes to. The caller's role is looked up first: whom it refuses costs no reading of the office.
+/// What an act on the office comes to. The caller's role is looked up first: whom it refuses costs no reading of the office. Then no more
+/// is read than the part that the act needs.
 fn ask_role_and_decide<T: Tables>(
     alloc: Global,
     tables: &mut T,
@@ -310,7 +314,8 @@ fn ask_role_and_decide<T: Tables>(
         let outcome = OfficeOutcome::refused(alloc, Refusal::BelowRole);
         return Ok(outcome?);
     }
-    read_office_and_decide(alloc, tables, request)
+    let part = Part::of(&request.act)?;
+    read_part_and_decide(alloc, tables, part, request)
 }
 
 /// Commits an act on the office, and hands on its reply, which is made before: what is committed is answered.

@@ -14,5 +14,6 @@ pub fn lost_body(lost: Lost) -> &'static str
     match lost {
         Lost::Memory => "{\"error\":\"memory\"}",
         Lost::Disk => "{\"error\":\"disk\"}",
+        Lost::Refused => "{\"error\":\"refused\"}",
     }
 }

@@ -23,6 +23,9 @@ pub enum ExportFault {
     /// The text has more than 9,000,000,000,000,000 bytes.
     #[error("the text is too long")]
     Long = 5,
+    /// The file refused what was asked of it. Tables in memory never answer it.
+    #[error("the file refused")]
+    Refused = 6,
 }
 
 impl ExportFault {
@@ -66,6 +69,7 @@ impl From<EachFault<SendFault>> for ExportFault {
         match fault {
             EachFault::NoTables(Lost::Memory) => ExportFault::Memory,
             EachFault::NoTables(Lost::Disk) => ExportFault::Disk,
+            EachFault::NoTables(Lost::Refused) => ExportFault::Refused,
             EachFault::NoSink(SendFault::Device) => ExportFault::Device,
             EachFault::NoSink(SendFault::Memory) => ExportFault::Memory,
             EachFault::NoSink(SendFault::Long) => ExportFault::Long,
@@ -88,6 +92,9 @@ pub enum QueryFault {
     /// The disk failed under the tables. Tables in memory never answer it.
     #[error("the disk failed")]
     Disk = 4,
+    /// The file refused what was asked of it. Tables in memory never answer it.
+    #[error("the file refused")]
+    Refused = 5,
 }
 
 impl QueryFault {
@@ -112,6 +119,7 @@ impl From<Lost> for QueryFault {
         match lost {
             Lost::Memory => QueryFault::Memory,
             Lost::Disk => QueryFault::Disk,
+            Lost::Refused => QueryFault::Refused,
         }
     }
 }

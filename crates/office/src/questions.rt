@@ -14,7 +14,8 @@ ghost use Rattle.tables.specs.declared.faults.Lost.TheVariants as lost;
 use crate::desk::Desk;
 use crate::faults::QueryFault;
 use office_maps::OfficeMaps;
-use office_specification::ActContext;
+use office_specification::{ActContext, Part};
+use po_text::Duplicate;
 use std::alloc::{AllocError, Global};
 use tables::{Lost, Tables};
 use units::{Key, Lang, Name};
@@ -105,20 +106,24 @@ fn languages_in(alloc: Global, office: &OfficeMaps, domain: &Name) -> Result<Vec
     }
 }
 
-/// The languages of a domain, of the office that is read for that.
+/// The languages of a domain, which are read with its template.
 fn languages_of<T: Tables>(alloc: Global, tables: &mut T, domain: &Name) -> Result<Vec<Lang>, Lost>
     ensures answer { T.is_honest tables.new → IfOk result (λ all. all.items ≡ languages (project_in (T.means tables.old).office domain.now)) }
     ensures same { T.is_honest tables.new → T.is_whole tables.new → T.means tables.new ≡ T.means tables.old }
     ensures kept { IsKept T.is_honest T.is_whole T.means T.may_leave T.faults T.is_stopped tables.old tables.new result lost.Disk Nothing }
 {
-    tables.load_whole_office()?;
+    if tables.stopped() {
+        return Err(Lost::Disk);
+    }
+    let own = domain.duplicate()?;
+    tables.load_part(Part::Languages(own))?;
     let all = languages_in(alloc, tables.office(), domain);
     Ok(all?)
 }
 
 impl<T: Tables> Desk<T> {
-    /// The languages of a domain, in the order of their codes; none where the domain isn't there. The whole office is read for that, as for an act on
-    /// it. The tables mean what they meant, unless a failure has shut them.
+    /// The languages of a domain, in the order of their codes; none where the domain isn't there. They are read with the domain's
+    /// template, and no unit is. The tables mean what they meant, unless a failure has shut them.
     ///
     /// `Memory`, as where a growth was refused, and `Disk`, as where the disk failed, after which the desk answers `Disk` until the tables are
     /// opened again.

@@ -7,6 +7,9 @@ use Rattle.units.specs.Office.{Office, OfficePlace, office_place_eq, same_domain
 use Rattle.request_book.specs.declared.act.Request.{Request}
 use Rattle.request_book.specs.Book.{OfficeWithBook}
 use Rattle.request_book.specs.Clash.{clash}
+use Rattle.replies.specs.Bodies.{Stepped}
+use Rattle.office_specification.specs.declared.parts.Part.{Part}
+use Rattle.office_specification.specs.Parts.{AreAlikeIn}
 use Rattle.office_specification.specs.Step.{step}
 use Rattle.office_specification.specs.Deliveries.{left_by, answers_of}
 
@@ -25,6 +28,11 @@ pub record DiffersIn (domain : Text) (old new : Office) : Type 0 where
   pub team : new.team ≡ old.team
   pub policy : new.policy ≡ old.policy
   pub others : (other : Text) → same_domain other domain ≡ false → maps.get new.domains other ≡ maps.get old.domains other
+
+-- two steps have one reply, and leave offices that are alike in a part
+pub record IsStepAlike (part : Part) (x y : Stepped Office) : Type 0 where
+  pub reply : x.1 ≡ y.1
+  pub left : AreAlikeIn part x.0 y.0
 
 -- two requests leave one office in either order, and get the same two replies
 pub record GoInEitherOrder (office : Office) (x y : Request) : Type 0 where

@@ -1,5 +1,5 @@
-//! What holds of all deliveries: what an act on a unit leaves alone, which requests may change places, what an export depends on,
-//! and how a run goes on. The promises of retries and of commuting stand on these.
+//! What holds of all deliveries: what an act on a unit leaves alone, what of an office an act reads, which requests may change
+//! places, what an export depends on, and how a run goes on. The promises of retries and of commuting stand on these.
 
 ghost use Rattle.std.specs.Prelude.{◌≡◌, List, true, false};
 ghost use Rattle.std.specs.FinMap as maps;
@@ -14,7 +14,8 @@ ghost use Rattle.request_book.specs.Clash.{scope_of, of_domain, clash, Alike};
 ghost use Rattle.office_specification.specs.Step.{step};
 ghost use Rattle.office_specification.specs.Deliveries.{first_of, left_by};
 ghost use Rattle.office_specification.specs.ExportText.{export_text};
-ghost use Rattle.office_specification.specs.Laws.{DiffersAt, DiffersIn, GoInEitherOrder, Swaps, IsJoined};
+ghost use Rattle.office_specification.specs.Laws.{DiffersAt, DiffersIn, IsStepAlike, GoInEitherOrder, Swaps, IsJoined};
+ghost use Rattle.office_specification.specs.Parts.{part_of, AreAlikeIn};
 
 /// An act on a unit leaves all else as it was: which domains there are, each domain's template and headers, team, policy and each
 /// other unit.
@@ -34,6 +35,13 @@ pub fn domain_request_leaves_domains()
     ensures others { (office : Office) (request : Request) (domain : Text) → request.act ≡ AddDomain domain → DiffersIn domain office (step office request).0 }
     ensures there { (office : Office) (request : Request) (domain : Text) → request.act ≡ AddDomain domain
         → maps.contains_key office.domains domain ≡ true → (step office request).0 ≡ office }
+{}
+
+/// An act reads no more of an office than its part: of two offices that are alike in that it gets one reply, and it leaves them alike
+/// in it.
+pub fn acts_read_their_part()
+    ensures { (x y : Office) (request : Request) → AreAlikeIn (part_of request.act) x y →
+        IsStepAlike (part_of request.act) (step x request) (step y request) }
 {}
 
 /// Two requests that don't clash leave one office in either order, and each gets one reply: acts on two units, and a template or

@@ -4,6 +4,8 @@ pub mod ActsSettled
 pub mod Objects
 pub mod ValueTexts
 pub mod Teams
+pub mod TeamSteps
+pub mod LanguageSteps
 pub mod Policies
 pub mod Counted
 pub mod ByParts

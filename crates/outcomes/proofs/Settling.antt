@@ -1,5 +1,5 @@
 -- The step of a request for an act on the office, by who asks and by the act.
-use Rattle.std.proofs.Common.{◌≡◌, true, false, cond, not, None, Result, Ok, Err, sym, ap, subst, ◌∙◌}
+use Rattle.std.proofs.Common.{◌≡◌, Bool, true, false, cond, not, None, Result, Ok, Err, sym, ap, subst, ◌∙◌}
 use Rattle.std.specs.Prelude.{IfOk}
 use Rattle.std.specs.FinMap as maps
 use Rattle.po_text.specs.Texts.{Text}
@@ -19,6 +19,9 @@ use Rattle.office_specification.specs.ProjectActs.{template_step, language_step}
 use Rattle.office_specification.specs.OfficeActs.{managed, team_step, policy_step, domain_step}
 use Rattle.office_specification.specs.OfficeChanges.{changed_project_by}
 use Rattle.office_specification.specs.Step.{step, act_step, in_domain, in_known_domain}
+use Rattle.office_specification.specs.Parts.{part_of, ShareTeam, ShareLanguages, AreAlikeIn}
+use Rattle.office_specification.specs.declared.parts.Part.TheVariants as parts
+use Rattle.office_specification.proofs.acts.PartSteps.{one_team, same_project}
 use Rattle.office_specification.proofs.domains.InDomains.{with_project-same}
 use Rattle.outcomes.specs.declared.outcome.DomainOutcome.{DomainOutcome}
 use Rattle.outcomes.specs.declared.outcome.OfficeOutcome.{OfficeOutcome}
@@ -45,6 +48,11 @@ refused_act office caller number (AddDomain domain) own below = not_allowed offi
 pub refused_request : (office : Office) (request : Request) → is_unit_act request.act ≡ false → is_below (role_in office.team request.caller) Manager ≡ true →
     ◌≡◌ {A = Stepped Office} (office, refused BelowRole) (step office request)
 refused_request office request own below = refused_act office request.caller request.number request.act own below
+
+-- whom the team of an office lets act or not, that of an office that is alike does too
+pub same_right : (office : Office) (request : Request) (below : Bool) → is_below (role_in office.team request.caller) Manager ≡ below →
+    (whole : Office) → AreAlikeIn (part_of request.act) office whole → is_below (role_in whole.team request.caller) Manager ≡ below
+same_right office request below e whole alike = ap (λ team. is_below (role_in team request.caller) Manager) (sym (one_team (part_of request.act) office whole alike)) ∙ e
 
 -- ---- a manager's acts
 
@@ -95,12 +103,31 @@ still office domain outcome stepped none settled = record { is = same ∙ ap (λ
     unmoved : ◌≡◌ {A = Stepped Project} (project_in office domain, outcome.reply) (changed_project_by (project_in office domain) outcome.change, outcome.reply)
     unmoved = ap (λ change. (changed_project_by (project_in office domain) change, outcome.reply)) (sym none)
 
--- what is settled of the domain that is lent is settled of the office
+-- what is settled of the domain that is lent is settled of each office that has it
 pub settled_in : {E : Type 0} (r : Result OfficeOutcome E) (office : Office) (domain : Text) (lent : Project) (outcome : DomainOutcome) (next : Project → Stepped Project) →
     maps.contains_key office.domains domain ≡ true → lent ≡ project_in office domain → IsSettledIn lent outcome (next lent) →
-    IfOk r (λ whole. (o : Office) → (stepped : Stepped Project) → maps.contains_key o.domains domain ≡ true → IsSettledIn (project_in o domain) outcome stepped → IsSettled o whole (with_project o domain stepped.0, stepped.1)) →
-    IfOk r (λ whole. IsSettled office whole (in_known_domain office domain next))
-settled_in (Ok whole) office domain lent outcome next there its settled each =
-    subst (λ (s : Stepped Office). IsSettled office whole s) (known office domain next there)
-    (each office (next (project_in office domain)) there (subst (λ (project : Project). IsSettledIn project outcome (next project)) its settled))
+    IfOk r (λ told. (o : Office) → (stepped : Stepped Project) → maps.contains_key o.domains domain ≡ true → IsSettledIn (project_in o domain) outcome stepped → IsSettled o told (with_project o domain stepped.0, stepped.1)) →
+    IfOk r (λ told. (whole : Office) → AreAlikeIn (parts.Domain domain) office whole → IsSettled whole told (in_known_domain whole domain next))
+settled_in (Ok told) office domain lent outcome next there its settled each = λ whole alike.
+    let here : maps.contains_key whole.domains domain ≡ true = sym (alike.0.domains domain) ∙ there in
+    let own : lent ≡ project_in whole domain = its ∙ same_project office whole domain alike.0 alike.1 in
+    subst (λ (s : Stepped Office). IsSettled whole told s) (known whole domain next here)
+    (each whole (next (project_in whole domain)) here (subst (λ (project : Project). IsSettledIn project outcome (next project)) own settled))
 settled_in (Err fault) office domain lent outcome next there its settled each = tt
+
+-- the same where the domain's units don't matter
+pub settled_but_units : {E : Type 0} (r : Result OfficeOutcome E) (office : Office) (domain : Text) (lent : Project) (outcome : DomainOutcome) (next : Project → Stepped Project) →
+    maps.contains_key office.domains domain ≡ true → lent ≡ project_in office domain → ((whole : Project) → ShareLanguages lent whole → IsSettledIn whole outcome (next whole)) →
+    IfOk r (λ told. (o : Office) → (stepped : Stepped Project) → maps.contains_key o.domains domain ≡ true → IsSettledIn (project_in o domain) outcome stepped → IsSettled o told (with_project o domain stepped.0, stepped.1)) →
+    IfOk r (λ told. (whole : Office) → AreAlikeIn (parts.Languages domain) office whole → IsSettled whole told (in_known_domain whole domain next))
+settled_but_units (Ok told) office domain lent outcome next there its settled each = λ whole alike.
+    let here : maps.contains_key whole.domains domain ≡ true = sym (alike.0.domains domain) ∙ there in
+    let own : ShareLanguages lent (project_in whole domain) = subst (λ (project : Project). ShareLanguages project (project_in whole domain)) (sym its) alike.1 in
+    subst (λ (s : Stepped Office). IsSettled whole told s) (known whole domain next here)
+    (each whole (next (project_in whole domain)) here (settled (project_in whole domain) own))
+settled_but_units (Err fault) office domain lent outcome next there its settled each = tt
+
+-- and so is that the domain isn't there
+pub unknown_there : (office whole : Office) (domain : Text) (next : Project → Stepped Project) → ShareTeam office whole → maps.contains_key office.domains domain ≡ false →
+    ◌≡◌ {A = Stepped Office} (whole, refused NoDomain) (in_known_domain whole domain next)
+unknown_there office whole domain next alike none = unknown whole domain next (sym (alike.domains domain) ∙ none)

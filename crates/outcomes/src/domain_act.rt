@@ -6,6 +6,7 @@ ghost use Rattle.units.specs.Project.{Project};
 ghost use Rattle.units.specs.Office.{Office, project_in, with_project};
 ghost use Rattle.replies.specs.Bodies.{Stepped};
 ghost use Rattle.office_specification.specs.OfficeActs.{domain_step};
+ghost use Rattle.office_specification.specs.Parts.{ShareTeam};
 ghost use Rattle.outcomes.specs.Settled.{IsSettled, IsSettledIn};
 ghost use Rattle.office_maps.specs.OfficeIn.{office_in};
 
@@ -17,14 +18,14 @@ use po_text::Duplicate;
 use std::alloc::Global;
 use units::{DOMAIN_LIMIT, Memory, Name, Refusal};
 
-/// What a new domain comes to.
+/// What a new domain comes to, in each office that has domains of the names that the maps have.
 pub(crate) fn domain_outcome(
     alloc: Global,
     office: &OfficeMaps,
     domain: &Name,
 ) -> Result<OfficeOutcome, Memory>
-    ensures { IfOk result
-        (λ outcome. IsSettled (office_in office.now) outcome (domain_step (office_in office.now) domain.now)) }
+    ensures { IfOk result (λ outcome. (whole : Office) → ShareTeam (office_in office.now) whole →
+        IsSettled whole outcome (domain_step whole domain.now)) }
 {
     if office.has_domain(domain) {
         return OfficeOutcome::refused(alloc, Refusal::DomainExists);

@@ -8,6 +8,7 @@ ghost use Rattle.units.specs.Project.{Project, place_eq};
 ghost use Rattle.units.specs.Projects.{IsProject};
 ghost use Rattle.units.specs.Rules.{rule_in};
 ghost use Rattle.replies.specs.Bodies.{count_fields, reply as reply_of};
+ghost use Rattle.office_specification.specs.Parts.{ShareLanguages};
 ghost use Rattle.office_specification.specs.ProjectActs as spec;
 ghost use Rattle.office_specification.specs.Tally.{counts_in};
 ghost use Rattle.outcomes.specs.Settled.{IsSettledIn};
@@ -103,8 +104,8 @@ fn load_language(
     requires rule { rule_in (Some header.now) ≡ Ok rule }
     requires new { maps.contains_key (lent_project project.now).headers lang.now ≡ false }
     requires valid { IsValid text.now }
-    ensures { IfOk result
-        (λ outcome. IsSettledIn (lent_project project.now) outcome (spec.with_rule (lent_project project.now) lang.now text.now header.now rule)) }
+    ensures { IfOk result (λ outcome. (whole : Project) → ShareLanguages (lent_project project.now) whole →
+        IsSettledIn whole outcome (spec.with_rule whole lang.now text.now header.now rule)) }
 {
     loads_count_the_template();
     if project.language_count() >= LANGUAGE_LIMIT {
@@ -141,8 +142,8 @@ fn add_language(
 ) -> Result<DomainOutcome, Memory>
     requires new { maps.contains_key (lent_project project.now).headers lang.now ≡ false }
     requires valid { IsValid text.now }
-    ensures { IfOk result
-        (λ outcome. IsSettledIn (lent_project project.now) outcome (spec.of_entries (lent_project project.now) lang.now text.now)) }
+    ensures { IfOk result (λ outcome. (whole : Project) → ShareLanguages (lent_project project.now) whole →
+        IsSettledIn whole outcome (spec.of_entries whole lang.now text.now)) }
 {
     let header = header_of(text.entries());
     match rule_of(alloc, header)? {
@@ -164,15 +165,15 @@ fn has_language(project: &ProjectMaps<'_>, lang: &Lang) -> bool
     project.domain.languages.get(lang).is_some()
 }
 
-/// What a language comes to.
+/// What a language comes to, in each project that is the one of the maps but for its units.
 pub(crate) fn language_outcome(
     alloc: Global,
     project: &ProjectMaps<'_>,
     lang: &Lang,
     po: &Text,
 ) -> Result<DomainOutcome, Memory>
-    ensures { IfOk result
-        (λ outcome. IsSettledIn (lent_project project.now) outcome (spec.language_step (lent_project project.now) lang.now po.now)) }
+    ensures { IfOk result (λ outcome. (whole : Project) → ShareLanguages (lent_project project.now) whole →
+        IsSettledIn whole outcome (spec.language_step whole lang.now po.now)) }
 {
     if has_language(project, lang) {
         return DomainOutcome::refused(alloc, Refusal::LanguageExists);

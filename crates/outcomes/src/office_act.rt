@@ -2,11 +2,14 @@
 
 ghost use Rattle.std.specs.Prelude.{◌≡◌, IfOk, false};
 ghost use Rattle.units.specs.Project.{role_in};
+ghost use Rattle.units.specs.Office.{Office};
 ghost use Rattle.units.specs.Units.{is_below};
 ghost use Rattle.units.specs.declared.unit.Role.TheVariants.{Manager};
 ghost use Rattle.request_book.specs.Clash.{is_unit_act};
 ghost use Rattle.office_specification.specs.ProjectActs.{template_step, language_step};
 ghost use Rattle.office_specification.specs.Step.{step, in_known_domain};
+ghost use Rattle.office_specification.specs.Parts.{part_of, AreAlikeIn};
+ghost use Rattle.office_specification.specs.declared.parts.Part.TheVariants as parts;
 ghost use Rattle.outcomes.specs.Settled.{IsSettled};
 ghost use Rattle.office_maps.specs.OfficeIn.{office_in};
 
@@ -29,15 +32,15 @@ fn is_below_manager(office: &OfficeMaps, caller: &Name) -> bool
     office.role_of(caller).is_below(Role::Manager)
 }
 
-/// What a template of a domain comes to.
+/// What a template of a domain comes to, in each office that has this domain.
 fn template_in(
     alloc: Global,
     office: &OfficeMaps,
     domain: &Name,
     po: &Text,
 ) -> Result<OfficeOutcome, Memory>
-    ensures { IfOk result (λ outcome. IsSettled (office_in office.now) outcome
-        (in_known_domain (office_in office.now) domain.now (λ project. template_step project po.now))) }
+    ensures { IfOk result (λ outcome. (whole : Office) → AreAlikeIn (parts.Domain domain.now) (office_in office.now) whole →
+        IsSettled whole outcome (in_known_domain whole domain.now (λ project. template_step project po.now))) }
 {
     match office.project(domain) {
         None => OfficeOutcome::refused(alloc, Refusal::NoDomain),
@@ -48,7 +51,7 @@ fn template_in(
     }
 }
 
-/// What a language of a domain comes to.
+/// What a language of a domain comes to, in each office that has the template and the languages of this domain.
 fn language_in(
     alloc: Global,
     office: &OfficeMaps,
@@ -56,8 +59,8 @@ fn language_in(
     lang: &Lang,
     po: &Text,
 ) -> Result<OfficeOutcome, Memory>
-    ensures { IfOk result (λ outcome. IsSettled (office_in office.now) outcome
-        (in_known_domain (office_in office.now) domain.now (λ project. language_step project lang.now po.now))) }
+    ensures { IfOk result (λ outcome. (whole : Office) → AreAlikeIn (parts.Languages domain.now) (office_in office.now) whole →
+        IsSettled whole outcome (in_known_domain whole domain.now (λ project. language_step project lang.now po.now))) }
 {
     match office.project(domain) {
         None => OfficeOutcome::refused(alloc, Refusal::NoDomain),
@@ -68,7 +71,8 @@ fn language_in(
     }
 }
 
-/// What a request for an act on the office comes to: a refusal where the caller isn't a manager, and else what the act comes to.
+/// What a request for an act on the office comes to: a refusal where the caller isn't a manager, and else what the act comes to. The
+/// maps need be those of its part alone: it comes to that in each office that is alike to them in what the act reads.
 ///
 /// `Memory` where a growth was refused.
 pub fn office_outcome(
@@ -77,7 +81,8 @@ pub fn office_outcome(
     request: &Request,
 ) -> Result<OfficeOutcome, Memory>
     requires { is_unit_act request.now.act ≡ false }
-    ensures { IfOk result (λ outcome. IsSettled (office_in office.now) outcome (step (office_in office.now) request.now)) }
+    ensures { IfOk result (λ outcome. (whole : Office) → AreAlikeIn (part_of request.now.act) (office_in office.now) whole →
+        IsSettled whole outcome (step whole request.now)) }
 {
     if is_below_manager(office, &request.caller) {
         return OfficeOutcome::refused(alloc, Refusal::BelowRole);

@@ -7,6 +7,8 @@ ghost use Rattle.po_text.specs.Texts.{text_eq};
 ghost use Rattle.units.specs.Changes.{set_role};
 ghost use Rattle.office_specification.specs.OfficeActs as spec;
 ghost use Rattle.office_specification.specs.OfficeActs.{is_manager};
+ghost use Rattle.office_specification.specs.Parts.{ShareTeam};
+ghost use Rattle.units.specs.Office.{Office};
 ghost use Rattle.outcomes.specs.Settled.{IsSettled};
 ghost use Rattle.office_maps.specs.OfficeIn.{office_in};
 
@@ -58,15 +60,15 @@ fn has_manager_with(office: &OfficeMaps, name: &Name, role: Role) -> bool
             .any(|(other, own)| is_another_manager(name, other, *own))
 }
 
-/// What a role comes to.
+/// What a role comes to, in each office that has the team of the maps.
 pub(crate) fn role_outcome(
     alloc: Global,
     office: &OfficeMaps,
     name: &Name,
     role: Role,
 ) -> Result<OfficeOutcome, Memory>
-    ensures { IfOk result
-        (λ outcome. IsSettled (office_in office.now) outcome (spec.team_step (office_in office.now) name.now role)) }
+    ensures { IfOk result (λ outcome. (whole : Office) → ShareTeam (office_in office.now) whole →
+        IsSettled whole outcome (spec.team_step whole name.now role)) }
 {
     if team_size_with(office, name, role) > TEAM_LIMIT {
         return OfficeOutcome::refused(alloc, Refusal::PastLimit);

@@ -1,5 +1,5 @@
 -- The keys of whole entries, found by their hashes: this project's own rule.
-use Rattle.std.specs.Prelude.{◌≡◌, ◌⊎◌, ◌<◌, ◌+◌, ℕ, List, [], ◌∷◌, Bool, true, Option, Some, None, IsSome, length, if◌then◌else◌}
+use Rattle.std.specs.Prelude.{◌≡◌, ◌⊎◌, ◌<◌, ◌+◌, ◌/◌, ◌^◌, ℕ, List, [], ◌∷◌, Bool, true, Option, Some, None, IsSome, length, if◌then◌else◌}
 use Rattle.std.specs.List.{list_any, slice_get}
 use Rattle.std.specs.Ordering.{nat_cmp}
 use Rattle.std.specs.BTreeMap.{BTreeMap, get}
@@ -26,10 +26,10 @@ abbrev pub count_in : List EntryKey → ℕ
 count_in [] = 0
 count_in (key ∷ keys) = if is_header_key key.ctx key.id then length keys else length keys + 1
 
--- the msgid is hashed, and the context behind it
+-- The msgid is hashed, and the context behind it. The upper half of that is the key's hash.
 abbrev pub key_hash : Option Text → Text → ℕ
-key_hash None id = folding.finish (folding.write folding.initial id)
-key_hash (Some ctx) id = folding.finish (folding.write (folding.write folding.initial id) ctx)
+key_hash None id = folding.finish (folding.write folding.initial id) / 2 ^ 32
+key_hash (Some ctx) id = folding.finish (folding.write (folding.write folding.initial id) ctx) / 2 ^ 32
 
 -- The key is the first of its hash, or there is a first one and it is among the others.
 abbrev pub IsFoundAt : BTreeMap ℕ ℕ → BTreeSet EntryKey → ℕ → EntryKey → Type 0

@@ -1,4 +1,4 @@
--- What a list of entries took is what stands behind what it was: this project's own words.
+-- What a list of entries took stands behind those that it had: this project's own words.
 use Rattle.std.specs.Prelude.{◌≡◌, List, [], ◌++◌}
 use Rattle.std.proofs.Common.{sym, ap, ◌∙◌, append-nil, append_assoc}
 use Rattle.po_text.specs.declared.entry.Entry.{Entry}

@@ -9,7 +9,7 @@ ghost use Rattle.po_text.specs.declared.key.EntryKey.{EntryKey as KeyValue};
 ghost use Rattle.po_read.specs.Found.{key_at_hand, pair_of, count_in};
 ghost use Rattle.po_read.specs.KeyTexts.{between, bytes_of, end_of, key_at_place, IsPlaced};
 
-use crate::place::Place;
+use crate::place::{Place, narrow};
 use po_text::PoString;
 use std::alloc::{AllocError, Global};
 use std::marker::Model;
@@ -92,9 +92,9 @@ impl KeyTexts {
             mut bytes,
             mut places,
         } = self;
-        let start = bytes.len();
+        let start = narrow(bytes.len())?;
         bytes.extend_from_slice(id.as_str().as_bytes())?;
-        let end = bytes.len();
+        let end = narrow(bytes.len())?;
         let ctx_end = add(&mut bytes, ctx)?;
         places.push(Place {
             start,
@@ -106,7 +106,7 @@ impl KeyTexts {
 }
 
 /// Adds a string at the end of the bytes, if there is one, and answers where it ends.
-fn add(bytes: &mut Vec<u8>, string: &Option<PoString>) -> Result<Option<usize>, AllocError>
+fn add(bytes: &mut Vec<u8>, string: &Option<PoString>) -> Result<Option<u32>, AllocError>
     ensures bytes { OnOk result (bytes.new.items ≡ bytes.old.items ++ bytes_of string.now) }
     ensures end { IfOk result (λ end. end ≡ end_of (length bytes.old.items) string.now) }
 {
@@ -114,7 +114,7 @@ fn add(bytes: &mut Vec<u8>, string: &Option<PoString>) -> Result<Option<usize>, 
         None => Ok(None),
         Some(string) => {
             bytes.extend_from_slice(string.as_str().as_bytes())?;
-            Ok(Some(bytes.len()))
+            Ok(Some(narrow(bytes.len())?))
         }
     }
 }
@@ -143,10 +143,10 @@ fn is_at(bytes: &[u8], place: &Place, ctx: &Option<PoString>, id: &PoString) -> 
 }
 
 /// Whether this text stands there.
-fn is_between(bytes: &[u8], start: usize, end: usize, text: &str) -> bool
+fn is_between(bytes: &[u8], start: u32, end: u32, text: &str) -> bool
     requires order { start ≤ end }
     requires within { end ≤ length bytes.now }
     ensures { result ≡ bytes_eq (between start end bytes.now) text.now }
 {
-    &bytes[start..end] == text.as_bytes()
+    &bytes[start as usize..end as usize] == text.as_bytes()
 }

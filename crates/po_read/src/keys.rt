@@ -6,6 +6,7 @@ ghost use Rattle.po_text.specs.declared.key.EntryKey.{EntryKey as KeyValue};
 ghost use Rattle.po_read.specs.Found.{key_at_hand, key_hash, has_key, count_in, AreFound};
 
 use crate::key_texts::KeyTexts;
+use crate::place::narrow;
 use po_text::{EntryKey, PoString};
 use std::alloc::{AllocError, Global};
 use std::collections::{BTreeMap, BTreeSet};
@@ -18,7 +19,7 @@ use std::mem::replace;
 pub(crate) struct Keys {
     all: KeyTexts,
     /// Of each hash the number of the first key that has it.
-    firsts: BTreeMap<u64, usize>,
+    firsts: BTreeMap<u32, u32>,
     /// The keys behind it that have the same hash.
     others: BTreeSet<EntryKey>,
 }
@@ -68,7 +69,7 @@ impl Keys {
         let Some(first) = self.firsts.get(&key_hash(ctx, id)) else {
             return Ok(false);
         };
-        if self.all.is(*first, ctx, id) {
+        if self.all.is(*first as usize, ctx, id) {
             return Ok(true);
         }
         let key = EntryKey::of(alloc, ctx, id)?;
@@ -99,7 +100,7 @@ impl Keys {
             mut others,
         } = self;
         let hash = key_hash(ctx, id);
-        let number = all.len();
+        let number = narrow(all.len())?;
         let all = all.with(ctx, id)?;
         match firsts.insert(hash, number)? {
             None => Ok(Keys {
@@ -120,8 +121,8 @@ impl Keys {
     }
 }
 
-/// The hash of a key.
-fn key_hash(ctx: &Option<PoString>, id: &PoString) -> u64
+/// The hash of a key: half of what the hasher makes of it, which takes half the memory.
+fn key_hash(ctx: &Option<PoString>, id: &PoString) -> u32
     ensures { result ≡ key_hash ctx.now id.now }
 {
     let mut hasher = FoldHasher::default();
@@ -129,5 +130,5 @@ fn key_hash(ctx: &Option<PoString>, id: &PoString) -> u64
     if let Some(ctx) = ctx {
         hasher.write(ctx.as_str().as_bytes());
     }
-    hasher.finish()
+    (hasher.finish() >> 32) as u32
 }

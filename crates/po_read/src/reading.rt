@@ -286,9 +286,9 @@ fn read_text<S: ReadSink>(alloc: Global, sink: &mut S, text: &str) -> Result<(),
     told
 }
 
-/// Hands on the entries of the catalogue that the bytes spell, in order and each as soon as it is whole: what `read` gives, but
-/// for the entries themselves no more memory is taken than for the one that may go on. Where there is a fault the sink has taken
-/// some of the entries in front of it, and goes.
+/// Hands on the entries of the catalogue that the bytes spell, in order and each as soon as it is whole: those that `read`
+/// gathers. Of what was handed on the keys alone are kept. Where there is a fault the sink has taken some of the entries in front of
+/// it, and goes.
 pub fn read_each<S: ReadSink + Drop>(alloc: Global, bytes: &[u8], sink: S) -> Result<S, PoFault>
     // What is handed on is what the bytes spell, within the limits.
     ensures catalogue { IfOk result (λ full. (c : List Entry) × Spells bytes.now c × IsWithin limits bytes.now c × S.Took sink c full) }

@@ -18,9 +18,20 @@ use Rattle.office_maps.specs.OfficeIn.{lent_project, place_of}
 use Rattle.office_maps.specs.LanguageUnits.{taken}
 use Rattle.office_maps.proofs.OfficeLookUps.{unit_at}
 use Rattle.office_maps.proofs.Ranges.{first_key, taken_first}
-use Rattle.rule_tests.specs.Parts.{IsLanguage, HasUnit, KeepsLanguage}
+use Rattle.rule_tests.specs.Parts.{IsLanguage, IsHeaded, HasUnit, KeepsLanguage}
 use Rattle.rule_tests.proofs.PlaceTests.{no_header}
 use Rattle.rule_tests.proofs.Tests.{three_tell}
+
+-- ---- its header
+
+pub headed_told : (t : ProjectMaps) (lang : Text) (header : Entry) (b : Bool) → maps.get (lent_project t).headers lang ≡ Some header → Decides b (IsLanguage header) → Decides b (IsHeaded (lent_project t) lang)
+headed_told t lang header b there tells = (
+  λ e other is. let both : Some header ≡ Some other = sym there ∙ is in let one : header ≡ other = cc in subst IsLanguage one (tells.0 e),
+  λ headed. tells.1 (headed header there),
+)
+
+pub none_headed : (t : ProjectMaps) (lang : Text) → maps.get (lent_project t).headers lang ≡ None → Decides true (IsHeaded (lent_project t) lang)
+none_headed t lang none = (λ e header is. let no : None ≡ Some header = sym none ∙ is in cc, λ headed. refl)
 
 -- ---- the unit of an entry
 

@@ -11,3 +11,4 @@ pub mod ProjectTests
 pub mod DomainTests
 pub mod BookTests
 pub mod GivenLemmas
+pub mod BareUnits

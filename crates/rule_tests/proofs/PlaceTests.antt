@@ -1,5 +1,5 @@
 -- What the tests of a unit at its place tell.
-use Rattle.std.proofs.Common.{◌≡◌, Bool, true, false, not, ◌&&◌, ◌||◌, Some, None, is_some, option_map, string_bytes, refl, sym, ap, subst, ◌∙◌}
+use Rattle.std.proofs.Common.{◌≡◌, List, Bool, true, false, not, ◌&&◌, ◌||◌, Some, None, is_some, option_map, string_bytes, refl, sym, ap, subst, ◌∙◌}
 use Rattle.std.specs.Prelude.{IsSome}
 use Rattle.std.specs.Bool.{Decides}
 use Rattle.std.specs.BTreeMap.{get_by, IsOrdered}
@@ -8,6 +8,7 @@ use Rattle.std.specs.List.{AllByRecursion}
 use Rattle.std.specs.FinMap as maps
 use Rattle.std.proofs.lemmas.Bool.{false≢true}
 use Rattle.std.proofs.lemmas.Bool.Decides.{Decides-at, Decides-like}
+use Rattle.po_text.specs.declared.entry.Entry.{Entry}
 use Rattle.po_text.specs.Texts.{Text, text_cmp}
 use Rattle.plural_expr.specs.Trees.{number}
 use Rattle.units.specs.Project.{Project, Place, place_cmp, entry_of}
@@ -22,6 +23,7 @@ use Rattle.template_update.proofs.Listed.{tied_keys, key_itself}
 use Rattle.office_maps.specs.declared.project_maps.ProjectMaps.{ProjectMaps}
 use Rattle.office_maps.specs.OfficeIn.{lent_project, place_of}
 use Rattle.office_maps.proofs.OfficeLookUps.{header_at}
+use Rattle.rule_tests.specs.Bare.{FitsEntry}
 use Rattle.rule_tests.specs.Parts.{StandsRight, IsPlaced, ArePlaced}
 use Rattle.rule_tests.proofs.MapRows.{each_found, found_each}
 use Rattle.rule_tests.proofs.Tests.{holds, three_tell}
@@ -46,6 +48,26 @@ stands_told project place unit r a b c e keyed exact reviewed =
     (Decides-at a (eq_by_cmp key_cmp unit.key place.1) keyed (key_tells unit.key place.1))
     (Decides-at b (unit.obsolete || is_some (entry_of project.template place.1)) exact (or_tells unit.obsolete (is_some (entry_of project.template place.1)) (λ h. h, λ h. h)))
     (Decides-at c (project.policy.reviews || not (is_approved unit.state)) reviewed (or_tells project.policy.reviews (not (is_approved unit.state)) (false_tells (is_approved unit.state))))
+
+-- ---- an entry
+
+pub entry_told : (template : List Entry) (key : Key) (unit : Unit) (entry : Entry) (r : Bool) → Some entry ≡ entry_of template key → Decides r (unit.obsolete ≡ false → unit.plural ≡ entry.plural)
+    → Decides r (FitsEntry template key unit)
+entry_told template key unit entry r is tells = (
+  λ e current. (entry, sym is, tells.0 e current),
+  λ fits. tells.1 (λ current.
+      let f = fits current in
+      let both : Some entry ≡ Some f.0 = is ∙ f.1 in
+      let one : entry ≡ f.0 = cc in
+      f.2 ∙ ap (λ (e : Entry). e.plural) (sym one)),
+)
+
+pub no_entry_told : (template : List Entry) (key : Key) (unit : Unit) → None ≡ entry_of template key → Decides unit.obsolete (FitsEntry template key unit)
+no_entry_told template key unit none = (λ h current. let no : true ≡ false = sym h ∙ current in cc, λ fits. by unit.obsolete refl fits)
+  where
+    by : (b : Bool) → unit.obsolete ≡ b → FitsEntry template key unit → b ≡ true
+    by true is fits = refl
+    by false is fits = let f = fits is in let no : None ≡ Some f.0 = none ∙ f.1 in cc
 
 -- the plural rule that is kept beside a language's header is the language's
 pub rule_of : (t : ProjectMaps) (lang : Text) (language : Language) → maps.get (lent_project t).headers lang ≡ Some language.header → rule_at (lent_project t) lang ≡ language.rule

@@ -22,7 +22,7 @@ use Rattle.units.specs.declared.unit.Unit.{Unit}
 use Rattle.template_update.proofs.Listed.{all_imply, found_one, found_each, tied_keys}
 use Rattle.office_specification.proofs.rules.Replaced.{all_rows}
 use Rattle.rule_tests.specs.Given.{AreAll}
-use Rattle.rule_tests.specs.Parts.{IsTeam, ArePlaced, HasUnit, KeepsLanguage, IsFrame}
+use Rattle.rule_tests.specs.Parts.{IsTeam, ArePlaced, HasUnit, IsHeaded, KeepsLanguage, IsFrame, IsBareProject}
 use Rattle.rule_tests.proofs.LanguageTests.{KeepsIfThere}
 use Rattle.rule_tests.proofs.Tests.{holds, three_tell}
 use Rattle.rule_tests.proofs.UnitTests.{Decides-le}
@@ -40,6 +40,17 @@ frame_told project entries r a b c are valid accepting e team plain few =
     })
     (λ h. (h.team, (subst (All IsTemplateEntry) (sym are) h.template_plain, h.few_languages)))
     team plain (Decides-at c (nat_le (maps.len project.headers) language_limit) few (Decides-le (maps.len project.headers) language_limit))
+
+-- ---- apart from its units
+
+pub bare_told : (project : Project) (langs : List Text) (b r : Bool) → AreAll project.headers langs → Decides b (IsFrame project) → b ≡ true → Decides r (All (IsHeaded project) langs) → Decides r (IsBareProject project)
+bare_told project langs b r covers frame framed headed = (
+  λ e. record { frame = frame.0 framed; headed = λ lang header is. All-contains (IsHeaded project) langs lang (headed.0 e) (covers lang (ap is_some is)) header is },
+  λ bare. headed.1 (λ k d within. bare.headed _),
+)
+
+pub no_bare : (project : Project) (b : Bool) → Decides b (IsFrame project) → b ≡ false → Decides false (IsBareProject project)
+no_bare project b tells failed = (λ e. absurd (false≢true e), λ bare. absurd (false≢true (sym failed ∙ tells.1 bare.frame)))
 
 module _ (project : Project) where
   -- ---- a language that isn't there has no units

@@ -1,3 +1,4 @@
 pub mod Parts
 pub mod Given
 pub mod Books
+pub mod Bare

@@ -83,13 +83,17 @@ pub record IsLanguage (header : Entry) : Type 0 where
   pub valid : IsValid (header ∷ [])
   pub ruled : IsOk (rule_in (Some header))
 
+-- a language that is there has a valid header
+abbrev pub IsHeaded : Project → Text → Type 0
+IsHeaded project lang = (header : Entry) → maps.get project.headers lang ≡ Some header → IsLanguage header
+
 -- the language has the unit of an entry
 abbrev pub HasUnit : Project → Text → Entry → Type 0
 HasUnit project lang entry =
     (unit : Unit) × (maps.get project.units (lang, key_of entry) ≡ Some unit) × (unit.obsolete ≡ false) × (unit.plural ≡ entry.plural)
 
 pub record KeepsLanguage (project : Project) (lang : Text) : Type 0 where
-  pub headed : (header : Entry) → maps.get project.headers lang ≡ Some header → IsLanguage header
+  pub headed : IsHeaded project lang
   pub few : length (units_of project lang) ≤ unit_limit
   pub complete : All (HasUnit project lang) project.template
 
@@ -101,6 +105,11 @@ pub record IsFrame (project : Project) : Type 0 where
   pub template_valid : IsValid project.template
   pub template_plain : All IsTemplateEntry project.template
   pub few_languages : maps.len project.headers ≤ language_limit
+
+-- of a project, apart from its units
+pub record IsBareProject (project : Project) : Type 0 where
+  pub frame : IsFrame project
+  pub headed : (lang : Text) → IsHeaded project lang
 
 -- ---- of an office
 

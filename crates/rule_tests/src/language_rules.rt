@@ -7,7 +7,7 @@ ghost use Rattle.units.specs.Limits.{unit_limit};
 ghost use Rattle.units.specs.Project.{units_of};
 ghost use Rattle.units.specs.Units.{key_of};
 ghost use Rattle.office_maps.specs.OfficeIn.{lent_project};
-ghost use Rattle.rule_tests.specs.Parts.{IsLanguage, HasUnit, KeepsLanguage};
+ghost use Rattle.rule_tests.specs.Parts.{IsLanguage, IsHeaded, HasUnit, KeepsLanguage};
 
 use crate::template_rules::is_header;
 use crate::unit_rules::hold_all;
@@ -38,7 +38,33 @@ fn is_language(alloc: Global, language: &Language) -> Result<bool, AllocError>
     Ok(hold_all(is_header(&language.header), valid, true))
 }
 
-fn is_same(a: &Option<PoString>, b: &Option<PoString>) -> bool
+/// Whether a language has a valid header, if it is there.
+fn is_headed(alloc: Global, project: &ProjectMaps<'_>, lang: &Lang) -> Result<bool, AllocError>
+    ensures { IfOk result (λ is. (is ≡ true) ↔ IsHeaded (lent_project project.now) lang.now) }
+{
+    match project.domain.languages.get(lang) {
+        Some(language) => is_language(alloc, language),
+        None => Ok(true),
+    }
+}
+
+/// Whether those of these languages that are there have valid headers.
+pub(crate) fn are_headed(
+    alloc: Global,
+    project: &ProjectMaps<'_>,
+    langs: &[Lang],
+) -> Result<bool, AllocError>
+    ensures { IfOk result (λ are. (are ≡ true) ↔ All (IsHeaded (lent_project project.now)) langs.now) }
+{
+    for lang in langs {
+        if !is_headed(alloc, project, lang)? {
+            return Ok(false);
+        }
+    }
+    Ok(true)
+}
+
+pub(crate) fn is_same(a: &Option<PoString>, b: &Option<PoString>) -> bool
     ensures { (result ≡ true) ↔ (a.now ≡ b.now) }
 {
     match (a, b) {

@@ -9,9 +9,9 @@ ghost use Rattle.units.specs.declared.unit.Role.TheVariants.{Guest, Manager};
 ghost use Rattle.office_maps.specs.OfficeIn.{lent_project};
 ghost use Rattle.office_maps.specs.Rows.{team_in};
 ghost use Rattle.rule_tests.specs.Given.{AreAll};
-ghost use Rattle.rule_tests.specs.Parts.{IsTeam, IsFrame};
+ghost use Rattle.rule_tests.specs.Parts.{IsTeam, IsFrame, IsBareProject};
 
-use crate::language_rules::keep_languages;
+use crate::language_rules::{are_headed, keep_languages};
 use crate::place_rules::are_placed;
 use crate::template_rules::are_template_entries;
 use crate::unit_rules::hold_all;
@@ -53,6 +53,23 @@ fn keeps_frame(project: &ProjectMaps<'_>) -> bool
         are_template_entries(entries),
         project.language_count() <= LANGUAGE_LIMIT,
     )
+}
+
+/// Whether a project keeps the rules apart from those of its units. All its languages have to be among `langs`.
+///
+/// `AllocError` where a growth was refused.
+pub fn keeps_bare_rules(
+    alloc: Global,
+    project: &ProjectMaps<'_>,
+    langs: &[Lang],
+) -> Result<bool, AllocError>
+    requires all { AreAll (lent_project project.now).headers langs.now }
+    ensures { IfOk result (λ keeps. (keeps ≡ true) ↔ IsBareProject (lent_project project.now)) }
+{
+    if !keeps_frame(project) {
+        return Ok(false);
+    }
+    are_headed(alloc, project, langs)
 }
 
 /// Whether a project keeps the rules of one. All its languages have to be among `langs`.

@@ -2,6 +2,7 @@
 ghost use Rattle.std.specs.Prelude.{◌≡◌, true, IfOk, IfErr};
 ghost use Rattle.http_api.specs.declared.faults.ServeFault.TheVariants.{Disk};
 ghost use Rattle.sockets.specs.Connections.{ServedSome};
+ghost use Rattle.tables.specs.RunsOn.{RunsOn};
 
 use crate::waiting::{TimeLimit, read_in_time, write_in_time};
 use commands::{Input, Output};
@@ -37,7 +38,7 @@ const REST: u64 = 1;
 ///
 /// Nothing is known of the bytes of a socket: some messages came, and each came to its outcome at the desk, in their order. `Read` also where
 /// no connection was taken, a second later, `Memory` also where there is no room for its answers; then nothing was served. `Disk` only
-/// where the tables are stopped.
+/// where the tables are stopped; and those that ran and weren't shut are so only where the disk failed meanwhile.
 pub fn serve_next<T: Tables, C: Clock, L: OpenListener<Stream = TcpStream>>(
     alloc: Global,
     clock: &C,
@@ -50,6 +51,7 @@ pub fn serve_next<T: Tables, C: Clock, L: OpenListener<Stream = TcpStream>>(
     ensures honest { T.is_honest desk.new → T.is_honest desk.old }
     ensures whole { T.is_honest desk.new → T.is_whole desk.new → T.is_whole desk.old }
     ensures stopped { T.is_stopped desk.old ≡ true → T.is_stopped desk.new ≡ true }
+    ensures runs_on { RunsOn T.is_honest T.is_whole T.faults T.is_stopped desk.old desk.new }
 {
     match listener.accept() {
         Ok((stream, _peer)) => serve_stream(alloc, clock, desk, &stream),
@@ -73,6 +75,7 @@ fn serve_stream<T: Tables, C: Clock>(
     ensures honest { T.is_honest desk.new → T.is_honest desk.old }
     ensures whole { T.is_honest desk.new → T.is_whole desk.new → T.is_whole desk.old }
     ensures stopped { T.is_stopped desk.old ≡ true → T.is_stopped desk.new ≡ true }
+    ensures runs_on { RunsOn T.is_honest T.is_whole T.faults T.is_stopped desk.old desk.new }
 {
     // Each answer is handed on when it is whole, so nothing is gained by waiting for more.
     let _ = stream.set_nodelay(true);

@@ -31,7 +31,8 @@ use Rattle.sql_statements.specs.Tables.{ShowsTableIn}
 use Rattle.tables.specs.declared.faults.Lost.{Lost}
 use Rattle.tables.specs.declared.faults.Lost.TheVariants as lost
 use Rattle.sql_decoding.specs.declared.faults.Failure.{Failure}
-use Rattle.sql_decoding.specs.RowTests.{is_domain_row}
+use Rattle.sql_decoding.specs.RowTests.{is_domain_row, IsUnread}
+use Rattle.sql_decoding.proofs.RowsTold.{disk_is_other}
 use Rattle.sql_meaning.specs.Meaning.{team_in, policy_in}
 use Rattle.sql_meaning.specs.Domains.{domain_of_rows, domains_in, office_of_rows, meaning_by_domain, is_domain}
 use Rattle.sql_meaning.proofs.Books.{same_texts}
@@ -58,12 +59,13 @@ names_are_read tables rows shows names named stand = record {
 
 -- those that aren't
 pub names_unread : {C : Type 0} (db : Database) (rows : List Row) (failure : Failure) (fault : OpenFault) → (C → ShowsDomains db rows) → fault ≡ unread failure.lost
-    → (failure.lost ≡ lost.Disk → list_all is_domain_row rows ≡ false) → C → RefusesOf by_domain db fault
+    → IsUnread (list_all is_domain_row rows) failure → C → RefusesOf by_domain db fault
 names_unread {C} db rows failure fault shows is unread_rows clean = subst (RefusesOf by_domain db) (sym is) (by failure.lost refl)
   where
     by : (l : Lost) → failure.lost ≡ l → RefusesOf by_domain db (unread l)
     by lost.Memory e = tt
-    by lost.Disk e = λ stand. false≢true (sym (unread_rows e) ∙ all_stand (rows_named db) (codes "domain") (1 ∷ []) (0 ∷ []) rows (shows clean) is_domain_row stand.0.names)
+    by lost.Refused e = tt
+    by lost.Disk e = λ stand. false≢true (sym (unread_rows (disk_is_other failure.lost e)) ∙ all_stand (rows_named db) (codes "domain") (1 ∷ []) (0 ∷ []) rows (shows clean) is_domain_row stand.0.names)
 
 module _ (tables : NamedRows) (names : List Text) (are : AreNames tables names) where
   -- a domain that is there is named

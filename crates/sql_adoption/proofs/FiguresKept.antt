@@ -15,13 +15,14 @@ use Rattle.sql_schema.specs.Layouts.{Form, for_main, by_domain, NamedRows, rows_
 use Rattle.sql_schema.specs.Whole.{IsIdleOver, IsLookUp}
 use Rattle.sql_decoding.specs.declared.faults.Failure.{Failure}
 use Rattle.sql_decoding.specs.RowTests.{IsUnread, holds_text, is_number, is_vote_row}
+use Rattle.sql_decoding.proofs.RowsTold.{disk_is_other}
 use Rattle.sql_figures.specs.Figures.{HoldFigures, figures_of_main}
 use Rattle.sql_figures.specs.KeptTallies.{Counts, office_counts}
 use Rattle.sql_adoption.specs.FigureRows.{ShowsFigures, AreTalliesShown, ShowFigures, have_shown_sums, votes_stand}
 use Rattle.sql_adoption.specs.Adoption.{Each, StandForOfficeOf}
 use Rattle.sql_adoption.specs.Reading.{unread, FiguresOf, RefusesFigureRows, RefusesShown, RefusesFigures}
 use Rattle.sql_adoption.specs.declared.faults.OpenFault.{OpenFault}
-use Rattle.sql_adoption.specs.declared.faults.OpenFault.TheVariants.{Memory, Disk, Foreign, Exists}
+use Rattle.sql_adoption.specs.declared.faults.OpenFault.TheVariants.{Memory, Disk, Foreign, Exists, Refused}
 use Rattle.sql_adoption.specs.declared.faults.Mismatch.TheVariants.{OtherTables, OtherForm, UnreadRow, OtherFigures, BrokenRules}
 use Rattle.sql_adoption.specs.declared.figure_rows.FigureRows.{FigureRows}
 use Rattle.sql_adoption.proofs.FiguresTold.{AreFiguresKeyed, figures_told, figures_shown, they_stand, keyed_by_domain, d_votes_stand, d_numbers_stand, keyed_for_main, main_numbers_stand}
@@ -42,7 +43,8 @@ figures_unread rows failure fault is unread_rows = subst (RefusesFigureRows rows
   where
     by : (l : Lost) → failure.lost ≡ l → RefusesFigureRows rows (unread l)
     by lost.Memory e = tt
-    by lost.Disk e = unread_rows e
+    by lost.Refused e = tt
+    by lost.Disk e = unread_rows (disk_is_other failure.lost e)
 
 -- the office whose figures are refused too
 pub shown_refused : (office : Office) (rows : FigureRows) (fault : OpenFault) → RefusesFigureRows rows fault → RefusesShown office rows fault
@@ -54,6 +56,7 @@ shown_refused office rows (Foreign OtherTables) h = absurd h
 shown_refused office rows Exists h = absurd h
 shown_refused office rows Memory h = tt
 shown_refused office rows Disk h = tt
+shown_refused office rows Refused h = tt
 
 pub others_shown : (office : Office) (rows : FigureRows) (are : Bool) → (IsOffice office → Decides are (ShowFigures (office_counts office) rows)) → are ≡ false → RefusesShown office rows (Foreign OtherFigures)
 others_shown office rows are told e is_office show = false≢true (sym e ∙ (told is_office).1 show)
@@ -108,6 +111,7 @@ module _ {form : Form} {figures : Database → NamedRows} (keeps : KeepsThem for
   refused_rows clean Exists h = absurd h
   refused_rows clean Memory h = tt
   refused_rows clean Disk h = tt
+  refused_rows clean Refused h = tt
 
   -- what was told of the rows that were read is so of the tables
   pub figures_found : (r : Result (Unit {0}) OpenFault) → (IsOffice office → OnOk r (ShowFigures (office_counts office) rows)) → IsLookUp old new r Hold

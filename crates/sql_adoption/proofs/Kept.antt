@@ -13,7 +13,7 @@ use Rattle.sql_schema.specs.Whole.{IsIdleOver, IsLookUp}
 use Rattle.sql_meaning.specs.Meaning.{book_in, AreNumbered}
 use Rattle.sql_meaning.specs.Domains.{meaning_for}
 use Rattle.sql_adoption.specs.declared.faults.OpenFault.{OpenFault}
-use Rattle.sql_adoption.specs.declared.faults.OpenFault.TheVariants.{Memory, Disk, Foreign, Exists}
+use Rattle.sql_adoption.specs.declared.faults.OpenFault.TheVariants.{Memory, Disk, Foreign, Exists, Refused}
 use Rattle.sql_adoption.specs.declared.faults.Mismatch.TheVariants.{OtherTables, OtherForm, UnreadRow, OtherFigures, BrokenRules}
 use Rattle.sql_adoption.specs.declared.office_put.ReadOffice.{ReadOffice}
 use Rattle.sql_adoption.specs.Adoption.{KeepsFigures, AreContents, StandForBook, IsAdoptedAs, Lacks, Refuses}
@@ -41,6 +41,7 @@ book_refused office db (Foreign OtherTables) h = absurd h
 book_refused office db Exists h = absurd h
 book_refused office db Memory h = tt
 book_refused office db Disk h = tt
+book_refused office db Refused h = tt
 
 pub rules_refused : (office : Office) (db : Database) (fault : OpenFault) → RefusesWith (record { office = office; book = book_in (rows_named db) }) fault → RefusesKept office db fault
 rules_refused office db (Foreign UnreadRow) h = absurd h
@@ -51,6 +52,7 @@ rules_refused office db (Foreign OtherTables) h = absurd h
 rules_refused office db Exists h = absurd h
 rules_refused office db Memory h = tt
 rules_refused office db Disk h = tt
+rules_refused office db Refused h = tt
 
 -- also with the figures
 pub kept_refused : (form : Form) (office : Office) (db : Database) (fault : OpenFault) → RefusesKept office db fault → RefusesKeptRows form office db fault
@@ -62,6 +64,7 @@ kept_refused form office db (Foreign OtherTables) h = absurd h
 kept_refused form office db Exists h = absurd h
 kept_refused form office db Memory h = tt
 kept_refused form office db Disk h = tt
+kept_refused form office db Refused h = tt
 
 -- ---- the figures
 
@@ -92,6 +95,7 @@ figures_refused form office db kept (Foreign OtherTables) h = absurd h
 figures_refused form office db kept Exists h = absurd h
 figures_refused form office db kept Memory h = tt
 figures_refused form office db kept Disk h = tt
+figures_refused form office db kept Refused h = tt
 
 -- where none are kept
 pub book_alone_kept : {U : Type 0} (office : Office) (Given : Database → Type 0) (old new : State) (r : Result U OpenFault) → IsLookUp old new r (λ db _. KeepsBook office db)
@@ -194,6 +198,7 @@ module _ (form : told.Form) (old mid new : State) (read : ReadOffice) (all : Hol
   refused_with db is Exists h = absurd h
   refused_with db is Memory h = tt
   refused_with db is Disk h = tt
+  refused_with db is Refused h = tt
 
   pub office_refused : {U : Type 0} (kept : Result U OpenFault) (r : Result Adopted OpenFault) → IsLookUp mid new kept (λ db _. KeepsRead db)
       → IfErr kept (λ fault. HasCleanDisk new → IsReadOf (form_told form) mid.now read → RefusesKeptRows (form_told form) (office_in read.maps) mid.now fault)
@@ -214,6 +219,7 @@ refused_so form db has (Foreign BrokenRules) h = (form, has, h)
 refused_so form db has Exists h = absurd h
 refused_so form db has Memory h = tt
 refused_so form db has Disk h = tt
+refused_so form db has Refused h = tt
 
 -- what tables of one form lack, they lack in whichever form they are found to have
 pub lacks_own : (P : Form → Type 0) (db : Database) (form : Form) → HasLayoutOf form db → Lacks P db → ¬ P form

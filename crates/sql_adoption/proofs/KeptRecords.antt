@@ -18,7 +18,7 @@ use Rattle.sql_statements.specs.RecordTable.{ShowsRecords, ShowsRecordsIn}
 use Rattle.sql_meaning.specs.Meaning.{number_at, book_in}
 use Rattle.sql_meaning.proofs.DomainOfficeRows.{domain_rows}
 use Rattle.sql_adoption.specs.declared.faults.OpenFault.{OpenFault}
-use Rattle.sql_adoption.specs.declared.faults.OpenFault.TheVariants.{Memory, Disk, Foreign, Exists}
+use Rattle.sql_adoption.specs.declared.faults.OpenFault.TheVariants.{Memory, Disk, Foreign, Exists, Refused}
 use Rattle.sql_adoption.specs.declared.faults.Mismatch.TheVariants.{OtherTables, OtherForm, UnreadRow, OtherFigures, BrokenRules}
 use Rattle.sql_adoption.specs.declared.office_put.ReadOffice.{ReadOffice}
 use Rattle.sql_adoption.specs.BookShown.{IsRecordRow}
@@ -59,6 +59,7 @@ unread_records db (Foreign OtherTables) h = absurd h
 unread_records db Exists h = absurd h
 unread_records db Memory h = tt
 unread_records db Disk h = tt
+unread_records db Refused h = tt
 
 pub records_unread : (C : Type 0) {A : Type 0} (db : Database) (r : Result A OpenFault) → IfErr r (λ fault. C → RefusesBook db fault) → IfErr r (λ fault. C → RefusesRecords db fault)
 records_unread C db (Ok x) h = tt
@@ -85,3 +86,4 @@ recorded_refused office db (Foreign OtherTables) h = absurd h
 recorded_refused office db Exists h = absurd h
 recorded_refused office db Memory h = tt
 recorded_refused office db Disk h = tt
+recorded_refused office db Refused h = tt

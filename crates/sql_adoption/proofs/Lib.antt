@@ -1,6 +1,7 @@
 pub mod RecordRows
 pub mod WholeBook
 pub mod Langs
+pub mod OpensBlame
 pub mod Stand
 pub mod Read
 pub mod Kept
@@ -22,3 +23,4 @@ pub mod RecordParents
 pub mod OwnNumbers
 pub mod Recorded
 pub mod KeptRecords
+pub mod PartsRead

@@ -29,7 +29,7 @@ use Rattle.sql_statements.specs.declared.owners.Owned.{Owned}
 use Rattle.sql_statements.specs.declared.owners.Owned.TheVariants.{Template, Languages, Units, Suggestions}
 use Rattle.sql_meaning.specs.Domains.{is_domain, AreOwned, HoldsOwnDomains}
 use Rattle.sql_adoption.specs.declared.faults.OpenFault.{OpenFault}
-use Rattle.sql_adoption.specs.declared.faults.OpenFault.TheVariants.{Memory, Disk, Foreign, Exists}
+use Rattle.sql_adoption.specs.declared.faults.OpenFault.TheVariants.{Memory, Disk, Foreign, Exists, Refused}
 use Rattle.sql_adoption.specs.declared.faults.Mismatch.TheVariants.{OtherTables, OtherForm, UnreadRow, OtherFigures, BrokenRules}
 use Rattle.sql_adoption.specs.OwnedRows.{TakesNamed, AreOwnedAmong, AllOwnedAmong, RefusesUnless, TestsRows}
 use Rattle.sql_adoption.specs.Reading.{is_shown_among, unread, IsOfStatement, IsOfWalk}
@@ -103,9 +103,10 @@ module _ (db : Database) (domains : List Row) (table : Owned) where
           let shown : is_shown_among domains it.row ≡ true = ap (is_shown_among domains) was.2 ∙ owned was.0 was.1 in
           false≢true (sym (subst (λ ds. is_shown_among ds it.row ≡ false) (it.took.same ∙ from) it.refused.1) ∙ shown)
 
-      no_statement : (fault : OpenFault) → (fault ≡ Memory) ⊎ (fault ≡ Disk) → RefusesUnless (AreOwnedAmong domains table (rows_named db)) fault
+      no_statement : (fault : OpenFault) → (fault ≡ Memory) ⊎ ((fault ≡ Disk) ⊎ (fault ≡ Refused)) → RefusesUnless (AreOwnedAmong domains table (rows_named db)) fault
       no_statement fault (inl is) = subst (RefusesUnless (AreOwnedAmong domains table (rows_named db))) (sym is) tt
-      no_statement fault (inr is) = subst (RefusesUnless (AreOwnedAmong domains table (rows_named db))) (sym is) tt
+      no_statement fault (inr (inl is)) = subst (RefusesUnless (AreOwnedAmong domains table (rows_named db))) (sym is) tt
+      no_statement fault (inr (inr is)) = subst (RefusesUnless (AreOwnedAmong domains table (rows_named db))) (sym is) tt
 
       walk_refuses : (cut : WalkFault Failure) (fault : OpenFault) → IsOfWalk cut fault → CutShort Took Refuses IsAnswer first last cut → RefusesUnless (AreOwnedAmong domains table (rows_named db)) fault
       walk_refuses (NoRows error) fault is it = no_statement fault is.others
@@ -127,6 +128,7 @@ refuses_less f (Foreign OtherTables) h = absurd h
 refuses_less f Exists h = absurd h
 refuses_less f Memory h = tt
 refuses_less f Disk h = tt
+refuses_less f Refused h = tt
 
 -- what is refused for one thing is refused for more
 pub fails_too : {U V : Type 0} (P Q : Database → Type 0) → ((db : Database) → Q db → P db) → (a b : State) (fault : OpenFault) → TestsRows {U = U} P a b (Err fault) → TestsRows {U = V} Q a b (Err fault)
@@ -207,5 +209,6 @@ no_domains {A} {E} {V} a b r s P error err is it = record { found = looked_faile
     by (Ok v) h = tt
     by (Err fault) h = λ clean. elim h.others [
       | inl is ↦ subst (RefusesUnless (HoldsOwnDomains (rows_named a.now))) (sym is) tt
-      | inr is ↦ subst (RefusesUnless (HoldsOwnDomains (rows_named a.now))) (sym is) tt
+      | inr (inl is) ↦ subst (RefusesUnless (HoldsOwnDomains (rows_named a.now))) (sym is) tt
+      | inr (inr is) ↦ subst (RefusesUnless (HoldsOwnDomains (rows_named a.now))) (sym is) tt
     ]

@@ -1,5 +1,5 @@
 -- The office and the statuses that all rows of the tables show are those that the rows mean.
-use Rattle.std.proofs.Common.{◌≡◌, ◌⊎◌, inl, inr, ℕ, Bool, List, [], ◌∷◌, ◌++◌, Option, Some, None, Result, Ok, Err, IfOk, IfErr, OnOk, refl, sym, ap, subst, ◌∙◌, codes}
+use Rattle.std.proofs.Common.{◌≡◌, ◌≢◌, ◌⊎◌, inl, inr, ℕ, Bool, List, [], ◌∷◌, ◌++◌, Option, Some, None, Result, Ok, Err, IfOk, IfErr, OnOk, refl, sym, ap, subst, ◌∙◌, codes}
 use Rattle.std.specs.Prelude.{All, pos, true}
 use Rattle.std.specs.List.{AllByRecursion}
 use Rattle.std.specs.Result.{IsErrAnd}
@@ -30,6 +30,7 @@ use Rattle.sql_meaning.proofs.OfficeRows.{office_rows}
 use Rattle.sql_meaning.proofs.DomainOfficeRows.{domain_rows}
 use Rattle.sql_statements.specs.RecordTable.{ShowsRecords}
 use Rattle.sql_decoding.specs.RowTests.{AreOfficeRows as ReadRows}
+use Rattle.sql_decoding.proofs.RowsTold.{disk_is_other}
 use Rattle.rule_tests.specs.Given.{AreStatusesOf}
 use Rattle.sql_adoption.specs.BookShown.{book_shown, IsRecordRow}
 use Rattle.sql_adoption.proofs.WholeBook.{all_numbered, whole_book}
@@ -37,7 +38,7 @@ use Rattle.sql_streams.specs.declared.walking.WalkFault.{WalkFault}
 use Rattle.sql_streams.specs.declared.walking.WalkFault.TheVariants.{NoRows, NoSink}
 use Rattle.sql_streams.specs.Walks.{GaveUpTo, CutShort}
 use Rattle.sql_adoption.specs.declared.faults.OpenFault.{OpenFault}
-use Rattle.sql_adoption.specs.declared.faults.OpenFault.TheVariants.{Memory, Disk, Foreign, Exists}
+use Rattle.sql_adoption.specs.declared.faults.OpenFault.TheVariants.{Memory, Disk, Foreign, Exists, Refused}
 use Rattle.sql_adoption.specs.declared.faults.Mismatch.TheVariants.{OtherTables, OtherForm, UnreadRow, OtherFigures, BrokenRules}
 use Rattle.sql_adoption.specs.declared.office_put.ReadOffice.{ReadOffice}
 use Rattle.sql_adoption.specs.Adoption.{TellsForm}
@@ -93,6 +94,7 @@ module _ (figures : Bool) (db : Database) (office : AreOfficeTablesOf (for_main 
   main_refused Exists h = absurd h
   main_refused Memory h = tt
   main_refused Disk h = tt
+  main_refused Refused h = tt
 
 -- ---- a domain of tables by domains
 
@@ -119,6 +121,7 @@ module _ (db : Database) (office : AreOfficeTablesOf by_domain db) (domain : Tex
   domain_refused Exists h = absurd h
   domain_refused Memory h = tt
   domain_refused Disk h = tt
+  domain_refused Refused h = tt
 
 pub domains_put : (db : Database) (office : AreOfficeTablesOf by_domain db) (domain : Text) (rows : WholeOffice) (shows : ShowsWholeOfficeIn (seen_in domain (rows_named db)) rows) {U : Type 0} (r : Result U OpenFault)
     (old new : OfficeMaps) → OnOk r (PutsRows domain rows old new) → OnOk r (ShowsForm by_domain rows.office.policy) → IfOk r (λ _. AddsDomain domain (rows_named db) old new)
@@ -128,12 +131,13 @@ domains_put db office domain rows shows (Err fault) old new it told = tt
 -- ---- why not
 
 -- rows that weren't read
-pub rows_unread : (form : Form) (rows : WholeOffice) (failure : Failure) (fault : OpenFault) → fault ≡ unread failure.lost → (failure.lost ≡ lost.Disk → ¬ ReadRows rows) → RefusesRows form rows fault
+pub rows_unread : (form : Form) (rows : WholeOffice) (failure : Failure) (fault : OpenFault) → fault ≡ unread failure.lost → (failure.lost ≢ lost.Memory → ¬ ReadRows rows) → RefusesRows form rows fault
 rows_unread form rows failure fault is unread_rows = subst (RefusesRows form rows) (sym is) (by failure.lost refl)
   where
     by : (l : Lost) → failure.lost ≡ l → RefusesRows form rows (unread l)
     by lost.Memory e = tt
-    by lost.Disk e = unread_rows e
+    by lost.Refused e = tt
+    by lost.Disk e = unread_rows (disk_is_other failure.lost e)
 
 -- what a refusal of rows says of those of a database
 pub all_refused : {C U : Type 0} (form : Form) (rows : WholeOffice) (db : Database) (r : Result U OpenFault) → (C → (fault : OpenFault) → RefusesRows form rows fault → RefusesOf form db fault)
@@ -160,7 +164,7 @@ module _ (form : Form) (db : Database) (rows : List Row) (shows : ShowsRecords d
 -- records that weren't read
 module _ (db : Database) {K : Type 0} (Took : K → List Row → K → Type 0) (first last : K) where
   abbrev Refuses : K → Row → Failure → K → Type 0
-  Refuses a row failure b = failure.lost ≡ lost.Disk → ¬ IsRecordRow row
+  Refuses a row failure b = failure.lost ≢ lost.Memory → ¬ IsRecordRow row
 
   in_the_middle : (xs : List Row) (y : Row) (ys : List Row) → AllByRecursion IsRecordRow (xs ++ y ∷ ys) → IsRecordRow y
   in_the_middle [] y ys all = all.0
@@ -171,12 +175,14 @@ module _ (db : Database) {K : Type 0} (Took : K → List Row → K → Type 0) (
     where
       by : (l : Lost) → failure.lost ≡ l → RefusesBook db (unread l)
       by lost.Memory e = tt
+      by lost.Refused e = tt
       by lost.Disk e = λ stand.
-          it.refused e (in_the_middle it.front it.row it.rest (recursion_from_All IsRecordRow (it.front ++ it.row ∷ it.rest) (records_stand (rows_named db) (it.front ++ it.row ∷ it.rest) it.answer stand)))
+          it.refused (disk_is_other failure.lost e) (in_the_middle it.front it.row it.rest (recursion_from_All IsRecordRow (it.front ++ it.row ∷ it.rest) (records_stand (rows_named db) (it.front ++ it.row ∷ it.rest) it.answer stand)))
 
-  no_statement : (fault : OpenFault) → (fault ≡ Memory) ⊎ (fault ≡ Disk) → RefusesBook db fault
+  no_statement : (fault : OpenFault) → (fault ≡ Memory) ⊎ ((fault ≡ Disk) ⊎ (fault ≡ Refused)) → RefusesBook db fault
   no_statement fault (inl is) = subst (RefusesBook db) (sym is) tt
-  no_statement fault (inr is) = subst (RefusesBook db) (sym is) tt
+  no_statement fault (inr (inl is)) = subst (RefusesBook db) (sym is) tt
+  no_statement fault (inr (inr is)) = subst (RefusesBook db) (sym is) tt
 
   walk_refuses : (cut : WalkFault Failure) (fault : OpenFault) → IsOfWalk cut fault → CutShort Took Refuses (ShowsRecords db) first last cut → RefusesBook db fault
   walk_refuses (NoRows error) fault is it = no_statement fault is.others

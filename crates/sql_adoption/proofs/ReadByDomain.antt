@@ -10,7 +10,7 @@ use Rattle.sql_meaning.specs.Domains.{is_domain, HoldsOwnDomains}
 use Rattle.sql_adoption.specs.Adoption.{StandForOffice}
 use Rattle.sql_adoption.specs.Reading.{AreDomainsRead, IsReadOf, RefusesOf}
 use Rattle.sql_adoption.specs.declared.faults.OpenFault.{OpenFault}
-use Rattle.sql_adoption.specs.declared.faults.OpenFault.TheVariants.{Memory, Disk, Foreign, Exists}
+use Rattle.sql_adoption.specs.declared.faults.OpenFault.TheVariants.{Memory, Disk, Foreign, Exists, Refused}
 use Rattle.sql_adoption.specs.declared.faults.Mismatch.TheVariants.{OtherTables, OtherForm, UnreadRow, OtherFigures, BrokenRules}
 use Rattle.sql_adoption.specs.declared.office_put.ReadOffice.{ReadOffice}
 use Rattle.sql_adoption.specs.OwnedRows.{RefusesUnless}
@@ -61,3 +61,4 @@ others_there db (Foreign OtherTables) h = absurd h
 others_there db Exists h = absurd h
 others_there db Memory h = tt
 others_there db Disk h = tt
+others_there db Refused h = tt

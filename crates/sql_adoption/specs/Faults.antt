@@ -3,21 +3,24 @@ use Rattle.std.specs.Prelude.{ℕ}
 use Rattle.tables.specs.declared.faults.Lost.{Lost}
 use Rattle.tables.specs.declared.faults.Lost.TheVariants as lost
 use Rattle.sql_adoption.specs.declared.faults.OpenFault.{OpenFault}
-use Rattle.sql_adoption.specs.declared.faults.OpenFault.TheVariants.{Memory, Disk, Foreign, Exists}
+use Rattle.sql_adoption.specs.declared.faults.OpenFault.TheVariants.{Memory, Disk, Foreign, Exists, Refused}
 
 abbrev pub open_fault_number : OpenFault → ℕ
 open_fault_number Memory = 1
 open_fault_number Disk = 2
 open_fault_number (Foreign why) = 3
 open_fault_number Exists = 4
+open_fault_number Refused = 5
 
 abbrev pub fault_of : Lost → OpenFault
 fault_of lost.Memory = Memory
 fault_of lost.Disk = Disk
+fault_of lost.Refused = Refused
 
--- what remains of the fault of rows that this program has written
+-- what remains of the fault of rows that this program has written: of the disk is told where a statement does
 abbrev pub lost_of : OpenFault → Lost
 lost_of Memory = lost.Memory
 lost_of Disk = lost.Disk
-lost_of (Foreign why) = lost.Disk
-lost_of Exists = lost.Disk
+lost_of (Foreign why) = lost.Refused
+lost_of Exists = lost.Refused
+lost_of Refused = lost.Refused

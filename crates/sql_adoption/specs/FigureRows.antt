@@ -40,6 +40,10 @@ ShowsNumbers = ShowsTable (codes "d_suggestion") (1 ∷ []) (0 ∷ [])
 abbrev pub ShowsAllVotes : Database → List Row → Type 0
 ShowsAllVotes = ShowsTable (codes "d_vote") (2 ∷ 3 ∷ 1 ∷ []) (2 ∷ 0 ∷ [])
 
+-- number, sum
+abbrev pub ShowsAllSums : Database → List Row → Type 0
+ShowsAllSums = ShowsTable (codes "d_vote_sum") (1 ∷ 2 ∷ []) (0 ∷ [])
+
 -- All rows of the table of this name, each once, by these columns.
 abbrev pub ListsTable : List ℕ → List ℕ → NamedRows → List Row → Type 0
 ListsTable name places tables rows = IsPermutation (map (columns places) (tables name)) rows

@@ -5,3 +5,4 @@ pub mod Faults
 pub mod Reading
 pub mod FigureRows
 pub mod OwnedRows
+pub mod PartsRead

@@ -1,5 +1,5 @@
 -- What the readers of rows that are to be adopted answer. Only inner clauses and proofs cite this file.
-use Rattle.std.specs.Prelude.{◌≡◌, ◌⊎◌, ◌↔◌, ⊤, ℕ, Bool, true, false, List, [], ◌∷◌, map, Contains, Option, Some, IsTrue, codes}
+use Rattle.std.specs.Prelude.{◌≡◌, ◌⊎◌, ◌↔◌, ⊤, ℕ, Bool, true, false, List, [], ◌∷◌, map, Contains, Option, Some, Result, IfErr, IsTrue, codes}
 use Rattle.std.specs.List.{list_any}
 use Rattle.std.specs.BTreeMap.{BTreeMap}
 use Rattle.std.specs.FinMap as maps
@@ -9,6 +9,7 @@ use Rattle.sqlite.specs.declared.error.ErrorCode.TheVariants.{OutOfMemory}
 use Rattle.sqlite.specs.declared.types.Value.TheVariants.{Int}
 use Rattle.sqlite.specs.Order.{Row, column}
 use Rattle.sqlite.specs.Effect.{Database}
+use Rattle.sqlite.specs.State.{State, HasCleanDisk}
 use Rattle.po_text.specs.declared.entry.Entry.{Entry}
 use Rattle.po_text.specs.Texts.{Text, text_cmp, text_eq}
 use Rattle.tables.specs.declared.faults.Lost.{Lost}
@@ -22,6 +23,7 @@ use Rattle.office_maps.specs.OfficeIn.{office_in}
 use Rattle.office_maps.specs.declared.office_maps.OfficeMaps.{OfficeMaps}
 use Rattle.sql_schema.specs.Keys.{text_at}
 use Rattle.sql_schema.specs.SeenRows.{seen_in}
+use Rattle.sql_laws.specs.DiskErrors.{is_of_disk, HasFailed}
 use Rattle.sql_meaning.specs.Meaning.{team_in, policy_in, book_in, AreNumbered}
 use Rattle.sql_meaning.specs.Domains.{domain_of_rows, office_of_rows, is_domain, meaning_for}
 use Rattle.sql_statements.specs.Tables.{ShowsTableIn}
@@ -34,7 +36,7 @@ use Rattle.sql_streams.specs.declared.walking.WalkFault.TheVariants.{NoRows, NoS
 use Rattle.rule_tests.specs.Books.{HasStatuses}
 use Rattle.rule_tests.specs.Given.{AreAll, AreAllDomains, AreAllLangs, AreStatusesOf}
 use Rattle.sql_adoption.specs.declared.faults.OpenFault.{OpenFault}
-use Rattle.sql_adoption.specs.declared.faults.OpenFault.TheVariants.{Memory, Disk, Foreign, Exists}
+use Rattle.sql_adoption.specs.declared.faults.OpenFault.TheVariants.{Memory, Disk, Foreign, Exists, Refused}
 use Rattle.sql_adoption.specs.declared.faults.Mismatch.TheVariants.{OtherTables, OtherForm, UnreadRow, OtherFigures, BrokenRules}
 use Rattle.sql_adoption.specs.declared.office_put.ReadOffice.{ReadOffice}
 use Rattle.sql_adoption.specs.Adoption.{schema_number, TellsForm, KeepsFigures, AreContents, Each, StandForOffice, StandForOfficeOf, StandForBook}
@@ -50,17 +52,23 @@ use Rattle.sql_adoption.specs.declared.figure_rows.FigureRows.{FigureRows}
 -- why a statement gives nothing
 pub record IsOfStatement (error : Error) (fault : OpenFault) : Type 0 where
   pub memory : (fault ≡ Memory) ↔ (error ≡ SqliteFailure OutOfMemory)
-  pub others : (fault ≡ Memory) ⊎ (fault ≡ Disk)
+  pub disk : (fault ≡ Disk) ↔ (is_of_disk error ≡ true)
+  pub others : (fault ≡ Memory) ⊎ ((fault ≡ Disk) ⊎ (fault ≡ Refused))
 
 -- why rows at hand are not read
 abbrev pub unread : Lost → OpenFault
 unread lost.Memory = Memory
 unread lost.Disk = Foreign UnreadRow
+unread lost.Refused = Refused
 
 -- why a walk over rows was cut short: by its query, or by a row that was not read
 abbrev pub IsOfWalk : WalkFault Failure → OpenFault → Type 0
 IsOfWalk (NoRows error) fault = IsOfStatement error fault
 IsOfWalk (NoSink failure) fault = fault ≡ unread failure.lost
+
+-- a fault that tells of the disk comes of a failure of it
+abbrev pub OpensTruly : {A : Type 0} → State → State → Result A OpenFault → Type 0
+OpensTruly old new result = HasCleanDisk new → IfErr result (λ fault. fault ≡ Disk → HasFailed old new)
 
 -- ---- the form
 

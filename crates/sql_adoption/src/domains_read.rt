@@ -9,7 +9,7 @@ ghost use Rattle.sql_schema.specs.Keys.{text_at};
 ghost use Rattle.sql_schema.specs.Layouts.{by_domain, rows_named};
 ghost use Rattle.sql_schema.specs.Whole.{IsIdleOver, IsLookUp};
 ghost use Rattle.sql_decoding.specs.RowTests.{is_domain_row, IsUnread};
-ghost use Rattle.sql_adoption.specs.Reading.{AreNames, AddsDomain, AreDomainsRead, HoldAll, HoldsAll, RefusesOf};
+ghost use Rattle.sql_adoption.specs.Reading.{AreNames, AddsDomain, AreDomainsRead, HoldAll, HoldsAll, RefusesOf, OpensTruly};
 
 use crate::faults::{Mismatch, OpenFault};
 use crate::look_ups::look_up_domains;
@@ -44,6 +44,7 @@ fn read_names<S: Alter>(
     requires idle { IsIdleOver by_domain (state S.Store connection.old) }
     ensures found { IsLookUp (state S.Store connection.old) (state S.Store connection.new) result (λ db names. AreNames (rows_named db) names.items) }
     ensures refused { IfErr result (λ fault. HasCleanDisk (state S.Store connection.new) → RefusesOf by_domain (state S.Store connection.old).now fault) }
+    ensures disk { OpensTruly (state S.Store connection.old) (state S.Store connection.new) result }
 {
     let rows = look_up_domains(connection)?;
     match names_in(alloc, rows.as_slice()) {
@@ -65,6 +66,7 @@ fn read_domain<S: Alter>(
     ensures found { IsLookUp (state S.Store connection.old) (state S.Store connection.new) result (λ db _. AddsDomain domain.now (rows_named db) maps.old maps.new) }
     ensures all { OnOk result ((domains : List Text) → HoldAll (office_in maps.old) domains langs.old.items → HoldAll (office_in maps.new) (domains ++ domain.now ∷ []) langs.new.items) }
     ensures refused { IfErr result (λ fault. HasCleanDisk (state S.Store connection.new) → RefusesOf by_domain (state S.Store connection.old).now fault) }
+    ensures disk { OpensTruly (state S.Store connection.old) (state S.Store connection.new) result }
 {
     let rows = look_up_domain(connection, domain.as_str())?;
     let put = put_told(alloc, Form::ByDomain, domain, &rows, maps, langs);
@@ -82,6 +84,7 @@ pub(crate) fn read_domains<S: Alter>(
     ensures found { IsLookUp (state S.Store connection.old) (state S.Store connection.new) result AreDomainsRead }
     ensures holds { IfOk result HoldsAll }
     ensures refused { IfErr result (λ fault. HasCleanDisk (state S.Store connection.new) → RefusesOf by_domain (state S.Store connection.old).now fault) }
+    ensures disk { OpensTruly (state S.Store connection.old) (state S.Store connection.new) result }
 {
     let domains = read_names(connection, alloc)?;
     if domains.is_empty() {

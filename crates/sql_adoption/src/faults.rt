@@ -34,7 +34,7 @@ pub enum OpenFault {
     /// A growth was refused.
     #[error("out of memory")]
     Memory,
-    /// A statement failed: the disk did, or the connection is shut.
+    /// The disk failed, or an earlier failure has shut the connection.
     #[error("the disk failed")]
     Disk,
     /// The database isn't an office's.
@@ -43,13 +43,16 @@ pub enum OpenFault {
     /// Where an office is to be made, one is there already: the database has a table `policy`.
     #[error("an office is there already")]
     Exists,
+    /// The database refused a statement, as one whose row is too large.
+    #[error("the database refused a statement")]
+    Refused,
 }
 
 impl OpenFault {
     ghost use Rattle.std.specs.Prelude.{◌≡◌};
     ghost use Rattle.sql_adoption.specs.Faults.{open_fault_number};
 
-    /// The fault's number: 1 Memory, 2 Disk, 3 Foreign, 4 Exists.
+    /// The fault's number: 1 Memory, 2 Disk, 3 Foreign, 4 Exists, 5 Refused.
     pub fn number(self) -> u8
         ensures { result ≡ open_fault_number self }
     {
@@ -58,6 +61,7 @@ impl OpenFault {
             OpenFault::Disk => 2,
             OpenFault::Foreign(_) => 3,
             OpenFault::Exists => 4,
+            OpenFault::Refused => 5,
         }
     }
 }
@@ -94,11 +98,12 @@ impl From<Failure> for OpenFault {
         match failure.lost {
             Lost::Memory => OpenFault::Memory,
             Lost::Disk => OpenFault::Disk,
+            Lost::Refused => OpenFault::Refused,
         }
     }
 }
 
-/// Of a statement's errors want of memory alone is `Memory`.
+/// Of a statement's errors want of memory alone is `Memory`, those that tell of the disk are `Disk`, and all others `Refused`.
 impl From<Error> for OpenFault {
     ghost use Rattle.sql_adoption.specs.Reading.{IsOfStatement};
 
@@ -135,17 +140,20 @@ impl OpenFault {
         match failure.lost {
             Lost::Memory => OpenFault::Memory,
             Lost::Disk => OpenFault::Foreign(Mismatch::UnreadRow),
+            Lost::Refused => OpenFault::Refused,
         }
     }
 
-    /// What the fault of rows that this program has written comes to: what isn't want of memory is the disk's.
+    /// What the fault of rows that this program has written comes to: rows that aren't an office's are refused, so that `Disk` is told of
+    /// the connection alone.
     pub(crate) fn failure(self) -> Failure
         ensures { result.lost ≡ lost_of self }
     {
         match self {
             OpenFault::Memory => Failure { lost: Lost::Memory },
-            OpenFault::Disk | OpenFault::Foreign(_) | OpenFault::Exists => Failure {
-                lost: Lost::Disk,
+            OpenFault::Disk => Failure { lost: Lost::Disk },
+            OpenFault::Foreign(_) | OpenFault::Exists | OpenFault::Refused => Failure {
+                lost: Lost::Refused,
             },
         }
     }

@@ -5,9 +5,8 @@ ghost use Rattle.sqlite.specs.Held.{state};
 ghost use Rattle.sql_schema.specs.Inside.{IsSteadyOver, IsReadOf};
 ghost use Rattle.sql_schema.specs.Layouts.{for_main, by_domain};
 ghost use Rattle.sql_schema.specs.Whole.{IsIdleOver, IsLookUp};
-ghost use Rattle.sql_adoption.specs.FigureRows.{ShowsAllTallies, ShowsNumbers, ShowsAllVotes, ShowsFiguresOf, ShowsMainTallies, ShowsMainNumbers, ShowsMainVotes, ShowsMainSums, ShowsMainFigures};
+ghost use Rattle.sql_adoption.specs.FigureRows.{ShowsAllTallies, ShowsNumbers, ShowsAllVotes, ShowsAllSums, ShowsFiguresOf, ShowsMainTallies, ShowsMainNumbers, ShowsMainVotes, ShowsMainSums, ShowsMainFigures};
 
-use sql_statements::vote_sums::all_sums;
 use sqlite::{Alter, Connection, Error, Row, Transaction};
 
 /// All tallies, each behind its domain and its language, the numbers of all suggestions, all votes on these, and all sums of votes.
@@ -54,6 +53,16 @@ fn all_votes<S: Alter>(tx: &mut Transaction<'_, S>) -> Result<Vec<Row>, Error>
         "SELECT voter, value, number FROM d_vote ORDER BY number, voter",
         &[],
     )
+}
+
+/// The sums of all suggestions, in the order of their numbers: each one's number and sum.
+fn all_sums<S: Alter>(tx: &mut Transaction<'_, S>) -> Result<Vec<Row>, Error>
+    requires steady { IsSteadyOver by_domain (state S.Store tx.old.conn.now) }
+    ensures same_reference { tx.new.conn.ghost_name ≡ tx.old.conn.ghost_name }
+    ensures found { IsReadOf by_domain (state S.Store tx.old.conn.now) (state S.Store tx.new.conn.now) result
+        (λ db rows. ShowsAllSums db rows.items) }
+{
+    tx.query_all("SELECT number, sum FROM d_vote_sum ORDER BY number", &[])
 }
 
 /// All of them. It wants the transaction open and leaves it open.

@@ -8,7 +8,7 @@ ghost use Rattle.sql_decoding.specs.RowTests.{is_language_row, IsUnread};
 ghost use Rattle.sql_adoption.specs.Reading.{NotesLang, NotesLangs};
 
 use sql_columns::lang_from;
-use sql_decoding::Failure;
+use sql_decoding::{Failure, text_in};
 use sqlite::Row;
 use std::alloc::AllocError;
 use units::Lang;
@@ -18,7 +18,7 @@ fn lang_of(row: &Row) -> Result<Lang, Failure>
     ensures shown { IfOk result (λ lang. lang ≡ text_at 2 row.now) }
     ensures unread { IfErr result (IsUnread (is_language_row row.now)) }
 {
-    let column: String = row.get(2)?;
+    let column = text_in(row, 2)?;
     Ok(lang_from(column.as_str())?)
 }
 

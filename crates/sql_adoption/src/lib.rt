@@ -6,7 +6,8 @@
 //! - `look_ups`: what is read of them, each in a transaction; `own_domains`: whether each is of a domain that there is
 //! - `langs_read`, `office_put`: a domain that is put into an office with all that it sees; `domains_read`: all domains,
 //!   one after the other
-//! - `office_read`: the office of each form, with no more asked of tables that this program wrote (`load_office`)
+//! - `office_read`: the office of each form, with no more asked of tables that this program wrote; `parts_read`: what an act
+//!   reads of it (`load_part`)
 //! - `statuses`, `book_read`: the statuses of all records, one row at a time, and whether the rules hold with the book
 //! - `figure_rows`: the figures that are kept, and the rows that they are of; `language_tallies`, `suggestion_sums`,
 //!   `figures_kept`: whether they are what counting gives
@@ -28,10 +29,11 @@ mod look_ups;
 mod office_put;
 mod office_read;
 mod own_domains;
+mod parts_read;
 mod statuses;
 mod suggestion_sums;
 mod tested;
 
 pub use faults::{Mismatch, OpenFault};
-pub use office_read::load_office;
+pub use parts_read::load_part;
 pub use tested::{Adopted, adopted_office};

@@ -1,14 +1,15 @@
 //! An office and its languages, into which a domain is put as all rows that it sees show it.
-ghost use Rattle.std.specs.Prelude.{◌≡◌, ◌↔◌, ◌++◌, ◌∷◌, [], true, List, IfOk, IfErr, OnOk};
+ghost use Rattle.std.specs.Prelude.{◌≡◌, ◌≢◌, ◌↔◌, ◌++◌, ◌∷◌, [], true, List, IfOk, IfErr, OnOk};
 ghost use Rattle.sqlite.specs.declared.types.Value.TheVariants.{Int};
 ghost use Rattle.sqlite.specs.Order.{column};
 ghost use Rattle.po_text.specs.Texts.{Text};
 ghost use Rattle.office_maps.specs.OfficeIn.{office_in};
-ghost use Rattle.tables.specs.declared.faults.Lost.TheVariants.{Disk};
+ghost use Rattle.tables.specs.declared.faults.Lost.TheVariants as lost;
 ghost use Rattle.sql_decoding.specs.RowTests.{AreOfficeRows};
 ghost use Rattle.sql_adoption.specs.Adoption as spec;
 ghost use Rattle.sql_adoption.specs.Reading as reading;
 ghost use Rattle.sql_adoption.specs.Reading.{ShowsForm, PutsRows, HoldAll, RefusesRows};
+ghost use Rattle.sql_adoption.specs.declared.faults.OpenFault.TheVariants as faults;
 ghost use Rattle.sql_layouts.specs.Tables.{form_told};
 
 use crate::faults::{Mismatch, OpenFault};
@@ -82,7 +83,7 @@ fn put_rows(
 ) -> Result<(), Failure>
     ensures put { OnOk result (PutsRows domain.now rows.now maps.old maps.new) }
     ensures all { OnOk result ((domains : List Text) → HoldAll (office_in maps.old) domains langs.old.items → HoldAll (office_in maps.new) (domains ++ domain.now ∷ []) langs.new.items) }
-    ensures unread { IfErr result (λ failure. failure.lost ≡ Disk → ¬ AreOfficeRows rows.now) }
+    ensures unread { IfErr result (λ failure. failure.lost ≢ lost.Memory → ¬ AreOfficeRows rows.now) }
 {
     note_langs(langs, rows.office.languages.as_slice())?;
     add_domain(alloc, maps, domain, rows)
@@ -101,6 +102,7 @@ pub(crate) fn put_told(
     ensures told { OnOk result (ShowsForm (form_told form) rows.now.office.policy) }
     ensures all { OnOk result ((domains : List Text) → HoldAll (office_in maps.old) domains langs.old.items → HoldAll (office_in maps.new) (domains ++ domain.now ∷ []) langs.new.items) }
     ensures refused { IfErr result (RefusesRows (form_told form) rows.now) }
+    ensures disk { IfErr result (λ fault. fault ≢ faults.Disk) }
 {
     if !shows_form(&rows.office.policy, form) {
         return Err(OpenFault::Foreign(Mismatch::OtherForm));

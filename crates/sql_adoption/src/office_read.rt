@@ -7,6 +7,7 @@ ghost use Rattle.sql_schema.specs.Whole.{IsIdleOver, IsLookUp};
 ghost use Rattle.units.specs.Office.{main};
 ghost use Rattle.office_maps.specs.OfficeIn.{office_in};
 ghost use Rattle.sql_meaning.specs.Domains.{office_of_rows};
+ghost use Rattle.sql_decoding.specs.DiskFailures.{FailsTruly};
 ghost use Rattle.sql_adoption.specs.Reading.{ShowsForm, IsOfRows, IsReadOf, HoldsAll, RefusesRows, RefusesOf};
 ghost use Rattle.sql_layouts.specs.Tables.{form_told};
 
@@ -104,8 +105,9 @@ pub fn read_office<S: Alter>(
 /// The office of tables by domains, in maps: each domain that there is, with all that it sees. Whether each row is of a domain that there is
 /// isn't asked.
 ///
-/// `Memory` where a growth was refused; `Disk` where a statement failed, or the rows stand for no office.
-pub fn load_office<S: Alter>(
+/// `Memory` where a growth was refused; `Disk` only where the disk failed; `Refused` where a statement was refused, or the rows stand for no
+/// office.
+pub(crate) fn load_office<S: Alter>(
     connection: &mut Connection<S>,
     alloc: Global,
 ) -> Result<OfficeMaps, Failure>
@@ -113,6 +115,7 @@ pub fn load_office<S: Alter>(
     requires idle { IsIdleOver by_domain (state S.Store connection.old) }
     ensures found { IsLookUp (state S.Store connection.old) (state S.Store connection.new) result
         (λ db maps. office_in maps ≡ office_of_rows (rows_named db)) }
+    ensures disk { FailsTruly (state S.Store connection.old) (state S.Store connection.new) result }
 {
     match read_domains(connection, alloc) {
         Ok(

@@ -1,5 +1,5 @@
 //! The statuses of records, as the rows of a walk over them all show them.
-ghost use Rattle.std.specs.Prelude.{◌≡◌, true, Some, IfOk, IfErr, OnOk};
+ghost use Rattle.std.specs.Prelude.{◌≡◌, ◌≢◌, true, Some, IfOk, IfErr, OnOk};
 ghost use Rattle.std.specs.FinMap as maps;
 ghost use Rattle.request_book.specs.Book.{Book, row_of};
 ghost use Rattle.sql_columns.specs.Readings.{number_read};
@@ -8,14 +8,14 @@ ghost use Rattle.sql_meaning.specs.Meaning.{number_at};
 ghost use Rattle.sql_meaning.specs.Shown.{shown_record};
 ghost use Rattle.rule_tests.specs.Given.{AreStatusesOf};
 ghost use Rattle.sql_decoding.specs.RowTests.{holds_text, is_number, is_record_row, IsUnread};
-ghost use Rattle.tables.specs.declared.faults.Lost.TheVariants.{Disk};
+ghost use Rattle.tables.specs.declared.faults.Lost.TheVariants.{Memory};
 ghost use Rattle.sql_adoption.specs.BookShown.{IsRecordRow};
 ghost use Rattle.sql_adoption.specs.NotedRecords.{has_status};
 
 use request_book::{Record, bytes_fit};
 use rule_tests::{is_content, is_status, note_status};
 use sql_columns::number_from;
-use sql_decoding::{Failure, record_in};
+use sql_decoding::{Failure, record_in, text_in};
 use sql_streams::RowSink;
 use sqlite::Row;
 use std::alloc::Global;
@@ -29,7 +29,7 @@ fn number_of(row: &Row) -> Result<Uuid, Failure>
     ensures stands { OnOk result (holds_text is_number 3 row.now ≡ true) }
     ensures unread { IfErr result (IsUnread (holds_text is_number 3 row.now)) }
 {
-    let column: String = row.get(3)?;
+    let column = text_in(row, 3)?;
     let number = number_from(column.as_str())?;
     bytes_fit(number.as_bytes());
     Ok(number)
@@ -49,7 +49,7 @@ fn record_of(row: &Row) -> Result<Record, Failure>
 fn known_record(alloc: Global, row: &Row) -> Result<Record, Failure>
     ensures value { IfOk result (λ r. r ≡ row_of (number_at 3 row.now) (shown_record row.now)) }
     ensures stands { OnOk result (IsRecordRow row.now) }
-    ensures unread { IfErr result (λ failure. failure.lost ≡ Disk → ¬ IsRecordRow row.now) }
+    ensures unread { IfErr result (λ failure. failure.lost ≢ Memory → ¬ IsRecordRow row.now) }
 {
     let record = record_of(row)?;
     if is_content(alloc, record.content.as_str())? {
@@ -65,7 +65,7 @@ fn note_row(alloc: Global, statuses: &mut BTreeMap<Uuid, u16>, row: &Row) -> Res
     ensures noted { (book : Book) → AreStatusesOf book statuses.old
         → OnOk result (AreStatusesOf (maps.insert book (number_at 3 row.now) (shown_record row.now)) statuses.new) }
     ensures stands { OnOk result (IsRecordRow row.now) }
-    ensures unread { IfErr result (λ failure. failure.lost ≡ Disk → ¬ IsRecordRow row.now) }
+    ensures unread { IfErr result (λ failure. failure.lost ≢ Memory → ¬ IsRecordRow row.now) }
 {
     let record = known_record(alloc, row)?;
     note_status(statuses, &record)?;
@@ -77,7 +77,7 @@ fn note_row(alloc: Global, statuses: &mut BTreeMap<Uuid, u16>, row: &Row) -> Res
 fn has_status(alloc: Global, row: &Row) -> Result<bool, Failure>
     ensures told { IfOk result (λ has. has ≡ has_status row.now) }
     ensures stands { OnOk result (IsRecordRow row.now) }
-    ensures unread { IfErr result (λ failure. failure.lost ≡ Disk → ¬ IsRecordRow row.now) }
+    ensures unread { IfErr result (λ failure. failure.lost ≢ Memory → ¬ IsRecordRow row.now) }
 {
     let record = known_record(alloc, row)?;
     let has = is_status(record.reply.status());
@@ -107,8 +107,8 @@ impl Statuses {
 }
 
 impl RowSink for Statuses {
-    ghost use Rattle.std.specs.Prelude.{◌≡◌};
-    ghost use Rattle.tables.specs.declared.faults.Lost.TheVariants.{Disk};
+    ghost use Rattle.std.specs.Prelude.{◌≡◌, ◌≢◌};
+    ghost use Rattle.tables.specs.declared.faults.Lost.TheVariants.{Memory};
     ghost use Rattle.sql_adoption.specs.BookShown.{IsRecordRow};
     ghost use Rattle.sql_adoption.specs.NotedRecords.{NotesRecords, notes_none, notes_more};
 
@@ -116,7 +116,7 @@ impl RowSink for Statuses {
 
     ghost Took = { λ a rows b. NotesRecords a.by_number rows b.by_number };
 
-    ghost Refuses = { λ a row failure b. failure.lost ≡ Disk → ¬ IsRecordRow row };
+    ghost Refuses = { λ a row failure b. failure.lost ≢ Memory → ¬ IsRecordRow row };
 
     ghost none = { λ s. notes_none s.by_number };
 
@@ -137,8 +137,8 @@ pub(crate) struct Contents {
 }
 
 impl RowSink for Contents {
-    ghost use Rattle.std.specs.Prelude.{◌≡◌};
-    ghost use Rattle.tables.specs.declared.faults.Lost.TheVariants.{Disk};
+    ghost use Rattle.std.specs.Prelude.{◌≡◌, ◌≢◌};
+    ghost use Rattle.tables.specs.declared.faults.Lost.TheVariants.{Memory};
     ghost use Rattle.sql_adoption.specs.BookShown.{IsRecordRow};
     ghost use Rattle.sql_adoption.specs.NotedRecords.{TestsRecords, tests_none, tests_more};
 
@@ -146,7 +146,7 @@ impl RowSink for Contents {
 
     ghost Took = { λ a rows b. TestsRecords a.answered rows b.answered };
 
-    ghost Refuses = { λ a row failure b. failure.lost ≡ Disk → ¬ IsRecordRow row };
+    ghost Refuses = { λ a row failure b. failure.lost ≢ Memory → ¬ IsRecordRow row };
 
     ghost none = { λ s. tests_none s.answered };
 

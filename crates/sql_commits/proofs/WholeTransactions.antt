@@ -1,5 +1,5 @@
 -- A whole transaction that writes by one step: it commits, or its commit fails, or the step fails and is undone.
-use Rattle.std.proofs.Common.{◌≡◌, false, true, Result, Ok, Err, OnOk, IsTrue, [], sym, subst}
+use Rattle.std.proofs.Common.{◌≡◌, ◌⊎◌, inl, inr, false, true, Result, Ok, Err, OnOk, IsTrue, [], sym, ap, subst, ◌∙◌, arith}
 use Rattle.std.specs.Prelude.{MatchResult, IsErrAnd, IfErr}
 use Rattle.sqlite.specs.Effect.{Database}
 use Rattle.sqlite.specs.Held.{Held, state}
@@ -12,7 +12,14 @@ use Rattle.sqlite_trees.specs.declared.store.Store as store
 use Rattle.sql_schema.specs.Inside.{AreOfficeTablesOf, IsInsideOf}
 use Rattle.sql_schema.specs.Whole.{IsIdleOver, IsCommitOf}
 use Rattle.sql_schema.proofs.Whole.{committed, fails_writing, stops_writing}
-use Rattle.sql_commits.specs.Ends.{Finishes}
+use Rattle.sql_laws.specs.DiskErrors.{HasFailed}
+use Rattle.sql_laws.proofs.DiskErrors.{commit_of_disk, failed_before, failed_behind}
+use Rattle.sql_decoding.specs.declared.faults.Failure.{Failure}
+use Rattle.sql_decoding.specs.DiskFailures.{IsOfError, FailsTruly}
+use Rattle.tables.specs.declared.faults.Lost.TheVariants.{Disk}
+use Rattle.sqlite.specs.Tree.{Trees}
+use Rattle.sqlite.proofs.Callers.{survives_begin}
+use Rattle.sql_commits.specs.Ends.{Finishes, EndsTruly}
 use Rattle.sql_schema.specs.Layouts.{by_domain}
 
 -- the same transaction, with another error
@@ -63,3 +70,43 @@ module _ {S : Type 0} (g : store.Ghosts S) (mid last : Held S) {A B E F : Type 0
       → (HasCleanDisk (state g last) → OnOk r (Commits (state g mid) (state g last))) → (HasCleanDisk (state g last) → IfErr r (FailsToCommit (state g mid) (state g last)))
       → Survives (state g mid) (state g last) (λ db. db ≡ (state g mid).now.trees) → Finishes g mid last written told
   finishes_written written r told Tells is cases ok err left = subst (λ w. Finishes g mid last w told) (sym is) (ends_written r told Tells cases ok err left)
+
+-- ---- what tells of the disk
+
+-- what was written failed
+pub handed_truly : {A B : Type 0} (Failed : Type 0) (f : Failure) (written : Result A Failure) (given : Result B Failure) → written ≡ Err f → IsErrAnd given (λ failure. failure ≡ f)
+    → IfErr given (λ failure. failure.lost ≡ Disk → IsErrAnd written (λ cause. cause.lost ≡ Disk) ⊎ Failed)
+handed_truly Failed f written (Ok x) was told = tt
+handed_truly {A} Failed f written (Err failure) was told =
+    λ disk. inl (subst (λ (w : Result A Failure). IsErrAnd w (λ cause. cause.lost ≡ Disk)) (sym was) (ap (λ (failure : Failure). failure.lost) (sym told) ∙ disk))
+
+module _ {A B : Type 0} (mid last : State) where
+  -- the commit did
+  pub committed_truly : (written : Result A Failure) (r : Result B Error) (told : Result B Failure) (Tells : Error → Failure → Type 0) → ((e : Error) (failure : Failure) → Tells e failure → IsOfError e failure)
+      → MatchResult r (λ y. told ≡ Ok y) (λ e. IsErrAnd told (Tells e)) → (HasCleanDisk last → IfErr r (FailsToCommit mid last)) → EndsTruly mid last written told
+  committed_truly written r (Ok y) Tells comes cases fails clean = tt
+  committed_truly written (Ok x) (Err failure) Tells comes cases fails clean = absurd (let no = cases in cc)
+  committed_truly written (Err e) (Err failure) Tells comes cases fails clean = λ disk. inr (commit_of_disk mid last e (fails clean) ((comes e failure cases).disk.0 disk))
+
+-- a whole transaction, from before its beginning to behind its end
+module _ {S : Type 0} (g : store.Ghosts S) (old begun mid last : Held S) (begins : begun ≡ record old { in_transaction = true }) where
+  from_begin : (P : Trees → Type 0) → Survives (state g begun) (state g mid) P → Survives (state g old) (state g mid) P
+  from_begin P inside = survives_begin g old (state g mid) P (subst (λ h. Survives (state g h) (state g mid) P) begins inside)
+
+  behind : (P Q : Trees → Type 0) → Survives (state g begun) (state g mid) P → Survives (state g mid) (state g last) Q → HasCleanDisk (state g last) → HasFailed (state g mid) (state g last) → HasFailed (state g old) (state g last)
+  behind P Q inside end clean = failed_behind (state g old) (state g mid) (state g last) P Q (from_begin P inside) end clean
+
+  before : (Q : Trees → Type 0) → Survives (state g mid) (state g last) Q → HasFailed (state g begun) (state g mid) → HasFailed (state g old) (state g last)
+  before Q end failed = failed_before (state g old) (state g mid) (state g last) Q (subst (λ h. HasFailed (state g h) (state g mid)) begins failed) end
+
+  pub finishes_truly : {A B : Type 0} (P : Trees → Type 0) (written : Result A Failure) (result : Result B Failure) → Survives (state g begun) (state g mid) P → Finishes g mid last written result
+      → FailsTruly (state g begun) (state g mid) written → EndsTruly (state g mid) (state g last) written result → FailsTruly (state g old) (state g last) result
+  finishes_truly P written (Ok y) inside end writes ends clean = tt
+  finishes_truly P (Ok x) (Err failure) inside end writes ends clean = λ disk. elim (ends clean disk) [
+    | inl none ↦ absurd none
+    | inr failed ↦ behind P _ inside end.left clean failed
+  ]
+  finishes_truly P (Err cause) (Err failure) inside end writes ends clean = λ disk. elim (ends clean disk) [
+    | inl is ↦ before _ end.undone.1 (let early : HasCleanDisk (state g mid) = omega (arith, clean, end.undone.1.clean) in writes early is)
+    | inr failed ↦ behind P _ inside end.undone.1 clean failed
+  ]

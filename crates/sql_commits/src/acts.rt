@@ -9,6 +9,7 @@ ghost use Rattle.sql_changes.specs.UnitWrites.{WritesOfUnit};
 ghost use Rattle.sql_commits.specs.Acts.{MakesAct, MakesChange, CommitsAct, CommitsChange};
 ghost use Rattle.sql_commits.specs.Changes.{WritesDomainChange, WritesIn, WritesChange};
 ghost use Rattle.sql_commits.specs.Figures.{FollowsWrite, FollowsIn, FollowsAct, FollowsDomainChange, FollowsOneChange, FollowsChange};
+ghost use Rattle.sql_decoding.specs.DiskFailures.{FailsTruly};
 
 use crate::languages::write_language;
 use crate::policies::write_policy;
@@ -40,6 +41,7 @@ pub fn commit_act<S: Alter>(
     requires autocommit { connection.old.in_transaction ≡ false }
     requires idle { IsIdleOver by_domain (state S.Store connection.old) }
     ensures committed { IsCommitOf by_domain (state S.Store connection.old) (state S.Store connection.new) result (CommitsAct row.now domain.now lang.now key.now write.now) }
+    ensures disk { FailsTruly (state S.Store connection.old) (state S.Store connection.new) result }
 {
     let mut tx = connection.transaction();
     let put = put_record_and_write(&mut tx, alloc, row, domain, lang, key, write);
@@ -60,6 +62,7 @@ fn put_record_and_write<S: Alter>(
     ensures same_reference { tx.new.conn.ghost_name ≡ tx.old.conn.ghost_name }
     ensures put { IsInsideOf by_domain (state S.Store tx.old.conn.now) (state S.Store tx.new.conn.now) result (MakesAct row.now domain.now lang.now key.now write.now) }
     ensures figures { IsInsideOf by_domain (state S.Store tx.old.conn.now) (state S.Store tx.new.conn.now) result (FollowsAct domain.now lang.now key.now write.now) }
+    ensures disk { FailsTruly (state S.Store tx.old.conn.now) (state S.Store tx.new.conn.now) result }
 {
     put_record_of(tx, alloc, row)?;
     match write {
@@ -81,6 +84,7 @@ fn write_unit_in<S: Alter>(
     ensures same_reference { tx.new.conn.ghost_name ≡ tx.old.conn.ghost_name }
     ensures put { IsInsideOf by_domain (state S.Store tx.old.conn.now) (state S.Store tx.new.conn.now) result (WritesIn domain.now (WritesOfUnit lang.now key.now write.now)) }
     ensures figures { IsInsideOf by_domain (state S.Store tx.old.conn.now) (state S.Store tx.new.conn.now) result (FollowsIn domain.now (FollowsWrite domain.now lang.now key.now write.now)) }
+    ensures disk { FailsTruly (state S.Store tx.old.conn.now) (state S.Store tx.new.conn.now) result }
 {
     let found = find_domain(tx, domain.as_str())?;
     match found {
@@ -103,6 +107,7 @@ pub fn commit_change<S: Alter>(
     requires autocommit { connection.old.in_transaction ≡ false }
     requires idle { IsIdleOver by_domain (state S.Store connection.old) }
     ensures committed { IsCommitOf by_domain (state S.Store connection.old) (state S.Store connection.new) result (CommitsChange row.now change.now) }
+    ensures disk { FailsTruly (state S.Store connection.old) (state S.Store connection.new) result }
 {
     let mut tx = connection.transaction();
     let put = put_record_and_change(&mut tx, alloc, row, change);
@@ -120,6 +125,7 @@ fn put_record_and_change<S: Alter>(
     ensures same_reference { tx.new.conn.ghost_name ≡ tx.old.conn.ghost_name }
     ensures put { IsInsideOf by_domain (state S.Store tx.old.conn.now) (state S.Store tx.new.conn.now) result (MakesChange row.now change.now) }
     ensures figures { IsInsideOf by_domain (state S.Store tx.old.conn.now) (state S.Store tx.new.conn.now) result (FollowsChange change.now) }
+    ensures disk { FailsTruly (state S.Store tx.old.conn.now) (state S.Store tx.new.conn.now) result }
 {
     put_record_of(tx, alloc, row)?;
     match change {
@@ -138,6 +144,7 @@ fn write_change<S: Alter>(
     ensures same_reference { tx.new.conn.ghost_name ≡ tx.old.conn.ghost_name }
     ensures put { IsInsideOf by_domain (state S.Store tx.old.conn.now) (state S.Store tx.new.conn.now) result (WritesChange change.now) }
     ensures figures { IsInsideOf by_domain (state S.Store tx.old.conn.now) (state S.Store tx.new.conn.now) result (FollowsOneChange change.now) }
+    ensures disk { FailsTruly (state S.Store tx.old.conn.now) (state S.Store tx.new.conn.now) result }
 {
     match change {
         Change::OneRole(name, role) => {
@@ -160,6 +167,7 @@ fn write_change_in<S: Alter>(
     ensures same_reference { tx.new.conn.ghost_name ≡ tx.old.conn.ghost_name }
     ensures put { IsInsideOf by_domain (state S.Store tx.old.conn.now) (state S.Store tx.new.conn.now) result (WritesIn domain.now (WritesDomainChange change.now)) }
     ensures figures { IsInsideOf by_domain (state S.Store tx.old.conn.now) (state S.Store tx.new.conn.now) result (FollowsIn domain.now (FollowsDomainChange domain.now change.now)) }
+    ensures disk { FailsTruly (state S.Store tx.old.conn.now) (state S.Store tx.new.conn.now) result }
 {
     let found = find_domain(tx, domain.as_str())?;
     match found {
@@ -182,6 +190,7 @@ fn write_domain_change<S: Alter>(
     ensures same_reference { tx.new.conn.ghost_name ≡ tx.old.conn.ghost_name }
     ensures put { IsInsideOf by_domain (state S.Store tx.old.conn.now) (state S.Store tx.new.conn.now) result (OnDomain domain.now (WritesDomainChange change.now)) }
     ensures figures { IsInsideOf by_domain (state S.Store tx.old.conn.now) (state S.Store tx.new.conn.now) result (FollowsDomainChange domain.now change.now) }
+    ensures disk { FailsTruly (state S.Store tx.old.conn.now) (state S.Store tx.new.conn.now) result }
 {
     match change {
         DomainChange::NewLanguage(lang, language, plan, tally) => write_language(

@@ -13,12 +13,13 @@ ghost use Rattle.units.specs.Units.{key_of};
 ghost use Rattle.sql_commits.specs.Columns.{columns_of_entry};
 ghost use Rattle.sql_commits.specs.Entries.{IsShown, IsShownAt, AreShown, stays_shown, TakesShown, TakesUnless, TakesOthers};
 ghost use Rattle.sql_figures.specs.Figures.{FiguresStay};
+ghost use Rattle.sql_decoding.specs.DiskFailures.{FailsTruly};
 
 use crate::entries::{EntryColumns, columns_of, put_entry};
 use crate::planned_units::stays_at;
 use po_text::Entry;
 use sql_columns::plural_column;
-use sql_decoding::{Failure, is_text, is_text_or_null, natural_in, text_in};
+use sql_decoding::{Failure, is_text, is_text_or_null, natural_in, needed, text_in};
 use sql_keepable::entry_key_fits;
 use sql_statements::domain_template::{all_domain_entries, take_domain_entry};
 use sqlite::{Alter, Row, Transaction};
@@ -42,6 +43,7 @@ pub fn change_entries<S: Alter>(
     ensures same_reference { tx.new.conn.ghost_name ≡ tx.old.conn.ghost_name }
     ensures put { IsInsideOf by_domain (state S.Store tx.old.conn.now) (state S.Store tx.new.conn.now) result (OnDomain domain.now (LeavesRows (HoldsEntries entries.now))) }
     ensures figures { IsInsideOf by_domain (state S.Store tx.old.conn.now) (state S.Store tx.new.conn.now) result FiguresStay }
+    ensures disk { FailsTruly (state S.Store tx.old.conn.now) (state S.Store tx.new.conn.now) result }
 {
     let rows = all_domain_entries(tx, domain.as_str())?;
     let stays = stays_of(alloc, &rows, entries)?;
@@ -121,8 +123,9 @@ fn take_shown<S: Alter>(
     ensures same_reference { tx.new.conn.ghost_name ≡ tx.old.conn.ghost_name }
     ensures taken { IsInsideOf by_domain (state S.Store tx.old.conn.now) (state S.Store tx.new.conn.now) result (OnDomain domain.now (TakesShown row.now)) }
     ensures figures { IsInsideOf by_domain (state S.Store tx.old.conn.now) (state S.Store tx.new.conn.now) result FiguresStay }
+    ensures disk { FailsTruly (state S.Store tx.old.conn.now) (state S.Store tx.new.conn.now) result }
 {
-    let key = text_in(row, KEY)?;
+    let key = needed(text_in(row, KEY))?;
     take_domain_entry(tx, domain.as_str(), key.as_str()).map_err(Failure::from)
 }
 
@@ -138,6 +141,7 @@ fn take_unless<S: Alter>(
     ensures same_reference { tx.new.conn.ghost_name ≡ tx.old.conn.ghost_name }
     ensures taken { IsInsideOf by_domain (state S.Store tx.old.conn.now) (state S.Store tx.new.conn.now) result (OnDomain domain.now (TakesUnless stays row.now)) }
     ensures figures { IsInsideOf by_domain (state S.Store tx.old.conn.now) (state S.Store tx.new.conn.now) result FiguresStay }
+    ensures disk { FailsTruly (state S.Store tx.old.conn.now) (state S.Store tx.new.conn.now) result }
 {
     if stays {
         Ok(())
@@ -158,6 +162,7 @@ fn take_others<S: Alter>(
     ensures same_reference { tx.new.conn.ghost_name ≡ tx.old.conn.ghost_name }
     ensures taken { IsInsideOf by_domain (state S.Store tx.old.conn.now) (state S.Store tx.new.conn.now) result (OnDomain domain.now (TakesOthers stays.now rows.now)) }
     ensures figures { IsInsideOf by_domain (state S.Store tx.old.conn.now) (state S.Store tx.new.conn.now) result FiguresStay }
+    ensures disk { FailsTruly (state S.Store tx.old.conn.now) (state S.Store tx.new.conn.now) result }
 {
     for row in rows {
         take_unless(tx, domain, row, row_stays(row, stays))?;
@@ -180,6 +185,7 @@ fn put_unless<S: Alter>(
     ensures same_reference { tx.new.conn.ghost_name ≡ tx.old.conn.ghost_name }
     ensures put { IsInsideOf by_domain (state S.Store tx.old.conn.now) (state S.Store tx.new.conn.now) result (OnDomain domain.now (PutsUnless stays place entry.now)) }
     ensures figures { IsInsideOf by_domain (state S.Store tx.old.conn.now) (state S.Store tx.new.conn.now) result FiguresStay }
+    ensures disk { FailsTruly (state S.Store tx.old.conn.now) (state S.Store tx.new.conn.now) result }
 {
     if stays {
         Ok(())
@@ -201,6 +207,7 @@ fn put_others<S: Alter>(
     ensures same_reference { tx.new.conn.ghost_name ≡ tx.old.conn.ghost_name }
     ensures put { IsInsideOf by_domain (state S.Store tx.old.conn.now) (state S.Store tx.new.conn.now) result (OnDomain domain.now (PutsOthers 0 stays.now entries.now)) }
     ensures figures { IsInsideOf by_domain (state S.Store tx.old.conn.now) (state S.Store tx.new.conn.now) result FiguresStay }
+    ensures disk { FailsTruly (state S.Store tx.old.conn.now) (state S.Store tx.new.conn.now) result }
 {
     for (place, entry) in entries.iter().enumerate() {
         put_unless(tx, alloc, domain, place, entry, stays_at(stays, place))?;

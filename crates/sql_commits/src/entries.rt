@@ -10,6 +10,7 @@ ghost use Rattle.sql_changes.specs.Commits.{PutsEntry, PutsEntries};
 ghost use Rattle.sql_commits.specs.Columns.{columns_of_entry};
 ghost use Rattle.sql_commits.specs.Rows.{PutsEntryOf};
 ghost use Rattle.sql_figures.specs.Figures.{FiguresStay};
+ghost use Rattle.sql_decoding.specs.DiskFailures.{FailsTruly};
 
 use po_text::{Entry, Text};
 use sql_columns::{plural_column, texts_column};
@@ -32,6 +33,7 @@ pub fn put_entries<S: Alter>(
     ensures same_reference { tx.new.conn.ghost_name ≡ tx.old.conn.ghost_name }
     ensures put { IsInsideOf by_domain (state S.Store tx.old.conn.now) (state S.Store tx.new.conn.now) result (OnDomain domain.now (PutsEntries 0 entries.now)) }
     ensures figures { IsInsideOf by_domain (state S.Store tx.old.conn.now) (state S.Store tx.new.conn.now) result FiguresStay }
+    ensures disk { FailsTruly (state S.Store tx.old.conn.now) (state S.Store tx.new.conn.now) result }
 {
     for (place, entry) in entries.iter().enumerate() {
         put_entry(tx, alloc, domain, place, entry)?;
@@ -86,6 +88,7 @@ pub fn put_entry<S: Alter>(
     ensures put { IsInsideOf by_domain (state S.Store tx.old.conn.now) (state S.Store tx.new.conn.now) result (OnDomain domain.now (PutsEntry place entry.now)) }
     ensures figures { IsInsideOf by_domain (state S.Store tx.old.conn.now) (state S.Store tx.new.conn.now) result FiguresStay }
     ensures row { IsInsideOf by_domain (state S.Store tx.old.conn.now) (state S.Store tx.new.conn.now) result (PutsEntryOf domain.now place entry.now) }
+    ensures disk { FailsTruly (state S.Store tx.old.conn.now) (state S.Store tx.new.conn.now) result }
 {
     entry_key_fits(entry);
     let columns = columns_of(alloc, entry)?;

@@ -8,6 +8,7 @@ ghost use Rattle.sql_changes.specs.OnDomains.{OnDomain};
 ghost use Rattle.sql_changes.specs.Commits.{PutsLanguage, WritesLanguage};
 ghost use Rattle.sql_commits.specs.Rows.{PutsLanguageOf};
 ghost use Rattle.sql_figures.specs.Figures.{with_tally, FiguresFollow, FiguresStay};
+ghost use Rattle.sql_decoding.specs.DiskFailures.{FailsTruly};
 
 use crate::planned_units::write_units;
 use crate::tallies::put_tally_of;
@@ -35,6 +36,7 @@ pub fn write_language<S: Alter>(
     ensures same_reference { tx.new.conn.ghost_name ≡ tx.old.conn.ghost_name }
     ensures put { IsInsideOf by_domain (state S.Store tx.old.conn.now) (state S.Store tx.new.conn.now) result (OnDomain domain.now (WritesLanguage lang.now header.now units.now)) }
     ensures figures { IsInsideOf by_domain (state S.Store tx.old.conn.now) (state S.Store tx.new.conn.now) result (FiguresFollow (with_tally domain.now lang.now tally)) }
+    ensures disk { FailsTruly (state S.Store tx.old.conn.now) (state S.Store tx.new.conn.now) result }
 {
     put_language_of(tx, alloc, domain, lang, header)?;
     write_units(tx, alloc, domain, lang, units)?;
@@ -54,6 +56,7 @@ pub fn put_language_of<S: Alter>(
     ensures put { IsInsideOf by_domain (state S.Store tx.old.conn.now) (state S.Store tx.new.conn.now) result (OnDomain domain.now (PutsLanguage lang.now header.now)) }
     ensures figures { IsInsideOf by_domain (state S.Store tx.old.conn.now) (state S.Store tx.new.conn.now) result FiguresStay }
     ensures row { IsInsideOf by_domain (state S.Store tx.old.conn.now) (state S.Store tx.new.conn.now) result (PutsLanguageOf domain.now lang.now header.now) }
+    ensures disk { FailsTruly (state S.Store tx.old.conn.now) (state S.Store tx.new.conn.now) result }
 {
     language_fits(lang, header);
     let column = header_column(alloc, header)?;

@@ -8,6 +8,7 @@ ghost use Rattle.sql_changes.specs.OnDomains.{OnDomainsWhere, OnEach};
 ghost use Rattle.sql_changes.specs.Commits.{PutsPolicy, WritesPolicy};
 ghost use Rattle.sql_commits.specs.Figures.{FollowsPolicy};
 ghost use Rattle.sql_commits.specs.Rows.{PutsPolicyOf};
+ghost use Rattle.sql_laws.specs.DiskErrors.{BlamesTruly};
 
 use sql_columns::policy_columns;
 use sql_statements::domain_units::unapprove_domain_units;
@@ -26,6 +27,7 @@ pub fn write_policy<S: Alter>(tx: &mut Transaction<'_, S>, policy: &Policy) -> R
     ensures same_reference { tx.new.conn.ghost_name ≡ tx.old.conn.ghost_name }
     ensures put { IsInsideOf by_domain (state S.Store tx.old.conn.now) (state S.Store tx.new.conn.now) result (OnDomainsWhere HaveNextIn (λ domain. WritesPolicy policy.now)) }
     ensures figures { IsInsideOf by_domain (state S.Store tx.old.conn.now) (state S.Store tx.new.conn.now) result (FollowsPolicy policy.now) }
+    ensures disk { BlamesTruly (state S.Store tx.old.conn.now) (state S.Store tx.new.conn.now) result }
 {
     put_policy_of(tx, policy)?;
     if policy.reviews {
@@ -43,6 +45,7 @@ pub fn put_policy_of<S: Alter>(tx: &mut Transaction<'_, S>, policy: &Policy) -> 
     ensures put { IsInsideOf by_domain (state S.Store tx.old.conn.now) (state S.Store tx.new.conn.now) result (OnEach (PutsPolicy policy.now)) }
     ensures others { IsInsideOf by_domain (state S.Store tx.old.conn.now) (state S.Store tx.new.conn.now) result (OnRows (SparesOthers (codes "policy"))) }
     ensures row { IsInsideOf by_domain (state S.Store tx.old.conn.now) (state S.Store tx.new.conn.now) result (PutsPolicyOf policy.now) }
+    ensures disk { BlamesTruly (state S.Store tx.old.conn.now) (state S.Store tx.new.conn.now) result }
 {
     let columns = policy_columns(policy);
     set_policy(

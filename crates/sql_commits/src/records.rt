@@ -5,6 +5,7 @@ ghost use Rattle.sql_schema.specs.Layouts.{by_domain, SparesOthers};
 ghost use Rattle.sql_schema.specs.Inside.{IsSteadyOver, IsInsideOf, OnRows};
 ghost use Rattle.sql_changes.specs.OnDomains.{OnEach};
 ghost use Rattle.sql_changes.specs.Commits.{PutsNumberedRecord};
+ghost use Rattle.sql_decoding.specs.DiskFailures.{FailsTruly};
 
 use request_book::Record;
 use sql_columns::{number_column, status_column};
@@ -23,6 +24,7 @@ pub fn put_record_of<S: Alter>(
     ensures same_reference { tx.new.conn.ghost_name ≡ tx.old.conn.ghost_name }
     ensures put { IsInsideOf by_domain (state S.Store tx.old.conn.now) (state S.Store tx.new.conn.now) result (OnEach (PutsNumberedRecord row.now)) }
     ensures others { IsInsideOf by_domain (state S.Store tx.old.conn.now) (state S.Store tx.new.conn.now) result (OnRows (SparesOthers (codes "record"))) }
+    ensures disk { FailsTruly (state S.Store tx.old.conn.now) (state S.Store tx.new.conn.now) result }
 {
     let number = number_column(alloc, row.number)?;
     put_record(

@@ -8,6 +8,7 @@ ghost use Rattle.sql_changes.specs.OnDomains.{OnEach};
 ghost use Rattle.sql_columns.specs.Numbers.{role_number};
 ghost use Rattle.sql_changes.specs.Commits.{WritesRole};
 ghost use Rattle.sql_figures.specs.Figures.{FiguresStay};
+ghost use Rattle.sql_laws.specs.DiskErrors.{BlamesTruly};
 
 use sql_columns::role_column;
 use sql_statements::team::{remove_member, set_member};
@@ -25,6 +26,7 @@ pub fn write_role<S: Alter>(
     ensures put { IsInsideOf by_domain (state S.Store tx.old.conn.now) (state S.Store tx.new.conn.now) result (OnEach (WritesRole name.now (role_number role))) }
     ensures figures { IsInsideOf by_domain (state S.Store tx.old.conn.now) (state S.Store tx.new.conn.now) result FiguresStay }
     ensures member { (column : ℤ) → role_number role ≡ Some column → IsInsideOf by_domain (state S.Store tx.old.conn.now) (state S.Store tx.new.conn.now) result (PutsMember name.now column) }
+    ensures disk { BlamesTruly (state S.Store tx.old.conn.now) (state S.Store tx.new.conn.now) result }
 {
     match role_column(role) {
         Some(column) => set_member(tx, name, column),

@@ -1,20 +1,22 @@
 //! Tallies inside a transaction: how many units of each language are in each state.
-ghost use Rattle.std.specs.Prelude.{◌≡◌, ◌+◌, ◌-◌, pos, IfOk, IsTrue};
+ghost use Rattle.std.specs.Prelude.{◌≡◌, ◌≢◌, ◌+◌, ◌-◌, pos, IfOk, IfErr, IsTrue};
 ghost use Rattle.sqlite.specs.Held.{state};
 ghost use Rattle.sqlite.specs.State.{HasCleanDisk};
 ghost use Rattle.sql_schema.specs.Layouts.{by_domain};
 ghost use Rattle.sql_schema.specs.Inside.{IsSteadyOver, IsInsideOf, IsReadOf};
 ghost use Rattle.sql_changes.specs.OnDomains.{SparesDomains};
 ghost use Rattle.tables.specs.Tallies.{moved as moves};
+ghost use Rattle.tables.specs.declared.faults.Lost.TheVariants.{Disk};
 ghost use Rattle.sql_commits.specs.Counted.{ShowsMoving, ShowsValues};
 ghost use Rattle.sql_commits.specs.Figures.{PutsTally, FollowsView, FollowsOwnRow, FollowsOneMore};
 ghost use Rattle.sql_figures.specs.Figures.{with_tallies, moved_at, FiguresFollow};
+ghost use Rattle.sql_decoding.specs.DiskFailures.{FailsTruly};
 
 use crate::unit_counts::{
     CountedValues, counted, counted_so, counted_there, one_suggestion, values_beside, values_of,
 };
 use office_specification::Tally;
-use sql_decoding::{Failure, tally_in, unit_numbers};
+use sql_decoding::{Failure, needed, tally_in, unit_numbers};
 use sql_keepable::key_fits;
 use sql_statements::domain_suggestions::places_of;
 use sql_statements::domain_units::find_domain_unit;
@@ -27,14 +29,17 @@ use units::{Key, Lang, Name, Unit, UnitView};
 /// The last count that a column holds.
 const LAST_COUNT: usize = 9_223_372_036_854_775_807;
 
-/// The column of a count; one that no column holds is told as want of memory.
+/// The column of a count; one that no column holds is refused.
 fn count_column(count: usize) -> Result<i64, Failure>
-    ensures { IfOk result (λ column. column ≡ pos count) }
+    ensures column { IfOk result (λ column. column ≡ pos count) }
+    ensures told { IfErr result (λ failure. failure.lost ≢ Disk) }
 {
     if count <= LAST_COUNT {
         Ok(count as i64)
     } else {
-        Err(Failure { lost: Lost::Memory })
+        Err(Failure {
+            lost: Lost::Refused,
+        })
     }
 }
 
@@ -48,6 +53,7 @@ pub fn put_tally_of<S: Alter>(
     requires steady { IsSteadyOver by_domain (state S.Store tx.old.conn.now) }
     ensures same_reference { tx.new.conn.ghost_name ≡ tx.old.conn.ghost_name }
     ensures put { IsInsideOf by_domain (state S.Store tx.old.conn.now) (state S.Store tx.new.conn.now) result (PutsTally domain.now lang.now tally) }
+    ensures disk { FailsTruly (state S.Store tx.old.conn.now) (state S.Store tx.new.conn.now) result }
 {
     let row = TallyRow {
         domain: domain.as_str(),
@@ -74,6 +80,7 @@ pub fn put_tallies<S: Alter>(
     ensures same_reference { tx.new.conn.ghost_name ≡ tx.old.conn.ghost_name }
     ensures spares { IsInsideOf by_domain (state S.Store tx.old.conn.now) (state S.Store tx.new.conn.now) result SparesDomains }
     ensures figures { IsInsideOf by_domain (state S.Store tx.old.conn.now) (state S.Store tx.new.conn.now) result (FiguresFollow (with_tallies domain.now tallies.now)) }
+    ensures disk { FailsTruly (state S.Store tx.old.conn.now) (state S.Store tx.new.conn.now) result }
 {
     for tallied in tallies {
         put_tally_of(tx, domain, &tallied.0, tallied.1)?;
@@ -82,7 +89,7 @@ pub fn put_tallies<S: Alter>(
 }
 
 /// Moves a language's tally by what the unit that is there counts, and what its new view does. An act doesn't change the template, so the new
-/// view's entry is the old one's. A language that has no tally is an error: another program has written the file.
+/// view's entry is the old one's. A language that has no tally is refused: another program has written the file.
 pub fn move_tally<S: Alter>(
     tx: &mut Transaction<'_, S>,
     alloc: Global,
@@ -94,6 +101,7 @@ pub fn move_tally<S: Alter>(
     ensures same_reference { tx.new.conn.ghost_name ≡ tx.old.conn.ghost_name }
     ensures spares { IsInsideOf by_domain (state S.Store tx.old.conn.now) (state S.Store tx.new.conn.now) result SparesDomains }
     ensures figures { IsInsideOf by_domain (state S.Store tx.old.conn.now) (state S.Store tx.new.conn.now) result (FollowsView domain.now lang.now view.now) }
+    ensures disk { FailsTruly (state S.Store tx.old.conn.now) (state S.Store tx.new.conn.now) result }
 {
     let there = values_there(tx, alloc, domain, lang, &view.unit.key)?;
     let was = counted_there(&view.source, &there);
@@ -114,6 +122,7 @@ pub fn move_row_tally<S: Alter>(
     ensures same_reference { tx.new.conn.ghost_name ≡ tx.old.conn.ghost_name }
     ensures spares { IsInsideOf by_domain (state S.Store tx.old.conn.now) (state S.Store tx.new.conn.now) result SparesDomains }
     ensures figures { IsInsideOf by_domain (state S.Store tx.old.conn.now) (state S.Store tx.new.conn.now) result (FollowsOwnRow domain.now lang.now view.now) }
+    ensures disk { FailsTruly (state S.Store tx.old.conn.now) (state S.Store tx.new.conn.now) result }
 {
     let there = values_to_move(tx, alloc, domain, lang, &view.unit)?;
     match there {
@@ -138,13 +147,14 @@ pub fn count_suggestion<S: Alter>(
     ensures same_reference { tx.new.conn.ghost_name ≡ tx.old.conn.ghost_name }
     ensures spares { IsInsideOf by_domain (state S.Store tx.old.conn.now) (state S.Store tx.new.conn.now) result SparesDomains }
     ensures figures { IsInsideOf by_domain (state S.Store tx.old.conn.now) (state S.Store tx.new.conn.now) result (FollowsOneMore domain.now lang.now key.now) }
+    ensures disk { FailsTruly (state S.Store tx.old.conn.now) (state S.Store tx.new.conn.now) result }
 {
     key_fits(key);
     let text = key.text(alloc)?;
     let found = find_domain_unit(tx, domain.as_str(), lang.as_str(), text.as_str())?;
     match found {
         Some(row) => {
-            let numbers = unit_numbers(&row)?;
+            let numbers = needed(unit_numbers(&row))?;
             put_difference(
                 tx,
                 domain,
@@ -170,6 +180,7 @@ fn put_difference<S: Alter>(
     ensures same_reference { tx.new.conn.ghost_name ≡ tx.old.conn.ghost_name }
     ensures spares { IsInsideOf by_domain (state S.Store tx.old.conn.now) (state S.Store tx.new.conn.now) result SparesDomains }
     ensures figures { IsInsideOf by_domain (state S.Store tx.old.conn.now) (state S.Store tx.new.conn.now) result (FiguresFollow (moved_at domain.now lang.now was is)) }
+    ensures disk { FailsTruly (state S.Store tx.old.conn.now) (state S.Store tx.new.conn.now) result }
 {
     if was == is {
         Ok(())
@@ -190,15 +201,18 @@ fn put_moved<S: Alter>(
     ensures same_reference { tx.new.conn.ghost_name ≡ tx.old.conn.ghost_name }
     ensures spares { IsInsideOf by_domain (state S.Store tx.old.conn.now) (state S.Store tx.new.conn.now) result SparesDomains }
     ensures figures { IsInsideOf by_domain (state S.Store tx.old.conn.now) (state S.Store tx.new.conn.now) result (FiguresFollow (moved_at domain.now lang.now was is)) }
+    ensures disk { FailsTruly (state S.Store tx.old.conn.now) (state S.Store tx.new.conn.now) result }
 {
     let found = find_tally(tx, domain.as_str(), lang.as_str())?;
     match found {
         Some(row) => {
-            let tally = tally_in(&row)?;
+            let tally = needed(tally_in(&row))?;
             let after = moved(tally, was, is)?;
             put_tally_of(tx, domain, lang, after)
         }
-        None => Err(Failure { lost: Lost::Disk }),
+        None => Err(Failure {
+            lost: Lost::Refused,
+        }),
     }
 }
 
@@ -213,6 +227,7 @@ fn values_there<S: Alter>(
     requires steady { IsSteadyOver by_domain (state S.Store tx.old.conn.now) }
     ensures same_reference { tx.new.conn.ghost_name ≡ tx.old.conn.ghost_name }
     ensures found { IsReadOf by_domain (state S.Store tx.old.conn.now) (state S.Store tx.new.conn.now) result (ShowsValues domain.now lang.now key.now) }
+    ensures disk { FailsTruly (state S.Store tx.old.conn.now) (state S.Store tx.new.conn.now) result }
 {
     key_fits(key);
     let text = key.text(alloc)?;
@@ -220,7 +235,7 @@ fn values_there<S: Alter>(
     let places = places_of(tx, domain.as_str(), lang.as_str(), text.as_str())?;
     match found {
         Some(row) => {
-            let numbers = unit_numbers(&row)?;
+            let numbers = needed(unit_numbers(&row))?;
             Ok(Some(values_of(&numbers, places.len())))
         }
         None => Ok(None),
@@ -239,13 +254,14 @@ fn values_to_move<S: Alter>(
     requires steady { IsSteadyOver by_domain (state S.Store tx.old.conn.now) }
     ensures same_reference { tx.new.conn.ghost_name ≡ tx.old.conn.ghost_name }
     ensures found { IsReadOf by_domain (state S.Store tx.old.conn.now) (state S.Store tx.new.conn.now) result (ShowsMoving domain.now lang.now unit.now) }
+    ensures disk { FailsTruly (state S.Store tx.old.conn.now) (state S.Store tx.new.conn.now) result }
 {
     key_fits(&unit.key);
     let text = unit.key.text(alloc)?;
     let found = find_domain_unit(tx, domain.as_str(), lang.as_str(), text.as_str())?;
     match found {
         Some(row) => {
-            let numbers = unit_numbers(&row)?;
+            let numbers = needed(unit_numbers(&row))?;
             if numbers.obsolete == unit.obsolete {
                 Ok(Some(values_of(&numbers, 0)))
             } else {
@@ -257,23 +273,29 @@ fn values_to_move<S: Alter>(
     }
 }
 
-/// A count without what one unit counted and with what another counts. Where it counts less than the first, another program has written
-/// the file.
+/// A count without what one unit counted and with what another counts. It is refused where it counts less than the first, since another
+/// program has written the file, and where it passes a word.
 fn moved_count(before: usize, was: usize, is: usize) -> Result<usize, Failure>
-    ensures { IfOk result (λ count. count ≡ before + is - was) }
+    ensures count { IfOk result (λ count. count ≡ before + is - was) }
+    ensures told { IfErr result (λ failure. failure.lost ≢ Disk) }
 {
     match before.checked_sub(was) {
         Some(rest) => match rest.checked_add(is) {
             Some(count) => Ok(count),
-            None => Err(Failure { lost: Lost::Memory }),
+            None => Err(Failure {
+                lost: Lost::Refused,
+            }),
         },
-        None => Err(Failure { lost: Lost::Disk }),
+        None => Err(Failure {
+            lost: Lost::Refused,
+        }),
     }
 }
 
 /// A tally without what one unit counted and with what another counts.
 fn moved(before: Tally, was: Tally, is: Tally) -> Result<Tally, Failure>
-    ensures { IfOk result (λ tally. tally ≡ moves before was is) }
+    ensures tally { IfOk result (λ tally. tally ≡ moves before was is) }
+    ensures told { IfErr result (λ failure. failure.lost ≢ Disk) }
 {
     Ok(Tally {
         approved: moved_count(before.approved, was.approved, is.approved)?,

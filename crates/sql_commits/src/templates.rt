@@ -6,6 +6,7 @@ ghost use Rattle.sql_schema.specs.Inside.{IsSteadyOver, IsInsideOf};
 ghost use Rattle.sql_changes.specs.OnDomains.{OnDomain};
 ghost use Rattle.sql_changes.specs.Commits.{WritesTemplate};
 ghost use Rattle.sql_figures.specs.Figures.{with_tallies, FiguresFollow};
+ghost use Rattle.sql_decoding.specs.DiskFailures.{FailsTruly};
 
 use crate::changed_entries::change_entries;
 use crate::planned_units::write_plans_back;
@@ -32,6 +33,7 @@ pub fn write_template<S: Alter>(
     ensures same_reference { tx.new.conn.ghost_name ≡ tx.old.conn.ghost_name }
     ensures put { IsInsideOf by_domain (state S.Store tx.old.conn.now) (state S.Store tx.new.conn.now) result (OnDomain domain.now (WritesTemplate entries.now plans.now)) }
     ensures figures { IsInsideOf by_domain (state S.Store tx.old.conn.now) (state S.Store tx.new.conn.now) result (FiguresFollow (with_tallies domain.now tallies.now)) }
+    ensures disk { FailsTruly (state S.Store tx.old.conn.now) (state S.Store tx.new.conn.now) result }
 {
     change_entries(tx, alloc, domain, entries)?;
     write_plans_back(tx, alloc, domain, plans)?;

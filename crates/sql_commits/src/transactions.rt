@@ -1,6 +1,7 @@
 //! How a transaction that writes ends.
 ghost use Rattle.std.specs.Prelude.{◌≡◌, false};
-ghost use Rattle.sql_commits.specs.Ends.{Finishes};
+ghost use Rattle.sqlite.specs.Held.{state};
+ghost use Rattle.sql_commits.specs.Ends.{Finishes, EndsTruly};
 
 use sql_decoding::Failure;
 use sqlite::{Alter, Transaction};
@@ -9,6 +10,7 @@ use sqlite::{Alter, Transaction};
 pub fn finish<S: Alter>(tx: Transaction<'_, S>, written: Result<(), Failure>) -> Result<(), Failure>
     ensures ended { tx.exit.0.now.in_transaction ≡ false }
     ensures finished { Finishes S.Store tx.entry.conn.now tx.exit.0.now written result }
+    ensures disk { EndsTruly (state S.Store tx.entry.conn.now) (state S.Store tx.exit.0.now) written result }
 {
     written?;
     tx.commit().map_err(Failure::from)

@@ -12,7 +12,8 @@ ghost use Rattle.po_text.specs.declared.entry.Entry.{Entry as EntryValue};
 
 use office_specification::Tally;
 use po_text::Entry;
-use sql_decoding::{Failure, UnitNumbers};
+use sql_decoding::UnitNumbers;
+use std::alloc::AllocError;
 use units::{ShownState, Unit, UnitState, is_read_only};
 
 /// What a tally counts of a unit.
@@ -47,7 +48,7 @@ pub fn values_beside(unit: &Unit, suggestions: usize) -> CountedValues
 }
 
 /// What a unit counts, whose entry in the template this is.
-pub fn counted(source: &Option<Entry>, unit: &Unit) -> Result<Tally, Failure>
+pub fn counted(source: &Option<Entry>, unit: &Unit) -> Result<Tally, AllocError>
     ensures { IfOk result (λ tally. (template : List EntryValue) → source.now ≡ entry_of template unit.now.key → tally ≡ counts_one template unit.now) }
 {
     let mut tally = Tally::none();

@@ -1,5 +1,5 @@
 //! What an act writes of a unit, inside a transaction: the whole of it, its row alone, a suggestion more, or a vote; with the tally and the sums.
-ghost use Rattle.std.specs.Prelude.{◌≡◌, ◌<◌, ◌^◌, IfOk};
+ghost use Rattle.std.specs.Prelude.{◌≡◌, ◌≢◌, ◌<◌, ◌^◌, IfOk, IfErr};
 ghost use Rattle.sqlite.specs.Held.{state};
 ghost use Rattle.sql_schema.specs.Layouts.{by_domain};
 ghost use Rattle.sql_schema.specs.Inside.{IsSteadyOver, IsInsideOf, IsInOrder, Then};
@@ -8,7 +8,10 @@ ghost use Rattle.sql_changes.specs.UnitWrites.{AddsLast, PutsUnitRow, WritesNumb
 ghost use Rattle.sql_commits.specs.Figures.{PutsSum, FollowsOwnRow, FollowsSuggestionAt, FollowsView, FollowsVoteAt, FollowsWrite};
 ghost use Rattle.sql_commits.specs.Votes.{ArePlacesBefore, IsPlaceBehind, PutsVoteRow};
 ghost use Rattle.sql_figures.specs.Figures.{FiguresStay};
+ghost use Rattle.tables.specs.declared.faults.Lost.TheVariants.{Disk};
 ghost use Rattle.units.specs.Units.{key_text};
+ghost use Rattle.sql_laws.specs.DiskErrors.{BlamesTruly};
+ghost use Rattle.sql_decoding.specs.DiskFailures.{FailsTruly};
 
 use crate::tallies::{count_suggestion, move_row_tally, move_tally};
 use crate::unit_writes::{add_suggestion, write_row, write_unit};
@@ -37,6 +40,7 @@ pub fn write_of_unit<S: Alter>(
     ensures same_reference { tx.new.conn.ghost_name ≡ tx.old.conn.ghost_name }
     ensures put { IsInsideOf by_domain (state S.Store tx.old.conn.now) (state S.Store tx.new.conn.now) result (OnDomain domain.now (WritesOfUnit lang.now key.now write.now)) }
     ensures figures { IsInsideOf by_domain (state S.Store tx.old.conn.now) (state S.Store tx.new.conn.now) result (FollowsWrite domain.now lang.now key.now write.now) }
+    ensures disk { FailsTruly (state S.Store tx.old.conn.now) (state S.Store tx.new.conn.now) result }
 {
     match write {
         UnitWrite::Whole(view) => write_view(tx, alloc, domain, lang, view),
@@ -68,6 +72,7 @@ fn write_view<S: Alter>(
     ensures same_reference { tx.new.conn.ghost_name ≡ tx.old.conn.ghost_name }
     ensures put { IsInsideOf by_domain (state S.Store tx.old.conn.now) (state S.Store tx.new.conn.now) result (OnDomain domain.now (WritesNumberedUnit lang.now view.now.unit)) }
     ensures figures { IsInsideOf by_domain (state S.Store tx.old.conn.now) (state S.Store tx.new.conn.now) result (FollowsView domain.now lang.now view.now) }
+    ensures disk { FailsTruly (state S.Store tx.old.conn.now) (state S.Store tx.new.conn.now) result }
 {
     move_tally(tx, alloc, domain, lang, view)?;
     write_unit(tx, alloc, domain, lang, &view.unit)
@@ -85,6 +90,7 @@ fn write_view_row<S: Alter>(
     ensures same_reference { tx.new.conn.ghost_name ≡ tx.old.conn.ghost_name }
     ensures put { IsInsideOf by_domain (state S.Store tx.old.conn.now) (state S.Store tx.new.conn.now) result (OnDomain domain.now (PutsUnitRow lang.now view.now.unit)) }
     ensures figures { IsInsideOf by_domain (state S.Store tx.old.conn.now) (state S.Store tx.new.conn.now) result (FollowsOwnRow domain.now lang.now view.now) }
+    ensures disk { FailsTruly (state S.Store tx.old.conn.now) (state S.Store tx.new.conn.now) result }
 {
     move_row_tally(tx, alloc, domain, lang, view)?;
     write_row(tx, alloc, domain, lang, &view.unit)
@@ -105,6 +111,7 @@ fn write_suggestion<S: Alter>(
     ensures same_reference { tx.new.conn.ghost_name ≡ tx.old.conn.ghost_name }
     ensures put { IsInsideOf by_domain (state S.Store tx.old.conn.now) (state S.Store tx.new.conn.now) result (OnDomain domain.now (AddsLast lang.now (key_text key.now) suggestion.now)) }
     ensures figures { IsInsideOf by_domain (state S.Store tx.old.conn.now) (state S.Store tx.new.conn.now) result (FollowsSuggestionAt domain.now lang.now key.now suggestion.now) }
+    ensures disk { FailsTruly (state S.Store tx.old.conn.now) (state S.Store tx.new.conn.now) result }
 {
     count_suggestion(tx, alloc, domain, lang, key)?;
     let text = key.text(alloc)?;
@@ -131,6 +138,7 @@ fn add_last<S: Alter>(
     ensures same_reference { tx.new.conn.ghost_name ≡ tx.old.conn.ghost_name }
     ensures put { IsInsideOf by_domain (state S.Store tx.old.conn.now) (state S.Store tx.new.conn.now) result (OnDomain domain.now (AddsLast lang.now key.now suggestion.now)) }
     ensures figures { IsInsideOf by_domain (state S.Store tx.old.conn.now) (state S.Store tx.new.conn.now) result FiguresStay }
+    ensures disk { FailsTruly (state S.Store tx.old.conn.now) (state S.Store tx.new.conn.now) result }
 {
     let places = places_of(tx, domain, lang, key)?;
     let place = next_place(places.as_slice())?;
@@ -144,6 +152,7 @@ const LAST_PLACE: usize = 9_223_372_036_854_775_807;
 fn next_place(places: &[Row]) -> Result<usize, Failure>
     ensures fits { IfOk result (λ place. place < 2 ^ 63) }
     ensures behind { IfOk result (λ place. IsInOrder 0 places.now → ArePlacesBefore place places.now) }
+    ensures told { IfErr result (λ failure. failure.lost ≢ Disk) }
 {
     match places.last() {
         Some(row) => place_behind(row),
@@ -151,21 +160,26 @@ fn next_place(places: &[Row]) -> Result<usize, Failure>
     }
 }
 
-/// The place behind the one that a row shows. One that is no natural number, or that has none behind it, is an error: another program has
+/// The place behind the one that a row shows. One that is no natural number, or that has none behind it, is refused: another program has
 /// written the file.
 fn place_behind(row: &Row) -> Result<usize, Failure>
     ensures fits { IfOk result (λ place. place < 2 ^ 63) }
     ensures next { IfOk result (λ place. IsPlaceBehind row.now place) }
+    ensures told { IfErr result (λ failure. failure.lost ≢ Disk) }
 {
     match natural_in(row, 0) {
         Some(place) => {
             if place < LAST_PLACE {
                 Ok(place + 1)
             } else {
-                Err(Failure { lost: Lost::Disk })
+                Err(Failure {
+                    lost: Lost::Refused,
+                })
             }
         }
-        None => Err(Failure { lost: Lost::Disk }),
+        None => Err(Failure {
+            lost: Lost::Refused,
+        }),
     }
 }
 
@@ -196,6 +210,7 @@ fn write_vote<S: Alter>(
     ensures same_reference { tx.new.conn.ghost_name ≡ tx.old.conn.ghost_name }
     ensures put { IsInsideOf by_domain (state S.Store tx.old.conn.now) (state S.Store tx.new.conn.now) result (OnDomain domain.now (WritesVote lang.now (key_text key.now) vote.entry.number vote.entry.voter.now vote.entry.value)) }
     ensures figures { IsInsideOf by_domain (state S.Store tx.old.conn.now) (state S.Store tx.new.conn.now) result (FollowsVoteAt domain.now lang.now key.now vote.entry.number vote.entry.voter.now vote.entry.value vote.entry.sum) }
+    ensures disk { FailsTruly (state S.Store tx.old.conn.now) (state S.Store tx.new.conn.now) result }
 {
     let number = number_column(alloc, vote.number)?;
     let key = key.text(alloc)?;
@@ -233,6 +248,7 @@ fn put_vote_and_sum<S: Alter>(
     requires steady { IsSteadyOver by_domain (state S.Store tx.old.conn.now) }
     ensures same_reference { tx.new.conn.ghost_name ≡ tx.old.conn.ghost_name }
     ensures put { IsInsideOf by_domain (state S.Store tx.old.conn.now) (state S.Store tx.new.conn.now) result (Then (PutsVoteRow number.now voter.now value) (PutsSum number.now sum)) }
+    ensures disk { BlamesTruly (state S.Store tx.old.conn.now) (state S.Store tx.new.conn.now) result }
 {
     put_vote_row(tx, number, voter, value)?;
     put_sum(tx, number, sum)
@@ -248,6 +264,7 @@ fn put_vote_row<S: Alter>(
     requires steady { IsSteadyOver by_domain (state S.Store tx.old.conn.now) }
     ensures same_reference { tx.new.conn.ghost_name ≡ tx.old.conn.ghost_name }
     ensures put { IsInsideOf by_domain (state S.Store tx.old.conn.now) (state S.Store tx.new.conn.now) result (PutsVoteRow number.now voter.now value) }
+    ensures disk { BlamesTruly (state S.Store tx.old.conn.now) (state S.Store tx.new.conn.now) result }
 {
     match value {
         Some(value) => put_domain_vote(tx, number, voter, vote_column(value)),

@@ -16,6 +16,8 @@ ghost use Rattle.sql_figures.specs.Figures.{FiguresStay};
 ghost use Rattle.sql_commits.specs.Figures.{AddsWithSum};
 ghost use Rattle.units.specs.Units.{vote_sum};
 ghost use Rattle.sql_meaning.specs.Written.{PutsRows};
+ghost use Rattle.sql_laws.specs.DiskErrors.{BlamesTruly};
+ghost use Rattle.sql_decoding.specs.DiskFailures.{FailsTruly};
 
 use po_text::Text;
 use sql_columns::{
@@ -45,6 +47,7 @@ pub fn write_unit<S: Alter>(
     ensures same_reference { tx.new.conn.ghost_name ≡ tx.old.conn.ghost_name }
     ensures put { IsInsideOf by_domain (state S.Store tx.old.conn.now) (state S.Store tx.new.conn.now) result (OnDomain domain.now (WritesNumberedUnit lang.now unit.now)) }
     ensures figures { IsInsideOf by_domain (state S.Store tx.old.conn.now) (state S.Store tx.new.conn.now) result FiguresStay }
+    ensures disk { FailsTruly (state S.Store tx.old.conn.now) (state S.Store tx.new.conn.now) result }
 {
     let columns = columns_of(alloc, unit)?;
     write_columns(tx, alloc, domain.as_str(), lang.as_str(), unit, &columns)
@@ -63,6 +66,7 @@ pub fn write_row<S: Alter>(
     ensures put { IsInsideOf by_domain (state S.Store tx.old.conn.now) (state S.Store tx.new.conn.now) result (OnDomain domain.now (PutsUnitRow lang.now unit.now)) }
     ensures figures { IsInsideOf by_domain (state S.Store tx.old.conn.now) (state S.Store tx.new.conn.now) result FiguresStay }
     ensures row { IsInsideOf by_domain (state S.Store tx.old.conn.now) (state S.Store tx.new.conn.now) result (PutsUnitOf domain.now lang.now unit.now) }
+    ensures disk { FailsTruly (state S.Store tx.old.conn.now) (state S.Store tx.new.conn.now) result }
 {
     let columns = columns_of(alloc, unit)?;
     put_row(tx, domain.as_str(), lang.as_str(), unit, &columns)
@@ -102,6 +106,7 @@ fn write_columns<S: Alter>(
     ensures same_reference { tx.new.conn.ghost_name ≡ tx.old.conn.ghost_name }
     ensures put { IsInsideOf by_domain (state S.Store tx.old.conn.now) (state S.Store tx.new.conn.now) result (OnDomain domain.now (WritesNumberedUnit lang.now unit.now)) }
     ensures figures { IsInsideOf by_domain (state S.Store tx.old.conn.now) (state S.Store tx.new.conn.now) result FiguresStay }
+    ensures disk { FailsTruly (state S.Store tx.old.conn.now) (state S.Store tx.new.conn.now) result }
 {
     put_row(tx, domain, lang, unit, columns)?;
     clear_domain_suggestions(tx, domain, lang, columns.key.as_str())?;
@@ -129,6 +134,7 @@ fn put_row<S: Alter>(
     ensures put { IsInsideOf by_domain (state S.Store tx.old.conn.now) (state S.Store tx.new.conn.now) result (OnDomain domain.now (PutsUnitRow lang.now unit.now)) }
     ensures figures { IsInsideOf by_domain (state S.Store tx.old.conn.now) (state S.Store tx.new.conn.now) result FiguresStay }
     ensures row { IsInsideOf by_domain (state S.Store tx.old.conn.now) (state S.Store tx.new.conn.now) result (PutsUnitOf domain.now lang.now unit.now) }
+    ensures disk { FailsTruly (state S.Store tx.old.conn.now) (state S.Store tx.new.conn.now) result }
 {
     put_domain_unit(
         tx,
@@ -162,6 +168,7 @@ fn add_suggestions<S: Alter>(
     ensures same_reference { tx.new.conn.ghost_name ≡ tx.old.conn.ghost_name }
     ensures put { IsInsideOf by_domain (state S.Store tx.old.conn.now) (state S.Store tx.new.conn.now) result (OnDomain domain.now (AddsNumberedSuggestions lang.now key.now suggestions.now)) }
     ensures figures { IsInsideOf by_domain (state S.Store tx.old.conn.now) (state S.Store tx.new.conn.now) result FiguresStay }
+    ensures disk { FailsTruly (state S.Store tx.old.conn.now) (state S.Store tx.new.conn.now) result }
 {
     for (place, suggestion) in suggestions.iter().enumerate() {
         add_suggestion(tx, alloc, domain, lang, key, place, suggestion)?;
@@ -184,6 +191,7 @@ pub fn add_suggestion<S: Alter>(
     ensures same_reference { tx.new.conn.ghost_name ≡ tx.old.conn.ghost_name }
     ensures put { IsInsideOf by_domain (state S.Store tx.old.conn.now) (state S.Store tx.new.conn.now) result (OnDomain domain.now (AddsNumberedSuggestion lang.now key.now place suggestion.now)) }
     ensures figures { IsInsideOf by_domain (state S.Store tx.old.conn.now) (state S.Store tx.new.conn.now) result FiguresStay }
+    ensures disk { FailsTruly (state S.Store tx.old.conn.now) (state S.Store tx.new.conn.now) result }
 {
     let number = number_column(alloc, suggestion.number)?;
     let forms = forms_column(alloc, &suggestion.forms)?;
@@ -211,6 +219,7 @@ fn add_summed<S: Alter>(
     ensures added { IsInsideOf by_domain (state S.Store tx.old.conn.now) (state S.Store tx.new.conn.now) result
         (AddsSummed row.entry.domain.now row.entry.number.now row.entry.lang.now row.entry.key.now row.entry.place row.entry.suggester.now row.entry.forms.now) }
     ensures summed { IsInsideOf by_domain (state S.Store tx.old.conn.now) (state S.Store tx.new.conn.now) result (AddsWithSum row.entry.number.now (vote_sum votes.now)) }
+    ensures disk { BlamesTruly (state S.Store tx.old.conn.now) (state S.Store tx.new.conn.now) result }
 {
     add_domain_suggestion(tx, row)?;
     put_sum(tx, row.number, votes.sum())
@@ -229,6 +238,7 @@ fn put_votes<S: Alter>(
     ensures put { IsInsideOf by_domain (state S.Store tx.old.conn.now) (state S.Store tx.new.conn.now) result
         (PutsVotesOn domain.now number.now (maps.entries votes.now)) }
     ensures rows { IsInsideOf by_domain (state S.Store tx.old.conn.now) (state S.Store tx.new.conn.now) result (OnRows (PutsRows (codes "d_vote") first_texts (map (vote_cells number.now) (maps.entries votes.now)))) }
+    ensures disk { FailsTruly (state S.Store tx.old.conn.now) (state S.Store tx.new.conn.now) result }
 {
     for vote in votes.as_slice() {
         put_domain_vote(tx, number, vote.0.as_str(), vote_column(vote.1))?;

@@ -83,14 +83,7 @@ module _ {X : Type 0} (r : Result X Failure) (b : Bool) where
     where
       by : (s : Result X Failure) → IsErr s × IsErrAnd s (λ failure. (failure.lost ≡ Memory) ↔ (fault ≡ faults.Memory)) → IfErr s (IsUnread b)
       by (Ok x) g = tt
-      by (Err failure) g = λ disk. fails (λ memory. memory_tells failure (g.1.1 memory) disk)
-
-  pub error_tells : (e : Error) → IsErr r × IsErrAnd r (λ failure. (failure.lost ≡ Memory) ↔ (e ≡ SqliteFailure OutOfMemory)) → (e ≢ SqliteFailure OutOfMemory → b ≡ false) → IfErr r (IsUnread b)
-  error_tells e h fails = by r h
-    where
-      by : (s : Result X Failure) → IsErr s × IsErrAnd s (λ failure. (failure.lost ≡ Memory) ↔ (e ≡ SqliteFailure OutOfMemory)) → IfErr s (IsUnread b)
-      by (Ok x) g = tt
-      by (Err failure) g = λ disk. fails (λ memory. memory_tells failure (g.1.1 memory) disk)
+      by (Err failure) g = λ other. fails (λ memory. memory_tells failure (g.1.1 memory) other)
 
 -- ---- a column that isn't read
 

@@ -4,3 +4,4 @@ pub mod ColumnsRead
 pub mod ContextsRead
 pub mod RowsSoFar
 pub mod SuggestionsRead
+pub mod DiskFailures

@@ -1,6 +1,6 @@
 -- Which rows stand for values: each column that is read holds what is written for a value within its limits. The rows are as reads of whole
 -- tables, and looks at a unit, show them. This project's own rule; the columns are those of the tables' format.
-use Rattle.std.specs.Prelude.{◌≡◌, ◌&&◌, ◌==◌, ℕ, zero, suc, ℤ, pos, negsuc, Bool, true, false, List, length, Some, is_some, is_ok, nat_lt, bytes_eq}
+use Rattle.std.specs.Prelude.{◌≡◌, ◌≢◌, ◌&&◌, ◌==◌, ℕ, zero, suc, ℤ, pos, negsuc, Bool, true, false, List, length, Some, is_some, is_ok, nat_lt, bytes_eq}
 use Rattle.std.specs.Str.{is_utf8}
 use Rattle.std.specs.Option.{option_map_or}
 use Rattle.std.specs.List.{list_all}
@@ -22,7 +22,7 @@ use Rattle.sql_statements.specs.declared.unit_rows.SuggestionRows.{SuggestionRow
 use Rattle.sql_statements.specs.declared.unit_rows.UnitRows.{UnitRows}
 use Rattle.sql_statements.specs.declared.unit_rows.ContextRows.{ContextRows}
 use Rattle.sql_meaning.specs.OfficeShown.{template_shown}
-use Rattle.tables.specs.declared.faults.Lost.TheVariants.{Disk}
+use Rattle.tables.specs.declared.faults.Lost.TheVariants.{Memory}
 use Rattle.sql_decoding.specs.declared.faults.Failure.{Failure}
 
 -- ---- what a column holds
@@ -260,4 +260,4 @@ are_context_rows rows =
 
 -- but for want of memory, a failure tells that a test fails
 abbrev pub IsUnread : Bool → Failure → Type 0
-IsUnread stands failure = failure.lost ≡ Disk → stands ≡ false
+IsUnread stands failure = failure.lost ≢ Memory → stands ≡ false

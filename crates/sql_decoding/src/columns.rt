@@ -67,7 +67,7 @@ pub fn text_in(row: &Row, at: usize) -> Result<String, Failure>
 {
     match row.get::<String>(at) {
         Ok(text) => Ok(text),
-        Err(error) => Err(Failure::from(error)),
+        Err(error) => Err(Failure::unread(error)),
     }
 }
 
@@ -79,18 +79,18 @@ fn text_or_null_in(row: &Row, at: usize) -> Result<Option<String>, Failure>
 {
     match row.get::<Option<String>>(at) {
         Ok(text) => Ok(text),
-        Err(error) => Err(Failure::from(error)),
+        Err(error) => Err(Failure::unread(error)),
     }
 }
 
 /// The number in a column.
-pub(crate) fn integer_in(row: &Row, at: usize) -> Result<i64, Failure>
+pub fn integer_in(row: &Row, at: usize) -> Result<i64, Failure>
     ensures shown { IfOk result (λ number. column row.now at ≡ Int number) }
     ensures unread { IfErr result (λ failure. (passes : ℤ → Bool) → IsUnread (holds_integer passes at row.now) failure) }
 {
     match row.get::<i64>(at) {
         Ok(number) => Ok(number),
-        Err(error) => Err(Failure::from(error)),
+        Err(error) => Err(Failure::unread(error)),
     }
 }
 
@@ -107,7 +107,7 @@ pub(crate) fn texts_at(alloc: Global, row: &Row, at: usize) -> Result<Items<Text
 }
 
 /// The msgid_plural in a column, none where it is null.
-pub(crate) fn plural_at(alloc: Global, row: &Row, at: usize) -> Result<Option<PoString>, Failure>
+pub fn plural_at(alloc: Global, row: &Row, at: usize) -> Result<Option<PoString>, Failure>
     ensures shown { IfOk result (λ v. v ≡ values.text_or_null_at at row.now) }
     ensures stands { OnOk result (holds_text_or_null is_string at row.now ≡ true) }
     ensures unread { IfErr result (IsUnread (holds_text_or_null is_string at row.now)) }

@@ -1,4 +1,8 @@
-//! What a failure of the file comes to: want of memory is `Memory`, and anything else is `Disk`.
+//! What a failure of the file comes to: want of memory is `Memory`; what the connection tells of the disk, and a row that stands for no
+//! value, are `Disk`; and what is refused otherwise is `Refused`.
+
+ghost use Rattle.std.specs.Prelude.{◌≡◌, ◌≢◌, ◌↔◌, Ok, IfOk, IfErr, IsErrAnd};
+ghost use Rattle.tables.specs.declared.faults.Lost.TheVariants as variants;
 
 use sql_columns::RowFault;
 use sqlite::{Error, ErrorCode};
@@ -14,14 +18,51 @@ pub struct Failure {
 }
 
 impl Failure {
-    ghost use Rattle.std.specs.Prelude.{◌≡◌};
+    ghost use Rattle.std.specs.Prelude.{◌≡◌, ◌≢◌, ◌↔◌};
+    ghost use Rattle.sqlite.specs.declared.error.Error.TheVariants.{SqliteFailure};
+    ghost use Rattle.sqlite.specs.declared.error.ErrorCode.TheVariants.{OutOfMemory};
     ghost use Rattle.tables.specs.Faults.{lost_number};
 
-    /// The number of what it comes to: 1 for memory, 2 for the disk.
+    /// The number of what it comes to: 1 for memory, 2 for the disk, 3 for a refusal.
     pub fn number(self) -> u8
         ensures { result ≡ lost_number self.lost }
     {
         self.lost.number()
+    }
+
+    /// Of a row that isn't read where a change needs it: the file takes no such change, and the connection goes on.
+    pub fn refused(self) -> Failure
+        ensures memory { (result.lost ≡ variants.Memory) ↔ (self.lost ≡ variants.Memory) }
+        ensures disk { result.lost ≢ variants.Disk }
+    {
+        match self.lost {
+            Lost::Memory => Failure { lost: Lost::Memory },
+            Lost::Disk | Lost::Refused => Failure {
+                lost: Lost::Refused,
+            },
+        }
+    }
+
+    /// Of a column that isn't read: what isn't want of memory is `Disk`, since another program has written the file.
+    pub(crate) fn unread(error: Error) -> Failure
+        ensures { (result.lost ≡ variants.Memory) ↔ (error ≡ SqliteFailure OutOfMemory) }
+    {
+        match error {
+            Error::SqliteFailure(ErrorCode::OutOfMemory) => Failure { lost: Lost::Memory },
+            _ => Failure { lost: Lost::Disk },
+        }
+    }
+}
+
+/// Of a row that a call needs: what isn't read of it is refused, so that `Disk` is told of the connection alone.
+pub fn needed<T: Drop>(read: Result<T, Failure>) -> Result<T, Failure>
+    ensures value { IfOk result (λ value. read ≡ Ok value) }
+    ensures told { IfErr result (λ failure. failure.lost ≢ variants.Disk) }
+    ensures failed { IfErr result (λ failure. IsErrAnd read (λ why. (failure.lost ≡ variants.Memory) ↔ (why.lost ≡ variants.Memory))) }
+{
+    match read {
+        Ok(value) => Ok(value),
+        Err(failure) => Err(failure.refused()),
     }
 }
 
@@ -58,19 +99,40 @@ impl From<Memory> for Failure {
     }
 }
 
-/// Of a statement's errors want of memory alone is `Memory`.
+/// Of a statement's errors want of memory alone is `Memory`, and those that tell of the disk are `Disk`. What is refused otherwise, as a row
+/// that is too large, is `Refused`: nothing was written, and the connection goes on.
 impl From<Error> for Failure {
-    ghost use Rattle.std.specs.Prelude.{◌≡◌, ◌↔◌};
-    ghost use Rattle.sqlite.specs.declared.error.Error.TheVariants.{SqliteFailure};
-    ghost use Rattle.sqlite.specs.declared.error.ErrorCode.TheVariants.{OutOfMemory};
-    ghost use Rattle.tables.specs.declared.faults.Lost.TheVariants.{Memory};
+    ghost use Rattle.sql_decoding.specs.DiskFailures.{IsOfError};
 
-    ghost from_gives = { λ error failure. (failure.lost ≡ Memory) ↔ (error ≡ SqliteFailure OutOfMemory) };
+    ghost from_gives = { IsOfError };
 
     fn from(error: Error) -> Failure {
         match error {
-            Error::SqliteFailure(ErrorCode::OutOfMemory) => Failure { lost: Lost::Memory },
-            _ => Failure { lost: Lost::Disk },
+            Error::SqliteFailure(code) => Failure::told(code),
+            _ => Failure {
+                lost: Lost::Refused,
+            },
+        }
+    }
+}
+
+impl Failure {
+    ghost use Rattle.sqlite.specs.declared.error.Error.TheVariants.{SqliteFailure};
+    ghost use Rattle.sql_decoding.specs.DiskFailures.{IsOfError};
+
+    /// Of what a statement that failed tells.
+    fn told(code: ErrorCode) -> Failure
+        ensures { IsOfError (SqliteFailure code) result }
+    {
+        match code {
+            ErrorCode::OutOfMemory => Failure { lost: Lost::Memory },
+            ErrorCode::SystemIoFailure => Failure { lost: Lost::Disk },
+            ErrorCode::DatabaseCorrupt => Failure { lost: Lost::Disk },
+            ErrorCode::DiskFull => Failure { lost: Lost::Disk },
+            ErrorCode::Closed => Failure { lost: Lost::Disk },
+            _ => Failure {
+                lost: Lost::Refused,
+            },
         }
     }
 }

@@ -74,7 +74,8 @@ module _ {E K R : Type 0} (sink : E → MutBor K) (held : E → MutBor Entry) (T
   pub cut_given : (fault : WalkFault (EachFault R)) (told : EachFault R) → IsTold fault told → CutShort TookRows RefusedRow IsAnswer first last fault
       → WasCutShort Took Refuses (sink first).now (sink last).now ((held first).now ∷ entries) told
   cut_given (NoRows error) told is h = subst (WasCutShort Took Refuses (sink first).now (sink last).now ((held first).now ∷ entries)) (sym is.1) (some_given h)
-  cut_given (RowRefused fault) told is h = subst (WasCutShort Took Refuses (sink first).now (sink last).now ((held first).now ∷ entries)) (sym is) (given_up_to fault h)
+  cut_given (RowRefused (NoTables lost)) told is h = subst (WasCutShort Took Refuses (sink first).now (sink last).now ((held first).now ∷ entries)) (sym is.1) (given_up_to (NoTables lost) h)
+  cut_given (RowRefused (NoSink refusal)) told is h = subst (WasCutShort Took Refuses (sink first).now (sink last).now ((held first).now ∷ entries)) (sym is) (given_up_to (NoSink refusal) h)
 
   pub cut_same : (fault : WalkFault (EachFault R)) → CutShort TookRows RefusedRow IsAnswer first last fault → (sink last).ghost_name ≡ (sink first).ghost_name
   cut_same (NoRows error) h = h.took.same_reference

@@ -1,3 +1,4 @@
+pub mod CutsBlame
 pub mod Idle
 pub mod Handed
 pub mod LookedUp

@@ -1,5 +1,5 @@
 //! The entries of a domain's language, handed out as their rows come.
-ghost use Rattle.std.specs.Prelude.{◌≡◌, ◌∷◌, ◌++◌, [], ⊤, false, IsTrue, IsSome};
+ghost use Rattle.std.specs.Prelude.{◌≡◌, ◌≢◌, ◌∷◌, ◌++◌, [], ⊤, false, IfErr, IsTrue, IsSome};
 ghost use Rattle.std.specs.FinMap as maps;
 ghost use Rattle.sqlite.specs.Held.{state};
 ghost use Rattle.sqlite.specs.State.{HasCleanDisk};
@@ -7,7 +7,9 @@ ghost use Rattle.units.specs.Projects.{IsProject};
 ghost use Rattle.tables.specs.Entries.{entries_of};
 ghost use Rattle.sql_schema.specs.Whole.{IsIdleOver, IsLookUp};
 ghost use Rattle.sql_meaning.specs.Meaning.{project_of_rows};
-ghost use Rattle.sql_exports.specs.Handing.{Gives};
+ghost use Rattle.sql_exports.specs.Handing.{Gives, CutsTruly};
+ghost use Rattle.tables.specs.declared.faults.EachFault.TheVariants.{NoTables};
+ghost use Rattle.tables.specs.declared.faults.Lost.TheVariants.{Disk};
 ghost use Rattle.sql_exports.specs.Entries.{messages_of, obsolete_of};
 ghost use Rattle.sql_schema.specs.Layouts.{by_domain, rows_named};
 ghost use Rattle.sql_schema.specs.SeenRows.{seen_in};
@@ -23,7 +25,8 @@ use units::Lang;
 
 /// Hands an entry to a sink.
 fn hand<K: EntrySink>(sink: &mut K, entry: Entry) -> Result<(), EachFault<K::Refusal>>
-    ensures { Gives K.Took K.Refuses sink.old sink.new (entry ∷ []) result }
+    ensures handed { Gives K.Took K.Refuses sink.old sink.new (entry ∷ []) result }
+    ensures told { IfErr result (λ fault. fault ≢ NoTables Disk) }
 {
     let taken = sink.take(&entry);
     drop(entry);
@@ -48,6 +51,7 @@ fn hand_obsolete_behind<'a, S: Alter, K: EntrySink>(
     ensures handed { HasCleanDisk (state S.Store connection.new) → Gives K.Took K.Refuses sink.old sink.new
         (held ∷ obsolete_of (project_of_rows (seen_in domain.now (rows_named (state S.Store connection.old).now))) lang.now) result }
     ensures looked { IsLookUp (state S.Store connection.old) (state S.Store connection.new) result (λ _ _. ⊤) }
+    ensures disk { CutsTruly (state S.Store connection.old) (state S.Store connection.new) result }
 {
     let mut last = held;
     match hand_obsolete(
@@ -80,6 +84,7 @@ fn hand_rows<'a, S: Alter, K: EntrySink>(
     ensures handed { HasCleanDisk (state S.Store connection.new) → Gives K.Took K.Refuses sink.old sink.new
         (header ∷ messages_of (project_of_rows (seen_in domain.now (rows_named (state S.Store connection.old).now))) lang.now ++ obsolete_of (project_of_rows (seen_in domain.now (rows_named (state S.Store connection.old).now))) lang.now) result }
     ensures looked { IsLookUp (state S.Store connection.old) (state S.Store connection.new) result (λ _ _. ⊤) }
+    ensures disk { CutsTruly (state S.Store connection.old) (state S.Store connection.new) result }
 {
     let mut last = header;
     match hand_messages(
@@ -114,6 +119,7 @@ pub fn export_entries<S: Alter, K: EntrySink>(
     ensures handed { HasCleanDisk (state S.Store connection.new) → Gives K.Took K.Refuses sink.old sink.new
         (entries_of (project_of_rows (seen_in domain.now (rows_named (state S.Store connection.old).now))) lang.now) result }
     ensures looked { IsLookUp (state S.Store connection.old) (state S.Store connection.new) result (λ _ _. ⊤) }
+    ensures disk { CutsTruly (state S.Store connection.old) (state S.Store connection.new) result }
 {
     match look_up_header(connection, alloc, domain, lang.as_str()) {
         Ok(Some(header)) => hand_rows(connection, alloc, domain, lang.as_str(), header, sink),

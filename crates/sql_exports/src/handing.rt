@@ -8,7 +8,7 @@ ghost use Rattle.sqlite.specs.State.{HasCleanDisk};
 ghost use Rattle.po_text.specs.declared.entry.Entry.{Entry as EntryValue};
 ghost use Rattle.sql_schema.specs.Whole.{IsIdleOver, IsLookUp};
 ghost use Rattle.sql_statements.specs.Queries.{AreUnits, ShowsMessagesIn, ShowsObsoleteIn};
-ghost use Rattle.sql_exports.specs.Handing.{GivesAllBut, IsTold};
+ghost use Rattle.sql_exports.specs.Handing.{GivesAllBut, IsTold, CutsTruly};
 ghost use Rattle.sql_schema.specs.Layouts.{by_domain, rows_named};
 ghost use Rattle.sql_schema.specs.SeenRows.{seen_in};
 
@@ -20,13 +20,17 @@ use sql_streams::WalkFault;
 use sqlite::{Alter, Connection};
 use tables::{EachFault, EntrySink};
 
-/// What a walk that was cut short comes to: the query's failure, or what was told of a row.
+/// What a walk that was cut short comes to: the query's failure, or what was told of a row. A row that isn't read is refused, so that
+/// `Disk` is told of the connection alone.
 fn walk_fault<R: Drop>(fault: WalkFault<EachFault<R>>) -> EachFault<R>
     ensures { IsTold fault result }
 {
     match fault {
         WalkFault::NoRows(error) => EachFault::NoTables(Failure::from(error).lost),
-        WalkFault::NoSink(fault) => fault,
+        WalkFault::NoSink(EachFault::NoTables(lost)) => {
+            EachFault::NoTables(Failure { lost }.refused().lost)
+        }
+        WalkFault::NoSink(EachFault::NoSink(refusal)) => EachFault::NoSink(refusal),
     }
 }
 
@@ -47,6 +51,7 @@ pub(crate) fn hand_messages<'a, S: Alter, R: EntryReader, K: EntrySink>(
         → ((rows : List RowValue) → ShowsMessagesIn unit_of (seen_in domain.now (rows_named (state S.Store connection.old).now)) rows → filter_map R.entry rows ≡ entries)
         → HasCleanDisk (state S.Store connection.new) → GivesAllBut K.Took K.Refuses sink.old sink.new (held.old ∷ entries) held.new result }
     ensures looked { IsLookUp (state S.Store connection.old) (state S.Store connection.new) result (λ _ _. ⊤) }
+    ensures disk { CutsTruly (state S.Store connection.old) (state S.Store connection.new) result }
 {
     let mut rows = EntryRows::new(reader, held, sink);
     match walk_domain_messages(connection, domain, lang, &mut rows) {
@@ -72,6 +77,7 @@ pub(crate) fn hand_obsolete<'a, S: Alter, R: EntryReader, K: EntrySink>(
         → ((rows : List RowValue) → ShowsObsoleteIn lang.now (seen_in domain.now (rows_named (state S.Store connection.old).now)) rows → filter_map R.entry rows ≡ entries)
         → HasCleanDisk (state S.Store connection.new) → GivesAllBut K.Took K.Refuses sink.old sink.new (held.old ∷ entries) held.new result }
     ensures looked { IsLookUp (state S.Store connection.old) (state S.Store connection.new) result (λ _ _. ⊤) }
+    ensures disk { CutsTruly (state S.Store connection.old) (state S.Store connection.new) result }
 {
     let mut rows = EntryRows::new(reader, held, sink);
     match walk_domain_obsolete(connection, domain, lang, &mut rows) {

@@ -7,14 +7,15 @@ use Rattle.sql_meaning.specs.Domains.{meaning_for}
 use Rattle.sql_adoption.specs.Adoption.{Refuses, TellsForm, KeepsFigures, StandForOfficeOf, StandForBook, IsAdopted}
 use Rattle.sql_adoption.proofs.Kept.{lacks_own}
 use Rattle.sql_adoption.specs.declared.faults.OpenFault.{OpenFault}
-use Rattle.sql_adoption.specs.declared.faults.OpenFault.TheVariants.{Memory, Disk, Foreign, Exists}
+use Rattle.sql_adoption.specs.declared.faults.OpenFault.TheVariants.{Memory, Disk, Foreign, Exists, Refused}
 use Rattle.sql_adoption.specs.declared.faults.Mismatch.TheVariants.{OtherTables, OtherForm, UnreadRow, OtherFigures, BrokenRules}
 use Rattle.sql_files.specs.Files.{IsOfficeDatabase, IsOfficeFile, IsLost}
 use Rattle.sql_files.proofs.Listed.{database_read, file_left}
 
 lost_of : (form : Form) (db : Database) → IsOfficeDatabase form db → (fault : OpenFault) → Refuses db fault → IsLost fault
 lost_of form db file Memory refused = inl refl
-lost_of form db file Disk refused = inr refl
+lost_of form db file Disk refused = inr (inl refl)
+lost_of form db file Refused refused = inr (inr refl)
 lost_of form db file (Foreign OtherTables) refused = absurd (refused (form, record { schema = file.ready.schema; tables = file.ready.tables }))
 lost_of form db file (Foreign OtherForm) refused = absurd (lacks_own (λ f. TellsForm f (rows_named db)) db form file.ready.schema refused file.rows.form_told)
 lost_of form db file (Foreign UnreadRow) refused =

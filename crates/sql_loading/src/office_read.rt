@@ -1,5 +1,5 @@
 //! A domain with the team and the policy of its office, as all rows of its tables are read.
-ghost use Rattle.std.specs.Prelude.{◌≡◌, ◌&&◌, true, IfOk, IfErr, OnOk, fold};
+ghost use Rattle.std.specs.Prelude.{◌≡◌, ◌≢◌, ◌&&◌, true, IfOk, IfErr, OnOk, fold};
 ghost use Rattle.std.specs.List.{list_all};
 ghost use Rattle.std.specs.FinMap as finite;
 ghost use Rattle.units.specs.Project.{with_unit};
@@ -9,7 +9,7 @@ ghost use Rattle.sql_meaning.specs.OfficeShown.{with_shown, unit_shown, place_sh
 ghost use Rattle.sql_loading.specs.DomainChanged.{ChangesDomain};
 ghost use Rattle.sql_decoding.specs.TablesRead.{with_suggestions};
 ghost use Rattle.sql_decoding.specs.RowTests.{has_place, is_unit, is_unit_row, are_unit_tables, AreOfficeRows, IsUnread};
-ghost use Rattle.tables.specs.declared.faults.Lost.TheVariants.{Disk};
+ghost use Rattle.tables.specs.declared.faults.Lost.TheVariants.{Memory};
 
 use crate::office_tables::{put_languages, put_policy, put_team, put_template};
 use crate::unit_tables::{all_suggestions, suggestions_on};
@@ -26,7 +26,7 @@ use units::{Key, Name, Suggestion, Unit};
 // ---- units
 
 /// The place of a row's unit.
-fn place_in(alloc: Global, row: &Row) -> Result<Place, Failure>
+pub fn place_in(alloc: Global, row: &Row) -> Result<Place, Failure>
     ensures shown { IfOk result (λ place. place_of place ≡ place_shown row.now) }
     ensures stands { OnOk result (has_place row.now ≡ true) }
     ensures unread { IfErr result (IsUnread (has_place row.now)) }
@@ -124,7 +124,7 @@ pub fn add_domain(
 ) -> Result<(), Failure>
     ensures shown { OnOk result (office_in maps.new ≡ with_shown (office_in maps.old) domain.now rows.now) }
     ensures stands { OnOk result (AreOfficeRows rows.now) }
-    ensures unread { IfErr result (λ failure. failure.lost ≡ Disk → ¬ AreOfficeRows rows.now) }
+    ensures unread { IfErr result (λ failure. failure.lost ≢ Memory → ¬ AreOfficeRows rows.now) }
 {
     let own = domain.duplicate()?;
     maps.change(alloc, Change::NewDomain(own))?;

@@ -1,5 +1,5 @@
 //! The team, the policy, the template and the languages of whole tables, put into a domain of an office.
-ghost use Rattle.std.specs.Prelude.{◌≡◌, true, IfOk, IfErr, OnOk, fold};
+ghost use Rattle.std.specs.Prelude.{◌≡◌, ◌≢◌, ◌&&◌, true, IfOk, IfErr, OnOk, fold};
 ghost use Rattle.std.specs.List.{list_all};
 ghost use Rattle.std.specs.Option.{option_map_or};
 ghost use Rattle.po_text.specs.Texts.{Text};
@@ -8,9 +8,10 @@ ghost use Rattle.sql_meaning.specs.Shown.{shown_header};
 ghost use Rattle.sql_meaning.specs.OfficeShown.{team_shown, policy_shown, template_shown};
 ghost use Rattle.sql_loading.specs.DomainChanged.{ChangesDomain};
 ghost use Rattle.sql_decoding.specs.RowTests.{is_member_row, is_policy_row, is_entry_row, is_language, is_language_row, IsTemplate, IsUnread};
-ghost use Rattle.tables.specs.declared.faults.Lost.TheVariants.{Disk};
+ghost use Rattle.tables.specs.declared.faults.Lost.TheVariants.{Memory};
 ghost use Rattle.std.specs.FinMap as finite;
 ghost use Rattle.office_maps.specs.Rows as maps_read;
+ghost use Rattle.office_maps.specs.OfficeIn.{office_in};
 ghost use Rattle.sql_meaning.specs.Values as values;
 
 use office_maps::OfficeMaps;
@@ -93,6 +94,26 @@ pub(crate) fn put_policy(
     Ok(())
 }
 
+/// Puts the team and the policy of rows into an office, in the place of those that it has. Nothing else of it changes.
+///
+/// `Memory` where a growth was refused, and `Disk` where a row stands for no value.
+pub fn set_team(
+    alloc: Global,
+    maps: &mut OfficeMaps,
+    team: &[Row],
+    policy: &Option<Row>,
+) -> Result<(), Failure>
+    ensures shown { OnOk result (office_in maps.new ≡ record (office_in maps.old) { team = team_shown team.now; policy = policy_shown policy.now }) }
+    ensures stands { OnOk result ((list_all is_member_row team.now && option_map_or is_policy_row policy.now true) ≡ true) }
+    ensures unread { IfErr result (IsUnread (list_all is_member_row team.now && option_map_or is_policy_row policy.now true)) }
+{
+    let members = team_in(alloc, team)?;
+    let rules = policy_of(alloc, policy)?;
+    maps.team = members;
+    maps.policy = rules;
+    Ok(())
+}
+
 // ---- the template
 
 /// The template's entries of rows.
@@ -112,7 +133,7 @@ fn entries_in(alloc: Global, rows: &[Row]) -> Result<Vec<Entry>, Failure>
 fn template_in(alloc: Global, rows: &[Row]) -> Result<Catalogue, Failure>
     ensures shown { IfOk result (λ template. template ≡ template_shown rows.now) }
     ensures stands { OnOk result (IsTemplate rows.now) }
-    ensures unread { IfErr result (λ failure. failure.lost ≡ Disk → ¬ IsTemplate rows.now) }
+    ensures unread { IfErr result (λ failure. failure.lost ≢ Memory → ¬ IsTemplate rows.now) }
 {
     let entries = entries_in(alloc, rows)?;
     match Catalogue::try_new(alloc, entries)? {
@@ -130,7 +151,7 @@ pub(crate) fn put_template(
 ) -> Result<(), Failure>
     ensures shown { OnOk result (ChangesDomain domain.now maps.old maps.new (λ project. record project { template = template_shown rows.now; units = finite.empty })) }
     ensures stands { OnOk result (IsTemplate rows.now) }
-    ensures unread { IfErr result (λ failure. failure.lost ≡ Disk → ¬ IsTemplate rows.now) }
+    ensures unread { IfErr result (λ failure. failure.lost ≢ Memory → ¬ IsTemplate rows.now) }
 {
     let own = domain.duplicate()?;
     let template = template_in(alloc, rows)?;

@@ -43,10 +43,10 @@ language_is from_first = record { command = refl; own_tables = refl; plain = (re
 language_is from_second = record { command = refl; own_tables = refl; plain = (refl, refl) }
 
 module _ (domain lang : List ℕ) where
-  abbrev given : Row
+  abbrev pub given : Row
   given = Text domain ∷ Text lang ∷ []
 
-  of_language : AreTestsOf by_domain (codes "d_unit") given (are_given 0 (1 ∷ 2 ∷ [])) (λ row. has_text 1 domain row && has_text 2 lang row)
+  pub of_language : AreTestsOf by_domain (codes "d_unit") given (are_given 0 (1 ∷ 2 ∷ [])) (λ row. has_text 1 domain row && has_text 2 lang row)
   of_language db has sound tables row there =
       rw (given_is given row 1 0 domain (d_unit_texts.0 db has sound row there) refl, given_is given row 2 1 lang (d_unit_texts.1.0 db has sound row there) refl) (ap (λ b. has_text 1 domain row && b) (and-true _))
 

@@ -38,3 +38,9 @@ pub mod SeenAnswers
 pub mod OwnersRead
 pub mod ContextSeen
 pub mod ReadsBlame
+pub mod SumsWalked
+pub mod UnitWalks
+pub mod UnitsWalked
+pub mod SuggestionsWalked
+pub mod UnplacedWalked
+pub mod Frames

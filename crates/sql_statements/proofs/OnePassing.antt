@@ -16,7 +16,7 @@ none_passing test [] none = refl
 none_passing test (row ∷ rows) none = rw (none row (inl refl)) (none_passing test rows (λ r there. none r (inr there)))
 
 -- a row that stands first stands nowhere else
-not_later : (row : Row) (rows : List Row) → AreOnce (row ∷ rows) → Has rows row → ⊥
+pub not_later : (row : Row) (rows : List Row) → AreOnce (row ∷ rows) → Has rows row → ⊥
 not_later row rows once there =
     let apart : is_eq (value_cmp (rowid row) (rowid row)) ≡ false = all_has (λ s. is_eq (value_cmp (rowid row) (rowid s)) ≡ false) rows row once.0 there in
     let same : is_eq (value_cmp (rowid row) (rowid row)) ≡ true = (eq_by_cmp_equiv value_cmp_total).refl (rowid row) in

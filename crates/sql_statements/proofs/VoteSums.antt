@@ -1,4 +1,4 @@
--- The table of the sums of suggestions: what the upsert of one does, a look at a sum, and all of them.
+-- The table of the sums of suggestions: what the upsert of one does, and a look at a sum.
 use Rattle.std.proofs.Common.{◌≡◌, ℕ, ℤ, List, [], ◌∷◌, ◌++◌, codes, true, Some, refl, sym, ap, ◌∙◌}
 use Rattle.std.proofs.lemmas.Bool.{and_parts}
 use Rattle.sqlite.specs.declared.types.Value.{Value}
@@ -26,10 +26,9 @@ use Rattle.sql_schema.specs.Schema.{d_vote_sum_table}
 use Rattle.sql_schema.specs.Layouts.{by_domain, Layout, made_last, from_first, from_second, schema_of, HasLayoutOf, placed, rows_named}
 use Rattle.sql_schema.proofs.Layouts.{d_vote_sum_placed}
 use Rattle.sql_schema.proofs.Insertions.{PutsOf, cast_int}
-use Rattle.sql_schema.proofs.Queries.{IsQueryOf, ReadsLastOf, ReadsAllOf, is_given, reads_by_text}
+use Rattle.sql_schema.proofs.Queries.{IsQueryOf, ReadsLastOf, is_given, reads_by_text}
 use Rattle.sql_schema.proofs.DomainRows.{d_vote_sum_texts, one_d_sum}
-use Rattle.sql_statements.specs.DomainAnswers.{ShowsSum, ShowsSums}
-use Rattle.sql_statements.proofs.TableQueries.{IsTableQueryOf, reads_table}
+use Rattle.sql_statements.specs.DomainAnswers.{ShowsSum}
 use Rattle.sql_statements.proofs.Untouched.{none_refers, drop_false}
 use Rattle.sql_statements.proofs.Upserts.{IsUpsert, puts_or_renews_values}
 
@@ -91,15 +90,3 @@ find_is from_second = record { command = refl; own_tables = refl; plain = (refl,
 
 pub finds_sum : (number : List ℕ) → ReadsLastOf by_domain find_text (Text number ∷ []) (ShowsSum number)
 finds_sum = reads_by_text find_text d_vote_sum_table d_vote_sum_placed 1 (2 ∷ []) _ find_is d_vote_sum_texts.0
-
-abbrev sums_text : List ℕ
-sums_text = codes "SELECT number, sum FROM d_vote_sum ORDER BY number"
-
-sums_are : IsTableQueryOf by_domain sums_text d_vote_sum_table (1 ∷ 2 ∷ []) (1 ∷ []) (codes "number" ∷ codes "sum" ∷ [])
-unfolding understood everything
-sums_are made_last = record { command = refl; own_tables = refl; plain = (refl, refl) }
-sums_are from_first = record { command = refl; own_tables = refl; plain = (refl, refl) }
-sums_are from_second = record { command = refl; own_tables = refl; plain = (refl, refl) }
-
-pub reads_sums : ReadsAllOf by_domain sums_text [] ShowsSums
-reads_sums = reads_table sums_text d_vote_sum_table d_vote_sum_placed (1 ∷ 2 ∷ []) (1 ∷ []) (0 ∷ []) _ sums_are (λ tree r s. refl)

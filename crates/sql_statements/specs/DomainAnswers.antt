@@ -58,10 +58,6 @@ ShowsDomainVotes number = ShowsAll (codes "d_vote") (has_text 1 number) (columns
 abbrev pub ShowsSum : List ℕ → Database → Option Row → Type 0
 ShowsSum = ShowsKey (codes "d_vote_sum") first_text (columns (2 ∷ []))
 
--- number, sum
-abbrev pub ShowsSums : Database → List Row → Type 0
-ShowsSums = ShowsTable (codes "d_vote_sum") (1 ∷ 2 ∷ []) (0 ∷ [])
-
 -- untranslated, needs_editing, translated, approved, read_only, suggestions, obsolete
 abbrev pub ShowsTally : List ℕ → List ℕ → Database → Option Row → Type 0
 ShowsTally domain lang = ShowsKey (codes "d_tally") (key_texts (1 ∷ 2 ∷ [])) (columns (3 ∷ 4 ∷ 5 ∷ 6 ∷ 7 ∷ 8 ∷ 9 ∷ [])) (domain ∷ lang ∷ [])

@@ -15,3 +15,5 @@ pub mod DomainUnitRows
 pub mod Owners
 pub mod DomainEntries
 pub mod DomainVotes
+pub mod SummedVotes
+pub mod WalkedRows

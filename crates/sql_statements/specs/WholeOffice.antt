@@ -1,4 +1,7 @@
 -- What a read of the whole office shows.
+use Rattle.std.specs.Prelude.{[], cond, codes}
+use Rattle.std.specs.Ordering.{nat_cmp, is_eq}
+use Rattle.std.specs.Cmp.Lexicographic.{slice_cmp}
 use Rattle.sqlite.specs.Effect.{Database}
 use Rattle.sql_schema.specs.Layouts.{NamedRows, rows_named}
 use Rattle.sql_statements.specs.Answers.{ShowsPolicyIn}
@@ -34,3 +37,11 @@ ShowsUnitTables db rows = ShowsUnitTablesIn (rows_named db) rows
 
 abbrev pub ShowsWholeOffice : Database → WholeOffice → Type 0
 ShowsWholeOffice db rows = ShowsWholeOfficeIn (rows_named db) rows
+
+-- ---- without units
+
+-- the rows by domains, but none of a unit, of a suggestion or of a vote
+abbrev pub without_units : NamedRows → NamedRows
+without_units rows name =
+    cond (is_eq (slice_cmp nat_cmp name (codes "d_unit"))) [] (cond (is_eq (slice_cmp nat_cmp name (codes "d_suggestion"))) []
+    (cond (is_eq (slice_cmp nat_cmp name (codes "d_vote"))) [] (rows name)))

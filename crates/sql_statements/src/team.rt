@@ -37,7 +37,7 @@ pub fn remove_member<S: Alter>(tx: &mut Transaction<'_, S>, name: &str) -> Resul
 }
 
 /// The team by name: each member's role and name.
-pub(crate) fn all_members<S: Alter>(tx: &mut Transaction<'_, S>) -> Result<Vec<Row>, Error>
+pub fn all_members<S: Alter>(tx: &mut Transaction<'_, S>) -> Result<Vec<Row>, Error>
     ensures same_reference { tx.new.conn.ghost_name ≡ tx.old.conn.ghost_name }
     ensures found { (form : Form) → IsSteadyOver form (state S.Store tx.old.conn.now) → IsReadOf form (state S.Store tx.old.conn.now) (state S.Store tx.new.conn.now) result
         (λ db rows. ShowsTeam db rows.items) }

@@ -1,14 +1,20 @@
-//! The table of sums: what each suggestion's votes come to.
-ghost use Rattle.std.specs.Prelude.{◌≡◌, ◌∷◌, [], codes};
+//! The table of sums: what each suggestion's votes come to, and how many there are beside it.
+
+ghost use Rattle.std.specs.Prelude.{◌≡◌, ◌∷◌, [], ⊤, false, codes, IsTrue};
 ghost use Rattle.sqlite.specs.Held.{state};
+ghost use Rattle.sqlite.specs.State.{HasCleanDisk};
 ghost use Rattle.sqlite.specs.declared.types.Value.TheVariants.{Int, Text};
 ghost use Rattle.sql_laws.specs.DiskErrors.{BlamesTruly};
 ghost use Rattle.sql_schema.specs.Layouts.{by_domain};
 ghost use Rattle.sql_schema.specs.Inside.{IsSteadyOver, IsInsideOf, PutsRow, HoldsValues, IsReadOf};
 ghost use Rattle.sql_schema.specs.Keys.{first_text};
-ghost use Rattle.sql_statements.specs.DomainAnswers.{ShowsSum, ShowsSums};
+ghost use Rattle.sql_schema.specs.Whole.{IsIdleOver, IsLookUp};
+ghost use Rattle.sql_statements.specs.DomainAnswers.{ShowsSum};
+ghost use Rattle.sql_statements.specs.SummedVotes.{ShowsSummed};
+ghost use Rattle.sql_streams.specs.Walks.{HandsOut};
 
-use sqlite::{Alter, Error, Row, Transaction, params};
+use sql_streams::{RowSink, WalkFault, walk};
+use sqlite::{Alter, Connection, Error, Row, Transaction, params};
 
 /// Writes the sum of a suggestion, which must be there: anew if it has none, and else in the place of the one that is there.
 pub fn put_sum<S: Alter>(tx: &mut Transaction<'_, S>, number: &str, sum: i64) -> Result<(), Error>
@@ -40,13 +46,23 @@ pub fn find_sum<S: Alter>(tx: &mut Transaction<'_, S>, number: &str) -> Result<O
     Ok(rows.pop())
 }
 
-/// The sums by number: each one's number and sum.
-pub fn all_sums<S: Alter>(tx: &mut Transaction<'_, S>) -> Result<Vec<Row>, Error>
-    requires steady { IsSteadyOver by_domain (state S.Store tx.old.conn.now) }
-    ensures same_reference { tx.new.conn.ghost_name ≡ tx.old.conn.ghost_name }
-    ensures found { IsReadOf by_domain (state S.Store tx.old.conn.now) (state S.Store tx.new.conn.now) result
-        (λ db rows. ShowsSums db rows.items) }
-    ensures disk { BlamesTruly (state S.Store tx.old.conn.now) (state S.Store tx.new.conn.now) result }
+/// Hands each suggestion to a sink, in the order of their numbers: its number, the sum that is kept of the votes on it, and how many of these
+/// are for it, and how many against, of a connection that is open. Where no sum is kept, there is null in its place.
+pub fn walk_sums<S: Alter, K: RowSink>(
+    connection: &mut Connection<S>,
+    sink: &mut K,
+) -> Result<(), WalkFault<K::Refusal>>
+    requires autocommit { connection.old.in_transaction ≡ false }
+    requires idle { IsIdleOver by_domain (state S.Store connection.old) }
+    requires is_open { HasCleanDisk (state S.Store connection.old) → IsTrue (state S.Store connection.old).is_open }
+    ensures handed { HasCleanDisk (state S.Store connection.new)
+        → HandsOut K.Took K.Refuses (ShowsSummed (state S.Store connection.old).now) sink.old sink.new result }
+    ensures looked { IsLookUp (state S.Store connection.old) (state S.Store connection.new) result (λ _ _. ⊤) }
 {
-    tx.query_all("SELECT number, sum FROM d_vote_sum ORDER BY number", &[])
+    walk(
+        connection,
+        "SELECT number, (SELECT sum FROM d_vote_sum WHERE d_vote_sum.number = d_suggestion.number) AS kept, (SELECT count(*) FROM d_vote WHERE d_vote.number = d_suggestion.number AND value = 1) AS votes_for, (SELECT count(*) FROM d_vote WHERE d_vote.number = d_suggestion.number AND value = -1) AS against FROM d_suggestion ORDER BY number",
+        &[],
+        sink,
+    )
 }

@@ -19,7 +19,7 @@ use Rattle.store_sql.specs.RecordsBehind.{AreBehind, AreHeads, WereCut as Handed
 use Rattle.office.specs.Writers.{Writer, writer_at, TakesAll, TakesPart}
 use Rattle.office.proofs.Streaming.{took_all, took_part}
 use Rattle.store_commands.specs.declared.records.RecordsFault.{RecordsFault}
-use Rattle.store_commands.specs.declared.records.RecordsFault.TheVariants.{NoRecord, Device, Memory, Disk}
+use Rattle.store_commands.specs.declared.records.RecordsFault.TheVariants.{NoRecord, Device, Memory, Disk, Refused}
 use Rattle.store_commands.specs.Records.{row_line, lines_of, AllPrinted, SomePrinted, DeviceFailed, WereCut}
 use Rattle.store_commands.specs.RecordLines.{TookLines, IsRefusal, RefusedLine, lost_told, fault_told}
 
@@ -43,6 +43,7 @@ module _ {W : Type 0} (taken : W → Option (List ℕ)) (failed : W → ℕ) whe
   -- a row that wasn't read was refused, and nothing was written
   unread_so : (why : Lost) (row : Row) (w : W) → (why ≡ lost.Disk → is_head row ≡ false) → IsRefusal taken failed w row (lost_told why) w
   unread_so lost.Memory row w unread = refl
+  unread_so lost.Refused row w unread = refl
   unread_so lost.Disk row w unread = (unread refl, refl)
 
   pub refused_unread : (old : MutBor W) (row : Row) (why : Lost) (fault : RecordsFault) → fault ≡ lost_told why → (why ≡ lost.Disk → is_head row ≡ false) → RefusedLine taken failed old row fault old
@@ -100,22 +101,26 @@ module _ {W : Type 0} (taken : W → Option (List ℕ)) (failed : W → ℕ) whe
           (took_part (lines_of h.front) (row_line h.row ++ lines_of h.rest) h.took.lines (part_of_longer (as_writer (writer h.mid).now) (as_writer (writer last).now) (row_line h.row) (lines_of h.rest) h.refused.refused));
     }
     printed_up_to Memory h = unread Memory h h.refused.refused
+    printed_up_to Refused h = unread Refused h h.refused.refused
     printed_up_to Disk h = unread Disk h h.refused.refused.1
 
     pub cut_printed : (fault : HandingFault RecordsFault) → HandedCut Took Refuses after db first last fault → WereCut after db (as_writer (writer first).now) (as_writer (writer last).now) (fault_told fault)
     cut_printed handing.NoRecord h = (h.0, ap (λ k. as_writer (writer k).now) h.1)
     cut_printed (handing.NoTables lost.Memory) h = some_printed h
     cut_printed (handing.NoTables lost.Disk) h = some_printed h
+    cut_printed (handing.NoTables lost.Refused) h = some_printed h
     cut_printed (handing.NoSink fault) h = printed_up_to fault h
 
     -- each row can be read: that the disk failed is told where the tables say so
     pub disk_told : (Gone : Type 0) (fault : HandingFault RecordsFault) → (fault ≡ handing.NoTables lost.Disk → Gone) → HandedCut Took Refuses after db first last fault → fault_told fault ≡ Disk → Gone
     disk_told Gone handing.NoRecord gone h told = absurd cc
     disk_told Gone (handing.NoTables lost.Memory) gone h told = absurd cc
+    disk_told Gone (handing.NoTables lost.Refused) gone h told = absurd cc
     disk_told Gone (handing.NoTables lost.Disk) gone h told = gone refl
     disk_told Gone (handing.NoSink NoRecord) gone h told = absurd cc
     disk_told Gone (handing.NoSink Device) gone h told = absurd cc
     disk_told Gone (handing.NoSink Memory) gone h told = absurd cc
+    disk_told Gone (handing.NoSink Refused) gone h told = absurd cc
     disk_told Gone (handing.NoSink Disk) gone h told =
         let reads : is_head h.row ≡ true = next_read h.front h.rest h.row (read_behind after db (h.front ++ h.row ∷ h.rest) h.answer) in
         let apart : is_head h.row ≡ false = h.refused.refused.0 in

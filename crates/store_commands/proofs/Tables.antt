@@ -1,5 +1,5 @@
 -- What is known of a connection whose tables were made, opened or worked on.
-use Rattle.std.proofs.Common.{◌≡◌, Bool, refl, subst}
+use Rattle.std.proofs.Common.{◌≡◌, refl, subst}
 use Rattle.sqlite.specs.Held.{Held, state}
 use Rattle.sqlite.specs.Tree.{Trees}
 use Rattle.sqlite_trees.specs.declared.store.Store as store
@@ -12,6 +12,7 @@ use Rattle.store_sql.specs.Making.{AreMade}
 use Rattle.store_commands.specs.Opening.{Holds, IsOpened, running_meaning}
 use Rattle.sql_schema.specs.Layouts.{schema_of, rows_in}
 use Rattle.sql_files.specs.Files.{IsOfficeFile}
+use Rattle.store_sql.specs.TablesInFile.{Flags}
 
 -- trees of an office's file mean the only meaning that they may have
 one_meaning : (trees : Trees) → IsOfficeFile trees → (meaning : OfficeWithBook) → ((m : OfficeWithBook) → TreesMean trees m → m ≡ meaning) → TreesMean trees meaning
@@ -19,7 +20,7 @@ one_meaning trees (form, layout, file) meaning only =
     let own : TreesMean trees (meaning_for form (rows_in (schema_of layout) trees)) = (form, layout, file.ready.sound, refl) in
     subst (TreesMean trees) (only (meaning_for form (rows_in (schema_of layout) trees)) own) own
 
-module _ {S : Type 0} (g : store.Ghosts S) (tables : Held S × (Bool × Bool)) where
+module _ {S : Type 0} (g : store.Ghosts S) (tables : Held S × Flags) where
   pub holds_made : (start : Start) → AreMade g start tables → Holds (state g tables.0) (started start)
   holds_made start are = record {
     is_open = are.whole;

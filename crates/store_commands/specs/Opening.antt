@@ -1,6 +1,7 @@
 -- A database that holds an office with its book, and what comes of opening one, of whichever form its tables are. This project's own words.
 use Rattle.std.specs.Prelude.{◌≡◌, IsTrue}
 use Rattle.sqlite.specs.Held.{Held, state}
+use Rattle.sqlite.specs.Disk.{MoreFaults}
 use Rattle.sqlite.specs.State.{State, HasCleanDisk}
 use Rattle.sqlite_trees.specs.declared.store.Store as store
 use Rattle.request_book.specs.Book.{OfficeWithBook}
@@ -37,6 +38,10 @@ pub record IsUnopened {S : Type 0} (g : store.Ghosts S) (old new : Held S) (faul
   pub why : HasCleanDisk (state g new) → Refuses (state g old).now fault
   pub again : HasCleanDisk (state g new) → IsDatabase (state g old).now → IsOfficeFile (state g old).now.trees → IsLost fault
   pub same : IsGivenBack (state g old) (state g new)
+
+-- Tables that a failed disk stopped: it failed or refused since they were opened.
+abbrev pub StoppedTruly : Type 0 → State → State → Type 0
+StoppedTruly Stopped opened new = HasCleanDisk new → Stopped → MoreFaults opened.faults new.faults
 
 -- What a connection holds when work on it is done: an office's file, unless it is shut, and so is what a stop leaves, which means what the rows mean.
 pub record IsClosed (s : State) : Type 0 where

@@ -9,7 +9,7 @@ use Rattle.store_sql.specs.RecordsBehind.{AreBehind, HasNone}
 use Rattle.office.specs.Writers.{Writer, TakesAll, TakesPart}
 use Rattle.commands.specs.RecordLines.{record_line}
 use Rattle.store_commands.specs.declared.records.RecordsFault.{RecordsFault}
-use Rattle.store_commands.specs.declared.records.RecordsFault.TheVariants.{NoRecord, Device, Memory, Disk}
+use Rattle.store_commands.specs.declared.records.RecordsFault.TheVariants.{NoRecord, Device, Memory, Disk, Refused}
 use Rattle.store_commands.specs.Faults.{TellsLine}
 
 -- the line of a record whose row shows its number and its status
@@ -25,6 +25,7 @@ records_fault_line NoRecord = codes "records fault 1\n"
 records_fault_line Device = codes "records fault 2\n"
 records_fault_line Memory = codes "records fault 3\n"
 records_fault_line Disk = codes "records fault 4\n"
+records_fault_line Refused = codes "records fault 5\n"
 
 -- The writer took the line of each record behind the one that is named, or of each where none is, in the order in which the office took them.
 pub record AllPrinted (after : Option Text) (db : Database) (old new : Writer) : Type 0 where
@@ -46,12 +47,13 @@ pub record DeviceFailed (after : Option Text) (db : Database) (old new : Writer)
   pub taken : TakesPart old new (lines_of rows)
 
 -- What each fault says: no record has the number, and nothing was written; or the writer failed behind a beginning of the lines; or memory ran
--- out or the disk failed behind the lines of the first records.
+-- out, the disk failed or the file refused behind the lines of the first records.
 abbrev pub WereCut : Option Text → Database → Writer → Writer → RecordsFault → Type 0
 WereCut after db old new NoRecord = HasNone after db × (new ≡ old)
 WereCut after db old new Device = DeviceFailed after db old new
 WereCut after db old new Memory = SomePrinted after db old new
 WereCut after db old new Disk = SomePrinted after db old new
+WereCut after db old new Refused = SomePrinted after db old new
 
 -- all lines were printed, or a fault cut them short
 abbrev pub ArePrinted : {T : Type 0} → Option Text → Database → Writer → Writer → Result T RecordsFault → Type 0

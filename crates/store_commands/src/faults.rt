@@ -24,6 +24,7 @@ fn send_store_fault<E: ByteSink>(e: &mut E, fault: OpenFault) -> Result<(), Sink
         OpenFault::Disk => send_line(e, b"store fault 2\n"),
         OpenFault::Foreign(_) => send_line(e, b"store fault 3\n"),
         OpenFault::Exists => send_line(e, b"store: exists\n"),
+        OpenFault::Refused => send_line(e, b"store fault 5\n"),
     }
 }
 

@@ -38,6 +38,7 @@ pub fn open_desk<S: Alter + Drop>(
 ) -> Result<Desk<SqliteTables<S>>, Unopened<S>>
     requires autocommit { connection.in_transaction ≡ false }
     ensures opened { IfOk result (λ desk. IsOpened S.Store connection (connection_of S.Store desk)) }
+    ensures running { IfOk result (λ desk. is_stopped S.Store (held_by S.Store desk) ≡ false) }
     ensures refused { IfErr result (λ refusal. IsUnopened S.Store connection refusal.connection refusal.fault) }
 {
     match SqliteTables::adopt(connection, alloc) {

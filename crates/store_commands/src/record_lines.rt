@@ -36,6 +36,7 @@ fn lost_fault(lost: Lost) -> RecordsFault
     match lost {
         Lost::Memory => RecordsFault::Memory,
         Lost::Disk => RecordsFault::Disk,
+        Lost::Refused => RecordsFault::Refused,
     }
 }
 

@@ -4,10 +4,12 @@ ghost use Rattle.sqlite.specs.Held.{state};
 ghost use Rattle.sqlite.specs.State.{HasCleanDisk};
 ghost use Rattle.byte_streams.specs.Sending.{Sends};
 ghost use Rattle.office.specs.Writers.{writer_at};
-ghost use Rattle.store_sql.specs.TablesInFile.{is_stopped};
+ghost use Rattle.tables.specs.RunsOn.{RunsOn};
+ghost use Rattle.store_sql.specs.TablesInFile.{is_honest, is_whole, faults, is_stopped};
 ghost use Rattle.store_sql.specs.Tables.{connection_of, held_by};
 ghost use Rattle.store_commands.specs.declared.records.RecordsFault.TheVariants.{Disk};
 ghost use Rattle.store_commands.specs.Faults.{TellsLine};
+ghost use Rattle.store_commands.specs.Opening.{StoppedTruly};
 ghost use Rattle.store_commands.specs.Records.{ArePrinted, Printed, records_fault_line};
 ghost use Rattle.store_commands.specs.Runs.{Ran};
 
@@ -33,6 +35,8 @@ pub enum RecordsFault {
     Memory,
     /// The disk failed under the tables.
     Disk,
+    /// The file refused what was asked of it.
+    Refused,
 }
 
 fn send_records_fault<E: ByteSink>(e: &mut E, fault: RecordsFault) -> Result<(), SinkFault>
@@ -43,6 +47,7 @@ fn send_records_fault<E: ByteSink>(e: &mut E, fault: RecordsFault) -> Result<(),
         RecordsFault::Device => send_line(e, b"records fault 2\n"),
         RecordsFault::Memory => send_line(e, b"records fault 3\n"),
         RecordsFault::Disk => send_line(e, b"records fault 4\n"),
+        RecordsFault::Refused => send_line(e, b"records fault 5\n"),
     }
 }
 
@@ -69,6 +74,7 @@ fn print_lines<S: Alter, W: ByteSink>(
     ensures disk { HasCleanDisk (state S.Store (connection_of S.Store tables.new)) → IfErr result (λ fault. fault ≡ Disk → is_stopped S.Store (held_by S.Store tables.new) ≡ true) }
     ensures same { HasCleanDisk (state S.Store (connection_of S.Store tables.new)) → IsTrue (state S.Store (connection_of S.Store tables.new)).is_open
         → (state S.Store (connection_of S.Store tables.new)).now ≡ (state S.Store (connection_of S.Store tables.old)).now }
+    ensures runs_on { RunsOn (is_honest S.Store) (is_whole S.Store) (faults S.Store) (is_stopped S.Store) (held_by S.Store tables.old) (held_by S.Store tables.new) }
 {
     let mut lines = RecordLines::new(alloc, w);
     match tables.each_record(after, &mut lines) {
@@ -90,6 +96,7 @@ fn print_whole<S: Alter, W: ByteSink>(
     ensures disk { HasCleanDisk (state S.Store (connection_of S.Store tables.new)) → IfErr result (λ fault. fault ≡ Disk → is_stopped S.Store (held_by S.Store tables.new) ≡ true) }
     ensures same { HasCleanDisk (state S.Store (connection_of S.Store tables.new)) → IsTrue (state S.Store (connection_of S.Store tables.new)).is_open
         → (state S.Store (connection_of S.Store tables.new)).now ≡ (state S.Store (connection_of S.Store tables.old)).now }
+    ensures runs_on { RunsOn (is_honest S.Store) (is_whole S.Store) (faults S.Store) (is_stopped S.Store) (held_by S.Store tables.old) (held_by S.Store tables.new) }
 {
     print_lines(alloc, tables, after, w)?;
     match hand_on(w) {
@@ -112,6 +119,7 @@ fn print_records<S: Alter, W: ByteSink, E: ByteSink>(
     ensures handed_on { result ≡ 0 → W.holds_back w.new ≡ false }
     ensures same { HasCleanDisk (state S.Store (connection_of S.Store tables.new)) → IsTrue (state S.Store (connection_of S.Store tables.new)).is_open
         → (state S.Store (connection_of S.Store tables.new)).now ≡ (state S.Store (connection_of S.Store tables.old)).now }
+    ensures runs_on { RunsOn (is_honest S.Store) (is_whole S.Store) (faults S.Store) (is_stopped S.Store) (held_by S.Store tables.old) (held_by S.Store tables.new) }
 {
     match print_whole(alloc, tables, after, w) {
         Ok(()) => DONE,
@@ -134,11 +142,12 @@ pub fn records_store<S: Alter + Drop, W: ByteSink, E: ByteSink>(
 ) -> Closed<S>
     requires autocommit { connection.in_transaction ≡ false }
     // The lines are those of the office that was opened, whose rows are afterwards as they were. It is told that the disk failed where the
-    // tables were stopped.
+    // tables were stopped, and they are only where it failed since they were opened.
     ensures printed { Ran S.Store
         (λ opened. Printed (HasCleanDisk (state S.Store result.connection)) (result.stopped ≡ true) after (state S.Store opened).now
         (writer_at W.taken W.failed w.old) (writer_at W.taken W.failed w.new) (writer_at E.taken E.failed e.old) (writer_at E.taken E.failed e.new) result.status
-        × (HasCleanDisk (state S.Store result.connection) → IsTrue (state S.Store result.connection).is_open → (state S.Store result.connection).now ≡ (state S.Store opened).now))
+        × (HasCleanDisk (state S.Store result.connection) → IsTrue (state S.Store result.connection).is_open → (state S.Store result.connection).now ≡ (state S.Store opened).now)
+        × StoppedTruly (result.stopped ≡ true) (state S.Store opened) (state S.Store result.connection))
         (w.new ≡ w.old)
         connection result.connection (writer_at E.taken E.failed e.old) (writer_at E.taken E.failed e.new) result.status }
     ensures status { result.status ≤ 1 }

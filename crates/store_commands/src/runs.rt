@@ -2,7 +2,8 @@
 ghost use Rattle.std.specs.Prelude.{◌≡◌, ◌≤◌, false, true, List, ℕ, IsTrue, IfSome, option_map};
 ghost use Rattle.sqlite.specs.Held.{Held, state};
 ghost use Rattle.sqlite.specs.State.{HasCleanDisk};
-ghost use Rattle.store_commands.specs.Opening.{running_meaning};
+ghost use Rattle.tables.specs.RunsOn.{RunsOn};
+ghost use Rattle.store_commands.specs.Opening.{running_meaning, StoppedTruly};
 ghost use Rattle.office.specs.Writers.{writer_at};
 ghost use Rattle.commands.specs.DeliverLines.{LeavesMeaning, Delivered};
 ghost use Rattle.commands.specs.ExportLines.{Printed};
@@ -36,7 +37,7 @@ pub fn deliver_store<S: Alter + Drop, R: SourceBehind<W>, W: ByteSink, E: ByteSi
 ) -> Closed<S>
     requires autocommit { connection.in_transaction ≡ false }
     // What the connection's rows meant behind the lines is what these left, behind the office that was opened, and the export is of that. A line is
-    // told that the disk failed where the tables were stopped.
+    // told that the disk failed where the tables were stopped, and they are only where it failed since they were opened.
     ensures delivered { Ran S.Store
         (λ opened. (text : List ℕ) × IfSome (R.left source.old) (λ all. text ≡ all)
         × (between : Held S) × LeavesMeaning (HasCleanDisk (state S.Store result.connection)) (IsTrue (state S.Store between).is_open) (IsTrue (state S.Store result.connection).is_open)
@@ -45,7 +46,8 @@ pub fn deliver_store<S: Alter + Drop, R: SourceBehind<W>, W: ByteSink, E: ByteSi
         (result.stopped ≡ true) (running_meaning (state S.Store opened)) (running_meaning (state S.Store between)) (running_meaning (state S.Store result.connection)) domain.now
         (option_map (λ named. named.now) lang.entry) text (R.failed source.old) (R.failed source.new)
         (writer_at W.taken W.failed replies.old) (writer_at W.taken W.failed replies.new)
-        (writer_at E.taken E.failed faults.old) (writer_at E.taken E.failed faults.new) result.status)
+        (writer_at E.taken E.failed faults.old) (writer_at E.taken E.failed faults.new) result.status
+        × StoppedTruly (result.stopped ≡ true) (state S.Store opened) (state S.Store result.connection))
         ((source.new ≡ source.old) × (replies.new ≡ replies.old))
         connection result.connection (writer_at E.taken E.failed faults.old) (writer_at E.taken E.failed faults.new) result.status }
     ensures status { result.status ≤ 1 }
@@ -82,6 +84,7 @@ fn export_whole<T: Tables, W: ByteSink, E: ByteSink>(
     ensures status { result ≤ 1 }
     ensures handed_on { result ≡ 0 → W.holds_back w.new ≡ false }
     ensures same { T.is_honest desk.new → T.is_whole desk.new → T.means desk.new ≡ T.means desk.old }
+    ensures runs_on { RunsOn T.is_honest T.is_whole T.faults T.is_stopped desk.old desk.new }
 {
     let status = export_text(desk, domain, lang, w, e);
     match hand_on(w) {
@@ -105,14 +108,15 @@ pub fn export_store<S: Alter + Drop, W: ByteSink, E: ByteSink>(
 ) -> Closed<S>
     requires autocommit { connection.in_transaction ≡ false }
     // The rows mean afterwards what they meant when the office was opened, and the text is that office's. It is told that the disk failed
-    // where the tables were stopped.
+    // where the tables were stopped, and they are only where it failed since they were opened.
     ensures exported { Ran S.Store
         (λ opened. Finished (λ old new exit. Printed (HasCleanDisk (state S.Store result.connection)) (result.stopped ≡ true)
         (running_meaning (state S.Store opened)).office domain.now lang.now
         old new (writer_at E.taken E.failed e.old) (writer_at E.taken E.failed e.new) exit)
         (writer_at W.taken W.failed w.old) (writer_at W.taken W.failed w.new) result.status
         × (HasCleanDisk (state S.Store result.connection) → IsTrue (state S.Store result.connection).is_open
-        → running_meaning (state S.Store result.connection) ≡ running_meaning (state S.Store opened)))
+        → running_meaning (state S.Store result.connection) ≡ running_meaning (state S.Store opened))
+        × StoppedTruly (result.stopped ≡ true) (state S.Store opened) (state S.Store result.connection))
         (w.new ≡ w.old)
         connection result.connection (writer_at E.taken E.failed e.old) (writer_at E.taken E.failed e.new) result.status }
     ensures status { result.status ≤ 1 }

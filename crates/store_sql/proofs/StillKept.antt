@@ -1,11 +1,15 @@
 -- What a look-up keeps of the tables.
-use Rattle.std.proofs.Common.{◌≡◌, inl, inr, Bool, true, false, Result, Ok, Err, IfErr, OnOk, OnErr, IsTrue, refl, sym, ap, subst, ◌∙◌, arith}
+use Rattle.std.proofs.Common.{◌≡◌, inl, inr, true, false, Result, Ok, Err, IfErr, OnOk, OnErr, IsTrue, refl, sym, ap, subst, ◌∙◌, arith}
 use Rattle.sqlite.specs.Effect.{Database}
 use Rattle.sqlite.specs.Held.{Held, state}
-use Rattle.sqlite.specs.State.{HasCleanDisk}
+use Rattle.sqlite.specs.Disk.{MoreFaults}
+use Rattle.sqlite.specs.State.{State, HasCleanDisk}
 use Rattle.sqlite.specs.Tree.{Trees}
 use Rattle.sqlite_trees.specs.declared.store.Store as store
+use Rattle.sql_laws.specs.DiskErrors.{HasFailed}
 use Rattle.sql_laws.proofs.Transactions.{on_ok_mapped}
+use Rattle.sql_decoding.specs.DiskFailures.{FailsTruly}
+use Rattle.sql_decoding.specs.declared.faults.Failure.{Failure}
 use Rattle.request_book.specs.Book.{OfficeWithBook}
 use Rattle.office_specification.specs.OfficeRules.{KeepsRules}
 use Rattle.tables.specs.KeptByCalls.{IsKept}
@@ -18,9 +22,22 @@ use Rattle.sql_meaning.specs.Meaning.{AreNumbered}
 use Rattle.sql_meaning.specs.Domains.{meaning_by_domain, meaning_for, TreesMean}
 use Rattle.sql_files.specs.Files.{IsOfficeFile, MakesFiles}
 use Rattle.sql_files.proofs.Stops.{look_up_keeps, look_up_leaves, commit_keeps, commit_leaves}
-use Rattle.store_sql.specs.TablesInFile.{KeepsOffice, LeavesItsOwn, LeavesOwnTrees, LeavesReadable, is_honest, is_whole, means, may_leave, faults, is_stopped}
+use Rattle.store_sql.specs.TablesInFile.{KeepsOffice, LeavesItsOwn, LeavesOwnTrees, LeavesReadable, is_honest, is_whole, means, may_leave, faults, is_stopped, Flags}
 use Rattle.sql_schema.specs.Layouts.{by_domain, schema_of, rows_named}
 use Rattle.sql_files.proofs.Listed.{database_means, database_means_only}
+
+-- a failure of the disk that a connection tells of which wasn't shut came since
+pub failed_since : (old new : State) → IsTrue old.is_open → HasFailed old new → MoreFaults old.faults new.faults
+failed_since old new is_open (inl shut) = absurd (let never : true ≡ false = sym is_open ∙ shut in cc)
+failed_since old new is_open (inr more) = more
+
+-- a call's error that tells of the disk comes of a failure of it, of a connection that wasn't shut
+abbrev pub IsBlamed : {B F : Type 0} → State → State → F → Result B F → Type 0
+IsBlamed old new gone s = IfErr s (λ e. HasCleanDisk new → IsTrue old.is_open → e ≡ gone → MoreFaults old.faults new.faults)
+
+blamed_by : {B F : Type 0} (old new : State) (gone : F) (s : Result B F) → IsBlamed old new gone s → HasCleanDisk new → IsTrue old.is_open → s ≡ Err gone → MoreFaults old.faults new.faults
+blamed_by {B} {F} old new gone (Ok x) blames clean is_open never = absurd (let is : ◌≡◌ {A = Result B F} (Ok x) (Err gone) = never in cc)
+blamed_by {B} {F} old new gone (Err e) blames clean is_open is = blames clean is_open (let same : ◌≡◌ {A = Result B F} (Err e) (Err gone) = is in cc)
 
 module _ {S : Type 0} (g : store.Ghosts S) where
   -- an open store leaves its last commit, and nothing else
@@ -44,7 +61,7 @@ module _ {S : Type 0} (g : store.Ghosts S) where
       subst (λ t. TreesMean t (meaning_by_domain (rows_named (state g h).now))) (sym same) (database_means by_domain (state g h).now (idle.ready clean is_open))
 
   -- tables that aren't shut leave what they mean
-  pub leaves_own : (tables : Held S × (Bool × Bool)) → IsSettled → KeepsOffice (state g tables.0) → LeavesItsOwn g tables
+  pub leaves_own : (tables : Held S × Flags) → IsSettled → KeepsOffice (state g tables.0) → LeavesItsOwn g tables
   leaves_own tables settled keeps = λ clean is_open other left. left_means tables.0 settled keeps.idle clean is_open other left
 
   -- a store whose disk gave what was written leaves something
@@ -58,11 +75,11 @@ module _ {S : Type 0} (g : store.Ghosts S) where
       (meaning_for form (rows_named db), database_means form db it.ready)
 
   -- and so does whatever they leave
-  pub leaves_readable : (tables : Held S × (Bool × Bool)) → Survives → KeepsOffice (state g tables.0) → LeavesReadable g tables
+  pub leaves_readable : (tables : Held S × Flags) → Survives → KeepsOffice (state g tables.0) → LeavesReadable g tables
   leaves_readable tables survives keeps = λ clean. (survives tables.0 clean, λ trees left. ∣ file_means trees (keeps.leaves clean trees left) ∣₁)
 
   -- stopped tables answer Disk, and nothing is asked of them
-  pub kept_stopped : {A : Type 0} (tables : Held S × (Bool × Bool)) → IsSettled → is_stopped g tables ≡ true
+  pub kept_stopped : {A : Type 0} (tables : Held S × Flags) → IsSettled → is_stopped g tables ≡ true
       → IsKept {A = A} (is_honest g) (is_whole g) (means g) (may_leave g) (faults g) (is_stopped g) tables tables (Err Disk) Disk Nothing
   kept_stopped tables settled stopped = record {
     honest = λ clean. clean;
@@ -75,6 +92,7 @@ module _ {S : Type 0} (g : store.Ghosts S) where
     disk = λ same. stopped;
     still = λ _. (refl, stopped);
     runs = λ _. refl;
+    blamed = λ clean is_open ran. absurd (let no = ran in let yes = stopped in cc);
   }
 
   module _ {A E : Type 0} (old new : Held S) (r : Result A E) (P : Database → A → Type 0) (keeps : KeepsOffice (state g old)) (looked : IsLookUp (state g old) (state g new) r P) where
@@ -103,10 +121,11 @@ module _ {S : Type 0} (g : store.Ghosts S) where
     means_still clean is_open = ap (λ (d : Database). meaning_by_domain (rows_named d)) (looked.same clean is_open).now
 
     -- the result of the call is that of the look-up, or says less; `gone` is its fault where the disk failed
-    pub kept_looked_up_or : {B F : Type 0} (gone : F) (s : Result B F) (before after : Bool × Bool) → IsSettled → IsLeft → before.0 ≡ false
+    pub kept_looked_up_or : {B F : Type 0} (gone : F) (s : Result B F) (before after : Flags) → IsSettled → IsLeft → before.0 ≡ false
         → (OnOk r (IsTrue (state g new).is_open) → OnOk s (IsTrue (state g new).is_open)) → IfErr s (λ e. e ≡ gone → after.0 ≡ true) → (after.0 ≡ true → s ≡ Err gone)
+        → IsBlamed (state g old) (state g new) gone s
         → IsKept (is_honest g) (is_whole g) (means g) (may_leave g) (faults g) (is_stopped g) (old, before) (new, after) s gone Nothing
-    kept_looked_up_or gone s before after settled left ran passes disk runs = record {
+    kept_looked_up_or gone s before after settled left ran passes disk runs blames = record {
       honest = early;
       whole = λ clean is_open. (looked.same clean is_open).was_open;
       counts = looked.survives.counts;
@@ -120,12 +139,23 @@ module _ {S : Type 0} (g : store.Ghosts S) where
       disk = disk;
       still = λ stopped. absurd (let no = ran in let yes = stopped in cc);
       runs = runs;
+      blamed = λ clean is_open going is. blamed_by (state g old) (state g new) gone s blames clean is_open is;
     }
 
-    pub kept_looked_up : {B : Type 0} (s : Result B Lost) (before after : Bool × Bool) → IsSettled → IsLeft → before.0 ≡ false → (OnOk r (IsTrue (state g new).is_open) → OnOk s (IsTrue (state g new).is_open))
-        → IfErr s (λ e. e ≡ Disk → after.0 ≡ true) → (after.0 ≡ true → s ≡ Err Disk)
+    pub kept_looked_up : {B : Type 0} (s : Result B Lost) (before after : Flags) → IsSettled → IsLeft → before.0 ≡ false → (OnOk r (IsTrue (state g new).is_open) → OnOk s (IsTrue (state g new).is_open))
+        → IfErr s (λ e. e ≡ Disk → after.0 ≡ true) → (after.0 ≡ true → s ≡ Err Disk) → IsBlamed (state g old) (state g new) Disk s
         → IsKept (is_honest g) (is_whole g) (means g) (may_leave g) (faults g) (is_stopped g) (old, before) (new, after) s Disk Nothing
     kept_looked_up s before after = kept_looked_up_or Disk s before after
+
+  -- a look-up that failed, told by what it comes to; `after` are the tables then
+  module _ {A : Type 0} (old new : Held S) (failure : Failure) (P : Database → A → Type 0) (keeps : KeepsOffice (state g old)) (looked : IsLookUp {E = Failure} (state g old) (state g new) (Err failure) P)
+      (fails : FailsTruly {A = A} (state g old) (state g new) (Err failure)) where
+    pub kept_lost : {B : Type 0} (lost : Lost) (before : Flags) (after : Held S × Flags) → IsSettled → IsLeft → before.0 ≡ false → lost ≡ failure.lost → after.0 ≡ new → (lost ≡ Disk → after.1.0 ≡ true)
+        → (before.0 ≡ false → after.1.0 ≡ true → lost ≡ Disk) → IsKept {A = B} (is_honest g) (is_whole g) (means g) (may_leave g) (faults g) (is_stopped g) (old, before) after (Err lost) Disk Nothing
+    kept_lost {B} lost before after settled left ran is same stops runs =
+        subst (λ h. IsKept {A = B} (is_honest g) (is_whole g) (means g) (may_leave g) (faults g) (is_stopped g) (old, before) (h, after.1) (Err lost) Disk Nothing) (sym same)
+        (kept_looked_up old new (Err failure) P keeps looked (Err lost) before after.1 settled left ran (λ is_open. tt) stops (λ stopped. ap Err (runs ran stopped))
+        (λ clean is_open disk. failed_since (state g old) (state g new) is_open (fails clean (sym is ∙ disk))))
 
   -- ---- a transaction that writes
 
@@ -174,10 +204,10 @@ module _ {S : Type 0} (g : store.Ghosts S) where
       leaves = commit_leaves (state g old) (state g new) r Makes commits files keeps.file keeps.leaves;
     }
 
-    pub kept_committed : {B : Type 0} (s : Result B Lost) (before after : Bool × Bool) → IsSettled → before.0 ≡ false → (OnOk r (IsTrue (state g new).is_open) → OnOk s (IsTrue (state g new).is_open))
-        → IfErr s (λ e. e ≡ Disk → after.0 ≡ true) → (after.0 ≡ true → s ≡ Err Disk)
+    pub kept_committed : {B : Type 0} (s : Result B Lost) (before after : Flags) → IsSettled → before.0 ≡ false → (OnOk r (IsTrue (state g new).is_open) → OnOk s (IsTrue (state g new).is_open))
+        → IfErr s (λ e. e ≡ Disk → after.0 ≡ true) → (after.0 ≡ true → s ≡ Err Disk) → IsBlamed (state g old) (state g new) Disk s
         → IsKept (is_honest g) (is_whole g) (means g) (may_leave g) (faults g) (is_stopped g) (old, before) (new, after) s Disk (λ m. m ≡ meaning)
-    kept_committed s before after settled ran passes disk runs = record {
+    kept_committed s before after settled ran passes disk runs blames = record {
       honest = clean_before;
       whole = commits.was_open;
       counts = commits.survives.counts;
@@ -191,4 +221,5 @@ module _ {S : Type 0} (g : store.Ghosts S) where
       disk = disk;
       still = λ stopped. absurd (let no = ran in let yes = stopped in cc);
       runs = runs;
+      blamed = λ clean is_open going is. blamed_by (state g old) (state g new) Disk s blames clean is_open is;
     }

@@ -1,6 +1,6 @@
 -- What a sink is handed of the records in the order in which the office took them, which is that of their rowids: a new row's is above all
 -- others (SQLite, "Autoincrement in SQLite"), and a record's row is never changed nor taken away. This project's own rule.
-use Rattle.std.specs.Prelude.{◌≡◌, ℤ, List, Option, Some, None, option_map, Result, Ok, Err, true, IsTrue}
+use Rattle.std.specs.Prelude.{◌≡◌, ◌↔◌, ℤ, List, Option, Some, None, option_map, Result, Ok, Err, IfErr, true, IsTrue}
 use Rattle.std.specs.List.{AllByRecursion}
 use Rattle.sqlite.specs.Order.{Row}
 use Rattle.sqlite.specs.Effect.{Database}
@@ -13,7 +13,9 @@ use Rattle.sql_streams.specs.declared.walking.WalkFault.{WalkFault}
 use Rattle.sql_streams.specs.declared.walking.WalkFault.TheVariants.{NoRows, NoSink as RowRefused}
 use Rattle.sql_meaning.specs.Values.{integer_at}
 use Rattle.sql_decoding.specs.RecordHeads.{is_head}
+use Rattle.sql_laws.specs.DiskErrors.{is_of_disk, HasFailed}
 use Rattle.tables.specs.declared.faults.Lost.{Lost}
+use Rattle.tables.specs.declared.faults.Lost.TheVariants.{Disk}
 use Rattle.store_sql.specs.declared.recorded.HandingFault.{HandingFault}
 use Rattle.store_sql.specs.declared.recorded.HandingFault.TheVariants.{NoRecord, NoTables, NoSink}
 
@@ -45,10 +47,14 @@ WereCut Took Refuses after db first last NoRecord = HasNone after db × (last �
 WereCut Took Refuses after db first last (NoTables lost) = GaveSome Took (AreBehind after db) first last
 WereCut Took Refuses after db first last (NoSink refusal) = GaveUpTo Took Refuses (AreBehind after db) first last refusal
 
--- what a walk that was cut short is told as
+-- what a walk that was cut short is told as: of the disk is told where the query's error does
 abbrev pub IsTold : {R : Type 0} → WalkFault R → HandingFault R → Type 0
-IsTold (NoRows error) told = (lost : Lost) × (told ≡ NoTables lost)
+IsTold (NoRows error) told = (lost : Lost) × (told ≡ NoTables lost) × ((lost ≡ Disk) ↔ (is_of_disk error ≡ true))
 IsTold (RowRefused refusal) told = told ≡ NoSink refusal
+
+-- a fault that tells of the disk comes of a failure of it
+abbrev pub HandsTruly : {R T : Type 0} → State → State → Result T (HandingFault R) → Type 0
+HandsTruly old new result = HasCleanDisk new → IfErr result (λ fault. fault ≡ NoTables Disk → HasFailed old new)
 
 -- all of the rows, or those before a fault
 abbrev pub WereHanded : {K R T : Type 0} → (K → List Row → K → Type 0) → (K → Row → R → K → Type 0) → Option Text → Database → K → K → Result T (HandingFault R) → Type 0

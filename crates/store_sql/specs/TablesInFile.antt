@@ -1,6 +1,6 @@
 -- What tables on SQLite mean, what a stop may leave of them, and what they keep true. This project's own words, for those of the trait of
--- tables; a value is what the connection holds, whether the tables are stopped, and whether the office is at hand.
-use Rattle.std.specs.Prelude.{◌≡◌, ℕ, Bool, IsTrue, Option, IfSome}
+-- tables; a value is what the connection holds, whether the tables are stopped, and which part of the office is at hand.
+use Rattle.std.specs.Prelude.{◌≡◌, ℕ, Bool, IsTrue, Option, Some, option_map, IfSome}
 use Rattle.sqlite.specs.Held.{Held, state}
 use Rattle.sqlite.specs.State.{State, HasCleanDisk}
 use Rattle.sqlite.specs.Tree.{Trees}
@@ -13,11 +13,13 @@ use Rattle.std.proofs.Math.Logic.{∥∥₁_prop}
 use Rattle.sql_schema.specs.Whole.{IsIdleOver}
 use Rattle.sql_meaning.specs.Meaning.{AreNumbered}
 use Rattle.sql_meaning.specs.Domains.{office_of_rows, meaning_by_domain, TreesMean}
-use Rattle.office_maps.specs.declared.office_maps.OfficeMaps.{OfficeMaps}
+use Rattle.office_specification.specs.Parts.{AreAlikeIn}
+use Rattle.office_specification.specs.declared.parts.Part.{Part}
 use Rattle.office_maps.specs.OfficeIn.{office_in}
 use Rattle.sql_files.specs.Files.{KeepsFile, LeavesFiles}
 use Rattle.tables.specs.Stops.{LeavesOnly, IsReadable}
 use Rattle.store_sql.specs.OneMeaning.{meaning_set}
+use Rattle.store_sql.specs.declared.loaded_part.LoadedPart.{LoadedPart}
 use Rattle.sql_schema.specs.Layouts.{by_domain, rows_named}
 use Rattle.store_sql.specs.declared.office_part.OfficePart.{OfficePart}
 use Rattle.store_sql.specs.OfficeParts.{IsPartOf}
@@ -37,7 +39,14 @@ readable clean left leaves is_clean = record {
   found = λ trees m is_left means. (trees, is_left, means);
 }
 
-module _ {S : Type 0} (g : store.Ghosts S) (tables : Held S × (Bool × Bool)) where
+-- beside what the connection holds: whether the tables are stopped, and which part of the office is at hand
+abbrev pub Flags : Type 0
+Flags = Bool × Option Part
+
+abbrev pub held_part : Option LoadedPart → Option Part
+held_part = option_map (λ loaded. loaded.part)
+
+module _ {S : Type 0} (g : store.Ghosts S) (tables : Held S × Flags) where
   -- the disk has returned what was written
   abbrev pub is_honest : Type 0
   is_honest = HasCleanDisk (state g tables.0)
@@ -84,9 +93,9 @@ module _ {S : Type 0} (g : store.Ghosts S) (tables : Held S × (Bool × Bool)) w
   pub leaves_readable_prop : IsProp LeavesReadable
   leaves_readable_prop = hlevel (props, ∥∥₁_prop)
 
-  -- the office was read whole, and nothing was written since
-  abbrev pub is_loaded : Type 0
-  is_loaded = IsTrue tables.1.1
+  -- this part of the office was read last, and nothing was written since
+  abbrev pub is_loaded : Part → Type 0
+  is_loaded part = tables.1.1 ≡ Some part
 
 -- what a stop leaves of a connection that isn't shut means what its rows mean
 abbrev pub LeavesOwnTrees : State → Type 0
@@ -100,9 +109,9 @@ pub record KeepsOffice (s : State) : Type 0 where
   pub file : KeepsFile s
   pub leaves : LeavesFiles s
 
--- An office at hand is that of the rows, of a connection that isn't shut.
-abbrev pub IsAtHand : State → Option OfficeMaps → Type 0
-IsAtHand s office = IfSome office (λ maps. HasCleanDisk s → IsTrue s.is_open × (office_in maps ≡ office_of_rows (rows_named s.now)))
+-- A part at hand is alike to the office of the rows, of a connection that isn't shut.
+abbrev pub IsAtHand : State → Option LoadedPart → Type 0
+IsAtHand s office = IfSome office (λ loaded. HasCleanDisk s → IsTrue s.is_open × AreAlikeIn loaded.part (office_in loaded.maps) (office_of_rows (rows_named s.now)))
 
 -- What is kept of the office is what it tells, of a connection that isn't shut.
 abbrev pub IsPartAtHand : State → Option OfficePart → Type 0

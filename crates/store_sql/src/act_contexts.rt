@@ -8,6 +8,7 @@ ghost use Rattle.sql_schema.specs.Whole.{IsLookUp};
 ghost use Rattle.sql_meaning.specs.Domains.{office_of_rows};
 ghost use Rattle.store_sql.specs.TablesInFile.{KeepsOffice, IsPartAtHand};
 ghost use Rattle.sql_schema.specs.Layouts.{rows_named};
+ghost use Rattle.sql_decoding.specs.DiskFailures.{FailsTruly};
 
 use crate::look_ups::look_up;
 use crate::office_part::{Kept, OfficePart, context_beside, part_to_keep, same_part};
@@ -18,7 +19,7 @@ use office_specification::ActContext;
 use po_text::Items;
 use sql_columns::number_column;
 use sql_decoding::{
-    Failure, KeptRule, context_in, role_in, suggestion_found, suggestions_without_votes,
+    Failure, KeptRule, context_in, needed, role_in, suggestion_found, suggestions_without_votes,
 };
 use sql_keepable::key_fits;
 use sqlite::{Alter, Connection};
@@ -35,6 +36,7 @@ pub(crate) fn read_role<S: Alter>(
     requires keeps { KeepsOffice (state S.Store connection.old) }
     ensures found { IsLookUp (state S.Store connection.old) (state S.Store connection.new) result
         (λ db role. role ≡ role_in (office_of_rows (rows_named db)).team name.now) }
+    ensures disk { FailsTruly (state S.Store connection.old) (state S.Store connection.new) result }
 {
     let row = look_up(
         connection,
@@ -42,7 +44,7 @@ pub(crate) fn read_role<S: Alter>(
             name: name.as_str(),
         },
     )?;
-    let role = role_in(&row);
+    let role = needed(role_in(&row));
     drop(row);
     role
 }
@@ -62,6 +64,7 @@ fn read_context_anew<S: Alter>(
     requires keeps { KeepsOffice (state S.Store connection.old) }
     ensures found { IsLookUp (state S.Store connection.old) (state S.Store connection.new) result
         (λ db r. r ≡ context_of (project_in (office_of_rows (rows_named db)) domain.now) lang.now key.now name.now) }
+    ensures disk { FailsTruly (state S.Store connection.old) (state S.Store connection.new) result }
 {
     key_fits(key);
     let text = key.text(alloc)?;
@@ -74,7 +77,7 @@ fn read_context_anew<S: Alter>(
             name: name.as_str(),
         },
     )?;
-    let found = context_in(alloc, key, &rows, kept);
+    let found = needed(context_in(alloc, key, &rows, kept));
     drop(rows);
     found
 }
@@ -93,6 +96,7 @@ fn read_unit_anew<S: Alter>(
     requires keeps { KeepsOffice (state S.Store connection.old) }
     ensures found { IsLookUp (state S.Store connection.old) (state S.Store connection.new) result
         (λ db r. r ≡ without_suggestions (context_of (project_in (office_of_rows (rows_named db)) domain.now) lang.now key.now name.now)) }
+    ensures disk { FailsTruly (state S.Store connection.old) (state S.Store connection.new) result }
 {
     key_fits(key);
     let text = key.text(alloc)?;
@@ -106,7 +110,7 @@ fn read_unit_anew<S: Alter>(
             name: name.as_str(),
         },
     )?;
-    let found = context_in(alloc, key, &rows, kept);
+    let found = needed(context_in(alloc, key, &rows, kept));
     drop(rows);
     found
 }
@@ -123,6 +127,7 @@ fn read_context_beside<S: Alter>(
     requires held { IsPartAtHand (state S.Store connection.old) (Some part.now) }
     ensures found { IsLookUp (state S.Store connection.old) (state S.Store connection.new) result
         (λ db r. r ≡ context_of (project_in (office_of_rows (rows_named db)) part.now.domain) part.now.lang key.now part.now.name) }
+    ensures disk { FailsTruly (state S.Store connection.old) (state S.Store connection.new) result }
 {
     key_fits(key);
     let text = key.text(alloc)?;
@@ -134,7 +139,7 @@ fn read_context_beside<S: Alter>(
             key: text.as_str(),
         },
     )?;
-    let found = context_beside(alloc, key, part, &rows);
+    let found = needed(context_beside(alloc, key, part, &rows));
     drop(rows);
     found
 }
@@ -151,6 +156,7 @@ fn read_unit_beside<S: Alter>(
     requires held { IsPartAtHand (state S.Store connection.old) (Some part.now) }
     ensures found { IsLookUp (state S.Store connection.old) (state S.Store connection.new) result
         (λ db r. r ≡ without_suggestions (context_of (project_in (office_of_rows (rows_named db)) part.now.domain) part.now.lang key.now part.now.name)) }
+    ensures disk { FailsTruly (state S.Store connection.old) (state S.Store connection.new) result }
 {
     key_fits(key);
     let text = key.text(alloc)?;
@@ -163,7 +169,7 @@ fn read_unit_beside<S: Alter>(
             key: text.as_str(),
         },
     )?;
-    let found = context_beside(alloc, key, part, &rows);
+    let found = needed(context_beside(alloc, key, part, &rows));
     drop(rows);
     found
 }
@@ -184,6 +190,7 @@ pub(crate) fn read_context<S: Alter>(
     requires held { IsPartAtHand (state S.Store connection.old) kept.old.part }
     ensures found { IsLookUp (state S.Store connection.old) (state S.Store connection.new) result
         (λ db r. r ≡ context_of (project_in (office_of_rows (rows_named db)) domain.now) lang.now key.now name.now) }
+    ensures disk { FailsTruly (state S.Store connection.old) (state S.Store connection.new) result }
     ensures held { IsPartAtHand (state S.Store connection.new) kept.new.part }
 {
     if let Some(part) = same_part(&kept.part, domain, lang, name) {
@@ -209,6 +216,7 @@ pub(crate) fn read_unit<S: Alter>(
     requires held { IsPartAtHand (state S.Store connection.old) kept.old.part }
     ensures found { IsLookUp (state S.Store connection.old) (state S.Store connection.new) result
         (λ db r. r ≡ without_suggestions (context_of (project_in (office_of_rows (rows_named db)) domain.now) lang.now key.now name.now)) }
+    ensures disk { FailsTruly (state S.Store connection.old) (state S.Store connection.new) result }
     ensures held { IsPartAtHand (state S.Store connection.new) kept.new.part }
 {
     if let Some(part) = same_part(&kept.part, domain, lang, name) {
@@ -231,6 +239,7 @@ pub(crate) fn read_suggestions<S: Alter>(
     requires keeps { KeepsOffice (state S.Store connection.old) }
     ensures found { IsLookUp (state S.Store connection.old) (state S.Store connection.new) result
         (λ db r. r ≡ suggestions_at (project_in (office_of_rows (rows_named db)) domain.now) lang.now key.now) }
+    ensures disk { FailsTruly (state S.Store connection.old) (state S.Store connection.new) result }
 {
     key_fits(key);
     let text = key.text(alloc)?;
@@ -242,7 +251,7 @@ pub(crate) fn read_suggestions<S: Alter>(
             key: text.as_str(),
         },
     )?;
-    let found = suggestions_without_votes(alloc, &rows);
+    let found = needed(suggestions_without_votes(alloc, &rows));
     drop(rows);
     found
 }
@@ -260,6 +269,7 @@ pub(crate) fn read_suggestion<S: Alter>(
     requires keeps { KeepsOffice (state S.Store connection.old) }
     ensures found { IsLookUp (state S.Store connection.old) (state S.Store connection.new) result
         (λ db r. r ≡ suggestion_at (project_in (office_of_rows (rows_named db)) domain.now) lang.now key.now number) }
+    ensures disk { FailsTruly (state S.Store connection.old) (state S.Store connection.new) result }
 {
     key_fits(key);
     let text = key.text(alloc)?;
@@ -273,7 +283,7 @@ pub(crate) fn read_suggestion<S: Alter>(
             number: column.as_str(),
         },
     )?;
-    let found = suggestion_found(alloc, &rows);
+    let found = needed(suggestion_found(alloc, &rows));
     drop(rows);
     found
 }

@@ -7,7 +7,7 @@ ghost use Rattle.tables.specs.Entries.{entries_of};
 ghost use Rattle.sql_schema.specs.Layouts.{rows_named};
 ghost use Rattle.sql_schema.specs.Whole.{IsLookUp};
 ghost use Rattle.sql_meaning.specs.Domains.{office_of_rows};
-ghost use Rattle.sql_exports.specs.Handing.{Gives};
+ghost use Rattle.sql_exports.specs.Handing.{Gives, CutsTruly};
 ghost use Rattle.store_sql.specs.TablesInFile.{KeepsOffice};
 
 use crate::look_ups::look;
@@ -30,6 +30,7 @@ pub(crate) fn hand_entries<S: Alter, K: EntrySink>(
     ensures handed { HasCleanDisk (state S.Store connection.new) → Gives K.Took K.Refuses sink.old sink.new
         (entries_of (project_in (office_of_rows (rows_named (state S.Store connection.old).now)) domain.now) lang.now) result }
     ensures looked { IsLookUp (state S.Store connection.old) (state S.Store connection.new) result (λ _ _. ⊤) }
+    ensures disk { CutsTruly (state S.Store connection.old) (state S.Store connection.new) result }
 {
     match look(connection) {
         Ok(()) => export_entries(connection, alloc, domain.as_str(), lang, sink),

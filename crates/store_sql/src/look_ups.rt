@@ -7,6 +7,7 @@ ghost use Rattle.sql_laws.specs.DiskErrors.{BlamesTruly};
 ghost use Rattle.sql_schema.specs.Inside.{IsSteadyOver, IsReadOf};
 ghost use Rattle.sql_schema.specs.Whole.{IsIdleOver, IsLookUp};
 ghost use Rattle.sql_schema.specs.Layouts.{by_domain};
+ghost use Rattle.sql_decoding.specs.DiskFailures.{FailsTruly};
 
 use crate::questions::PolicyHeld;
 use sql_decoding::Failure;
@@ -48,6 +49,7 @@ pub(crate) fn look<S: Alter>(connection: &mut Connection<S>) -> Result<(), Failu
     requires autocommit { connection.old.in_transaction ≡ false }
     requires idle { IsIdleOver by_domain (state S.Store connection.old) }
     ensures looked { IsLookUp (state S.Store connection.old) (state S.Store connection.new) result (λ _ _. ⊤) }
+    ensures disk { FailsTruly (state S.Store connection.old) (state S.Store connection.new) result }
 {
     let policy = look_up(connection, PolicyHeld)?;
     drop(policy);

@@ -2,8 +2,8 @@
 //!
 //! `SqliteTables` adds the two facts that the trait's laws hand to callers, as ghost fields, and takes nothing apart: the connection, the flag and
 //! the maps change here alone, each change keeps the invariant of `OfficeConnection`, and that the two facts follow from it is shown once, in `rules`.
-ghost use Rattle.std.specs.Prelude.{◌≡◌, ◌≢◌, Bool, false, true, Ok, Err, IfOk, IfErr, OnOk, OnErr, is_some, option_map};
-ghost use Rattle.std.specs.Coded.{coded×, coded_bool};
+ghost use Rattle.std.specs.Prelude.{◌≡◌, ◌≢◌, Bool, false, true, Ok, Err, IfOk, IfErr, OnOk, OnErr, option_map};
+ghost use Rattle.std.specs.Coded.{coded×, coded_bool, coded_option};
 ghost use Rattle.std.specs.FinMap as maps;
 ghost use Rattle.sqlite.specs.Held.{Held, held_code, state};
 ghost use Rattle.request_book.specs.Book.{row_of, with_record};
@@ -19,8 +19,10 @@ ghost use Rattle.office_specification.specs.Tally.{counts_of};
 ghost use Rattle.tables.specs.declared.faults.EachFault.TheVariants.{NoTables};
 ghost use Rattle.units.specs.Project.{role_in};
 ghost use Rattle.units.specs.Office.{project_in};
-ghost use Rattle.units.specs.Offices.{IsOffice};
 ghost use Rattle.office_maps.specs.OfficeIn.{office_in};
+ghost use Rattle.office_specification.specs.Parts.{AreAlikeIn};
+ghost use Rattle.office_specification.specs.declared.parts.Part.{Part as PartValue};
+ghost use Rattle.office_specification.specs.contracts.parts.Part as part_contracts;
 ghost use Rattle.tables.specs.declared.faults.Lost.TheVariants.{Disk};
 ghost use Rattle.sqlite.specs.State.{HasCleanDisk};
 ghost use Rattle.sql_schema.specs.Schema.{no_schema};
@@ -30,7 +32,7 @@ ghost use Rattle.sql_files.specs.Files.{IsOfficeFile, IsLost, KeepsFile, LeavesF
 ghost use Rattle.sqlite.specs.Effect.{IsDatabase};
 ghost use Rattle.store_sql.specs.Adopting.{AreAdopted};
 ghost use Rattle.store_sql.specs.Faults.{RefusesIn};
-ghost use Rattle.store_sql.specs.TablesInFile.{KeepsOffice, KeepsOwnRules, LeavesItsOwn, LeavesOwnTrees, LeavesReadable, IsAtHand, IsPartAtHand, is_honest, is_whole, means, may_leave, faults, is_stopped, is_loaded};
+ghost use Rattle.store_sql.specs.TablesInFile.{KeepsOffice, KeepsOwnRules, LeavesItsOwn, LeavesOwnTrees, LeavesReadable, IsAtHand, IsPartAtHand, Flags, held_part, is_honest, is_whole, means, may_leave, faults, is_stopped, is_loaded};
 ghost use Rattle.store_sql.specs.Making.{AreMade, IsHandedBack};
 ghost use Rattle.store_sql.specs.RecordsBehind.{WereHanded};
 ghost use Rattle.store_sql.specs.declared.recorded.HandingFault.TheVariants.{NoTables as Unreadable};
@@ -38,14 +40,14 @@ ghost use Rattle.store_sql.specs.declared.recorded.HandingFault.TheVariants.{NoT
 use crate::act_contexts::{read_context, read_role, read_suggestion, read_suggestions, read_unit};
 use crate::entries::hand_entries;
 use crate::keepable_values::{change_fits, record_fits, write_fits};
+use crate::loaded_part::{LoadedPart, forget, keep, read_part};
 use crate::making::make;
 use crate::office_part::{Kept, nothing_kept};
 use crate::recorded::{HandingFault, hand_records};
 use crate::records::read_record;
 use crate::tallies::read_tally;
-use crate::whole_office::{forget, keep, read_office};
 use office_maps::OfficeMaps;
-use office_specification::{ActContext, Change, Tally, UnitWrite};
+use office_specification::{ActContext, Change, Part, Tally, UnitWrite};
 use po_text::Items;
 use request_book::Record;
 use sql_adoption::OpenFault;
@@ -69,16 +71,16 @@ pub(crate) struct OfficeConnection<S: Alter> {
     alloc: Global,
     /// What the last looks at units kept.
     kept: Kept,
-    /// The office, where it was read whole and nothing was written since.
-    office: Option<OfficeMaps>,
+    /// The part of the office that was read last, where nothing was written since.
+    office: Option<LoadedPart>,
 }
 
 impl<S: Alter> Model for OfficeConnection<S> {
-    ghost Value = { Held S × (Bool × Bool) };
+    ghost Value = { Held S × Flags };
 
-    ghost coded = { coded× (held_code S.code) (coded× coded_bool coded_bool) };
+    ghost coded = { coded× (held_code S.code) (coded× coded_bool (coded_option (part_contracts.the_row).coded)) };
 
-    ghost view = { λ t. (t.connection, (t.stopped, is_some t.office)) };
+    ghost view = { λ t. (t.connection, (t.stopped, held_part t.office)) };
 
     ghost invariant = { λ t. (t.connection.in_transaction ≡ false) × KeepsOffice (state S.Store t.connection) × IsAtHand (state S.Store t.connection) t.office × IsPartAtHand (state S.Store t.connection) t.kept.part };
 }
@@ -348,36 +350,33 @@ impl<S: Alter> OfficeConnection<S> {
         }
     }
 
-    /// Reads what acts on the office need: team, policy, and the template, headers and units of each domain. `office` then shows it.
-    pub(crate) fn load_whole_office(&mut self) -> Result<(), Lost>
-        ensures loaded { OnOk result (is_loaded S.Store self.new) }
+    /// Reads a part of the office: what an act on the office needs. `at_hand` then shows it.
+    pub(crate) fn load_part(&mut self, part: Part) -> Result<(), Lost>
+        ensures loaded { OnOk result (is_loaded S.Store self.new part) }
         ensures same { is_honest S.Store self.new → is_whole S.Store self.new → means S.Store self.new ≡ means S.Store self.old }
         ensures kept { IsKept (is_honest S.Store) (is_whole S.Store) (means S.Store) (may_leave S.Store) (faults S.Store) (is_stopped S.Store) self.old self.new result Disk Nothing }
     {
         if self.stopped {
             return Err(Lost::Disk);
         }
-        if self.office.is_some() {
-            return Ok(());
-        }
-        match read_office(&mut self.connection, self.alloc) {
+        forget(self.alloc, &mut self.office);
+        match read_part(&mut self.connection, self.alloc, &part) {
             Ok(maps) => {
-                keep(&mut self.office, maps);
+                keep(&mut self.office, part, maps);
                 Ok(())
             }
             Err(failure) => Err(self.lost(failure)),
         }
     }
 
-    /// The office that was read, in maps; it isn't copied.
+    /// What was read of the office, in maps; it isn't copied.
     pub(crate) fn at_hand(&self) -> &OfficeMaps
-        requires loaded { is_loaded S.Store self.now }
+        requires loaded { (part : PartValue) × is_loaded S.Store self.now part }
         ensures whole { is_honest S.Store self.now → is_whole S.Store self.now }
-        ensures office { is_honest S.Store self.now → office_in result.now ≡ (means S.Store self.now).office }
-        ensures rules { is_honest S.Store self.now → IsOffice (office_in result.now) }
+        ensures alike { is_honest S.Store self.now → (part : PartValue) → is_loaded S.Store self.now part → AreAlikeIn part (office_in result.now) (means S.Store self.now).office }
     {
         match &self.office {
-            Some(maps) => maps,
+            Some(loaded) => &loaded.maps,
             None => unreachable!(),
         }
     }
@@ -417,6 +416,7 @@ impl<S: Alter> OfficeConnection<S> {
     ) -> Result<(), HandingFault<K::Refusal>>
         ensures handed { is_honest S.Store self.new → WereHanded K.Took K.Refuses after (state S.Store self.old.0).now sink.old sink.new result }
         ensures disk { IfErr result (λ fault. fault ≡ Unreadable Disk → is_stopped S.Store self.new ≡ true) }
+        ensures kept { IsKept (is_honest S.Store) (is_whole S.Store) (means S.Store) (may_leave S.Store) (faults S.Store) (is_stopped S.Store) self.old self.new result (Unreadable Disk) Nothing }
         ensures same { is_honest S.Store self.new → is_whole S.Store self.new → (state S.Store self.new.0).now ≡ (state S.Store self.old.0).now }
     {
         if self.stopped {
@@ -548,6 +548,7 @@ impl<S: Alter> OfficeConnection<S> {
         ensures result { result ≡ fault }
         ensures connection { self.new.0 ≡ self.old.0 }
         ensures stops { result ≡ Unreadable Disk → self.new.1.0 ≡ true }
+        ensures runs { self.old.1.0 ≡ false → self.new.1.0 ≡ true → result ≡ Unreadable Disk }
     {
         if let HandingFault::NoTables(Lost::Disk) = &fault {
             self.stopped = true;

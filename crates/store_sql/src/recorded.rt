@@ -4,12 +4,13 @@ ghost use Rattle.sqlite.specs.Held.{state};
 ghost use Rattle.sqlite.specs.State.{HasCleanDisk};
 ghost use Rattle.sql_schema.specs.Layouts.{by_domain};
 ghost use Rattle.sql_schema.specs.Whole.{IsIdleOver, IsLookUp};
-ghost use Rattle.store_sql.specs.RecordsBehind.{HoldsHeads, IsPlaceOf, IsTold, WereHanded};
+ghost use Rattle.sql_decoding.specs.DiskFailures.{FailsTruly};
+ghost use Rattle.store_sql.specs.RecordsBehind.{HoldsHeads, IsPlaceOf, IsTold, HandsTruly, WereHanded};
 
 use crate::look_ups::{look, look_up};
 use crate::questions::PlaceOf;
 use sql_columns::number_column;
-use sql_decoding::Failure;
+use sql_decoding::{Failure, integer_in, needed};
 use sql_statements::record_queries::{walk_records, walk_records_behind};
 use sql_streams::{RowSink, WalkFault};
 use sqlite::{Alter, Connection};
@@ -47,6 +48,7 @@ fn read_place<S: Alter>(
     requires autocommit { connection.old.in_transaction ≡ false }
     requires idle { IsIdleOver by_domain (state S.Store connection.old) }
     ensures found { IsLookUp (state S.Store connection.old) (state S.Store connection.new) result (IsPlaceOf number) }
+    ensures disk { FailsTruly (state S.Store connection.old) (state S.Store connection.new) result }
 {
     let column = number_column(alloc, number)?;
     let found = look_up(
@@ -58,7 +60,7 @@ fn read_place<S: Alter>(
     drop(column);
     match found? {
         Some(row) => {
-            let place = row.get::<i64>(0);
+            let place = needed(integer_in(&row, 0));
             drop(row);
             Ok(Some(place?))
         }
@@ -77,6 +79,7 @@ fn hand_every<S: Alter, K: RowSink>(
     requires is_open { HasCleanDisk (state S.Store connection.old) → IsTrue (state S.Store connection.old).is_open }
     ensures handed { HasCleanDisk (state S.Store connection.new) → WereHanded K.Took K.Refuses None (state S.Store connection.old).now sink.old sink.new result }
     ensures looked { IsLookUp (state S.Store connection.old) (state S.Store connection.new) result (λ _ _. ⊤) }
+    ensures disk { HandsTruly (state S.Store connection.old) (state S.Store connection.new) result }
 {
     match walk_records(connection, sink) {
         Ok(()) => Ok(()),
@@ -94,6 +97,7 @@ fn hand_all<S: Alter, K: RowSink>(
     requires heads { HoldsHeads (state S.Store connection.old) }
     ensures handed { HasCleanDisk (state S.Store connection.new) → WereHanded K.Took K.Refuses None (state S.Store connection.old).now sink.old sink.new result }
     ensures looked { IsLookUp (state S.Store connection.old) (state S.Store connection.new) result (λ _ _. ⊤) }
+    ensures disk { HandsTruly (state S.Store connection.old) (state S.Store connection.new) result }
 {
     match look(connection) {
         Ok(()) => hand_every(connection, sink),
@@ -114,6 +118,7 @@ fn hand_behind<S: Alter, K: RowSink>(
     ensures handed { (number : List ℕ) → IsPlaceOf number (state S.Store connection.old).now (Some place) → HasCleanDisk (state S.Store connection.new)
         → WereHanded K.Took K.Refuses (Some number) (state S.Store connection.old).now sink.old sink.new result }
     ensures looked { IsLookUp (state S.Store connection.old) (state S.Store connection.new) result (λ _ _. ⊤) }
+    ensures disk { HandsTruly (state S.Store connection.old) (state S.Store connection.new) result }
 {
     match walk_records_behind(connection, place, sink) {
         Ok(()) => Ok(()),
@@ -133,6 +138,7 @@ fn hand_after<S: Alter, K: RowSink>(
     requires heads { HoldsHeads (state S.Store connection.old) }
     ensures handed { HasCleanDisk (state S.Store connection.new) → WereHanded K.Took K.Refuses (Some number) (state S.Store connection.old).now sink.old sink.new result }
     ensures looked { IsLookUp (state S.Store connection.old) (state S.Store connection.new) result (λ _ _. ⊤) }
+    ensures disk { HandsTruly (state S.Store connection.old) (state S.Store connection.new) result }
 {
     match read_place(connection, alloc, number) {
         Ok(Some(place)) => hand_behind(connection, place, sink),
@@ -156,6 +162,7 @@ pub(crate) fn hand_records<S: Alter, K: RowSink>(
     requires heads { HoldsHeads (state S.Store connection.old) }
     ensures handed { HasCleanDisk (state S.Store connection.new) → WereHanded K.Took K.Refuses after (state S.Store connection.old).now sink.old sink.new result }
     ensures looked { IsLookUp (state S.Store connection.old) (state S.Store connection.new) result (λ _ _. ⊤) }
+    ensures disk { HandsTruly (state S.Store connection.old) (state S.Store connection.new) result }
 {
     match after {
         Some(number) => hand_after(connection, alloc, number, sink),

@@ -7,11 +7,12 @@ ghost use Rattle.sql_schema.specs.Layouts.{rows_named};
 ghost use Rattle.sql_schema.specs.Whole.{IsLookUp};
 ghost use Rattle.sql_meaning.specs.Domains.{office_of_rows};
 ghost use Rattle.store_sql.specs.TablesInFile.{KeepsOffice};
+ghost use Rattle.sql_decoding.specs.DiskFailures.{FailsTruly};
 
 use crate::look_ups::look_up;
 use crate::questions::TallyOf;
 use office_specification::Tally;
-use sql_decoding::{Failure, tally_in};
+use sql_decoding::{Failure, needed, tally_in};
 use sqlite::{Alter, Connection};
 use units::{Lang, Name};
 
@@ -25,6 +26,7 @@ pub(crate) fn read_tally<S: Alter>(
     requires keeps { KeepsOffice (state S.Store connection.old) }
     ensures found { IsLookUp (state S.Store connection.old) (state S.Store connection.new) result
         (λ db counts. counts ≡ counts_of (project_in (office_of_rows (rows_named db)) domain.now) lang.now) }
+    ensures disk { FailsTruly (state S.Store connection.old) (state S.Store connection.new) result }
 {
     let found = look_up(
         connection,
@@ -35,7 +37,7 @@ pub(crate) fn read_tally<S: Alter>(
     )?;
     match found {
         Some(row) => {
-            let tally = tally_in(&row);
+            let tally = needed(tally_in(&row));
             drop(row);
             Ok(Some(tally?))
         }

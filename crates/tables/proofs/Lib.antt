@@ -5,6 +5,7 @@ pub mod CountsFound
 pub mod OfficeUnits
 pub mod NothingCounted
 pub mod Records
+pub mod RunsOn
 pub mod Started
 mod NothingFound
 mod Written

@@ -3,6 +3,7 @@ pub mod Stops
 pub mod Sinks
 pub mod Entries
 pub mod KeptByCalls
+pub mod RunsOn
 pub mod Starts
 pub mod Handing
 pub mod MapsMeaning

@@ -7,6 +7,8 @@ ghost use Rattle.units.specs.Office.{project_in};
 ghost use Rattle.office_specification.specs.UnitAccess.{context_of, without_suggestions, suggestions_at, suggestion_at, with_write_in, IsPossibleWrite};
 ghost use Rattle.office_specification.specs.OfficeChanges.{changed_by, IsPossibleChange};
 ghost use Rattle.office_specification.specs.OfficeRules.{KeepsRules};
+ghost use Rattle.office_specification.specs.Parts.{AreAlikeIn};
+ghost use Rattle.office_specification.specs.declared.parts.Part.{Part as OfficePart};
 ghost use Rattle.request_book.specs.Contents.{IsContent};
 ghost use Rattle.tables.specs.Stops.{Nothing, LeavesOnly, IsReadable};
 ghost use Rattle.tables.specs.KeptByCalls.{IsKept};
@@ -20,7 +22,7 @@ ghost use Rattle.tables.specs.declared.faults.EachFault.TheVariants.{NoTables};
 use crate::faults::{EachFault, Lost};
 use crate::sink::EntrySink;
 use office_maps::OfficeMaps;
-use office_specification::{ActContext, Change, Tally, UnitWrite};
+use office_specification::{ActContext, Change, Part, Tally, UnitWrite};
 use po_text::Items;
 use request_book::Record;
 use units::{Key, Lang, Name, Role, Suggestion};
@@ -30,8 +32,8 @@ use uuid::Uuid;
 ///
 /// Each call says what it answers or writes, what the tables mean then, and by `IsKept` what it keeps, whatever it answers. What it
 /// answers holds while the disk returns what was written; what the tables mean then, while no failure has shut the store. An error
-/// is `Memory`, as where a growth was refused, and the tables run on; or `Disk`, as where the disk failed: then the tables are
-/// stopped, and answer `Disk` to each further call.
+/// is `Memory`, as where a growth was refused, or `Refused`, where the file takes no such rows or shows rows that stand for no value,
+/// and the tables run on; or `Disk`, as where the disk failed: then the tables are stopped, and answer `Disk` to each further call.
 pub trait Tables: Drop {
     /// So far the disk has returned what was written.
     ghost is_honest: { Self → Type 0 };
@@ -60,8 +62,8 @@ pub trait Tables: Drop {
     /// Whether they answer `Disk` until they are opened again.
     ghost is_stopped: { Self → Bool };
 
-    /// The office is at hand, as `office` shows it.
-    ghost is_loaded: { Self → Type 0 };
+    /// This part of the office is at hand, as `office` shows it.
+    ghost is_loaded: { Self → OfficePart → Type 0 };
 
     /// Whether they answer `Disk` until they are opened again.
     fn stopped(&self) -> bool
@@ -127,16 +129,17 @@ pub trait Tables: Drop {
         ensures same { is_honest self.new → is_whole self.new → means self.new ≡ means self.old }
         ensures kept { IsKept is_honest is_whole means may_leave faults is_stopped self.old self.new result Disk Nothing };
 
-    /// Reads what acts on the office need: team, policy, and each domain's template, headers and units. `office` then shows it.
-    fn load_whole_office(&mut self) -> Result<(), Lost>
-        ensures loaded { OnOk result (is_loaded self.new) }
+    /// Reads a part of the office: what an act on the office needs. `office` then shows it.
+    fn load_part(&mut self, part: Part) -> Result<(), Lost>
+        ensures loaded { OnOk result (is_loaded self.new part) }
         ensures same { is_honest self.new → is_whole self.new → means self.new ≡ means self.old }
         ensures kept { IsKept is_honest is_whole means may_leave faults is_stopped self.old self.new result Disk Nothing };
 
-    /// The office that was read, in maps; it isn't copied.
+    /// What was read of the office, in maps; it isn't copied. In each part that is at hand it is the office's; of the rest it says
+    /// nothing.
     fn office(&self) -> &OfficeMaps
-        requires loaded { is_loaded self.now }
-        ensures { is_honest self.now → is_whole self.now → office_in result.now ≡ (means self.now).office };
+        requires loaded { (part : OfficePart) × is_loaded self.now part }
+        ensures { is_honest self.now → is_whole self.now → (part : OfficePart) → is_loaded self.now part → AreAlikeIn part (office_in result.now) (means self.now).office };
 
     /// Writes a request's record and what its act writes of a unit, if it writes anything and the unit is there; or neither. The number must be
     /// new, the content a request's, what is written of the unit that is there, and what the commit leaves must keep the rules.

@@ -15,6 +15,10 @@ pub enum Lost {
     /// The disk failed under the tables, which answer this until they are opened again. Tables in memory never do.
     #[error("the disk failed")]
     Disk = 2,
+    /// The file takes no such rows, as a row that is too large, or shows rows that stand for no value, since another program has written
+    /// them: the tables run on. Tables in memory never answer it.
+    #[error("the file takes no such rows")]
+    Refused = 3,
 }
 
 impl Lost {

@@ -9,7 +9,7 @@ use crate::faults::{EachFault, Lost};
 use crate::plain::PlainTables;
 use crate::sink::EntrySink;
 use office_maps::OfficeMaps;
-use office_specification::{ActContext, Change, Tally, UnitWrite};
+use office_specification::{ActContext, Change, Part, Tally, UnitWrite};
 use po_text::Items;
 use request_book::Record;
 use units::{Key, Lang, Name, Role, Suggestion};
@@ -38,7 +38,7 @@ impl Tables for PlainTables {
 
     ghost is_stopped = { λ t. false };
 
-    ghost is_loaded = { λ t. ⊤ };
+    ghost is_loaded = { λ t part. ⊤ };
 
     ghost rules = { λ t honest whole. t.kept };
 
@@ -97,7 +97,8 @@ impl Tables for PlainTables {
         self.maps.suggestion_of(domain, lang, key, number)
     }
 
-    fn load_whole_office(&mut self) -> Result<(), Lost> {
+    fn load_part(&mut self, part: Part) -> Result<(), Lost> {
+        drop(part);
         Ok(())
     }
 

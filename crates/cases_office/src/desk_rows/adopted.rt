@@ -15,6 +15,7 @@ fn fault_told(fault: OpenFault) -> &'static str {
         OpenFault::Foreign(Mismatch::OtherFigures) => "other figures",
         OpenFault::Foreign(Mismatch::BrokenRules) => "broken rules",
         OpenFault::Exists => "an office",
+        OpenFault::Refused => "a refusal",
     }
 }
 

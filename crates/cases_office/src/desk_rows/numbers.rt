@@ -11,12 +11,15 @@ pub(crate) fn number_of(alloc: Global, name: &str) -> Option<String> {
         "Memory" => ExportFault::Memory.number(),
         "Disk" => ExportFault::Disk.number(),
         "Long" => ExportFault::Long.number(),
+        "Refused" => ExportFault::Refused.number(),
         "AskedNoLanguage" => QueryFault::NoLanguage.number(),
         "AskedNoUnit" => QueryFault::NoUnit.number(),
         "AskedMemory" => QueryFault::Memory.number(),
         "AskedDisk" => QueryFault::Disk.number(),
+        "AskedRefused" => QueryFault::Refused.number(),
         "LostMemory" => Lost::Memory.number(),
         "LostDisk" => Lost::Disk.number(),
+        "LostRefused" => Lost::Refused.number(),
         _ => return None,
     };
     format!(in alloc; "{number}").ok()

@@ -7,3 +7,9 @@ returns-in-Ok-clause-finished g c = flushed _ c.export_named-status.ensures.expo
 
 pub returns-in-Err-clause-finished : goal.returns-in-Err-clause-finished
 returns-in-Err-clause-finished g c = held _ c.export_named-status.result c.export_named-status.ensures.exported (search rules) refl
+
+pub returns-in-Ok-clause-runs_on : goal.returns-in-Ok-clause-runs_on
+returns-in-Ok-clause-runs_on g c = c.export_named-status.ensures.runs_on
+
+pub returns-in-Err-clause-runs_on : goal.returns-in-Err-clause-runs_on
+returns-in-Err-clause-runs_on g c = c.export_named-status.ensures.runs_on

@@ -5,6 +5,7 @@ use Rattle.office.specs.declared.faults.ExportFault.{ExportFault}
 use Rattle.commands.specs.DeliverLines.{unnamed, written, faulted}
 use Rattle.office.proofs.Streaming.{took_none}
 use Rattle.commands.proofs.Exporting.{text_taken}
+use Rattle.tables.proofs.RunsOn.{kept_runs_on}
 use Rattle.commands.proofs.export.export_named.Goals as goal
 
 pub returns-in-None-clause-exported : goal.returns-in-None-clause-exported
@@ -22,3 +23,9 @@ returns-in-Err-clause-exported g c =
     (record { fault = c.in-Err.fault; cut = cut.err; device = cut.device; disk = cut.kept.disk; told = c.tell_fault.ensures.told })
     (λ h none. cut.open_still h (ap {A = ExportFault} {B = Result ExportReceipt ExportFault} (λ e. Err e) none))
     c.tell_fault.ensures.status
+
+pub returns-in-Ok-clause-runs_on : goal.returns-in-Ok-clause-runs_on
+returns-in-Ok-clause-runs_on g c = kept_runs_on c.in-Ok.ensures.kept
+
+pub returns-in-Err-clause-runs_on : goal.returns-in-Err-clause-runs_on
+returns-in-Err-clause-runs_on g c = kept_runs_on c.in-Err.ensures.kept

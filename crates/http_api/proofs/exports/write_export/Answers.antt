@@ -5,6 +5,7 @@ use Rattle.office.specs.Writers.{writer_at}
 use Rattle.http_api.specs.Answering.{AnswerFailed}
 use Rattle.http_api.proofs.Handing.{passed_on}
 use Rattle.http_api.proofs.Exporting.{text_written, text_broke_off, head_broke_off, export_failed}
+use Rattle.tables.proofs.RunsOn.{kept_runs_on}
 use Rattle.http_api.proofs.exports.write_export.Goals as goal
 
 pub returns-in_err-write_head-clause-wrote : goal.returns-in_err-write_head-clause-wrote
@@ -31,3 +32,12 @@ returns-in-Ok-clause-failures g c = c.in-Ok.ensures.unfailed ∙ c.in_ok-write_h
 pub returns-in-Err-clause-failures : goal.returns-in-Err-clause-failures
 returns-in-Err-clause-failures g c =
     export_failed (g.T.Tables.is_stopped c.export.new.self ≡ true) (g.W.ByteSink.failed c.args.w.now) (g.W.ByteSink.failed c.write_head.new.w) (g.W.ByteSink.failed c.export.new.w) c.in-Err.fault c.export_fault.result c.export_fault.ensures c.in_ok-write_head.ensures.count c.in-Err.ensures.device c.in-Err.ensures.kept.disk
+
+pub returns-in_err-write_head-clause-runs_on : goal.returns-in_err-write_head-clause-runs_on
+returns-in_err-write_head-clause-runs_on g c = λ since ran. ran
+
+pub returns-in-Ok-clause-runs_on : goal.returns-in-Ok-clause-runs_on
+returns-in-Ok-clause-runs_on g c = kept_runs_on c.in-Ok.ensures.kept
+
+pub returns-in-Err-clause-runs_on : goal.returns-in-Err-clause-runs_on
+returns-in-Err-clause-runs_on g c = kept_runs_on c.in-Err.ensures.kept

@@ -20,19 +20,19 @@ returns-then-is_below-clause-kept g c = read_done c.in_ok-role.ensures.kept
 -- decided over the office
 pub returns-clause-answer : goal.returns-clause-answer
 returns-clause-answer g c = λ honest.
-    let was = c.read_office_and_decide.ensures.kept.honest honest in
+    let was = c.read_part_and_decide.ensures.kept.honest honest in
     let whole = c.in_ok-role.ensures.kept.open_still was in
-    subst (λ (m : OfficeWithBook). IfOk c.read_office_and_decide.result (λ outcome. IsSettled m.office outcome (step m.office c.args.request.now)))
-    (c.role_of.ensures.same was whole) (c.read_office_and_decide.ensures.answer honest)
+    subst (λ (m : OfficeWithBook). IfOk c.read_part_and_decide.result (λ outcome. IsSettled m.office outcome (step m.office c.args.request.now)))
+    (c.role_of.ensures.same was whole) (c.read_part_and_decide.ensures.answer honest)
 
 pub returns-clause-same : goal.returns-clause-same
 returns-clause-same g c = λ honest whole.
-    let was = c.read_office_and_decide.ensures.kept.honest honest in
-    c.read_office_and_decide.ensures.same honest whole ∙ c.role_of.ensures.same was (c.read_office_and_decide.ensures.kept.whole honest whole)
+    let was = c.read_part_and_decide.ensures.kept.honest honest in
+    c.read_part_and_decide.ensures.same honest whole ∙ c.role_of.ensures.same was (c.read_part_and_decide.ensures.kept.whole honest whole)
 
 pub returns-clause-kept : goal.returns-clause-kept
 returns-clause-kept g c =
-    read_then (alike c.read_office_and_decide.result) c.in_ok-role.ensures.kept c.read_office_and_decide.ensures.kept (λ honest m never. never)
+    read_then (alike c.read_part_and_decide.result) c.in_ok-role.ensures.kept c.read_part_and_decide.ensures.kept (λ honest m never. never)
 
 -- failures
 pub returns-in_err-role-clause-kept : goal.returns-in_err-role-clause-kept
@@ -42,3 +42,7 @@ returns-in_err-role-clause-kept g c =
 pub returns-in_err-outcome-clause-kept : goal.returns-in_err-outcome-clause-kept
 returns-in_err-outcome-clause-kept g c =
     let p = err_from_is_err_and c.from_residual-in_err-outcome.result c.from_residual-in_err-outcome.ensures.1 in rw (p.1, p.2) (read_then_memory c.in_ok-role.ensures.kept)
+
+pub returns-in_err-part-clause-kept : goal.returns-in_err-part-clause-kept
+returns-in_err-part-clause-kept g c =
+    let p = err_from_is_err_and c.from_residual-in_err-part.result c.from_residual-in_err-part.ensures.1 in rw (p.1, p.2) (read_then_memory c.in_ok-role.ensures.kept)

@@ -1,37 +1,77 @@
-use Rattle.std.proofs.Common.{sym, ◌∙◌}
+use Rattle.std.proofs.Common.{true, false, sym, ap, subst, ◌∙◌}
+use Rattle.po_text.specs.Texts.{Text}
+use Rattle.units.specs.Office.{Office}
 use Rattle.units.specs.declared.unit.Refusal.TheVariants.{BelowRole}
-use Rattle.replies.specs.Bodies.{refused}
+use Rattle.request_book.specs.declared.act.Act.{Act}
+use Rattle.replies.specs.Bodies.{Stepped, refused}
+use Rattle.office_specification.specs.OfficeActs.{team_step, policy_step, domain_step}
+use Rattle.office_specification.specs.Parts.{part_of, ShareTeam, AreAlikeIn}
+use Rattle.office_specification.specs.ProjectActs.{template_step, language_step}
+use Rattle.office_specification.specs.Step.{step, in_known_domain}
+use Rattle.office_specification.specs.declared.parts.Part.TheVariants as parts
 use Rattle.office_maps.specs.OfficeIn.{office_in}
-use Rattle.outcomes.proofs.ActsSettled.{unchanged, alike}
-use Rattle.outcomes.proofs.Settling.{refused_request, template_request, language_request, role_request, policy_request, domain_request}
+use Rattle.outcomes.specs.Settled.{IsSettled}
+use Rattle.outcomes.proofs.ActsSettled.{unchanged, alike, of_whole}
+use Rattle.outcomes.proofs.Settling.{same_right, refused_request, template_request, language_request, role_request, policy_request, domain_request}
 use Rattle.outcomes.proofs.office_act.office_outcome.Goals as goal
 
 pub returns-then-is_below_manager : goal.returns-then-is_below_manager
 returns-then-is_below_manager c =
-    unchanged c.refused.result (office_in c.args.office.now) (refused BelowRole) _
-    (refused_request (office_in c.args.office.now) c.args.request.now c.requires (sym c.is_below_manager.ensures ∙ c.if-is_below_manager.true)) c.refused.ensures
+    let office = office_in c.args.office.now in
+    let request = c.args.request.now in
+    unchanged c.refused.result (refused BelowRole) (AreAlikeIn (part_of request.act) office) (λ (whole : Office). step whole request)
+    (λ whole same. refused_request whole request c.requires (same_right office request true (sym c.is_below_manager.ensures ∙ c.if-is_below_manager.true) whole same)) c.refused.ensures
 
 pub returns-in-SetTemplate : goal.returns-in-SetTemplate
 returns-in-SetTemplate c =
-    alike c.template_in.result (office_in c.args.office.now) _ _
-    (template_request (office_in c.args.office.now) c.args.request.now c.in-SetTemplate.domain c.in-SetTemplate.po c.in-SetTemplate.is (sym c.is_below_manager.ensures ∙ c.if-is_below_manager.false)) c.template_in.ensures
+    let office = office_in c.args.office.now in
+    let request = c.args.request.now in
+    let domain = c.in-SetTemplate.domain in
+    let po = c.in-SetTemplate.po in
+    alike c.template_in.result (AreAlikeIn (parts.Domain domain) office) (AreAlikeIn (part_of request.act) office) (λ (whole : Office). in_known_domain whole domain (λ project. template_step project po))
+    (λ (whole : Office). step whole request) (λ whole same. subst (λ (act : Act). AreAlikeIn (part_of act) office whole) c.in-SetTemplate.is same)
+    (λ whole same. template_request whole request domain po c.in-SetTemplate.is (same_right office request false (sym c.is_below_manager.ensures ∙ c.if-is_below_manager.false) whole same))
+    c.template_in.ensures
 
 pub returns-in-AddLanguage : goal.returns-in-AddLanguage
 returns-in-AddLanguage c =
-    alike c.language_in.result (office_in c.args.office.now) _ _
-    (language_request (office_in c.args.office.now) c.args.request.now c.in-AddLanguage.domain c.in-AddLanguage.lang c.in-AddLanguage.po c.in-AddLanguage.is (sym c.is_below_manager.ensures ∙ c.if-is_below_manager.false)) c.language_in.ensures
+    let office = office_in c.args.office.now in
+    let request = c.args.request.now in
+    let domain = c.in-AddLanguage.domain in
+    let lang = c.in-AddLanguage.lang in
+    let po = c.in-AddLanguage.po in
+    alike c.language_in.result (AreAlikeIn (parts.Languages domain) office) (AreAlikeIn (part_of request.act) office) (λ (whole : Office). in_known_domain whole domain (λ project. language_step project lang po))
+    (λ (whole : Office). step whole request) (λ whole same. subst (λ (act : Act). AreAlikeIn (part_of act) office whole) c.in-AddLanguage.is same)
+    (λ whole same. language_request whole request domain lang po c.in-AddLanguage.is (same_right office request false (sym c.is_below_manager.ensures ∙ c.if-is_below_manager.false) whole same))
+    c.language_in.ensures
 
 pub returns-in-SetRole : goal.returns-in-SetRole
 returns-in-SetRole c =
-    alike c.role_outcome.result (office_in c.args.office.now) _ _
-    (role_request (office_in c.args.office.now) c.args.request.now c.in-SetRole.name c.in-SetRole.role c.in-SetRole.is (sym c.is_below_manager.ensures ∙ c.if-is_below_manager.false)) c.role_outcome.ensures
+    let office = office_in c.args.office.now in
+    let request = c.args.request.now in
+    let name = c.in-SetRole.name in
+    let role = c.in-SetRole.role in
+    alike c.role_outcome.result (ShareTeam office) (AreAlikeIn (part_of request.act) office) (λ (whole : Office). team_step whole name role)
+    (λ (whole : Office). step whole request) (λ whole same. subst (λ (act : Act). AreAlikeIn (part_of act) office whole) c.in-SetRole.is same)
+    (λ whole same. role_request whole request name role c.in-SetRole.is (same_right office request false (sym c.is_below_manager.ensures ∙ c.if-is_below_manager.false) whole same))
+    c.role_outcome.ensures
 
 pub returns-in-SetPolicy : goal.returns-in-SetPolicy
 returns-in-SetPolicy c =
-    alike c.policy_outcome.result (office_in c.args.office.now) _ _
-    (policy_request (office_in c.args.office.now) c.args.request.now c.in-SetPolicy.policy c.in-SetPolicy.is (sym c.is_below_manager.ensures ∙ c.if-is_below_manager.false)) c.policy_outcome.ensures
+    let office = office_in c.args.office.now in
+    let request = c.args.request.now in
+    let policy = c.in-SetPolicy.policy in
+    alike c.policy_outcome.result (AreAlikeIn parts.Whole office) (AreAlikeIn (part_of request.act) office) (λ (whole : Office). policy_step whole policy)
+    (λ (whole : Office). step whole request) (λ whole same. subst (λ (act : Act). AreAlikeIn (part_of act) office whole) c.in-SetPolicy.is same)
+    (λ whole same. policy_request whole request policy c.in-SetPolicy.is (same_right office request false (sym c.is_below_manager.ensures ∙ c.if-is_below_manager.false) whole same))
+    (of_whole c.policy_outcome.result office (λ (whole : Office). policy_step whole policy) c.policy_outcome.ensures)
 
 pub returns-in-AddDomain : goal.returns-in-AddDomain
 returns-in-AddDomain c =
-    alike c.domain_outcome.result (office_in c.args.office.now) _ _
-    (domain_request (office_in c.args.office.now) c.args.request.now c.in-AddDomain.domain c.in-AddDomain.is (sym c.is_below_manager.ensures ∙ c.if-is_below_manager.false)) c.domain_outcome.ensures
+    let office = office_in c.args.office.now in
+    let request = c.args.request.now in
+    let domain = c.in-AddDomain.domain in
+    alike c.domain_outcome.result (ShareTeam office) (AreAlikeIn (part_of request.act) office) (λ (whole : Office). domain_step whole domain)
+    (λ (whole : Office). step whole request) (λ whole same. subst (λ (act : Act). AreAlikeIn (part_of act) office whole) c.in-AddDomain.is same)
+    (λ whole same. domain_request whole request domain c.in-AddDomain.is (same_right office request false (sym c.is_below_manager.ensures ∙ c.if-is_below_manager.false) whole same))
+    c.domain_outcome.ensures

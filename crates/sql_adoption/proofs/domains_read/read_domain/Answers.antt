@@ -7,6 +7,7 @@ use Rattle.sql_schema.specs.Whole.{IsLookUp}
 use Rattle.sql_statements.specs.WholeOffice.{ShowsWholeOfficeIn}
 use Rattle.sql_adoption.specs.Reading.{AddsDomain}
 use Rattle.sql_layouts.proofs.Looked.{looked_on, looked_ready}
+use Rattle.sql_adoption.proofs.OpensBlame.{statement_opens, never_opens}
 use Rattle.sql_adoption.proofs.Read.{domains_put, domain_refused, all_refused}
 use Rattle.sql_adoption.proofs.domains_read.read_domain.Goals as goal
 
@@ -30,3 +31,9 @@ returns-clause-refused g c =
     (λ clean. domain_refused old.now (looked_ready old new {E = Error} c.in_ok-rows.rows _ c.requires.idle c.in_ok-rows.ensures.found clean) domain c.in_ok-rows.rows
     (subst (λ name. ShowsWholeOfficeIn (seen_in name (rows_named old.now)) c.in_ok-rows.rows) c.as_str.ensures.value (c.in_ok-rows.ensures.found.answer clean)))
     c.put_told-put.ensures.refused
+
+pub returns-in_err-rows-clause-disk : goal.returns-in_err-rows-clause-disk
+returns-in_err-rows-clause-disk g c = statement_opens (state g.S.Store c.args.connection.now) (state g.S.Store c.look_up_domain.new.connection) _ c.from_residual.result c.from_residual.ensures.1 c.in_err-rows.ensures.disk
+
+pub returns-clause-disk : goal.returns-clause-disk
+returns-clause-disk g c = never_opens (state g.S.Store c.args.connection.now) (state g.S.Store c.look_up_domain.new.connection) c.put_told-put.result c.put_told-put.ensures.disk

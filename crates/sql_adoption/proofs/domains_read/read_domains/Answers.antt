@@ -8,6 +8,7 @@ use Rattle.sql_adoption.specs.Reading.{HoldAll, AddsDomain, AreDomainsRead}
 use Rattle.sql_adoption.specs.declared.faults.OpenFault.{OpenFault}
 use Rattle.sql_layouts.proofs.Looked.{idle_still, looked_in_vain}
 use Rattle.sql_adoption.proofs.DomainsRead.{no_main}
+use Rattle.sql_adoption.proofs.OpensBlame.{fault_opens, memory_opens, opens_behind}
 use Rattle.sql_adoption.proofs.PutDomains.{none_held}
 use Rattle.sql_adoption.proofs.ReadInTurn.{SoFar, one_at_hand, all_at_hand, names_looked, one_looked, one_in_vain, one_refused, all_looked}
 use Rattle.sql_adoption.proofs.domains_read.read_domains.Goals as goal
@@ -82,3 +83,20 @@ pub returns-then-is_empty-clause-refused : goal.returns-then-is_empty-clause-ref
 returns-then-is_empty-clause-refused g c =
     let none : length c.in_ok-domains.domains.items ≡ 0 = search rules in
     λ clean. no_main (state g.S.Store c.args.connection.now).now c.in_ok-domains.domains.items (c.in_ok-domains.ensures.found.answer clean) none
+
+pub returns-in_err-domains-clause-disk : goal.returns-in_err-domains-clause-disk
+returns-in_err-domains-clause-disk g c = fault_opens (state g.S.Store c.args.connection.now) (state g.S.Store c.read_names.new.connection) _ c.from_residual.result c.from_residual.ensures.1 c.in_err-domains.ensures.disk
+
+pub returns-then-is_empty-clause-disk : goal.returns-then-is_empty-clause-disk
+returns-then-is_empty-clause-disk g c = λ clean same. absurd cc
+
+pub returns-in_err-maps-clause-disk : goal.returns-in_err-maps-clause-disk
+returns-in_err-maps-clause-disk g c = memory_opens (state g.S.Store c.args.connection.now) (state g.S.Store c.read_names.new.connection) c.from_residual-in_err-maps.result c.from_residual-in_err-maps.ensures.1
+
+pub returns-in_err-read_domain-clause-disk : goal.returns-in_err-read_domain-clause-disk
+returns-in_err-read_domain-clause-disk g c =
+    let old = state g.S.Store c.args.connection.now in
+    let mid = state g.S.Store c.loop-domain.connection in
+    let new = state g.S.Store c.read_domain.new.connection in
+    opens_behind old mid new _ _ c.from_residual-in_err-read_domain.result c.loop-domain.invariant.looked.survives c.in_err-read_domain.ensures.found.survives
+    (fault_opens mid new _ c.from_residual-in_err-read_domain.result c.from_residual-in_err-read_domain.ensures.1 c.in_err-read_domain.ensures.disk)

@@ -9,6 +9,7 @@ use Rattle.sql_statements.specs.DomainAnswers.{ShowsDomains}
 use Rattle.sql_adoption.specs.Reading.{AreNames}
 use Rattle.sql_layouts.proofs.Looked.{looked_on}
 use Rattle.sql_adoption.proofs.DomainsRead.{names_are_read, names_unread}
+use Rattle.sql_adoption.proofs.OpensBlame.{unread_mild, statement_opens}
 use Rattle.sql_adoption.proofs.domains_read.read_names.Goals as goal
 
 pub returns-in-Ok-clause-found : goal.returns-in-Ok-clause-found
@@ -24,4 +25,10 @@ returns-clause-refused g c =
     let rows = c.in_ok-rows.rows.items in
     let same : c.as_slice.result.now ≡ rows = search rules in
     names_unread (state g.S.Store c.args.connection.now).now rows c.in-Err.failure c.unread.result (λ clean. c.in_ok-rows.ensures.found.answer clean) c.unread.ensures
-    (λ disk. ap (list_all is_domain_row) (sym same) ∙ c.in-Err.ensures.unread disk)
+    (λ other. ap (list_all is_domain_row) (sym same) ∙ c.in-Err.ensures.unread other)
+
+pub returns-in_err-rows-clause-disk : goal.returns-in_err-rows-clause-disk
+returns-in_err-rows-clause-disk g c = statement_opens (state g.S.Store c.args.connection.now) (state g.S.Store c.look_up_domains.new.connection) _ c.from_residual.result c.from_residual.ensures.1 c.in_err-rows.ensures.disk
+
+pub returns-clause-disk : goal.returns-clause-disk
+returns-clause-disk g c = λ clean disk. absurd (unread_mild c.in-Err.failure.lost (sym c.unread.ensures ∙ disk))

@@ -3,15 +3,15 @@ use Rattle.sqlite.specs.declared.types.Value.TheVariants.{Text as Words}
 use Rattle.sqlite.specs.Order.{column}
 use Rattle.units.specs.Limits.{is_lang}
 use Rattle.sql_decoding.specs.RowTests.{holds_text, is_language, is_language_row}
-use Rattle.sql_decoding.proofs.RowsTold.{first_fails}
-use Rattle.sql_decoding.proofs.ColumnsTested.{error_tells, fault_tells, unless, not_given, text_unread, text_falls}
+use Rattle.sql_decoding.proofs.RowsTold.{first_fails, handed_on}
+use Rattle.sql_decoding.proofs.ColumnsTested.{fault_tells, unless, not_given, text_falls}
 use Rattle.sql_adoption.proofs.langs_read.lang_of.Goals as goal
 
 pub returns-in_err-column-clause-unread : goal.returns-in_err-column-clause-unread
 returns-in_err-column-clause-unread c =
     let row = c.args.row.now in
-    error_tells c.from_residual.result (is_language_row row) c.in_err-column.field-0.0 c.from_residual.ensures
-    (λ others. first_fails (holds_text is_lang 2 row) (is_language row) (text_unread row 2 c.in_err-column.field-0.0 others c.in_err-column.ensures.kind is_lang))
+    handed_on c.from_residual.result c.in_err-column.field-0.0 (is_language_row row) (holds_text is_lang 2 row) c.from_residual.ensures
+    (first_fails (holds_text is_lang 2 row) (is_language row)) (c.in_err-column.ensures.unread is_lang)
 
 pub returns-in_err-lang_from-clause-unread : goal.returns-in_err-lang_from-clause-unread
 returns-in_err-lang_from-clause-unread c =

@@ -22,4 +22,4 @@ pub returns-else-branch-clause-unread : goal.returns-else-branch-clause-unread
 returns-else-branch-clause-unread c =
     let content = ap (λ (r : Record). r.content) c.in_ok-record.ensures.value in
     let same : c.as_str.result.now ≡ c.in_ok-record.record.content = search rules in
-    λ disk is. false≢true (sym c.if-branch.false ∙ c.in_ok-is_content.ensures.1 (subst IsContent (sym (same ∙ content)) is.content))
+    λ other is. false≢true (sym c.if-branch.false ∙ c.in_ok-is_content.ensures.1 (subst IsContent (sym (same ∙ content)) is.content))

@@ -5,7 +5,8 @@ use Rattle.request_book.specs.Acts.{IsNumber}
 use Rattle.sql_columns.proofs.Readers.{number_found}
 use Rattle.sql_schema.specs.Keys.{text_at}
 use Rattle.sql_decoding.specs.RowTests.{holds_text, is_number}
-use Rattle.sql_decoding.proofs.ColumnsTested.{error_tells, fault_tells, text_unread, text_stands, text_falls, number_stands, number_falls}
+use Rattle.sql_decoding.proofs.RowsTold.{handed_on}
+use Rattle.sql_decoding.proofs.ColumnsTested.{fault_tells, text_stands, text_falls, number_stands, number_falls}
 use Rattle.sql_adoption.proofs.statuses.number_of.Goals as goal
 
 pub returns-clause-shown : goal.returns-clause-shown
@@ -17,7 +18,7 @@ returns-clause-shown c =
 pub returns-in_err-column-clause-unread : goal.returns-in_err-column-clause-unread
 returns-in_err-column-clause-unread c =
     let row = c.args.row.now in
-    error_tells c.from_residual.result (holds_text is_number 3 row) c.in_err-column.field-0.0 c.from_residual.ensures (λ others. text_unread row 3 c.in_err-column.field-0.0 others c.in_err-column.ensures.kind is_number)
+    handed_on c.from_residual.result c.in_err-column.field-0.0 (holds_text is_number 3 row) (holds_text is_number 3 row) c.from_residual.ensures (λ fails. fails) (c.in_err-column.ensures.unread is_number)
 
 pub returns-in_err-number-clause-unread : goal.returns-in_err-number-clause-unread
 returns-in_err-number-clause-unread c =

@@ -12,6 +12,7 @@ use Rattle.sql_commits.specs.Figures.{FollowsOneChange}
 use Rattle.sql_figures.specs.Figures.{FiguresStay}
 use Rattle.sql_figures.proofs.FigureSteps.{stay_beside, record_beside}
 use Rattle.sql_commits.proofs.FiguresInTurn.{change_behind}
+use Rattle.sql_decoding.proofs.DiskFailures.{fails_behind, failure_told}
 use Rattle.sql_commits.proofs.acts.put_record_and_change.Goals as goal
 
 pub returns-in-Some-clause-put : goal.returns-in-Some-clause-put
@@ -42,3 +43,12 @@ returns-in-None-clause-figures g c =
     let old = state g.S.Store c.args.tx.now.conn.now in
     let new = state g.S.Store c.put_record_of.new.tx.conn.now in
     rw c.in-None.is (write_as old new (Ok c.in_ok-put_record_of.field-0) (OnRows (SparesOthers (codes "record"))) FiguresStay (stay_beside (codes "record") record_beside) c.in_ok-put_record_of.ensures.others)
+
+pub returns-in_err-put_record_of-clause-disk : goal.returns-in_err-put_record_of-clause-disk
+returns-in_err-put_record_of-clause-disk g c =
+    failure_told (state g.S.Store c.args.tx.now.conn.now) (state g.S.Store c.put_record_of.new.tx.conn.now) _ c.from_residual.result c.from_residual.ensures.1 c.in_err-put_record_of.ensures.disk
+
+pub returns-in-Some-clause-disk : goal.returns-in-Some-clause-disk
+returns-in-Some-clause-disk g c =
+    fails_behind (state g.S.Store c.args.tx.now.conn.now) (state g.S.Store c.put_record_of.new.tx.conn.now) (state g.S.Store c.write_change.new.tx.conn.now) (λ _. ⊥) (λ _. ⊥) c.write_change.result c.in_ok-put_record_of.ensures.put.survives c.write_change.ensures.put.survives
+    (c.write_change.ensures.disk)

@@ -10,6 +10,7 @@ use Rattle.sql_commits.proofs.WritesInTurn.{write_mapped}
 use Rattle.sql_commits.specs.Figures.{FollowsPolicy}
 use Rattle.sql_figures.specs.Figures.{FiguresStay}
 use Rattle.sql_figures.proofs.FigureSteps.{put_beside, domain_beside}
+use Rattle.sql_decoding.proofs.DiskFailures.{mapped_told}
 use Rattle.sql_commits.proofs.acts.write_change.Goals as goal
 
 pub returns-in-OneRole-clause-put : goal.returns-in-OneRole-clause-put
@@ -56,3 +57,15 @@ returns-in-NewDomain-clause-figures g c =
 
 pub returns-in-InDomain-clause-figures : goal.returns-in-InDomain-clause-figures
 returns-in-InDomain-clause-figures g c = rw c.in-InDomain.is c.write_change_in.ensures.figures
+
+pub returns-in-OneRole-clause-disk : goal.returns-in-OneRole-clause-disk
+returns-in-OneRole-clause-disk g c =
+    mapped_told (state g.S.Store c.args.tx.now.conn.now) (state g.S.Store c.write_role.new.tx.conn.now) c.write_role.result c.map_err.result _ (λ e f t. t) c.map_err.ensures.cases c.write_role.ensures.disk
+
+pub returns-in-NewPolicy-clause-disk : goal.returns-in-NewPolicy-clause-disk
+returns-in-NewPolicy-clause-disk g c =
+    mapped_told (state g.S.Store c.args.tx.now.conn.now) (state g.S.Store c.write_policy.new.tx.conn.now) c.write_policy.result c.map_err-in-NewPolicy.result _ (λ e f t. t) c.map_err-in-NewPolicy.ensures.cases c.write_policy.ensures.disk
+
+pub returns-in-NewDomain-clause-disk : goal.returns-in-NewDomain-clause-disk
+returns-in-NewDomain-clause-disk g c =
+    mapped_told (state g.S.Store c.args.tx.now.conn.now) (state g.S.Store c.put_domain.new.tx.conn.now) c.put_domain.result c.map_err-in-NewDomain.result _ (λ e f t. t) c.map_err-in-NewDomain.ensures.cases c.put_domain.ensures.disk

@@ -9,6 +9,7 @@ use Rattle.sql_decoding.specs.declared.faults.Failure.{Failure}
 use Rattle.sql_statements.specs.DomainAnswers.{ShowsDomain}
 use Rattle.sql_commits.proofs.FiguresInTurn.{write_answered}
 use Rattle.sql_commits.proofs.DomainFound.{writes_there, writes_nowhere, follows_there, follows_nowhere}
+use Rattle.sql_decoding.proofs.DiskFailures.{error_told, fails_behind}
 use Rattle.sql_commits.proofs.acts.write_change_in.Goals as goal
 
 -- where the domain is there
@@ -66,3 +67,12 @@ returns-in-None-clause-figures g c =
     let Seen = λ (before after : Database). (after ≡ before) × ShowsDomain given before found in
     write_told old mid found _ Seen (FollowsIn domain Change) (λ seen. follows_nowhere given domain (search rules) found old.now mid.now seen Change (search rules))
     (write_answered old mid {F = Failure} found found (ShowsDomain given) c.in_ok-found.ensures.found)
+
+pub returns-in_err-found-clause-disk : goal.returns-in_err-found-clause-disk
+returns-in_err-found-clause-disk g c =
+    error_told (state g.S.Store c.args.tx.now.conn.now) (state g.S.Store c.find_domain.new.tx.conn.now) _ c.from_residual.result c.from_residual.ensures.1 c.in_err-found.ensures.disk
+
+pub returns-in-Some-clause-disk : goal.returns-in-Some-clause-disk
+returns-in-Some-clause-disk g c =
+    fails_behind (state g.S.Store c.args.tx.now.conn.now) (state g.S.Store c.find_domain.new.tx.conn.now) (state g.S.Store c.write_domain_change.new.tx.conn.now) (λ _. ⊥) (λ _. ⊥) c.write_domain_change.result c.in_ok-found.ensures.found.survives c.write_domain_change.ensures.put.survives
+    (c.write_domain_change.ensures.disk)

@@ -17,6 +17,8 @@ use Rattle.sql_commits.proofs.PlannedWrites.{leaves_rows}
 use Rattle.sql_commits.proofs.WritesInTurn.{write_then, write_read, write_ready}
 use Rattle.sql_figures.specs.Figures.{FiguresStay}
 use Rattle.sql_figures.proofs.FigureSteps.{stay_both}
+use Rattle.sql_laws.proofs.Transactions.{survives_both}
+use Rattle.sql_decoding.proofs.DiskFailures.{error_told, fails_behind, failure_told, memory_told}
 use Rattle.sql_commits.proofs.changed_entries.change_entries.Goals as goal
 
 pub returns-clause-put : goal.returns-clause-put
@@ -55,3 +57,21 @@ returns-clause-figures g c =
     let taken = write_then old mid gone {E = Failure} {F = Failure} rows (Ok c.in_ok-take_others.field-0) (λ (before after : Database). after ≡ before) FiguresStay FiguresStay
     (λ same stays. subst (λ (db : Database). FiguresStay db gone.now) same stays) (write_read old mid {F = Failure} rows rows _ c.in_ok-rows.ensures.found) c.in_ok-take_others.ensures.figures in
     write_then old gone new {F = Failure} c.in_ok-take_others.field-0 c.put_others.result FiguresStay FiguresStay FiguresStay stay_both taken c.put_others.ensures.figures
+
+pub returns-in_err-rows-clause-disk : goal.returns-in_err-rows-clause-disk
+returns-in_err-rows-clause-disk g c =
+    error_told (state g.S.Store c.args.tx.now.conn.now) (state g.S.Store c.all_domain_entries.new.tx.conn.now) _ c.from_residual.result c.from_residual.ensures.1 c.in_err-rows.ensures.disk
+
+pub returns-in_err-stays-clause-disk : goal.returns-in_err-stays-clause-disk
+returns-in_err-stays-clause-disk g c =
+    memory_told (state g.S.Store c.args.tx.now.conn.now) (state g.S.Store c.all_domain_entries.new.tx.conn.now) c.from_residual-in_err-stays.result c.from_residual-in_err-stays.ensures.1
+
+pub returns-in_err-take_others-clause-disk : goal.returns-in_err-take_others-clause-disk
+returns-in_err-take_others-clause-disk g c =
+    fails_behind (state g.S.Store c.args.tx.now.conn.now) (state g.S.Store c.all_domain_entries.new.tx.conn.now) (state g.S.Store c.take_others.new.tx.conn.now) (λ _. ⊥) (λ _. ⊥) c.from_residual-in_err-take_others.result c.in_ok-rows.ensures.found.survives c.in_err-take_others.ensures.taken.survives
+    (failure_told (state g.S.Store c.all_domain_entries.new.tx.conn.now) (state g.S.Store c.take_others.new.tx.conn.now) _ c.from_residual-in_err-take_others.result c.from_residual-in_err-take_others.ensures.1 c.in_err-take_others.ensures.disk)
+
+pub returns-clause-disk : goal.returns-clause-disk
+returns-clause-disk g c =
+    fails_behind (state g.S.Store c.args.tx.now.conn.now) (state g.S.Store c.take_others.new.tx.conn.now) (state g.S.Store c.put_others.new.tx.conn.now) (λ _. ⊥) (λ _. ⊥) c.put_others.result (survives_both g.S.Store c.args.tx.now.conn.now c.all_domain_entries.new.tx.conn.now c.take_others.new.tx.conn.now c.in_ok-rows.ensures.found.survives c.in_ok-take_others.ensures.taken.survives) c.put_others.ensures.put.survives
+    (c.put_others.ensures.disk)

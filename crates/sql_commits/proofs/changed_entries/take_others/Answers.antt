@@ -5,6 +5,7 @@ use Rattle.sql_decoding.specs.declared.faults.Failure.{Failure}
 use Rattle.sql_commits.specs.Entries.{TakesUnless, TakesOthers}
 use Rattle.sql_commits.proofs.EntriesShown.{none_taken, taken_next}
 use Rattle.sql_commits.proofs.WritesInTurn.{write_then, write_told}
+use Rattle.sql_decoding.proofs.DiskFailures.{fails_behind, failure_told}
 use Rattle.sql_commits.proofs.changed_entries.take_others.Goals as goal
 use Rattle.sql_changes.specs.OnDomains.{OnDomain}
 use Rattle.sql_changes.proofs.DomainWrites.{seen, on_domain_then, nothing_on_domain}
@@ -39,3 +40,8 @@ loop-row-init g c =
     let stays = c.args.stays.now in
     let None = TakesOthers stays [] in
     (refl, nothing_put old {E = Error} 0 (OnDomain domain None) c.requires.steady c.requires.open (nothing_on_domain domain None old.now (none_taken stays (seen domain old.now))), nothing_put old {E = Error} 0 FiguresStay c.requires.steady c.requires.open (nothing_follows old.now))
+
+pub returns-in_err-take_unless-clause-disk : goal.returns-in_err-take_unless-clause-disk
+returns-in_err-take_unless-clause-disk g c =
+    fails_behind (state g.S.Store c.args.tx.now.conn.now) (state g.S.Store c.loop-row.tx.conn.now) (state g.S.Store c.take_unless.new.tx.conn.now) (λ _. ⊥) (λ _. ⊥) c.from_residual.result c.loop-row.invariant.1.survives c.in_err-take_unless.ensures.taken.survives
+    (failure_told (state g.S.Store c.loop-row.tx.conn.now) (state g.S.Store c.take_unless.new.tx.conn.now) _ c.from_residual.result c.from_residual.ensures.1 c.in_err-take_unless.ensures.disk)

@@ -6,6 +6,7 @@ use Rattle.sql_changes.specs.Commits.{PutsEntry, PutsEntries}
 use Rattle.sql_changes.proofs.DomainWrites.{seen, on_domain_then, nothing_on_domain}
 use Rattle.sql_commits.proofs.PlannedWrites.{entries_next}
 use Rattle.sql_commits.proofs.WritesInTurn.{nothing_put, write_then, write_told}
+use Rattle.sql_decoding.proofs.DiskFailures.{fails_behind, failure_told}
 use Rattle.sql_commits.proofs.entries.put_entries.Goals as goal
 use Rattle.sql_changes.specs.OnDomains.{OnDomain}
 use Rattle.sql_figures.specs.Figures.{FiguresStay}
@@ -36,3 +37,8 @@ loop-place-init g c =
     let domain = c.args.domain.now in
     let None = PutsEntries 0 [] in
     (refl, refl, nothing_put old {E = Error} 0 (OnDomain domain None) c.requires.steady c.requires.open (nothing_on_domain domain None old.now refl), nothing_put old {E = Error} 0 FiguresStay c.requires.steady c.requires.open (nothing_follows old.now))
+
+pub returns-in_err-put_entry-clause-disk : goal.returns-in_err-put_entry-clause-disk
+returns-in_err-put_entry-clause-disk g c =
+    fails_behind (state g.S.Store c.args.tx.now.conn.now) (state g.S.Store c.loop-place.tx.conn.now) (state g.S.Store c.put_entry.new.tx.conn.now) (λ _. ⊥) (λ _. ⊥) c.from_residual.result c.loop-place.invariant.2.survives c.in_err-put_entry.ensures.put.survives
+    (failure_told (state g.S.Store c.loop-place.tx.conn.now) (state g.S.Store c.put_entry.new.tx.conn.now) _ c.from_residual.result c.from_residual.ensures.1 c.in_err-put_entry.ensures.disk)

@@ -12,6 +12,7 @@ use Rattle.sql_commits.proofs.PlannedWrites.{leaves_with, entry_told, entry_row_
 use Rattle.sql_commits.proofs.WritesInTurn.{write_mapped, write_ready}
 use Rattle.sql_figures.specs.Figures.{FiguresStay}
 use Rattle.sql_figures.proofs.FigureSteps.{put_beside, entry_beside}
+use Rattle.sql_decoding.proofs.DiskFailures.{mapped_told, memory_told}
 use Rattle.sql_commits.proofs.entries.put_entry.Goals as goal
 
 pub returns-clause-put : goal.returns-clause-put
@@ -44,3 +45,11 @@ returns-clause-row g c =
     (entry_row_told domain c.as_str.result.now place _ c.as_str-2.result.now c.as_str-3.result.now c.as_str-4.result.now c.as_str-5.result.now _ entry old.now new.now (search rules)
     (to_z_pos w64 place (omega (arith, c.requires.fits))) (search rules) (search rules) (search rules) (search rules) (search rules))
     c.put_domain_entry.ensures.put
+
+pub returns-in_err-columns-clause-disk : goal.returns-in_err-columns-clause-disk
+returns-in_err-columns-clause-disk g c =
+    memory_told (state g.S.Store c.args.tx.now.conn.now) (state g.S.Store c.args.tx.now.conn.now) c.from_residual.result c.from_residual.ensures.1
+
+pub returns-clause-disk : goal.returns-clause-disk
+returns-clause-disk g c =
+    mapped_told (state g.S.Store c.args.tx.now.conn.now) (state g.S.Store c.put_domain_entry.new.tx.conn.now) c.put_domain_entry.result c.map_err.result _ (λ e f t. t) c.map_err.ensures.cases c.put_domain_entry.ensures.disk

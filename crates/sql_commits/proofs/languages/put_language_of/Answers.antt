@@ -11,6 +11,7 @@ use Rattle.sql_commits.proofs.PlannedWrites.{leaves_with_both, language_told, la
 use Rattle.sql_commits.proofs.WritesInTurn.{write_mapped, write_ready}
 use Rattle.sql_figures.specs.Figures.{FiguresStay}
 use Rattle.sql_figures.proofs.FigureSteps.{put_beside, language_beside}
+use Rattle.sql_decoding.proofs.DiskFailures.{mapped_told, memory_told}
 use Rattle.sql_commits.proofs.languages.put_language_of.Goals as goal
 
 pub returns-clause-put : goal.returns-clause-put
@@ -41,3 +42,11 @@ returns-clause-row g c =
     write_mapped old new c.put_domain_language.result c.map_err.result _ _ (PutsLanguageOf domain lang header) c.map_err.ensures.cases
     (language_row_told domain c.as_str.result.now lang c.as_str-2.result.now c.as_str-3.result.now c.rule_text.result.now header old.now new.now (search rules) (search rules) (search rules) (search rules))
     c.put_domain_language.ensures.put
+
+pub returns-in_err-column-clause-disk : goal.returns-in_err-column-clause-disk
+returns-in_err-column-clause-disk g c =
+    memory_told (state g.S.Store c.args.tx.now.conn.now) (state g.S.Store c.args.tx.now.conn.now) c.from_residual.result c.from_residual.ensures.1
+
+pub returns-clause-disk : goal.returns-clause-disk
+returns-clause-disk g c =
+    mapped_told (state g.S.Store c.args.tx.now.conn.now) (state g.S.Store c.put_domain_language.new.tx.conn.now) c.put_domain_language.result c.map_err.result _ (λ e f t. t) c.map_err.ensures.cases c.put_domain_language.ensures.disk

@@ -10,6 +10,8 @@ use Rattle.sql_commits.specs.Figures.{PutsTally}
 use Rattle.sql_commits.proofs.WritesInTurn.{write_then, unseen_last}
 use Rattle.sql_figures.specs.Figures.{with_tally, FiguresFollow, FiguresStay}
 use Rattle.sql_figures.proofs.FigureSteps.{stay_both, stay_first, follow_tally}
+use Rattle.sql_laws.proofs.Transactions.{survives_both}
+use Rattle.sql_decoding.proofs.DiskFailures.{fails_behind, failure_told}
 use Rattle.sql_commits.proofs.languages.write_language.Goals as goal
 
 -- its row, its units and their tally
@@ -43,3 +45,17 @@ returns-clause-figures g c =
     c.in_ok-put_language_of.ensures.figures c.in_ok-write_units.ensures.figures in
     write_then old next new c.in_ok-write_units.field-0 c.put_tally_of.result FiguresStay (PutsTally domain lang tally) (FiguresFollow (with_tally domain lang tally))
     (λ stays put. stay_first (λ counts. ⊤) (with_tally domain lang tally) stays (follow_tally domain lang tally put)) written c.put_tally_of.ensures.put
+
+pub returns-in_err-put_language_of-clause-disk : goal.returns-in_err-put_language_of-clause-disk
+returns-in_err-put_language_of-clause-disk g c =
+    failure_told (state g.S.Store c.args.tx.now.conn.now) (state g.S.Store c.put_language_of.new.tx.conn.now) _ c.from_residual.result c.from_residual.ensures.1 c.in_err-put_language_of.ensures.disk
+
+pub returns-in_err-write_units-clause-disk : goal.returns-in_err-write_units-clause-disk
+returns-in_err-write_units-clause-disk g c =
+    fails_behind (state g.S.Store c.args.tx.now.conn.now) (state g.S.Store c.put_language_of.new.tx.conn.now) (state g.S.Store c.write_units.new.tx.conn.now) (λ _. ⊥) (λ _. ⊥) c.from_residual-in_err-write_units.result c.in_ok-put_language_of.ensures.put.survives c.in_err-write_units.ensures.put.survives
+    (failure_told (state g.S.Store c.put_language_of.new.tx.conn.now) (state g.S.Store c.write_units.new.tx.conn.now) _ c.from_residual-in_err-write_units.result c.from_residual-in_err-write_units.ensures.1 c.in_err-write_units.ensures.disk)
+
+pub returns-clause-disk : goal.returns-clause-disk
+returns-clause-disk g c =
+    fails_behind (state g.S.Store c.args.tx.now.conn.now) (state g.S.Store c.write_units.new.tx.conn.now) (state g.S.Store c.put_tally_of.new.tx.conn.now) (λ _. ⊥) (λ _. ⊥) c.put_tally_of.result (survives_both g.S.Store c.args.tx.now.conn.now c.put_language_of.new.tx.conn.now c.write_units.new.tx.conn.now c.in_ok-put_language_of.ensures.put.survives c.in_ok-write_units.ensures.put.survives) c.put_tally_of.ensures.put.survives
+    (c.put_tally_of.ensures.disk)

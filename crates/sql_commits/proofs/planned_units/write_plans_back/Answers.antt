@@ -6,6 +6,7 @@ use Rattle.template_update.specs.Marks.{unmarked}
 use Rattle.sql_changes.specs.UnitWrites.{WritesUnitsBack}
 use Rattle.sql_commits.proofs.PlannedWrites.{PlansBehind, plans_behind}
 use Rattle.sql_commits.proofs.WritesInTurn.{write_then, write_told}
+use Rattle.sql_decoding.proofs.DiskFailures.{fails_behind, failure_told}
 use Rattle.sql_commits.proofs.planned_units.write_plans_back.Goals as goal
 use Rattle.sql_changes.specs.OnDomains.{OnDomain}
 use Rattle.sql_changes.proofs.DomainWrites.{seen, on_domain_then, nothing_on_domain}
@@ -41,3 +42,8 @@ loop-last-init g c =
     let domain = c.args.domain.now in
     let None = PlansBehind c.args.plans.now c.args.plans.now in
     (refl, nothing_put old {E = Error} 0 (OnDomain domain None) c.requires.steady c.requires.open (nothing_on_domain domain None old.now ([], sym (append-nil c.args.plans.now), refl)), nothing_put old {E = Error} 0 FiguresStay c.requires.steady c.requires.open (nothing_follows old.now))
+
+pub returns-in_err-write_units_back-clause-disk : goal.returns-in_err-write_units_back-clause-disk
+returns-in_err-write_units_back-clause-disk g c =
+    fails_behind (state g.S.Store c.args.tx.now.conn.now) (state g.S.Store c.loop-last.tx.conn.now) (state g.S.Store c.write_units_back.new.tx.conn.now) (λ _. ⊥) (λ _. ⊥) c.from_residual.result c.loop-last.invariant.1.survives c.in_err-write_units_back.ensures.put.survives
+    (failure_told (state g.S.Store c.loop-last.tx.conn.now) (state g.S.Store c.write_units_back.new.tx.conn.now) _ c.from_residual.result c.from_residual.ensures.1 c.in_err-write_units_back.ensures.disk)

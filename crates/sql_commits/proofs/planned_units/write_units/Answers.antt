@@ -5,6 +5,7 @@ use Rattle.sql_decoding.specs.declared.faults.Failure.{Failure}
 use Rattle.sql_changes.specs.UnitWrites.{WritesPlanned, WritesUnits}
 use Rattle.sql_commits.proofs.PlannedWrites.{units_next}
 use Rattle.sql_commits.proofs.WritesInTurn.{write_then, write_told}
+use Rattle.sql_decoding.proofs.DiskFailures.{fails_behind, failure_told}
 use Rattle.sql_commits.proofs.planned_units.write_units.Goals as goal
 use Rattle.sql_changes.specs.OnDomains.{OnDomain}
 use Rattle.sql_changes.proofs.DomainWrites.{seen, on_domain_then, nothing_on_domain}
@@ -37,3 +38,8 @@ loop-unit-init g c =
     let domain = c.args.domain.now in
     let None = WritesUnits c.args.lang.now [] in
     (refl, nothing_put old {E = Error} 0 (OnDomain domain None) c.requires.steady c.requires.open (nothing_on_domain domain None old.now refl), nothing_put old {E = Error} 0 FiguresStay c.requires.steady c.requires.open (nothing_follows old.now))
+
+pub returns-in_err-write_planned-clause-disk : goal.returns-in_err-write_planned-clause-disk
+returns-in_err-write_planned-clause-disk g c =
+    fails_behind (state g.S.Store c.args.tx.now.conn.now) (state g.S.Store c.loop-unit.tx.conn.now) (state g.S.Store c.write_planned.new.tx.conn.now) (λ _. ⊥) (λ _. ⊥) c.from_residual.result c.loop-unit.invariant.1.survives c.in_err-write_planned.ensures.put.survives
+    (failure_told (state g.S.Store c.loop-unit.tx.conn.now) (state g.S.Store c.write_planned.new.tx.conn.now) _ c.from_residual.result c.from_residual.ensures.1 c.in_err-write_planned.ensures.disk)

@@ -5,6 +5,7 @@ use Rattle.sql_decoding.specs.declared.faults.Failure.{Failure}
 use Rattle.sql_commits.specs.Changes.{WritesUnlessStays}
 use Rattle.sql_commits.proofs.PlannedWrites.{UnitsBehind, units_behind}
 use Rattle.sql_commits.proofs.WritesInTurn.{write_then, write_told}
+use Rattle.sql_decoding.proofs.DiskFailures.{fails_behind, failure_told}
 use Rattle.sql_commits.proofs.planned_units.write_units_back.Goals as goal
 use Rattle.sql_changes.specs.OnDomains.{OnDomain}
 use Rattle.sql_changes.proofs.DomainWrites.{seen, on_domain_then, nothing_on_domain}
@@ -42,3 +43,8 @@ loop-last-init g c =
     let domain = c.args.domain.now in
     let None = UnitsBehind c.args.lang.now c.args.stays.now c.args.units.now c.args.units.now in
     (refl, nothing_put old {E = Error} 0 (OnDomain domain None) c.requires.steady c.requires.open (nothing_on_domain domain None old.now ([], sym (append-nil c.args.units.now), refl)), nothing_put old {E = Error} 0 FiguresStay c.requires.steady c.requires.open (nothing_follows old.now))
+
+pub returns-in_err-write_changed-clause-disk : goal.returns-in_err-write_changed-clause-disk
+returns-in_err-write_changed-clause-disk g c =
+    fails_behind (state g.S.Store c.args.tx.now.conn.now) (state g.S.Store c.loop-last.tx.conn.now) (state g.S.Store c.write_changed.new.tx.conn.now) (λ _. ⊥) (λ _. ⊥) c.from_residual.result c.loop-last.invariant.1.survives c.in_err-write_changed.ensures.put.survives
+    (failure_told (state g.S.Store c.loop-last.tx.conn.now) (state g.S.Store c.write_changed.new.tx.conn.now) _ c.from_residual.result c.from_residual.ensures.1 c.in_err-write_changed.ensures.disk)

@@ -14,6 +14,8 @@ use Rattle.po_text.specs.Texts.{Text}
 use Rattle.sql_schema.specs.Inside.{OnRows}
 use Rattle.sql_commits.proofs.FiguresInTurn.{policy_stays, policy_turns}
 use Rattle.sql_commits.specs.Figures.{FollowsPolicy}
+use Rattle.sql_laws.proofs.DiskErrors.{blames_behind, told_on}
+use Rattle.sql_laws.proofs.Transactions.{survives_both}
 use Rattle.sql_commits.proofs.policies.write_policy.Goals as goal
 
 pub returns-then-policy-clause-put : goal.returns-then-policy-clause-put
@@ -61,3 +63,17 @@ returns-in_ok-unapprove_domain_units-clause-figures g c =
     c.in_ok-put_policy_of.ensures.others c.in_ok-unapprove_domain_units.ensures.unapproved in
     write_then old next new c.in_ok-unapprove_domain_units.field-0 c.unapprove_tallies.result Both UnapprovesTallies (FollowsPolicy policy)
     (λ both tallied. policy_turns policy old.now mid.now next.now new.now c.if-policy.false both.0 both.1 tallied) units c.unapprove_tallies.ensures.unapproved
+
+pub returns-in_err-put_policy_of-clause-disk : goal.returns-in_err-put_policy_of-clause-disk
+returns-in_err-put_policy_of-clause-disk g c =
+    told_on (state g.S.Store c.args.tx.now.conn.now) (state g.S.Store c.put_policy_of.new.tx.conn.now) (state g.S.Store c.put_policy_of.new.tx.conn.now) _ c.from_residual.result c.from_residual.ensures.1 c.in_err-put_policy_of.ensures.disk
+
+pub returns-in_err-unapprove_domain_units-clause-disk : goal.returns-in_err-unapprove_domain_units-clause-disk
+returns-in_err-unapprove_domain_units-clause-disk g c =
+    blames_behind (state g.S.Store c.args.tx.now.conn.now) (state g.S.Store c.put_policy_of.new.tx.conn.now) (state g.S.Store c.unapprove_domain_units.new.tx.conn.now) (λ _. ⊥) (λ _. ⊥) c.from_residual-in_err-unapprove_domain_units.result c.in_ok-put_policy_of.ensures.put.survives c.in_err-unapprove_domain_units.ensures.unapproved.survives
+    (told_on (state g.S.Store c.put_policy_of.new.tx.conn.now) (state g.S.Store c.unapprove_domain_units.new.tx.conn.now) (state g.S.Store c.unapprove_domain_units.new.tx.conn.now) _ c.from_residual-in_err-unapprove_domain_units.result c.from_residual-in_err-unapprove_domain_units.ensures.1 c.in_err-unapprove_domain_units.ensures.disk)
+
+pub returns-in_ok-unapprove_domain_units-clause-disk : goal.returns-in_ok-unapprove_domain_units-clause-disk
+returns-in_ok-unapprove_domain_units-clause-disk g c =
+    blames_behind (state g.S.Store c.args.tx.now.conn.now) (state g.S.Store c.unapprove_domain_units.new.tx.conn.now) (state g.S.Store c.unapprove_tallies.new.tx.conn.now) (λ _. ⊥) (λ _. ⊥) c.unapprove_tallies.result (survives_both g.S.Store c.args.tx.now.conn.now c.put_policy_of.new.tx.conn.now c.unapprove_domain_units.new.tx.conn.now c.in_ok-put_policy_of.ensures.put.survives c.in_ok-unapprove_domain_units.ensures.unapproved.survives) c.unapprove_tallies.ensures.unapproved.survives
+    (c.unapprove_tallies.ensures.disk)

@@ -7,6 +7,7 @@ use Rattle.sql_commits.proofs.PlannedWrites.{record_told}
 use Rattle.sql_commits.proofs.WritesInTurn.{write_mapped}
 use Rattle.sql_commits.proofs.FiguresInTurn.{put_others}
 use Rattle.sql_schema.specs.Inside.{OnRows}
+use Rattle.sql_decoding.proofs.DiskFailures.{mapped_told, memory_told}
 use Rattle.sql_commits.proofs.records.put_record_of.Goals as goal
 
 pub returns-clause-put : goal.returns-clause-put
@@ -23,3 +24,11 @@ pub returns-clause-others : goal.returns-clause-others
 returns-clause-others g c =
     write_mapped (state g.S.Store c.args.tx.now.conn.now) (state g.S.Store c.put_record.new.tx.conn.now) c.put_record.result c.map_err.result _ _ (OnRows (SparesOthers (codes "record"))) c.map_err.ensures.cases put_others
     (c.put_record.ensures.put by_domain c.requires.steady)
+
+pub returns-in_err-number-clause-disk : goal.returns-in_err-number-clause-disk
+returns-in_err-number-clause-disk g c =
+    memory_told (state g.S.Store c.args.tx.now.conn.now) (state g.S.Store c.args.tx.now.conn.now) c.from_residual.result c.from_residual.ensures.1
+
+pub returns-clause-disk : goal.returns-clause-disk
+returns-clause-disk g c =
+    mapped_told (state g.S.Store c.args.tx.now.conn.now) (state g.S.Store c.put_record.new.tx.conn.now) c.put_record.result c.map_err.result _ (λ e f t. t) c.map_err.ensures.cases c.put_record.ensures.disk

@@ -14,6 +14,7 @@ use Rattle.sql_commits.specs.Figures.{FollowsOneMore}
 use Rattle.sql_figures.specs.Figures.{moved_at, FiguresFollow}
 use Rattle.sql_commits.proofs.FiguresInTurn.{write_answered}
 use Rattle.sql_commits.proofs.TalliesMoved.{suggested, unit_looked_up, one_more_moved, no_more_moved}
+use Rattle.sql_decoding.proofs.DiskFailures.{error_told, fails_behind, memory_told, mild_told, needed_is}
 use Rattle.sql_commits.proofs.tallies.count_suggestion.Goals as goal
 
 pub returns-in-Some-clause-spares : goal.returns-in-Some-clause-spares
@@ -44,7 +45,7 @@ returns-in-Some-clause-figures g c =
     (λ shown moved.
     one_more_moved domain lang key old.now mid.now found (suggested old.now shown.0 domain lang key strings)
     (shown.1.0, unit_looked_up old.now shown.0 domain lang key strings c.as_str.result.now c.as_str-2.result.now c.as_str-3.result.now found (search rules) (search rules) (search rules) shown.1.1)
-    c.in-Some.row c.in_ok-numbers-in-Some.numbers.obsolete one new.now (search rules) (ap (λ (n : UnitNumbers). n.obsolete) c.in_ok-numbers-in-Some.ensures.shown) c.one_suggestion.ensures
+    c.in-Some.row c.in_ok-numbers-in-Some.numbers.obsolete one new.now (search rules) (ap (λ (n : UnitNumbers). n.obsolete) (needed_is _ c.unit_numbers.result c.in_ok-numbers-in-Some.numbers c.in_ok-numbers-in-Some.ensures.value c.unit_numbers.ensures.shown)) c.one_suggestion.ensures
     (subst (λ (t : Tally). FiguresFollow (moved_at domain lang t one) mid.now new.now) c.none.ensures moved)) read c.put_difference.ensures.figures
 
 -- where there is no unit, nothing is written
@@ -72,3 +73,20 @@ returns-clause-figures g c =
     write_told old mid found _ Ready (FollowsOneMore domain lang key)
     (λ shown. no_more_moved domain lang key old.now mid.now found (suggested old.now shown.0 domain lang key strings)
     (shown.1.0, unit_looked_up old.now shown.0 domain lang key strings c.as_str.result.now c.as_str-2.result.now c.as_str-3.result.now found (search rules) (search rules) (search rules) shown.1.1) (search rules)) read
+
+pub returns-in_err-text-clause-disk : goal.returns-in_err-text-clause-disk
+returns-in_err-text-clause-disk g c =
+    memory_told (state g.S.Store c.args.tx.now.conn.now) (state g.S.Store c.args.tx.now.conn.now) c.from_residual.result c.from_residual.ensures.1
+
+pub returns-in_err-found-clause-disk : goal.returns-in_err-found-clause-disk
+returns-in_err-found-clause-disk g c =
+    error_told (state g.S.Store c.args.tx.now.conn.now) (state g.S.Store c.find_domain_unit.new.tx.conn.now) _ c.from_residual-in_err-found.result c.from_residual-in_err-found.ensures.1 c.in_err-found.ensures.disk
+
+pub returns-in_err-numbers-in-Some-clause-disk : goal.returns-in_err-numbers-in-Some-clause-disk
+returns-in_err-numbers-in-Some-clause-disk g c =
+    mild_told (state g.S.Store c.args.tx.now.conn.now) (state g.S.Store c.find_domain_unit.new.tx.conn.now) _ c.from_residual-in_err-numbers-in-Some.result c.from_residual-in_err-numbers-in-Some.ensures.1 c.in_err-numbers-in-Some.ensures.told
+
+pub returns-in-Some-clause-disk : goal.returns-in-Some-clause-disk
+returns-in-Some-clause-disk g c =
+    fails_behind (state g.S.Store c.args.tx.now.conn.now) (state g.S.Store c.find_domain_unit.new.tx.conn.now) (state g.S.Store c.put_difference.new.tx.conn.now) (λ _. ⊥) (λ _. ⊥) c.put_difference.result c.in_ok-found.ensures.found.survives c.put_difference.ensures.spares.survives
+    (c.put_difference.ensures.disk)

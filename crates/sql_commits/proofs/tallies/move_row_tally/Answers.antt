@@ -10,6 +10,7 @@ use Rattle.sql_commits.specs.Figures.{FollowsOwnRow}
 use Rattle.sql_figures.specs.Figures.{moved_at, FiguresFollow}
 use Rattle.sql_commits.proofs.FiguresInTurn.{write_answered}
 use Rattle.sql_commits.proofs.TalliesMoved.{moves_row_alone, no_row_moved}
+use Rattle.sql_decoding.proofs.DiskFailures.{fails_behind, failure_told}
 use Rattle.sql_commits.proofs.tallies.move_row_tally.Goals as goal
 
 pub returns-in-Some-clause-spares : goal.returns-in-Some-clause-spares
@@ -61,3 +62,12 @@ returns-in-None-clause-figures g c =
     let read = write_answered old mid {F = Failure} there there (ShowsMoving domain lang view.unit) c.in_ok-there.ensures.found in
     let is_none : there ≡ None = search rules in
     write_told old mid there _ Shown (FollowsOwnRow domain lang view) (λ shown. no_row_moved domain lang view old.now mid.now (shown.0, subst (ShowsMoving domain lang view.unit old.now) is_none shown.1)) read
+
+pub returns-in_err-there-clause-disk : goal.returns-in_err-there-clause-disk
+returns-in_err-there-clause-disk g c =
+    failure_told (state g.S.Store c.args.tx.now.conn.now) (state g.S.Store c.values_to_move.new.tx.conn.now) _ c.from_residual.result c.from_residual.ensures.1 c.in_err-there.ensures.disk
+
+pub returns-in-Some-clause-disk : goal.returns-in-Some-clause-disk
+returns-in-Some-clause-disk g c =
+    fails_behind (state g.S.Store c.args.tx.now.conn.now) (state g.S.Store c.values_to_move.new.tx.conn.now) (state g.S.Store c.put_difference.new.tx.conn.now) (λ _. ⊥) (λ _. ⊥) c.put_difference.result c.in_ok-there.ensures.found.survives c.put_difference.ensures.spares.survives
+    (c.put_difference.ensures.disk)

@@ -9,6 +9,7 @@ use Rattle.sqlite.specs.Effect.{Database}
 use Rattle.sql_statements.specs.DomainAnswers.{ShowsTally}
 use Rattle.sql_figures.specs.Figures.{moved_at, FiguresFollow}
 use Rattle.sql_commits.proofs.FiguresInTurn.{write_answered, moves_row}
+use Rattle.sql_decoding.proofs.DiskFailures.{error_told, fails_behind, mild_told, needed_is}
 use Rattle.sql_commits.proofs.tallies.put_moved.Goals as goal
 
 -- the tally is looked up, and put moved
@@ -36,4 +37,22 @@ returns-in_ok-after-in-Some-clause-figures g c =
     let Seen = λ (before now : Database). (now ≡ before) × ShowsTally given code before found in
     let looked = write_answered old mid {F = Failure} found found (ShowsTally given code) c.in_ok-found.ensures.found in
     write_then old mid new found c.put_tally_of.result Seen (PutsTally domain lang after) (FiguresFollow (moved_at domain lang c.args.was c.args.is))
-    (moves_row given code domain lang found c.in-Some.row c.in_ok-tally-in-Some.tally after c.args.was c.args.is old.now mid.now new.now (search rules) (search rules) (search rules) (search rules) (search rules)) looked c.put_tally_of.ensures.put
+    (moves_row given code domain lang found c.in-Some.row c.in_ok-tally-in-Some.tally after c.args.was c.args.is old.now mid.now new.now (search rules) (search rules) (search rules)
+    (needed_is _ c.tally_in.result c.in_ok-tally-in-Some.tally c.in_ok-tally-in-Some.ensures.value c.tally_in.ensures.shown) c.in_ok-after-in-Some.ensures.tally) looked c.put_tally_of.ensures.put
+
+pub returns-in_err-found-clause-disk : goal.returns-in_err-found-clause-disk
+returns-in_err-found-clause-disk g c =
+    error_told (state g.S.Store c.args.tx.now.conn.now) (state g.S.Store c.find_tally.new.tx.conn.now) _ c.from_residual.result c.from_residual.ensures.1 c.in_err-found.ensures.disk
+
+pub returns-in_err-tally-in-Some-clause-disk : goal.returns-in_err-tally-in-Some-clause-disk
+returns-in_err-tally-in-Some-clause-disk g c =
+    mild_told (state g.S.Store c.args.tx.now.conn.now) (state g.S.Store c.find_tally.new.tx.conn.now) _ c.from_residual-in_err-tally-in-Some.result c.from_residual-in_err-tally-in-Some.ensures.1 c.in_err-tally-in-Some.ensures.told
+
+pub returns-in_err-after-in-Some-clause-disk : goal.returns-in_err-after-in-Some-clause-disk
+returns-in_err-after-in-Some-clause-disk g c =
+    mild_told (state g.S.Store c.args.tx.now.conn.now) (state g.S.Store c.find_tally.new.tx.conn.now) _ c.from_residual-in_err-after-in-Some.result c.from_residual-in_err-after-in-Some.ensures.1 c.in_err-after-in-Some.ensures.told
+
+pub returns-in_ok-after-in-Some-clause-disk : goal.returns-in_ok-after-in-Some-clause-disk
+returns-in_ok-after-in-Some-clause-disk g c =
+    fails_behind (state g.S.Store c.args.tx.now.conn.now) (state g.S.Store c.find_tally.new.tx.conn.now) (state g.S.Store c.put_tally_of.new.tx.conn.now) (λ _. ⊥) (λ _. ⊥) c.put_tally_of.result c.in_ok-found.ensures.found.survives c.put_tally_of.ensures.put.survives
+    (c.put_tally_of.ensures.disk)

@@ -6,6 +6,7 @@ use Rattle.sql_changes.specs.OnDomains.{SparesDomains}
 use Rattle.sql_changes.proofs.DomainWrites.{spares_both, tally_on_domains, nothing_made}
 use Rattle.sql_commits.specs.Figures.{PutsTally}
 use Rattle.sql_commits.proofs.WritesInTurn.{write_then, write_told, nothing_put}
+use Rattle.sql_decoding.proofs.DiskFailures.{fails_behind, failure_told}
 use Rattle.sql_commits.proofs.tallies.put_tallies.Goals as goal
 use Rattle.sqlite.specs.Effect.{Database}
 use Rattle.po_text.specs.Texts.{Text}
@@ -48,3 +49,8 @@ returns-clause-figures g c =
     let tallies = c.args.tallies.now in
     let i = c.loop-tallied.tallied-index in
     write_told old last {E = Error} 0 _ (So_far domain (take i tallies)) (So_far domain tallies) (subst (λ ts. So_far domain ts old.now last.now) (take_all i tallies c.loop-tallied-test.false)) c.loop-tallied.invariant.2
+
+pub returns-in_err-put_tally_of-clause-disk : goal.returns-in_err-put_tally_of-clause-disk
+returns-in_err-put_tally_of-clause-disk g c =
+    fails_behind (state g.S.Store c.args.tx.now.conn.now) (state g.S.Store c.loop-tallied.tx.conn.now) (state g.S.Store c.put_tally_of.new.tx.conn.now) (λ _. ⊥) (λ _. ⊥) c.from_residual.result c.loop-tallied.invariant.1.survives c.in_err-put_tally_of.ensures.put.survives
+    (failure_told (state g.S.Store c.loop-tallied.tx.conn.now) (state g.S.Store c.put_tally_of.new.tx.conn.now) _ c.from_residual.result c.from_residual.ensures.1 c.in_err-put_tally_of.ensures.disk)

@@ -8,6 +8,7 @@ use Rattle.sql_commits.specs.Counted.{ShowsMoving}
 use Rattle.sql_commits.specs.declared.unit_counts.CountedValues.{CountedValues}
 use Rattle.sql_commits.proofs.FiguresInTurn.{read_told}
 use Rattle.sql_commits.proofs.TalliesMoved.{row_moving, none_moving, values_moving, values_shown}
+use Rattle.sql_decoding.proofs.DiskFailures.{error_told, fails_behind, memory_told, mild_told, needed_is}
 use Rattle.sql_commits.proofs.tallies.values_to_move.Goals as goal
 
 -- one query, where suggestions move no count
@@ -26,8 +27,8 @@ returns-then-numbers-unit-clause-found g c =
     read_told old mid found _ (λ (db : Database) shown. ShowsDomainUnit c.as_str.result.now c.as_str-2.result.now c.as_str-3.result.now db shown) (ShowsMoving domain lang unit) c.requires.steady
     (λ ready shown. row_moving old.now ready domain lang unit.key c.key_fits.ensures.strings c.as_str.result.now c.as_str-2.result.now c.as_str-3.result.now found (search rules) (search rules) (search rules) shown unit.obsolete
     c.in-Some.row values (search rules)
-    (ap (λ (v : CountedValues). v.state) c.values_of.ensures ∙ ap (λ (n : UnitNumbers). n.state) c.in_ok-numbers-in-Some.ensures.shown)
-    (ap (λ (v : CountedValues). v.obsolete) c.values_of.ensures ∙ ap (λ (n : UnitNumbers). n.obsolete) c.in_ok-numbers-in-Some.ensures.shown) alike none)
+    (ap (λ (v : CountedValues). v.state) c.values_of.ensures ∙ ap (λ (n : UnitNumbers). n.state) (needed_is _ c.unit_numbers.result c.in_ok-numbers-in-Some.numbers c.in_ok-numbers-in-Some.ensures.value c.unit_numbers.ensures.shown))
+    (ap (λ (v : CountedValues). v.obsolete) c.values_of.ensures ∙ ap (λ (n : UnitNumbers). n.obsolete) (needed_is _ c.unit_numbers.result c.in_ok-numbers-in-Some.numbers c.in_ok-numbers-in-Some.ensures.value c.unit_numbers.ensures.shown)) alike none)
     c.in_ok-found.ensures.found
 
 -- two queries, and what both show
@@ -52,8 +53,8 @@ returns-in-Some-clause-found g c =
     (values_shown old.now ready domain lang unit.key c.key_fits.ensures.strings c.as_str.result.now c.as_str-2.result.now c.as_str-3.result.now
     c.as_str-else-numbers-unit.result.now c.as_str-else-numbers-unit-2.result.now c.as_str-else-numbers-unit-3.result.now
     (search rules) (search rules) (search rules) (search rules) (search rules) (search rules) found rows.items shown c.in-Some.row values (search rules)
-    (ap (λ (v : CountedValues). v.state) c.values_of-else-numbers-unit.ensures ∙ ap (λ (n : UnitNumbers). n.state) c.in_ok-numbers-in-Some.ensures.shown)
-    (ap (λ (v : CountedValues). v.obsolete) c.values_of-else-numbers-unit.ensures ∙ ap (λ (n : UnitNumbers). n.obsolete) c.in_ok-numbers-in-Some.ensures.shown)
+    (ap (λ (v : CountedValues). v.state) c.values_of-else-numbers-unit.ensures ∙ ap (λ (n : UnitNumbers). n.state) (needed_is _ c.unit_numbers.result c.in_ok-numbers-in-Some.numbers c.in_ok-numbers-in-Some.ensures.value c.unit_numbers.ensures.shown))
+    (ap (λ (v : CountedValues). v.obsolete) c.values_of-else-numbers-unit.ensures ∙ ap (λ (n : UnitNumbers). n.obsolete) (needed_is _ c.unit_numbers.result c.in_ok-numbers-in-Some.numbers c.in_ok-numbers-in-Some.ensures.value c.unit_numbers.ensures.shown))
     (ap (λ (v : CountedValues). v.suggestions) c.values_of-else-numbers-unit.ensures ∙ c.len.ensures ∙ rows.ok.0))) both
 
 pub returns-clause-found : goal.returns-clause-found
@@ -67,3 +68,20 @@ returns-clause-found g c =
     read_told old mid found _ (λ (db : Database) shown. ShowsDomainUnit c.as_str.result.now c.as_str-2.result.now c.as_str-3.result.now db shown) (ShowsMoving domain lang unit) c.requires.steady
     (λ ready shown. none_moving old.now ready domain lang unit.key c.key_fits.ensures.strings c.as_str.result.now c.as_str-2.result.now c.as_str-3.result.now found (search rules) (search rules) (search rules) shown unit.obsolete (search rules))
     c.in_ok-found.ensures.found
+
+pub returns-in_err-text-clause-disk : goal.returns-in_err-text-clause-disk
+returns-in_err-text-clause-disk g c =
+    memory_told (state g.S.Store c.args.tx.now.conn.now) (state g.S.Store c.args.tx.now.conn.now) c.from_residual.result c.from_residual.ensures.1
+
+pub returns-in_err-found-clause-disk : goal.returns-in_err-found-clause-disk
+returns-in_err-found-clause-disk g c =
+    error_told (state g.S.Store c.args.tx.now.conn.now) (state g.S.Store c.find_domain_unit.new.tx.conn.now) _ c.from_residual-in_err-found.result c.from_residual-in_err-found.ensures.1 c.in_err-found.ensures.disk
+
+pub returns-in_err-numbers-in-Some-clause-disk : goal.returns-in_err-numbers-in-Some-clause-disk
+returns-in_err-numbers-in-Some-clause-disk g c =
+    mild_told (state g.S.Store c.args.tx.now.conn.now) (state g.S.Store c.find_domain_unit.new.tx.conn.now) _ c.from_residual-in_err-numbers-in-Some.result c.from_residual-in_err-numbers-in-Some.ensures.1 c.in_err-numbers-in-Some.ensures.told
+
+pub returns-in_err-places-in-Some-clause-disk : goal.returns-in_err-places-in-Some-clause-disk
+returns-in_err-places-in-Some-clause-disk g c =
+    fails_behind (state g.S.Store c.args.tx.now.conn.now) (state g.S.Store c.find_domain_unit.new.tx.conn.now) (state g.S.Store c.places_of.new.tx.conn.now) (λ _. ⊥) (λ _. ⊥) c.from_residual-in_err-places-in-Some.result c.in_ok-found.ensures.found.survives c.in_err-places-in-Some.ensures.found.survives
+    (error_told (state g.S.Store c.find_domain_unit.new.tx.conn.now) (state g.S.Store c.places_of.new.tx.conn.now) _ c.from_residual-in_err-places-in-Some.result c.from_residual-in_err-places-in-Some.ensures.1 c.in_err-places-in-Some.ensures.disk)

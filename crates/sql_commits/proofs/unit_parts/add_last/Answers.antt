@@ -13,6 +13,7 @@ use Rattle.sql_commits.specs.Votes.{ArePlacesBefore}
 use Rattle.sql_commits.proofs.FiguresInTurn.{write_answered, same_stays}
 use Rattle.sql_commits.proofs.LastPlaces.{adds_last}
 use Rattle.sql_commits.proofs.WritesInTurn.{write_then, write_ready, write_read}
+use Rattle.sql_decoding.proofs.DiskFailures.{error_told, fails_behind, mild_told}
 use Rattle.sql_commits.proofs.unit_parts.add_last.Goals as goal
 
 -- the places are read, and it is added behind the last
@@ -43,3 +44,16 @@ returns-clause-figures g c =
     let rows = c.in_ok-places.places in
     let read = write_read old mid {F = Error} rows rows (λ db shown. ShowsPlaces c.args.domain.now c.args.lang.now c.args.key.now db shown.items) c.in_ok-places.ensures.found in
     write_then old mid new rows c.add_suggestion.result (λ (before after : Database). after ≡ before) FiguresStay FiguresStay (same_stays old.now mid.now new.now) read c.add_suggestion.ensures.figures
+
+pub returns-in_err-places-clause-disk : goal.returns-in_err-places-clause-disk
+returns-in_err-places-clause-disk g c =
+    error_told (state g.S.Store c.args.tx.now.conn.now) (state g.S.Store c.places_of.new.tx.conn.now) _ c.from_residual.result c.from_residual.ensures.1 c.in_err-places.ensures.disk
+
+pub returns-in_err-place-clause-disk : goal.returns-in_err-place-clause-disk
+returns-in_err-place-clause-disk g c =
+    mild_told (state g.S.Store c.args.tx.now.conn.now) (state g.S.Store c.places_of.new.tx.conn.now) _ c.from_residual-in_err-place.result c.from_residual-in_err-place.ensures.1 c.in_err-place.ensures.told
+
+pub returns-clause-disk : goal.returns-clause-disk
+returns-clause-disk g c =
+    fails_behind (state g.S.Store c.args.tx.now.conn.now) (state g.S.Store c.places_of.new.tx.conn.now) (state g.S.Store c.add_suggestion.new.tx.conn.now) (λ _. ⊥) (λ _. ⊥) c.add_suggestion.result c.in_ok-places.ensures.found.survives c.add_suggestion.ensures.put.survives
+    (c.add_suggestion.ensures.disk)

@@ -8,6 +8,7 @@ use Rattle.sql_commits.proofs.WritesInTurn.{write_then, unseen_first}
 use Rattle.sql_commits.specs.Figures.{FollowsOneMore, FollowsSuggestionAt}
 use Rattle.sql_figures.specs.Figures.{FiguresStay}
 use Rattle.sql_commits.proofs.FiguresInTurn.{suggestion_written}
+use Rattle.sql_decoding.proofs.DiskFailures.{fails_behind, failure_told, memory_told}
 use Rattle.sql_commits.proofs.unit_parts.write_suggestion.Goals as goal
 
 -- it is counted, which no domain sees, and then added
@@ -39,3 +40,16 @@ returns-clause-figures g c =
     let s = c.args.suggestion.now in
     write_then old mid new c.in_ok-count_suggestion.field-0 c.add_last.result (FollowsOneMore domain lang key) FiguresStay (FollowsSuggestionAt domain lang key s)
     (λ moved stays. suggestion_written domain lang old.now mid.now new.now stays key s moved) c.in_ok-count_suggestion.ensures.figures c.add_last.ensures.figures
+
+pub returns-in_err-count_suggestion-clause-disk : goal.returns-in_err-count_suggestion-clause-disk
+returns-in_err-count_suggestion-clause-disk g c =
+    failure_told (state g.S.Store c.args.tx.now.conn.now) (state g.S.Store c.count_suggestion.new.tx.conn.now) _ c.from_residual.result c.from_residual.ensures.1 c.in_err-count_suggestion.ensures.disk
+
+pub returns-in_err-text-clause-disk : goal.returns-in_err-text-clause-disk
+returns-in_err-text-clause-disk g c =
+    memory_told (state g.S.Store c.args.tx.now.conn.now) (state g.S.Store c.count_suggestion.new.tx.conn.now) c.from_residual-in_err-text.result c.from_residual-in_err-text.ensures.1
+
+pub returns-clause-disk : goal.returns-clause-disk
+returns-clause-disk g c =
+    fails_behind (state g.S.Store c.args.tx.now.conn.now) (state g.S.Store c.count_suggestion.new.tx.conn.now) (state g.S.Store c.add_last.new.tx.conn.now) (λ _. ⊥) (λ _. ⊥) c.add_last.result c.in_ok-count_suggestion.ensures.spares.survives c.add_last.ensures.put.survives
+    (c.add_last.ensures.disk)

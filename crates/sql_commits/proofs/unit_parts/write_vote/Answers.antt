@@ -13,6 +13,7 @@ use Rattle.sql_commits.specs.Figures.{FollowsVoteAt}
 use Rattle.sql_commits.proofs.FiguresInTurn.{write_answered, vote_nowhere_follows}
 use Rattle.sql_commits.proofs.VotesCast.{Casts, vote_nowhere, vote_written, vote_follows}
 use Rattle.sql_commits.proofs.WritesInTurn.{write_then, write_told, write_ready, write_mapped}
+use Rattle.sql_decoding.proofs.DiskFailures.{error_told, fails_behind, mapped_told, memory_told}
 use Rattle.sql_commits.proofs.unit_parts.write_vote.Goals as goal
 
 -- the suggestion is on the unit: the vote and the sum are written
@@ -88,3 +89,20 @@ returns-clause-figures g c =
     let read = write_answered old mid {F = Error} found found (ShowsPlaceOf c.as_str.result.now c.as_str-2.result.now c.as_str-3.result.now c.as_str-4.result.now) c.in_ok-found.ensures.found in
     write_told old mid found _ Shown (FollowsVoteAt c.args.domain.now c.args.lang.now c.args.key.now c.args.vote.number c.args.vote.voter.now c.args.vote.value c.args.vote.sum)
     (λ shown. vote_nowhere_follows c.args.domain.now c.args.lang.now c.args.key.now c.args.vote.number c.args.vote.voter.now c.args.vote.value c.args.vote.sum old.now mid.now shown.0) read
+
+pub returns-in_err-number-clause-disk : goal.returns-in_err-number-clause-disk
+returns-in_err-number-clause-disk g c =
+    memory_told (state g.S.Store c.args.tx.now.conn.now) (state g.S.Store c.args.tx.now.conn.now) c.from_residual.result c.from_residual.ensures.1
+
+pub returns-in_err-key-clause-disk : goal.returns-in_err-key-clause-disk
+returns-in_err-key-clause-disk g c =
+    memory_told (state g.S.Store c.args.tx.now.conn.now) (state g.S.Store c.args.tx.now.conn.now) c.from_residual-in_err-key.result c.from_residual-in_err-key.ensures.1
+
+pub returns-in_err-found-clause-disk : goal.returns-in_err-found-clause-disk
+returns-in_err-found-clause-disk g c =
+    error_told (state g.S.Store c.args.tx.now.conn.now) (state g.S.Store c.find_domain_place.new.tx.conn.now) _ c.from_residual-in_err-found.result c.from_residual-in_err-found.ensures.1 c.in_err-found.ensures.disk
+
+pub returns-in-Some-clause-disk : goal.returns-in-Some-clause-disk
+returns-in-Some-clause-disk g c =
+    fails_behind (state g.S.Store c.args.tx.now.conn.now) (state g.S.Store c.find_domain_place.new.tx.conn.now) (state g.S.Store c.put_vote_and_sum.new.tx.conn.now) (λ _. ⊥) (λ _. ⊥) c.map_err.result c.in_ok-found.ensures.found.survives c.put_vote_and_sum.ensures.put.survives
+    (mapped_told (state g.S.Store c.find_domain_place.new.tx.conn.now) (state g.S.Store c.put_vote_and_sum.new.tx.conn.now) c.put_vote_and_sum.result c.map_err.result _ (λ e f t. t) c.map_err.ensures.cases c.put_vote_and_sum.ensures.disk)

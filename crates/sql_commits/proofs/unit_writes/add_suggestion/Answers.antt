@@ -17,6 +17,7 @@ use Rattle.sql_commits.specs.Figures.{AddsWithSum}
 use Rattle.sql_figures.specs.Figures.{FiguresStay}
 use Rattle.sql_figures.proofs.FigureSteps.{stay_added}
 use Rattle.sqlite.specs.Effect.{Database}
+use Rattle.sql_decoding.proofs.DiskFailures.{error_told, fails_behind, memory_told}
 use Rattle.sql_commits.proofs.unit_writes.add_suggestion.Goals as goal
 
 pub returns-clause-put : goal.returns-clause-put
@@ -51,3 +52,20 @@ returns-clause-figures g c =
     let added = write_ready old mid (Ok c.in_ok-add_summed.field-0) Adds c.requires.steady c.in_ok-add_summed.ensures.summed in
     write_then old mid new c.in_ok-add_summed.field-0 c.put_votes.result Ready (Votes again) FiguresStay
     (λ one put. stay_added mid.now number (vote_sum votes) votes one.0 refl one.1 (subst (λ n. Votes n mid.now new.now) same put)) added c.put_votes.ensures.rows
+
+pub returns-in_err-number-clause-disk : goal.returns-in_err-number-clause-disk
+returns-in_err-number-clause-disk g c =
+    memory_told (state g.S.Store c.args.tx.now.conn.now) (state g.S.Store c.args.tx.now.conn.now) c.from_residual.result c.from_residual.ensures.1
+
+pub returns-in_err-forms-clause-disk : goal.returns-in_err-forms-clause-disk
+returns-in_err-forms-clause-disk g c =
+    memory_told (state g.S.Store c.args.tx.now.conn.now) (state g.S.Store c.args.tx.now.conn.now) c.from_residual-in_err-forms.result c.from_residual-in_err-forms.ensures.1
+
+pub returns-in_err-add_summed-clause-disk : goal.returns-in_err-add_summed-clause-disk
+returns-in_err-add_summed-clause-disk g c =
+    error_told (state g.S.Store c.args.tx.now.conn.now) (state g.S.Store c.add_summed.new.tx.conn.now) _ c.from_residual-in_err-add_summed.result c.from_residual-in_err-add_summed.ensures.1 c.in_err-add_summed.ensures.disk
+
+pub returns-clause-disk : goal.returns-clause-disk
+returns-clause-disk g c =
+    fails_behind (state g.S.Store c.args.tx.now.conn.now) (state g.S.Store c.add_summed.new.tx.conn.now) (state g.S.Store c.put_votes.new.tx.conn.now) (λ _. ⊥) (λ _. ⊥) c.put_votes.result c.in_ok-add_summed.ensures.added.survives c.put_votes.ensures.put.survives
+    (c.put_votes.ensures.disk)

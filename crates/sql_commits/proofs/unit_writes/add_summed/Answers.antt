@@ -5,6 +5,7 @@ use Rattle.sql_commits.proofs.WritesInTurn.{write_ready, write_then, adds_summed
 use Rattle.units.specs.Units.{vote_sum}
 use Rattle.sql_commits.specs.Figures.{PutsSum, AddsWithSum}
 use Rattle.sql_commits.proofs.FiguresInTurn.{adds_with_sum}
+use Rattle.sql_laws.proofs.DiskErrors.{blames_behind, told_on}
 use Rattle.sql_commits.proofs.unit_writes.add_summed.Goals as goal
 
 pub returns-clause-added : goal.returns-clause-added
@@ -35,3 +36,12 @@ returns-clause-summed g c =
     let through : sum ≡ c.sum.result = search rules in
     write_then old mid new c.in_ok-add_domain_suggestion.field-0 c.put_sum.result _ (PutsSum number sum) (AddsWithSum number (vote_sum votes))
     (adds_with_sum number _ sum (vote_sum votes) old.now mid.now new.now (through ∙ c.sum.ensures)) c.in_ok-add_domain_suggestion.ensures.added c.put_sum.ensures.put
+
+pub returns-in_err-add_domain_suggestion-clause-disk : goal.returns-in_err-add_domain_suggestion-clause-disk
+returns-in_err-add_domain_suggestion-clause-disk g c =
+    told_on (state g.S.Store c.args.tx.now.conn.now) (state g.S.Store c.add_domain_suggestion.new.tx.conn.now) (state g.S.Store c.add_domain_suggestion.new.tx.conn.now) _ c.from_residual.result c.from_residual.ensures.1 c.in_err-add_domain_suggestion.ensures.disk
+
+pub returns-clause-disk : goal.returns-clause-disk
+returns-clause-disk g c =
+    blames_behind (state g.S.Store c.args.tx.now.conn.now) (state g.S.Store c.add_domain_suggestion.new.tx.conn.now) (state g.S.Store c.put_sum.new.tx.conn.now) (λ _. ⊥) (λ _. ⊥) c.put_sum.result c.in_ok-add_domain_suggestion.ensures.added.survives c.put_sum.ensures.put.survives
+    (c.put_sum.ensures.disk)

@@ -8,6 +8,7 @@ use Rattle.sql_commits.proofs.PlannedWrites.{unit_told}
 use Rattle.sql_commits.proofs.WritesInTurn.{write_mapped, write_over}
 use Rattle.sql_figures.specs.Figures.{FiguresStay}
 use Rattle.sql_figures.proofs.FigureSteps.{put_beside, unit_beside}
+use Rattle.sql_decoding.proofs.DiskFailures.{mapped_told}
 use Rattle.sql_commits.proofs.unit_writes.put_row.Goals as goal
 
 pub returns-clause-put : goal.returns-clause-put
@@ -41,3 +42,7 @@ returns-clause-row g c =
     (unit_told domain lang c.as_str.result.now _ c.as_str-2.result.now _ _ _ c.as_str-3.result.now c.as_str-4.result.now unit old.now new.now
     (search rules) (search rules) (search rules) (search rules) (search rules) (search rules) (search rules) (search rules))
     c.put_domain_unit.ensures.put
+
+pub returns-clause-disk : goal.returns-clause-disk
+returns-clause-disk g c =
+    mapped_told (state g.S.Store c.args.tx.now.conn.now) (state g.S.Store c.put_domain_unit.new.tx.conn.now) c.put_domain_unit.result c.map_err.result _ (λ e f t. t) c.map_err.ensures.cases c.put_domain_unit.ensures.disk

@@ -15,6 +15,7 @@ use Rattle.sql_schema.specs.Layouts.{rows_named}
 use Rattle.sql_meaning.specs.Cells.{vote_cells}
 use Rattle.sql_meaning.specs.Written.{PutsRows}
 use Rattle.sql_meaning.proofs.RowsByName.{puts_in}
+use Rattle.sql_decoding.proofs.DiskFailures.{error_told, fails_behind}
 use Rattle.sql_commits.proofs.unit_writes.put_votes.Goals as goal
 
 -- the rows so far
@@ -80,3 +81,8 @@ pub returns-in_err-put_domain_vote-clause-rows : goal.returns-in_err-put_domain_
 returns-in_err-put_domain_vote-clause-rows g c =
     write_fails (state g.S.Store c.args.tx.now.conn.now) (state g.S.Store c.loop-vote.tx.conn.now) (state g.S.Store c.put_domain_vote.new.tx.conn.now) _ _ _ _ _ _ c.from_residual.ensures.0 c.loop-vote.invariant.2
     c.in_err-put_domain_vote.ensures.put
+
+pub returns-in_err-put_domain_vote-clause-disk : goal.returns-in_err-put_domain_vote-clause-disk
+returns-in_err-put_domain_vote-clause-disk g c =
+    fails_behind (state g.S.Store c.args.tx.now.conn.now) (state g.S.Store c.loop-vote.tx.conn.now) (state g.S.Store c.put_domain_vote.new.tx.conn.now) (λ _. ⊥) (λ _. ⊥) c.from_residual.result c.loop-vote.invariant.1.survives c.in_err-put_domain_vote.ensures.put.survives
+    (error_told (state g.S.Store c.loop-vote.tx.conn.now) (state g.S.Store c.put_domain_vote.new.tx.conn.now) _ c.from_residual.result c.from_residual.ensures.1 c.in_err-put_domain_vote.ensures.disk)

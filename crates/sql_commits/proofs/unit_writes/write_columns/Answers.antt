@@ -13,6 +13,8 @@ use Rattle.sql_decoding.specs.declared.faults.Failure.{Failure}
 use Rattle.sql_schema.proofs.Sequences.{steady_write}
 use Rattle.sql_figures.specs.Figures.{FiguresStay}
 use Rattle.sql_figures.proofs.FigureSteps.{stay_both, stay_cleared}
+use Rattle.sql_laws.proofs.Transactions.{survives_both}
+use Rattle.sql_decoding.proofs.DiskFailures.{error_told, fails_behind, failure_told}
 use Rattle.sql_commits.proofs.unit_writes.write_columns.Goals as goal
 
 -- its row is put, its suggestions go, and those that it has come
@@ -57,3 +59,17 @@ returns-clause-figures g c =
     let gone = write_then old mid next {F = Failure} c.in_ok-put_row.field-0 (Ok c.in_ok-clear_domain_suggestions.field-0) FiguresStay Ready FiguresStay
     (λ stays it. stay_both stays (stay_cleared domain lang key it.0 it.1)) c.in_ok-put_row.ensures.figures (write_told mid next {F = Failure} c.in_ok-clear_domain_suggestions.field-0 c.in_ok-clear_domain_suggestions.field-0 Ready Ready (λ made. made) cleared) in
     write_then old next new c.in_ok-clear_domain_suggestions.field-0 c.add_suggestions.result FiguresStay FiguresStay FiguresStay stay_both gone c.add_suggestions.ensures.figures
+
+pub returns-in_err-put_row-clause-disk : goal.returns-in_err-put_row-clause-disk
+returns-in_err-put_row-clause-disk g c =
+    failure_told (state g.S.Store c.args.tx.now.conn.now) (state g.S.Store c.put_row.new.tx.conn.now) _ c.from_residual.result c.from_residual.ensures.1 c.in_err-put_row.ensures.disk
+
+pub returns-in_err-clear_domain_suggestions-clause-disk : goal.returns-in_err-clear_domain_suggestions-clause-disk
+returns-in_err-clear_domain_suggestions-clause-disk g c =
+    fails_behind (state g.S.Store c.args.tx.now.conn.now) (state g.S.Store c.put_row.new.tx.conn.now) (state g.S.Store c.clear_domain_suggestions.new.tx.conn.now) (λ _. ⊥) (λ _. ⊥) c.from_residual-in_err-clear_domain_suggestions.result c.in_ok-put_row.ensures.put.survives c.in_err-clear_domain_suggestions.ensures.cleared.survives
+    (error_told (state g.S.Store c.put_row.new.tx.conn.now) (state g.S.Store c.clear_domain_suggestions.new.tx.conn.now) _ c.from_residual-in_err-clear_domain_suggestions.result c.from_residual-in_err-clear_domain_suggestions.ensures.1 c.in_err-clear_domain_suggestions.ensures.disk)
+
+pub returns-clause-disk : goal.returns-clause-disk
+returns-clause-disk g c =
+    fails_behind (state g.S.Store c.args.tx.now.conn.now) (state g.S.Store c.clear_domain_suggestions.new.tx.conn.now) (state g.S.Store c.add_suggestions.new.tx.conn.now) (λ _. ⊥) (λ _. ⊥) c.add_suggestions.result (survives_both g.S.Store c.args.tx.now.conn.now c.put_row.new.tx.conn.now c.clear_domain_suggestions.new.tx.conn.now c.in_ok-put_row.ensures.put.survives c.in_ok-clear_domain_suggestions.ensures.cleared.survives) c.add_suggestions.ensures.put.survives
+    (c.add_suggestions.ensures.disk)

@@ -5,6 +5,7 @@ use Rattle.sql_schema.specs.Inside.{IsInsideOf}
 use Rattle.sql_schema.specs.Layouts.{by_domain}
 use Rattle.sql_changes.specs.OnDomains.{OnDomain}
 use Rattle.sql_changes.specs.UnitWrites.{WritesNumberedUnit}
+use Rattle.sql_decoding.proofs.DiskFailures.{memory_told}
 use Rattle.sql_commits.proofs.unit_writes.write_unit.Goals as goal
 
 -- by the texts of the domain and the language
@@ -15,3 +16,7 @@ returns-clause-put g c =
     let is_domain : c.as_str.result.now ≡ c.args.domain.now = search rules in
     let is_lang : c.as_str-2.result.now ≡ c.args.lang.now = search rules in
     subst (λ (x : Text × Text). IsInsideOf by_domain old new c.write_columns.result (OnDomain x.0 (WritesNumberedUnit x.1 c.args.unit.now))) (λ i. (is_domain i, is_lang i)) c.write_columns.ensures.put
+
+pub returns-in_err-columns-clause-disk : goal.returns-in_err-columns-clause-disk
+returns-in_err-columns-clause-disk g c =
+    memory_told (state g.S.Store c.args.tx.now.conn.now) (state g.S.Store c.args.tx.now.conn.now) c.from_residual.result c.from_residual.ensures.1

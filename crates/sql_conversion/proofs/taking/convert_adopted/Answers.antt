@@ -3,6 +3,12 @@ use Rattle.sql_conversion.specs.Conversion.{IsTakenOver, IsGivenBack}
 use Rattle.sql_conversion.proofs.TakenOver.{told_ok, told_err, conversion_taken, conversion_given_back}
 use Rattle.sql_conversion.proofs.taking.convert_adopted.Goals as goal
 
+pub convert-requires-clause-idle : goal.convert-requires-clause-idle
+convert-requires-clause-idle g c = c.requires.adopted.idle
+
+pub convert-requires-clause-adopted : goal.convert-requires-clause-adopted
+convert-requires-clause-adopted g c = λ clean is_open. c.requires.adopted.adopted clean
+
 pub returns-clause-taken : goal.returns-clause-taken
 returns-clause-taken g c =
     let old = state g.S.Store c.args.connection.now in

@@ -25,5 +25,5 @@ pub returns-clause-unread : goal.returns-clause-unread
 returns-clause-unread c =
     let row = c.args.row.now in
     IfErr-weaker c.rule_beside-rule.result (IsUnread (holds_text (is_rule_of c.in_ok-header.header) 1 row)) (IsUnread (is_language row))
-    (λ failure unread disk. second_fails (holds_text is_header 0 row) (holds_text (is_rule_of (shown_header row)) 1 row) (ap (λ h. holds_text (is_rule_of h) 1 row) (sym c.in_ok-header.ensures.shown) ∙ unread disk))
+    (λ failure unread other. second_fails (holds_text is_header 0 row) (holds_text (is_rule_of (shown_header row)) 1 row) (ap (λ h. holds_text (is_rule_of h) 1 row) (sym c.in_ok-header.ensures.shown) ∙ unread other))
     c.rule_beside-rule.ensures.unread

@@ -6,6 +6,7 @@ use Rattle.sqlite.specs.State.{HasCleanDisk}
 use Rattle.sql_exports.specs.Handing.{Gives}
 use Rattle.sql_meaning.specs.Meaning.{project_of_rows, headers_in}
 use Rattle.sql_exports.specs.Entries.{messages_of, obsolete_of}
+use Rattle.sql_exports.proofs.CutsBlame.{failure_cuts, cuts_behind}
 use Rattle.sql_exports.proofs.Pieces.{same_now}
 use Rattle.sql_exports.proofs.RowsInTurn.{entries_are}
 use Rattle.sql_exports.proofs.export.export_entries.Goals as goal
@@ -40,3 +41,11 @@ hand_rows-requires-clause-rules g c late =
     let stays = found.same late (found.is_open late) in
     let early : HasCleanDisk old = omega (arith, late, found.survives.clean) in
     subst (λ (d : Database). IsProject (project_of_rows (seen_in domain (rows_named d)))) (sym stays.now) (c.requires.rules early stays.was_open)
+
+pub returns-in-Ok-Some-clause-disk : goal.returns-in-Ok-Some-clause-disk
+returns-in-Ok-Some-clause-disk g c =
+    cuts_behind (state g.S.Store c.args.connection.now) (state g.S.Store c.look_up_header.new.connection) (state g.S.Store c.hand_rows.new.connection) _ _ c.hand_rows.result
+    c.in-Ok-Some.ensures.found.survives c.hand_rows.ensures.looked.survives c.hand_rows.ensures.disk
+
+pub returns-in-Err-clause-disk : goal.returns-in-Err-clause-disk
+returns-in-Err-clause-disk g c = failure_cuts (state g.S.Store c.args.connection.now) (state g.S.Store c.look_up_header.new.connection) c.in-Err.failure.lost c.in-Err.ensures.disk

@@ -5,6 +5,7 @@ use Rattle.sqlite.specs.State.{HasCleanDisk}
 use Rattle.sql_meaning.specs.Meaning.{project_of_rows}
 use Rattle.sql_exports.specs.Entries.{obsolete_of}
 use Rattle.sql_exports.specs.Handing.{Gives}
+use Rattle.sql_exports.proofs.CutsBlame.{never_cuts}
 use Rattle.sql_exports.proofs.Pieces.{given_behind}
 use Rattle.sql_exports.proofs.UnitColumns.{unit_columns}
 use Rattle.sql_exports.proofs.Whole.{obsolete_read}
@@ -24,7 +25,7 @@ returns-in-Ok-clause-handed g c clean =
     let obsolete = obsolete_of (project_of_rows tables) lang in
     let one = c.in-Ok.ensures.handed obsolete read clean in
     subst (λ es. Gives g.K.EntrySink.Took g.K.EntrySink.Refuses c.args.sink.now c.hand.new.sink es c.hand.result) (append-nil (c.args.held ∷ obsolete))
-    (given_behind g.K.EntrySink.Took g.K.EntrySink.Refuses g.met.K.EntrySink.more c.args.sink.now c.hand_obsolete.new.sink c.hand.new.sink (c.args.held ∷ obsolete) [] c.hand_obsolete.new.held one c.hand.result c.hand.ensures)
+    (given_behind g.K.EntrySink.Took g.K.EntrySink.Refuses g.met.K.EntrySink.more c.args.sink.now c.hand_obsolete.new.sink c.hand.new.sink (c.args.held ∷ obsolete) [] c.hand_obsolete.new.held one c.hand.result c.hand.ensures.handed)
 
 pub returns-in-Err-clause-handed : goal.returns-in-Err-clause-handed
 returns-in-Err-clause-handed g c clean =
@@ -34,3 +35,6 @@ returns-in-Err-clause-handed g c clean =
     let tables = seen_in c.args.domain.now (rows_named old.now) in
     let read = obsolete_read tables (domain_rows old.now ready c.args.domain.now) (unit_columns old.now ready c.args.domain.now) c.args.lang.now in
     c.in-Err.ensures.handed (obsolete_of (project_of_rows tables) c.args.lang.now) read clean
+
+pub returns-in-Ok-clause-disk : goal.returns-in-Ok-clause-disk
+returns-in-Ok-clause-disk g c = never_cuts (state g.S.Store c.args.connection.now) (state g.S.Store c.hand_obsolete.new.connection) c.hand.result c.hand.ensures.told

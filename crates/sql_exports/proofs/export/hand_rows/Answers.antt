@@ -7,6 +7,7 @@ use Rattle.sql_meaning.specs.Meaning.{project_of_rows}
 use Rattle.sql_meaning.proofs.DomainOfficeRows.{domain_rows}
 use Rattle.sql_exports.specs.Entries.{messages_of, obsolete_of}
 use Rattle.sql_exports.specs.Handing.{Gives}
+use Rattle.sql_exports.proofs.CutsBlame.{cuts_behind}
 use Rattle.sql_exports.proofs.Pieces.{cut_before, given_behind, same_now}
 use Rattle.sql_exports.proofs.UnitsThere.{unit_at, units_there}
 use Rattle.sql_exports.proofs.Whole.{messages_read}
@@ -51,3 +52,8 @@ returns-in-Err-clause-handed g c clean =
     let messages = messages_of (project_of_rows tables) lang in
     let one = c.in-Err.ensures.handed (unit_at tables office rules lang there) messages (units_there tables office rules lang there) (messages_read tables office rules lang there) clean in
     cut_before g.K.EntrySink.Took g.K.EntrySink.Refuses c.args.sink.now c.hand_messages.new.sink (c.args.header ∷ messages) (obsolete_of (project_of_rows tables) lang) c.in-Err.fault one
+
+pub returns-in-Ok-clause-disk : goal.returns-in-Ok-clause-disk
+returns-in-Ok-clause-disk g c =
+    cuts_behind (state g.S.Store c.args.connection.now) (state g.S.Store c.hand_messages.new.connection) (state g.S.Store c.hand_obsolete_behind.new.connection) _ _ c.hand_obsolete_behind.result
+    c.in-Ok.ensures.looked.survives c.hand_obsolete_behind.ensures.looked.survives c.hand_obsolete_behind.ensures.disk

@@ -21,12 +21,12 @@ returns-in_err-header-clause-unread c =
     handed_on c.from_residual-in_err-header.result c.in_err-header.field-0.0 (is_language row) first c.from_residual-in_err-header.ensures (first_fails first (holds_text (is_rule_of (shown_header row)) 1 row)) c.in_err-header.ensures.unread
 
 pub returns-clause-unread : goal.returns-clause-unread
-returns-clause-unread c = λ disk.
+returns-clause-unread c = λ other.
     let row = c.args.row.now in
     let t = c.as_str.result.now in
     let holds : column row 1 ≡ Words t = search rules in
     second_fails (holds_text is_header 0 row) (holds_text (is_rule_of (shown_header row)) 1 row) (text_falls 1 row t holds (is_rule_of (shown_header row)) (ap (λ h. is_rule_of h t) (sym c.in_ok-header.ensures.shown)
-    ∙ rule_falls t c.in_ok-header.header (λ rule field is. not_given c.in-Err.fault (λ memory. memory_tells c.from.result (c.from.ensures.1 memory) disk) rule (c.in-Err.ensures.back rule field is))))
+    ∙ rule_falls t c.in_ok-header.header (λ rule field is. not_given c.in-Err.fault (λ memory. memory_tells c.from.result (c.from.ensures.1 memory) other) rule (c.in-Err.ensures.back rule field is))))
 
 pub returns-in-Ok-clause-stands : goal.returns-in-Ok-clause-stands
 returns-in-Ok-clause-stands c =

@@ -11,3 +11,6 @@ returns-in-Err-clause-refused g c = record {
   again = c.in-Err.ensures.again;
   same = c.in-Err.ensures.handed_back;
 }
+
+pub returns-in-Ok-clause-running : goal.returns-in-Ok-clause-running
+returns-in-Ok-clause-running g c = rw c.new.ensures c.in-Ok.ensures.adopted.running

@@ -13,3 +13,12 @@ pub returns-in-Err-clause-printed : goal.returns-in-Err-clause-printed
 returns-in-Err-clause-printed g c clean =
     let as_writer = writer_at g.W.ByteSink.taken g.W.ByteSink.failed in
     not_handed_on c.args.after (state g.S.Store (connection_of g.S.Store c.args.tables.now)).now (as_writer c.args.w.now) (as_writer c.print_lines.new.w) (as_writer c.hand_on.new.w) (c.in_ok-print_lines.ensures.printed clean) c.in-Err.ensures.sent
+
+pub returns-in_err-print_lines-clause-runs_on : goal.returns-in_err-print_lines-clause-runs_on
+returns-in_err-print_lines-clause-runs_on g c = c.in_err-print_lines.ensures.runs_on
+
+pub returns-in-Ok-clause-runs_on : goal.returns-in-Ok-clause-runs_on
+returns-in-Ok-clause-runs_on g c = c.in_ok-print_lines.ensures.runs_on
+
+pub returns-in-Err-clause-runs_on : goal.returns-in-Err-clause-runs_on
+returns-in-Err-clause-runs_on g c = c.in_ok-print_lines.ensures.runs_on

@@ -1,12 +1,14 @@
 use Rattle.std.proofs.Common.{refl}
 use Rattle.store_sql.specs.Tables.{connection_of}
 use Rattle.store_commands.specs.Runs.{worked, refused}
+use Rattle.tables.proofs.RunsOn.{runs_since, stopped_by_disk}
 use Rattle.store_commands.proofs.runs.export_store.Goals as goal
 
 pub returns-in-Ok-clause-exported : goal.returns-in-Ok-clause-exported
 returns-in-Ok-clause-exported g c =
     let closed = c.close_desk.ensures.closed in
-    rw (c.close_desk.ensures.held, c.close_desk.ensures.stopped, c.close_desk.ensures.status) (worked (connection_of g.S.Store c.in-Ok.desk) c.in-Ok.ensures.opened (c.export_whole-status.ensures.printed, c.export_whole-status.ensures.same) (rw c.close_desk.ensures.held at closed))
+    let ran = c.export_whole-status.ensures.runs_on _ (runs_since c.in-Ok.desk c.in-Ok.ensures.opened.holds.is_open c.in-Ok.ensures.running) in
+    rw (c.close_desk.ensures.held, c.close_desk.ensures.stopped, c.close_desk.ensures.status) (worked (connection_of g.S.Store c.in-Ok.desk) c.in-Ok.ensures.opened (c.export_whole-status.ensures.printed, c.export_whole-status.ensures.same, λ clean stopped. stopped_by_disk _ c.export_whole-status.new.desk ran clean stopped) (rw c.close_desk.ensures.held at closed))
 
 pub returns-in-Err-clause-exported : goal.returns-in-Err-clause-exported
 returns-in-Err-clause-exported g c = refused c.in-Err.field-0.fault c.in-Err.ensures.refused refl c.tell_store_fault.ensures.told c.tell_store_fault.ensures.status

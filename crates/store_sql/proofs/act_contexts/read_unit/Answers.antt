@@ -13,6 +13,7 @@ use Rattle.store_sql.specs.OfficeParts.{part_with}
 use Rattle.store_sql.specs.TablesInFile.{IsPartAtHand}
 use Rattle.store_sql.proofs.AtHand.{part_still, part_found}
 use Rattle.store_sql.proofs.PartsTold.{told_without}
+use Rattle.sql_decoding.proofs.DiskFailures.{failure_told}
 use Rattle.store_sql.proofs.act_contexts.read_unit.Goals as goal
 
 pub read_unit_beside-requires-clause-held : goal.read_unit_beside-requires-clause-held
@@ -42,3 +43,10 @@ returns-clause-held g c =
     let Told : OfficePart → Type 0 = (λ (part : OfficePart). option_map (part_with domain lang name) found ≡ Some part) in
     part_found (state g.S.Store c.args.connection.now) (state g.S.Store c.read_unit_anew.new.connection) found P Told c.part_to_keep.result c.in_ok-found.ensures.found c.part_to_keep.ensures
     (λ db part is told. told_without (office_of_rows (rows_named db)) domain lang name c.args.key.now found part is told)
+
+pub returns-in-Some-clause-disk : goal.returns-in-Some-clause-disk
+returns-in-Some-clause-disk g c = c.read_unit_beside.ensures.disk
+
+pub returns-in_err-found-clause-disk : goal.returns-in_err-found-clause-disk
+returns-in_err-found-clause-disk g c =
+    failure_told (state g.S.Store c.args.connection.now) (state g.S.Store c.read_unit_anew.new.connection) _ c.from_residual.result c.from_residual.ensures.1 c.in_err-found.ensures.disk

@@ -3,6 +3,7 @@ use Rattle.sqlite.specs.Effect.{Database}
 use Rattle.sqlite.specs.Held.{state}
 use Rattle.sqlite.specs.State.{HasCleanDisk}
 use Rattle.store_sql.specs.RecordsBehind.{IsPlaceOf, WereHanded}
+use Rattle.store_sql.proofs.HandedBlame.{failure_hands, none_hands, hands_behind}
 use Rattle.store_sql.proofs.RecordsHanded.{none_handed}
 use Rattle.store_sql.proofs.HeadsShown.{still_heads}
 use Rattle.store_sql.proofs.recorded.hand_after.Goals as goal
@@ -33,3 +34,14 @@ returns-in-Ok-None-clause-handed g c clean =
 pub returns-in-Err-clause-handed : goal.returns-in-Err-clause-handed
 returns-in-Err-clause-handed g c clean =
     none_handed g.K.RowSink.Took g.K.RowSink.Refuses (Some c.args.number) (state g.S.Store c.args.connection.now).now g.met.K.RowSink.none c.args.sink.now c.in-Err.failure.lost
+
+pub returns-in-Ok-Some-clause-disk : goal.returns-in-Ok-Some-clause-disk
+returns-in-Ok-Some-clause-disk g c =
+    hands_behind (state g.S.Store c.args.connection.now) (state g.S.Store c.read_place.new.connection) (state g.S.Store c.hand_behind.new.connection) _ _ c.hand_behind.result
+    c.in-Ok-Some.ensures.found.survives c.hand_behind.ensures.looked.survives c.hand_behind.ensures.disk
+
+pub returns-in-Ok-None-clause-disk : goal.returns-in-Ok-None-clause-disk
+returns-in-Ok-None-clause-disk g c = none_hands (state g.S.Store c.args.connection.now) (state g.S.Store c.read_place.new.connection)
+
+pub returns-in-Err-clause-disk : goal.returns-in-Err-clause-disk
+returns-in-Err-clause-disk g c = failure_hands (state g.S.Store c.args.connection.now) (state g.S.Store c.read_place.new.connection) c.in-Err.failure.lost c.in-Err.ensures.disk

@@ -3,6 +3,7 @@ use Rattle.sqlite.specs.Effect.{Database}
 use Rattle.sqlite.specs.Held.{state}
 use Rattle.sqlite.specs.State.{HasCleanDisk}
 use Rattle.store_sql.specs.RecordsBehind.{WereHanded}
+use Rattle.store_sql.proofs.HandedBlame.{failure_hands, hands_behind}
 use Rattle.store_sql.proofs.RecordsHanded.{none_handed}
 use Rattle.store_sql.proofs.HeadsShown.{still_heads}
 use Rattle.store_sql.proofs.recorded.hand_all.Goals as goal
@@ -24,3 +25,11 @@ returns-in-Ok-clause-handed g c clean =
 pub returns-in-Err-clause-handed : goal.returns-in-Err-clause-handed
 returns-in-Err-clause-handed g c clean =
     none_handed g.K.RowSink.Took g.K.RowSink.Refuses None (state g.S.Store c.args.connection.now).now g.met.K.RowSink.none c.args.sink.now c.in-Err.failure.lost
+
+pub returns-in-Ok-clause-disk : goal.returns-in-Ok-clause-disk
+returns-in-Ok-clause-disk g c =
+    hands_behind (state g.S.Store c.args.connection.now) (state g.S.Store c.look.new.connection) (state g.S.Store c.hand_every.new.connection) _ _ c.hand_every.result
+    c.in-Ok.ensures.looked.survives c.hand_every.ensures.looked.survives c.hand_every.ensures.disk
+
+pub returns-in-Err-clause-disk : goal.returns-in-Err-clause-disk
+returns-in-Err-clause-disk g c = failure_hands (state g.S.Store c.args.connection.now) (state g.S.Store c.look.new.connection) c.in-Err.failure.lost c.in-Err.ensures.disk

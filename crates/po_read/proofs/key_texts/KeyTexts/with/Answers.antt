@@ -12,9 +12,9 @@ invariant_of-result c =
     let bytes = c.self.inside.bytes.items in
     let grown = c.extend_from_slice.new.self.items in
     let all = c.add.new.bytes.items in
-    let place : Place = record { start = c.len-start.result; end = c.len-end.result; ctx_end = c.in_ok-ctx_end.ctx_end } in
-    let start : c.len-start.result ≡ length bytes = omega (arith, c.len-start.ensures) in
-    let end : c.len-end.result ≡ length grown = omega (arith, c.len-end.ensures) in
+    let place : Place = record { start = c.in_ok-start.start; end = c.in_ok-end.end; ctx_end = c.in_ok-ctx_end.ctx_end } in
+    let start : c.in_ok-start.start ≡ length bytes = c.in_ok-start.ensures ∙ omega (arith, c.len.ensures) in
+    let end : c.in_ok-end.end ≡ length grown = c.in_ok-end.ensures ∙ omega (arith, c.len-2.ensures) in
     let grows : grown ≡ bytes ++ c.args.id.now = c.in_ok-extend_from_slice.ensures.items ∙ ap (λ (t : List ℕ). bytes ++ t) (c.as_bytes.ensures.value ∙ c.as_str.ensures.value) in
     subst (λ (ps : List Place). AllByRecursion (IsPlaced (length all)) ps) (sym c.in_ok-push.ensures.items)
     (placed_added bytes grown all c.self.inside.places.items place c.args.ctx.now c.args.id.now c.self.invariant start grows end c.in_ok-ctx_end.ensures.bytes c.in_ok-ctx_end.ensures.end)
@@ -24,9 +24,9 @@ returns c =
     let bytes = c.self.inside.bytes.items in
     let grown = c.extend_from_slice.new.self.items in
     let all = c.add.new.bytes.items in
-    let place : Place = record { start = c.len-start.result; end = c.len-end.result; ctx_end = c.in_ok-ctx_end.ctx_end } in
-    let start : c.len-start.result ≡ length bytes = omega (arith, c.len-start.ensures) in
-    let end : c.len-end.result ≡ length grown = omega (arith, c.len-end.ensures) in
+    let place : Place = record { start = c.in_ok-start.start; end = c.in_ok-end.end; ctx_end = c.in_ok-ctx_end.ctx_end } in
+    let start : c.in_ok-start.start ≡ length bytes = c.in_ok-start.ensures ∙ omega (arith, c.len.ensures) in
+    let end : c.in_ok-end.end ≡ length grown = c.in_ok-end.ensures ∙ omega (arith, c.len-2.ensures) in
     let grows : grown ≡ bytes ++ c.args.id.now = c.in_ok-extend_from_slice.ensures.items ∙ ap (λ (t : List ℕ). bytes ++ t) (c.as_bytes.ensures.value ∙ c.as_str.ensures.value) in
     ap (map (key_at_place all)) c.in_ok-push.ensures.items
     ∙ keys_added bytes grown all c.self.inside.places.items place c.args.ctx.now c.args.id.now c.self.invariant start grows end c.in_ok-ctx_end.ensures.bytes c.in_ok-ctx_end.ensures.end

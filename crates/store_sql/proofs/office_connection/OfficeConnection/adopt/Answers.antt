@@ -1,4 +1,4 @@
-use Rattle.std.proofs.Common.{false, refl, subst, sym}
+use Rattle.std.proofs.Common.{None, false, refl, subst, sym}
 use Rattle.sqlite.specs.Held.{state}
 use Rattle.sql_files.proofs.Refused.{lost_alone}
 use Rattle.store_sql.proofs.Adopted.{keeps_adopted, are_adopted}
@@ -15,7 +15,7 @@ invariant_of-result g c = (
 
 pub returns-in-Ok-clause-adopted : goal.returns-in-Ok-clause-adopted
 returns-in-Ok-clause-adopted g c =
-    are_adopted g.S.Store c.args.connection c.take_over.new.connection c.in-Ok.ensures.taken (λ h db is_open left. g.met.S.Store.settled h.store db is_open left) (false, false) refl
+    are_adopted g.S.Store c.args.connection c.take_over.new.connection c.in-Ok.ensures.taken (λ h db is_open left. g.met.S.Store.settled h.store db is_open left) (false, None) refl
 
 pub returns-in-Err-clause-again : goal.returns-in-Err-clause-again
 returns-in-Err-clause-again g c = λ clean shown file. lost_alone (state g.S.Store c.args.connection).now shown file c.in-Err.fault (c.in-Err.ensures.refused clean)

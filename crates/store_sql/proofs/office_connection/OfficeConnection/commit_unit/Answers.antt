@@ -1,5 +1,4 @@
-use Rattle.std.specs.Prelude.{is_some}
-use Rattle.std.proofs.Common.{◌≡◌, Ok, Err, ap, sym, subst, IsTrue}
+use Rattle.std.proofs.Common.{◌≡◌, ◌∙◌, Ok, Err, ap, sym, subst, IsTrue}
 use Rattle.sqlite.specs.Held.{state}
 use Rattle.sqlite.specs.State.{HasCleanDisk}
 use Rattle.office_specification.specs.OfficeRules.{KeepsRules}
@@ -7,9 +6,10 @@ use Rattle.tables.specs.KeptByCalls.{IsKept}
 use Rattle.tables.specs.declared.faults.Lost.{Lost}
 use Rattle.tables.specs.declared.faults.Lost.TheVariants.{Disk}
 use Rattle.sql_meaning.specs.Domains.{meaning_by_domain}
-use Rattle.store_sql.specs.TablesInFile.{is_honest, is_whole, means, may_leave, faults, is_stopped}
+use Rattle.store_sql.specs.TablesInFile.{is_honest, is_whole, means, may_leave, faults, is_stopped, held_part}
 use Rattle.store_sql.proofs.ActsCommitted.{left_by_act, IsOfUnit, act_keeps, act_tells, act_done, act_kept}
 use Rattle.store_sql.proofs.AtHand.{none_at_hand}
+use Rattle.store_sql.proofs.StillKept.{failed_since}
 use Rattle.sqlite.specs.Effect.{Database}
 use Rattle.store_sql.proofs.office_connection.OfficeConnection.commit_unit.Goals as goal
 use Rattle.sql_schema.specs.Layouts.{rows_named}
@@ -59,12 +59,12 @@ returns-in-Ok-clause-kept g c =
     subst (λ t. is_honest g.S.Store t → IsOfUnit (rows_named (state g.S.Store t.0).now) c.args.domain.now c.args.lang.now c.args.key.now c.args.write.now) (sym c.self.view_is) c.requires.possible in
     let rules : HasCleanDisk (state g.S.Store c.self.inside.connection) → KeepsRules (left_by_act (rows_named (state g.S.Store c.self.inside.connection).now) c.args.row.now c.args.domain.now c.args.lang.now c.args.key.now c.args.write.now) =
     subst (λ t. is_honest g.S.Store t → KeepsRules (left_by_act (rows_named (state g.S.Store t.0).now) c.args.row.now c.args.domain.now c.args.lang.now c.args.key.now c.args.write.now)) (sym c.self.view_is) c.requires.rules in
-    subst (λ t. IsKept {A = Unit} {E = Lost} (is_honest g.S.Store) (is_whole g.S.Store) (means g.S.Store) (may_leave g.S.Store) (faults g.S.Store) (is_stopped g.S.Store) t (c.commit_act.new.connection, (c.self.inside.stopped, is_some c.forget.new.office)) (Ok c.in-Ok.field-0) Disk
+    subst (λ t. IsKept {A = Unit} {E = Lost} (is_honest g.S.Store) (is_whole g.S.Store) (means g.S.Store) (may_leave g.S.Store) (faults g.S.Store) (is_stopped g.S.Store) t (c.commit_act.new.connection, (c.self.inside.stopped, held_part c.forget.new.office)) (Ok c.in-Ok.field-0) Disk
     (λ m. m ≡ left_by_act (rows_named (state g.S.Store t.0).now) c.args.row.now c.args.domain.now c.args.lang.now c.args.key.now c.args.write.now))
     c.self.view_is
     (act_kept g.S.Store c.self.inside.connection c.commit_act.new.connection (Ok c.in-Ok.field-0) c.args.row.now c.args.domain.now c.args.lang.now c.args.key.now c.args.write.now
-    c.self.invariant.1 c.key_fits.ensures.strings c.record_fits.ensures c.write_fits.ensures possible rules c.in-Ok.ensures.committed (Ok c.in-Ok.field-0) (c.self.inside.stopped, is_some c.self.inside.office) (c.self.inside.stopped, is_some c.forget.new.office)
-    (λ h db is_open left. g.met.S.Store.settled h.store db is_open left) c.if-self.false (λ is_open. is_open) tt (λ stopped. absurd (let no = c.if-self.false in let yes = stopped in cc)))
+    c.self.invariant.1 c.key_fits.ensures.strings c.record_fits.ensures c.write_fits.ensures possible rules c.in-Ok.ensures.committed (Ok c.in-Ok.field-0) (c.self.inside.stopped, held_part c.self.inside.office) (c.self.inside.stopped, held_part c.forget.new.office)
+    (λ h db is_open left. g.met.S.Store.settled h.store db is_open left) c.if-self.false (λ is_open. is_open) tt (λ stopped. absurd (let no = c.if-self.false in let yes = stopped in cc)) tt)
 
 pub returns-in-Err-clause-kept : goal.returns-in-Err-clause-kept
 returns-in-Err-clause-kept g c =
@@ -73,12 +73,13 @@ returns-in-Err-clause-kept g c =
     let rules : HasCleanDisk (state g.S.Store c.self.inside.connection) → KeepsRules (left_by_act (rows_named (state g.S.Store c.self.inside.connection).now) c.args.row.now c.args.domain.now c.args.lang.now c.args.key.now c.args.write.now) =
     subst (λ t. is_honest g.S.Store t → KeepsRules (left_by_act (rows_named (state g.S.Store t.0).now) c.args.row.now c.args.domain.now c.args.lang.now c.args.key.now c.args.write.now)) (sym c.self.view_is) c.requires.rules in
     let kept = act_kept g.S.Store c.self.inside.connection c.commit_act.new.connection (Err c.in-Err.failure) c.args.row.now c.args.domain.now c.args.lang.now c.args.key.now c.args.write.now
-    c.self.invariant.1 c.key_fits.ensures.strings c.record_fits.ensures c.write_fits.ensures possible rules c.in-Err.ensures.committed (Err c.lost.result) (c.self.inside.stopped, is_some c.self.inside.office) c.lost.new.self.1
-    (λ h db is_open left. g.met.S.Store.settled h.store db is_open left) c.if-self.false (λ is_open. tt) c.lost.ensures.stops (λ stopped. ap Err (c.lost.ensures.runs c.if-self.false stopped)) in
+    c.self.invariant.1 c.key_fits.ensures.strings c.record_fits.ensures c.write_fits.ensures possible rules c.in-Err.ensures.committed (Err c.lost.result) (c.self.inside.stopped, held_part c.self.inside.office) c.lost.new.self.1
+    (λ h db is_open left. g.met.S.Store.settled h.store db is_open left) c.if-self.false (λ is_open. tt) c.lost.ensures.stops (λ stopped. ap Err (c.lost.ensures.runs c.if-self.false stopped))
+    (λ clean is_open disk. failed_since (state g.S.Store c.self.inside.connection) (state g.S.Store c.commit_act.new.connection) is_open (c.in-Err.ensures.disk clean (sym c.lost.ensures.result ∙ disk))) in
     subst (λ t. IsKept {A = Unit} {E = Lost} (is_honest g.S.Store) (is_whole g.S.Store) (means g.S.Store) (may_leave g.S.Store) (faults g.S.Store) (is_stopped g.S.Store) t c.lost.new.self (Err c.lost.result) Disk
     (λ m. m ≡ left_by_act (rows_named (state g.S.Store t.0).now) c.args.row.now c.args.domain.now c.args.lang.now c.args.key.now c.args.write.now))
     c.self.view_is
-    (subst (λ h. IsKept {A = Unit} {E = Lost} (is_honest g.S.Store) (is_whole g.S.Store) (means g.S.Store) (may_leave g.S.Store) (faults g.S.Store) (is_stopped g.S.Store) (c.self.inside.connection, (c.self.inside.stopped, is_some c.self.inside.office)) (h, c.lost.new.self.1) (Err c.lost.result) Disk
+    (subst (λ h. IsKept {A = Unit} {E = Lost} (is_honest g.S.Store) (is_whole g.S.Store) (means g.S.Store) (may_leave g.S.Store) (faults g.S.Store) (is_stopped g.S.Store) (c.self.inside.connection, (c.self.inside.stopped, held_part c.self.inside.office)) (h, c.lost.new.self.1) (Err c.lost.result) Disk
     (λ m. m ≡ left_by_act (rows_named (state g.S.Store c.self.inside.connection).now) c.args.row.now c.args.domain.now c.args.lang.now c.args.key.now c.args.write.now))
     (sym c.lost.ensures.connection) kept)
 

@@ -1,4 +1,3 @@
-use Rattle.std.specs.Prelude.{is_some}
 use Rattle.std.proofs.Common.{◌≡◌, Ok, Option, subst, IsTrue, Err, ap, sym}
 use Rattle.units.specs.Office.{project_in}
 use Rattle.office_specification.specs.Tally.{counts_of}
@@ -10,9 +9,9 @@ use Rattle.tables.specs.Stops.{Nothing}
 use Rattle.tables.specs.declared.faults.Lost.{Lost}
 use Rattle.tables.specs.declared.faults.Lost.TheVariants.{Disk}
 use Rattle.sql_meaning.specs.Domains.{office_of_rows, meaning_by_domain}
-use Rattle.store_sql.specs.TablesInFile.{is_honest, is_whole, means, may_leave, faults, is_stopped}
+use Rattle.store_sql.specs.TablesInFile.{is_honest, is_whole, means, may_leave, faults, is_stopped, held_part}
 use Rattle.store_sql.proofs.AtHand.{at_hand_still, none_at_hand, part_still}
-use Rattle.store_sql.proofs.StillKept.{keeps_still, kept_looked_up}
+use Rattle.store_sql.proofs.StillKept.{keeps_still, kept_looked_up, kept_lost}
 use Rattle.sqlite.specs.State.{HasCleanDisk}
 use Rattle.store_sql.proofs.office_connection.OfficeConnection.counts.Goals as goal
 use Rattle.sql_schema.specs.Layouts.{rows_named}
@@ -34,11 +33,11 @@ returns-in-Ok-clause-answer g c = λ clean.
 
 pub returns-in-Ok-clause-kept : goal.returns-in-Ok-clause-kept
 returns-in-Ok-clause-kept g c =
-    subst (λ old. IsKept {A = Option Tally} {E = Lost} (is_honest g.S.Store) (is_whole g.S.Store) (means g.S.Store) (may_leave g.S.Store) (faults g.S.Store) (is_stopped g.S.Store) old (c.read_tally.new.connection, (c.self.inside.stopped, is_some c.self.inside.office)) (Ok c.in-Ok.counts) Disk Nothing)
+    subst (λ old. IsKept {A = Option Tally} {E = Lost} (is_honest g.S.Store) (is_whole g.S.Store) (means g.S.Store) (may_leave g.S.Store) (faults g.S.Store) (is_stopped g.S.Store) old (c.read_tally.new.connection, (c.self.inside.stopped, held_part c.self.inside.office)) (Ok c.in-Ok.counts) Disk Nothing)
     c.self.view_is
     (kept_looked_up g.S.Store c.self.inside.connection c.read_tally.new.connection (Ok c.in-Ok.counts) (λ db r. r ≡ counts_of (project_in (office_of_rows (rows_named db)) c.args.domain.now) c.args.lang.now)
-    c.self.invariant.1 c.in-Ok.ensures.found (Ok c.in-Ok.counts) (c.self.inside.stopped, is_some c.self.inside.office) (c.self.inside.stopped, is_some c.self.inside.office)
-    (λ h db is_open left. g.met.S.Store.settled h.store db is_open left) (λ h is_open. g.met.S.Store.stays h.store is_open) c.if-self.false (λ is_open. is_open) tt (λ stopped. absurd (let no = c.if-self.false in let yes = stopped in cc)))
+    c.self.invariant.1 c.in-Ok.ensures.found (Ok c.in-Ok.counts) (c.self.inside.stopped, held_part c.self.inside.office) (c.self.inside.stopped, held_part c.self.inside.office)
+    (λ h db is_open left. g.met.S.Store.settled h.store db is_open left) (λ h is_open. g.met.S.Store.stays h.store is_open) c.if-self.false (λ is_open. is_open) tt (λ stopped. absurd (let no = c.if-self.false in let yes = stopped in cc)) tt)
 
 pub invariant_of-self-in-Err : goal.invariant_of-self-in-Err
 invariant_of-self-in-Err g c =
@@ -63,3 +62,12 @@ returns-in-Err-clause-same g c =
     subst (λ h. HasCleanDisk (state g.S.Store h) → IsTrue (state g.S.Store h).is_open → meaning_by_domain (rows_named (state g.S.Store h).now) ≡ means g.S.Store c.args.self.now) (sym c.lost.ensures.connection)
     (λ clean is_open. subst (λ t. meaning_by_domain (rows_named (state g.S.Store new).now) ≡ means g.S.Store t) c.self.view_is
     (ap (λ (db : Database). meaning_by_domain (rows_named db)) (c.in-Err.ensures.found.same clean is_open).now))
+
+pub returns-in-Err-clause-kept : goal.returns-in-Err-clause-kept
+returns-in-Err-clause-kept g c =
+    let P : Database → Option Tally → Type 0 = (λ (db : Database) (r : Option Tally). r ≡ counts_of (project_in (office_of_rows (rows_named db)) c.args.domain.now) c.args.lang.now) in
+    subst (λ old. IsKept {A = Option Tally} {E = Lost} (is_honest g.S.Store) (is_whole g.S.Store) (means g.S.Store) (may_leave g.S.Store) (faults g.S.Store) (is_stopped g.S.Store) old c.lost.new.self (Err c.lost.result) Disk Nothing)
+    c.self.view_is
+    (kept_lost g.S.Store c.self.inside.connection c.read_tally.new.connection c.in-Err.failure P c.self.invariant.1 c.in-Err.ensures.found c.in-Err.ensures.disk c.lost.result
+    (c.self.inside.stopped, held_part c.self.inside.office) c.lost.new.self
+    (λ h db is_open left. g.met.S.Store.settled h.store db is_open left) (λ h is_open. g.met.S.Store.stays h.store is_open) c.if-self.false c.lost.ensures.result c.lost.ensures.connection c.lost.ensures.stops c.lost.ensures.runs)

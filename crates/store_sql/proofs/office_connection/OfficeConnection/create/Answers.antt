@@ -1,4 +1,4 @@
-use Rattle.std.proofs.Common.{false, refl, subst, sym}
+use Rattle.std.proofs.Common.{None, false, refl, subst, sym}
 use Rattle.sqlite.specs.Held.{state}
 use Rattle.store_sql.proofs.Made.{keeps_made, are_made}
 use Rattle.store_sql.specs.TablesInFile.{IsPartAtHand}
@@ -16,4 +16,4 @@ invariant_of-result g c = (
 pub returns-in-Ok-clause-made : goal.returns-in-Ok-clause-made
 returns-in-Ok-clause-made g c =
     are_made g.S.Store c.args.start.now (state g.S.Store c.args.connection) c.make.new.connection c.in-Ok.field-0 c.in-Ok.ensures.committed
-    (λ h db is_open left. g.met.S.Store.settled h.store db is_open left) (false, false) refl
+    (λ h db is_open left. g.met.S.Store.settled h.store db is_open left) (false, None) refl

@@ -1,0 +1,192 @@
+-- What the walk over all suggestions shows of the votes on each.
+use Rattle.std.proofs.Common.{◌≡◌, inl, inr, ℕ, ℤ, pos, negsuc, List, [], ◌∷◌, ◌++◌, ◌&&◌, map, filter, length, codes, true, refl, sym, ap, subst, ◌∙◌}
+use Rattle.std.specs.Prelude.{min}
+use Rattle.std.specs.List.{list_all}
+use Rattle.std.specs.List.Sorted.{IsPermutation}
+use Rattle.std.specs.Ordering.{is_eq}
+use Rattle.std.proofs.Math.Bool.{and-true}
+use Rattle.sqlite.specs.Collation.TheVariants.{Binary}
+use Rattle.sqlite.specs.declared.types.Value.{Value}
+use Rattle.sqlite.specs.declared.types.Value.TheVariants.{Null, Int, Text}
+use Rattle.sqlite.specs.Order.{Row, column}
+use Rattle.sqlite.specs.Tree.{Trees}
+use Rattle.sqlite.specs.Term.{Term, col, lit, op2}
+use Rattle.sqlite.specs.Listing.{understood}
+use Rattle.sqlite.specs.Ops.{binary}
+use Rattle.sqlite.specs.Program.{overlay}
+use Rattle.sqlite.specs.Query.{Query, IsAnswer, inner, end}
+use Rattle.sqlite.specs.State.{State, Begins, Shown}
+use Rattle.sqlite.proofs.Callers.{IsPlain, reads_as, begins_as}
+use Rattle.sqlite_sql.specs.Ops.{is_true}
+use Rattle.sqlite_sql.specs.Term.{Env, eval_all, holds}
+use Rattle.sqlite_sql.specs.Query.{Join, matches_as, first, counted, sort_cmp, least, shown_by}
+use Rattle.sqlite_sql.specs.declared.ops.CompareOp.TheVariants as compare
+use Rattle.sqlite_sql.specs.declared.ops.BinaryOp.TheVariants as by
+use Rattle.sqlite_tied.specs.Compute.{everything}
+use Rattle.sqlite_value.proofs.OrderLemmas.{value_cmp-Int}
+use Rattle.sqlite_rules.specs.Edit.{id_in}
+use Rattle.sqlite_rules.specs.Lists.{Has}
+use Rattle.sql_laws.proofs.Comparisons.{texts_compared, ints_compared}
+use Rattle.sql_streams.specs.RowQueries.{row_query, first_column}
+use Rattle.sql_streams.proofs.RowByRow.{row_by_row, in_its_order}
+use Rattle.sql_streams.proofs.Subqueries.{counted_in, first_in}
+use Rattle.sql_schema.specs.Inside.{IsReadyFor}
+use Rattle.sql_schema.specs.Keys.{first_text, has_text}
+use Rattle.sql_schema.specs.Layouts.{by_domain, Layout, NamedRows, made_last, from_first, from_second, schema_of, placed, rows_named}
+use Rattle.sql_schema.specs.Schema.{d_suggestion_table, d_vote_table, d_vote_sum_table}
+use Rattle.sql_schema.proofs.DomainRows.{d_suggestion_texts, d_vote_texts, d_vote_sum_texts}
+use Rattle.sql_schema.proofs.Layouts.{d_suggestion_placed, d_vote_placed, d_vote_sum_placed}
+use Rattle.sql_schema.proofs.Queries.{Asks, filtered_same, rows_read}
+use Rattle.sql_schema.proofs.TextKeys.{holds_int}
+use Rattle.sql_statements.specs.SummedVotes.{is_integer, is_counted, votes_counted, most_counted, told, summed, ShowsSummed}
+use Rattle.sql_statements.specs.Tables.{by_columns}
+
+abbrev pub sums_text : List ℕ
+sums_text = codes "SELECT number, (SELECT sum FROM d_vote_sum WHERE d_vote_sum.number = d_suggestion.number) AS kept, (SELECT count(*) FROM d_vote WHERE d_vote.number = d_suggestion.number AND value = 1) AS votes_for, (SELECT count(*) FROM d_vote WHERE d_vote.number = d_suggestion.number AND value = -1) AS against FROM d_suggestion ORDER BY number"
+
+-- the row in this slot has the suggestion's number
+abbrev is_its : ℕ → Term
+is_its slot = op2 (by.Compare compare.Eq Binary) (col slot 1) (col 1 1)
+
+-- and the vote this value
+abbrev are_its : ℕ → ℤ → List Term
+are_its slot value = is_its slot ∷ op2 (by.Compare compare.Eq Binary) (col slot 3) (lit (Int value)) ∷ []
+
+abbrev shown_terms : List Term
+shown_terms = col 1 1 ∷ col 2 0 ∷ col 3 0 ∷ col 4 0 ∷ []
+
+abbrev beside : Layout by_domain → Join
+beside layout =
+    first (inner (placed layout d_vote_sum_table).tree end) (is_its 2 ∷ []) [] (col 2 2 ∷ [])
+    (counted 9223372036854775807 (inner (placed layout d_vote_table).tree end) (are_its 3 (pos 1))
+    (counted 9223372036854775807 (inner (placed layout d_vote_table).tree end) (are_its 4 (negsuc 0)) end))
+
+abbrev sums_query : Layout by_domain → Query
+sums_query layout = row_query (placed layout d_suggestion_table).tree (beside layout) [] shown_terms (1 ∷ [])
+
+sums_are : (layout : Layout by_domain) → Asks layout sums_text (sums_query layout) (codes "number" ∷ codes "kept" ∷ codes "votes_for" ∷ codes "against" ∷ [])
+unfolding understood everything
+sums_are made_last = record { command = refl; own_tables = refl; plain = (refl, refl) }
+sums_are from_first = record { command = refl; own_tables = refl; plain = (refl, refl) }
+sums_are from_second = record { command = refl; own_tables = refl; plain = (refl, refl) }
+
+-- ---- rows
+
+all_kept : (rows : List Row) → filter (λ row. true) rows ≡ rows
+all_kept [] = refl
+all_kept (row ∷ rows) = ap (λ more. row ∷ more) (all_kept rows)
+
+pub mapped_same : (f g : Row → Row) (rows : List Row) → ((row : Row) → Has rows row → f row ≡ g row) → map f rows ≡ map g rows
+mapped_same f g [] same = refl
+mapped_same f g (row ∷ rows) same = (λ i. same row (inl refl) i ∷ mapped_same f g rows (λ r there. same r (inr there)) i)
+
+value_compared : (v : Value) (n : ℤ) → v ≡ Int (id_in v) → is_true (binary (by.Compare compare.Eq Binary) v (Int n)) ≡ is_integer n v
+value_compared v n is = rw is (ints_compared (Int (id_in v)) (Int n) refl refl ∙ ap is_eq (value_cmp-Int (id_in v) n))
+
+-- ---- over an office's tables
+
+module _ (s : State) (ready : IsReadyFor by_domain s) where
+  abbrev layout : Layout by_domain
+  layout = ready.schema.0
+
+  abbrev tables : NamedRows
+  tables = rows_named s.now
+
+  abbrev trees : Trees
+  trees = overlay s.now.trees []
+
+  abbrev suggestions : List Row
+  suggestions = tables (codes "d_suggestion")
+
+  abbrev votes : List Row
+  votes = tables (codes "d_vote")
+
+  abbrev sums : List Row
+  sums = tables (codes "d_vote_sum")
+
+  suggestions_read : trees (placed layout d_suggestion_table).tree ≡ suggestions
+  suggestions_read = rows_read layout d_suggestion_table (d_suggestion_placed layout) s.now ready.schema.1
+
+  votes_read : trees (placed layout d_vote_table).tree ≡ votes
+  votes_read = rows_read layout d_vote_table (d_vote_placed layout) s.now ready.schema.1
+
+  sums_read : trees (placed layout d_vote_sum_table).tree ≡ sums
+  sums_read = rows_read layout d_vote_sum_table (d_vote_sum_placed layout) s.now ready.schema.1
+
+  -- what the subqueries bring, one after the other
+  abbrev kept_row : Row → Row
+  kept_row suggestion =
+      shown_by (col 2 2 ∷ []) (least (sort_cmp []) (matches_as Null trees (is_its 2 ∷ []) (inner (placed layout d_vote_sum_table).tree end) ([] ∷ suggestion ∷ [])))
+
+  abbrev count_row : List Term → Env → Row
+  count_row test env = Int (pos (min most_counted (length (matches_as Null trees test (inner (placed layout d_vote_table).tree end) env)))) ∷ []
+
+  abbrev with_kept : Row → Env
+  with_kept suggestion = [] ∷ suggestion ∷ kept_row suggestion ∷ []
+
+  abbrev with_for : Row → Env
+  with_for suggestion = with_kept suggestion ++ count_row (are_its 3 (pos 1)) (with_kept suggestion) ∷ []
+
+  abbrev whole : Row → Env
+  whole suggestion = with_for suggestion ++ count_row (are_its 4 (negsuc 0)) (with_for suggestion) ∷ []
+
+  module _ (suggestion : Row) (there : Has suggestions suggestion) where
+    abbrev number : List ℕ
+    number = first_text suggestion
+
+    numbered : column suggestion 1 ≡ Text number
+    numbered = d_suggestion_texts.0 s.now ready.schema ready.sound suggestion there
+
+    sum_passes : (row : Row) → Has sums row → list_all (holds ([] ∷ suggestion ∷ row ∷ [])) (is_its 2 ∷ []) ≡ has_text 1 number row
+    sum_passes row listed = rw (d_vote_sum_texts.0 s.now ready.schema ready.sound row listed, numbered) (rw (texts_compared (first_text row) number) (and-true _))
+
+    kept_is : column (kept_row suggestion) 0 ≡ first_column 2 (filter (has_text 1 number) sums)
+    kept_is =
+        first_in trees (placed layout d_vote_sum_table).tree (is_its 2 ∷ []) ([] ∷ suggestion ∷ []) 2 2 (λ row. refl)
+        ∙ ap (first_column 2) (ap (filter (λ row. list_all (holds ([] ∷ suggestion ∷ row ∷ [])) (is_its 2 ∷ []))) sums_read
+        ∙ filtered_same (λ row. list_all (holds ([] ∷ suggestion ∷ row ∷ [])) (is_its 2 ∷ [])) (has_text 1 number) sums sum_passes)
+
+    vote_value : (vote : Row) → Has votes vote → column vote 3 ≡ Int (id_in (column vote 3))
+    vote_value vote listed = holds_int d_vote_table d_vote_placed 2 (codes "value") refl s.now ready.schema ready.sound vote listed refl
+
+    -- a vote passes the tests of a subquery where it is counted
+    tested : (vote : Row) → Has votes vote → (value : ℤ)
+        → (is_true (binary (by.Compare compare.Eq Binary) (column vote 1) (column suggestion 1)) && (is_true (binary (by.Compare compare.Eq Binary) (column vote 3) (Int value)) && true)) ≡ is_counted value number vote
+    tested vote listed value =
+        rw (value_compared (column vote 3) value (vote_value vote listed), d_vote_texts.0 s.now ready.schema ready.sound vote listed, numbered)
+        (rw (texts_compared (first_text vote) number) (ap (λ b. has_text 1 number vote && b) (and-true _)))
+
+    -- where these come before the votes, and the slot is the one behind them
+    counts : (env : Env) (slot : ℕ) (value : ℤ) → ((vote : Row) → Has votes vote → list_all (holds (env ++ vote ∷ [])) (are_its slot value) ≡ is_counted value number vote)
+        → column (count_row (are_its slot value) env) 0 ≡ told (votes_counted value number votes)
+    counts env slot value passes =
+        ap (λ n. Int (pos (min most_counted n)))
+        (counted_in trees (placed layout d_vote_table).tree (are_its slot value) env
+        ∙ ap (λ rows. length (filter (λ vote. list_all (holds (env ++ vote ∷ [])) (are_its slot value)) rows)) votes_read
+        ∙ ap length (filtered_same (λ vote. list_all (holds (env ++ vote ∷ [])) (are_its slot value)) (is_counted value number) votes passes))
+
+    shows_summed : eval_all shown_terms (whole suggestion) ≡ summed tables suggestion
+    shows_summed = (λ i.
+        column suggestion 1 ∷ kept_is i ∷ counts (with_kept suggestion) 3 (pos 1) (λ vote listed. tested vote listed (pos 1)) i
+        ∷ counts (with_for suggestion) 4 (negsuc 0) (λ vote listed. tested vote listed (negsuc 0)) i ∷ [])
+
+  answered : (rows : List Row) → IsAnswer (sums_query layout) trees [] rows → ShowsSummed s.now rows
+  answered rows answer = record {
+    all = subst (λ l. IsPermutation l rows)
+        (ap (map (λ suggestion. eval_all shown_terms (whole suggestion))) (all_kept (trees (placed layout d_suggestion_table).tree) ∙ suggestions_read)
+        ∙ mapped_same (λ suggestion. eval_all shown_terms (whole suggestion)) (summed tables) suggestions shows_summed)
+        (row_by_row (placed layout d_suggestion_table).tree (beside layout) [] shown_terms (1 ∷ []) trees [] (λ row. true) whole (λ row there. refl) rows answer);
+    in_order = in_its_order (placed layout d_suggestion_table).tree (beside layout) [] shown_terms (1 ∷ []) trees [] (λ row. true) whole (λ row there. refl) rows answer
+        (by_columns (0 ∷ [])) (λ r t at_r at_t. refl);
+  }
+
+  pub sums_plain : IsPlain (understood s.now.schema sums_text)
+  sums_plain = subst (λ t. IsPlain (understood t sums_text)) (sym ready.schema.1) (sums_are layout).plain
+
+  pub sums_shown : (rows : List Row) → Shown sums_text [] s s rows → ShowsSummed s.now rows
+  sums_shown rows h = answered rows ((reads_as sums_text [] s s (schema_of layout) ready.schema.1 _ (sums_are layout).command (sums_are layout).plain (sums_are layout).own_tables rows h).answer Null)
+
+  pub sums_begun : (rows : List Row) → Begins sums_text [] s rows → (tail : List Row) × ShowsSummed s.now (rows ++ tail)
+  sums_begun rows h =
+      let read = begins_as sums_text [] s s (schema_of layout) ready.schema.1 _ (sums_are layout).command (sums_are layout).plain (sums_are layout).own_tables rows h in
+      (read.1.0, answered (rows ++ read.1.0) (read.1.1 Null))

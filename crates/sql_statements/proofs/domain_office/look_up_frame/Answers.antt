@@ -1,0 +1,47 @@
+use Rattle.std.proofs.Common.{◌≡◌, Ok, subst, rules}
+use Rattle.sqlite.specs.Effect.{Database}
+use Rattle.sqlite.specs.Held.{state}
+use Rattle.sqlite.specs.declared.error.Error.{Error}
+use Rattle.sql_laws.specs.DiskErrors.{BlamesTruly}
+use Rattle.sql_schema.specs.Layouts.{rows_named}
+use Rattle.sql_schema.specs.SeenRows.{seen_in}
+use Rattle.sql_schema.specs.Whole.{IsLookUp}
+use Rattle.sql_statements.specs.WholeOffice.{ShowsOfficeTablesIn, ShowsWholeOfficeIn, without_units}
+use Rattle.sql_statements.specs.declared.whole_office.OfficeTables.{OfficeTables}
+use Rattle.sql_statements.specs.declared.whole_office.WholeOffice.{WholeOffice}
+use Rattle.sql_statements.proofs.Frames.{frame_shown}
+use Rattle.sql_statements.proofs.LookedUp.{answers}
+use Rattle.sql_statements.proofs.ReadsBlame.{undone_blames, stopped_blames}
+use Rattle.sql_statements.proofs.domain_office.look_up_frame.Goals as goal
+
+pub returns-clause-found : goal.returns-clause-found
+returns-clause-found g c =
+    let old = c.args.connection.now in
+    let domain = c.args.domain.now in
+    let Shows : Database → OfficeTables → Type 0 = λ db office. ShowsOfficeTablesIn (seen_in domain (rows_named db)) office in
+    let same : c.commit.new.self.0 ≡ c.connection-2-1.given.0 = search rules in
+    let it : IsLookUp {E = Error} (state g.S.Store old) (state g.S.Store c.connection-2-1.given.0) (Ok c.in_ok-office.office) Shows =
+    subst (λ h. IsLookUp {E = Error} (state g.S.Store old) (state g.S.Store h) (Ok c.in_ok-office.office) Shows) same
+    (answers g.S.Store old c.transaction-tx.result.conn.now c.domain_office_tables.new.tx.conn.now c.commit.new.self.0 c.transaction-tx.ensures.begun c.requires.idle c.in_ok-commit.ensures.ended c.in_ok-office.office
+    Shows c.in_ok-office.ensures.found c.in_ok-commit.ensures.survives (λ clean. (c.in_ok-commit.ensures.ok clean).1)) in
+    record {
+      answer = λ clean. frame_shown domain (rows_named (state g.S.Store old).now) c.in_ok-office.office c.no_units.result (it.answer clean) c.no_units.ensures.units c.no_units.ensures.suggestions c.no_units.ensures.votes;
+      same = it.same;
+      is_open = it.is_open;
+      ended = it.ended;
+      survives = it.survives;
+    }
+
+pub returns-in_err-office-clause-disk : goal.returns-in_err-office-clause-disk
+returns-in_err-office-clause-disk g c =
+    undone_blames g.S.Store c.args.connection.now c.transaction-tx.result.conn.now c.domain_office_tables.new.tx.conn.now c.connection-1.given.0 c.transaction-tx.ensures.begun (λ _. ⊥)
+    c.in_err-office.field-0.0 c.from_residual.result c.from_residual.ensures.1 c.in_err-office.ensures.disk (search rules)
+
+pub returns-in_err-commit-clause-disk : goal.returns-in_err-commit-clause-disk
+returns-in_err-commit-clause-disk g c =
+    let old = c.args.connection.now in
+    let mid = c.domain_office_tables.new.tx.conn.now in
+    let same : c.commit.new.self.0 ≡ c.connection-2-1.given.0 = search rules in
+    subst (λ h. BlamesTruly (state g.S.Store old) (state g.S.Store h) c.from_residual-in_err-commit.result) same
+    (stopped_blames g.S.Store old c.transaction-tx.result.conn.now mid c.commit.new.self.0 c.transaction-tx.ensures.begun (λ _. ⊥) (λ db. db ≡ (state g.S.Store mid).now.trees)
+    c.in_ok-office.ensures.found.survives c.in_err-commit.ensures.survives c.in_err-commit.field-0.0 c.from_residual-in_err-commit.result c.from_residual-in_err-commit.ensures.1 c.in_err-commit.ensures.err)

@@ -1,0 +1,20 @@
+use Rattle.std.proofs.Common.{arith}
+use Rattle.sqlite.specs.Held.{state}
+use Rattle.sqlite.specs.State.{HasCleanDisk}
+use Rattle.sql_streams.proofs.Answers.{hands_out}
+use Rattle.sql_statements.specs.WalkedRows.{ShowsUnitsOf}
+use Rattle.sql_statements.proofs.DomainUnitReads.{given}
+use Rattle.sql_statements.proofs.UnitsWalked.{units_text, units_plain, units_shown, units_begun}
+use Rattle.sql_statements.proofs.unit_walks.walk_units.Goals as goal
+
+pub walk-requires : goal.walk-requires
+walk-requires g c = record { plain = λ clean. units_plain c.args.domain.now c.args.lang.now (state g.S.Store c.args.connection.now) (c.requires.idle.ready clean (c.requires.is_open clean)) }
+
+pub returns-clause-handed : goal.returns-clause-handed
+returns-clause-handed g c clean =
+    let old = state g.S.Store c.args.connection.now in
+    let early : HasCleanDisk old = omega (arith, clean, c.walk.ensures.survives.clean) in
+    let ready = c.requires.idle.ready early (c.requires.is_open early) in
+    hands_out g.K.RowSink.Took g.K.RowSink.Refuses units_text (given c.args.domain.now c.args.lang.now) old (ShowsUnitsOf c.args.domain.now c.args.lang.now old.now)
+    (units_shown c.args.domain.now c.args.lang.now old ready) (units_begun c.args.domain.now c.args.lang.now old ready) c.args.sink.now c.walk.new.sink c.walk.result
+    (rw (c.params-to_sql.ensures, c.params-to_sql-2.ensures) at (c.walk.ensures.all clean)) (rw (c.params-to_sql.ensures, c.params-to_sql-2.ensures) at (c.walk.ensures.cut clean))
