@@ -8,8 +8,12 @@ comment for translators. The latter two are timed from the open office to the la
 its fdatasync takes, of which each commit has one. Then 32 exports, the languages in turn, each by an opening of its own, and all by one. Each
 reply has to be the right one, and each file the text that its language prints.
 
+With --large it measures what openings of two large files take, by PROGRAM and by the one BEFORE, in one run: see bench/large_files.py. Its status
+is 1 where PROGRAM takes more than is wanted.
+
 Usage: bench/files.py [FOLDER [RECORDS [ENTRIES]]]      (from the top of the repository, after ./office --version has built the
-program; the file is made in FOLDER, which should lie on a disk)
+                                                         program; the file is made in FOLDER, which should lie on a disk)
+       bench/files.py --large PROGRAM [BEFORE|- [FOLDER [RECORDS MESSAGES REFUSED LENGTH]]]
 """
 import json
 import os
@@ -21,9 +25,12 @@ import tempfile
 import threading
 import time
 
+import large_files
+
+LARGE = sys.argv[1:2] == ["--large"]
 FOLDER = sys.argv[1] if len(sys.argv) > 1 else None
-RECORDS = int(sys.argv[2]) if len(sys.argv) > 2 else 100_000
-ENTRIES = int(sys.argv[3]) if len(sys.argv) > 3 else 20_000
+RECORDS = int(sys.argv[2]) if len(sys.argv) > 2 and not LARGE else 100_000
+ENTRIES = int(sys.argv[3]) if len(sys.argv) > 3 and not LARGE else 20_000
 PROGRAM = os.path.join("crates", "cli", "out", "cli")
 LANGUAGES = ("cs", "de", "fr")
 CHANGED, ACTS, ROUNDS, EXPORTS = 100, 2_000, 3, 32
@@ -157,4 +164,4 @@ def main():
 
 
 if __name__ == "__main__":
-    main()
+    sys.exit(large_files.main(sys.argv[2:]) if LARGE else main())

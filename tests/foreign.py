@@ -5,9 +5,10 @@
 
 An office is made by `office init` and a few requests. Of copies of its file each is spoilt in one way, by Python's sqlite3 with its own checks
 switched off, and given to `office deliver --store` and `office export --store`. Of some the sums of votes or a language's counts that the file keeps are
-spoilt, or rows and not what is kept of them, so that a query counts otherwise; where both were changed alike, the file is an office's. Folders, devices, FIFOs and sockets are no files either. And it looks
-what is told where an output or the disk is full, on a small file system of its own (wants `unshare`). Prints what is otherwise than it should be,
-and last `N files, M wrong`.
+spoilt, or rows and not what is kept of them, so that a query counts otherwise; where both were changed alike, the file is an office's. In two copies
+nothing fits behind the last place or the last record. Folders, devices, FIFOs and sockets are no files either. And it looks what is told where an
+output or the disk is full, on a small file system of its own (wants `unshare`). Prints what is otherwise than it should be, and last
+`N files, M wrong`.
 """
 import json
 import os
@@ -194,6 +195,26 @@ def counted(folder, office, lines, first):
     return len(MISCOUNTED) + len(RECOUNTED)
 
 
+def without_room(folder, office, lines, first):
+    """Files in which nothing fits behind the last place, or the last record: what would stand there is refused, the rows stay as they were, and the office goes on."""
+    suggest = json.dumps({"act": "suggest", "caller": "bea", "forms": ["Servus"], "id": "Hello", "lang": "de", "seen": 1, "number": number(100)}) + "\n"
+    translate = json.dumps({"act": "translate", "caller": "ann", "forms": ["Ade"], "id": "Bye", "lang": "de", "seen": 2, "number": number(101)}) + "\n"
+    no_room = '500 {"error":"refused"}\n'
+    path = spoilt(office, folder / "last-place.db", "UPDATE d_suggestion SET place = 9223372036854775807")
+    before = rows(path)
+    same("no place behind the last", run(["deliver", "--store", path], suggest), (0, no_room, ""))
+    same("no place behind the last, and no line more", run(["deliver", "--stop-at-lost", "--store", path], suggest + translate), (1, no_room, ""))
+    same("no place behind the last: rows", rows(path), before)
+    told = run(["deliver", "--store", path], suggest + translate + suggest)
+    same("no place behind the last, and the next", (told[0], [it[:3] for it in told[1].splitlines()], told[2]), (0, ["500", "200", "500"], ""))
+    path = spoilt(office, folder / "last-record.db", f"UPDATE record SET rowid = 9223372036854775807 WHERE number = '{number(len(REQUESTS))}'")
+    before = rows(path)
+    same("no record behind the last", run(["deliver", "--store", path], suggest + translate), (0, no_room * 2, ""))
+    same("no record behind the last: repeats", run(["deliver", "--store", path], lines), first)
+    same("no record behind the last: rows", rows(path), before)
+    return 2
+
+
 def others(folder, office):
     """What is there, and is no regular file: it isn't opened, so that nothing waits for it. A link to a file is that file."""
     fifo, listener, link = folder / "fifo", folder / "socket", folder / "link"
@@ -248,6 +269,7 @@ def main():
             tried += 1
             refused(spoilt(office, folder / f"spoilt-{tried}.db", sql), what, fault)
         tried += counted(folder, office, lines, first)
+        tried += without_room(folder, office, lines, first)
         tried += 1
         path = spoilt(office, folder / "spelled.db", "PRAGMA writable_schema = ON; UPDATE sqlite_schema SET sql = replace(sql, 'CREATE TABLE', 'create  table')")
         same("texts of another spelling", run(["deliver", "--store", path], lines), first)

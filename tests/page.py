@@ -310,6 +310,7 @@ def case_half(world):
 ANSWERS = (
     # What is answered, whether the request goes again by itself, and what is told.
     ((500, "text/html", "<p>fault</p>"), True, "the front server has a fault"),
+    ((500, "application/json", '{"error":"refused"}'), False, "Stopped: the office's file takes no such rows; ask its operator."),
     ((502, "text/html", "<p>gone</p>"), True, "the office doesn't answer the front server"),
     ((503, "application/json", '{"error":"memory"}'), True, "the office has no memory, or is starting"),
     ((507, "application/json", '{"error":"disk"}'), True, "the office's disk failed; it has to be started again"),

@@ -34,6 +34,7 @@ export const timeOf = (number) => parseInt(number.replace("-", "").slice(0, 12),
 export function meaningOf(status, body, act) {
   if (isReply(status, body, act)) return "reply";
   if (status === 401) return "away";
+  if (status === 500 && body !== undefined && body.error === "refused") return "stopped";
   return status >= 400 && status < 500 && !PASSING.has(status) ? "stopped" : "lost";
 }
 

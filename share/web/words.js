@@ -118,6 +118,7 @@ const ERRORS = {
   "sign-in": mark("you aren't signed in; load the page again"),
   login: mark("your login is no caller's name in this office; ask its operator"),
   "other-site": mark("the front server takes no requests from another site's page"),
+  refused: mark("the office's file takes no such rows; ask its operator"),
   "no-route": mark("the office doesn't know the address: the front server or the page has a fault"),
 };
 const NUMBER_USED = mark(
