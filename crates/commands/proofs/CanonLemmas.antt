@@ -1,6 +1,7 @@
 -- What comes of a text that was read.
-use Rattle.std.proofs.Common.{◌≡◌, ℕ, ◌<◌, ◌≤◌, List, [], ◌++◌, ◌⊎◌, inl, inr, Bool, true, false, Option, Some, None, Result, MatchResult, length, refl, sym, ap, subst, ◌∙◌, append-nil, arith, nat_lt, length-append}
+use Rattle.std.proofs.Common.{◌≡◌, ℕ, ◌<◌, ◌≤◌, List, [], ◌++◌, ◌⊎◌, inl, inr, Bool, true, false, Option, Some, None, Result, MatchResult, IfSome, length, refl, sym, ap, subst, ◌∙◌, append-nil, arith, nat_lt, length-append}
 use Rattle.std.proofs.lemmas.Bool.Decides.{nat_tests}
+use Rattle.byte_streams.specs.Streams.{RoseOrStands}
 use Rattle.byte_streams.specs.declared.vec_sink.VecSink.{VecSink}
 use Rattle.po_lex.specs.declared.fault.FaultKind.{FaultKind}
 use Rattle.po_lex.specs.declared.fault.FaultKind.TheVariants.{Memory}
@@ -40,6 +41,9 @@ pub fault_is_told : {T F : Type 0} (bytes : List ℕ) (fault : PoFault) (f g : �
     → MatchResult r (λ _. TakesAll e0 e1 (po_fault_line fault.line fault.kind)) (λ _. TakesPart e0 e1 (po_fault_line fault.line fault.kind)) → Canon bytes f g w w e0 e1 1
 fault_is_told bytes fault f g w e0 e1 r is h = told fault.line fault.kind is (nothing w) (all_or_part e0 e1 (po_fault_line fault.line fault.kind) r h) refl
 
+pub unread_told : (bytes : List ℕ) (f g : ℕ) (w e : Writer) → RoseOrStands f g → Canon bytes f g w w e e 1
+unread_told bytes f g w e rose = unread rose (nothing w) (nothing e) refl
+
 pub memory_is_told : {T F : Type 0} (bytes : List ℕ) (f g : ℕ) (w e0 e1 : Writer) (r : Result T F) → MatchResult r (λ _. TakesAll e0 e1 (po_fault_line 0 Memory)) (λ _. TakesPart e0 e1 (po_fault_line 0 Memory)) → Canon bytes f g w w e0 e1 1
 memory_is_told bytes f g w e0 e1 r h = told 0 Memory (inr refl) (nothing w) (all_or_part e0 e1 (po_fault_line 0 Memory) r h) refl
 
@@ -58,7 +62,7 @@ longer got all f g w0 w1 e0 e1 status long more (told line kind (inl is) a b t) 
 longer got all f g w0 w1 e0 e1 status long more (told line kind (inr is) a b t) = told line kind (inr is) a b t
 longer got all f g w0 w1 e0 e1 status long more (unread rose a b t) = unread rose a b t
 
-pub all_read : (all got : List ℕ) (old new : Option (List ℕ)) (f g : ℕ) (w0 w1 e0 e1 : Writer) (status : ℕ) → WasGathered old new got → old ≡ Some all → Canon got f g w0 w1 e0 e1 status → Canon all f g w0 w1 e0 e1 status
+all_read : (all got : List ℕ) (old new : Option (List ℕ)) (f g : ℕ) (w0 w1 e0 e1 : Writer) (status : ℕ) → WasGathered old new got → old ≡ Some all → Canon got f g w0 w1 e0 e1 status → Canon all f g w0 w1 e0 e1 status
 all_read all got old None f g w0 w1 e0 e1 status h is canon = let wrong : Some all ≡ None = sym is ∙ h.read.cut in cc
 all_read all got old (Some rest) f g w0 w1 e0 e1 status h is canon =
     let cut : all ≡ got ++ rest = cc (is, h.read.cut) in
@@ -74,3 +78,18 @@ all_read all got old (Some rest) f g w0 w1 e0 e1 status h is canon =
         let long : limits.bytes < length got = grind (arith, nat_tests) in
         let more : length got ≤ length all = omega (arith, ap length cut, length-append got rest) in
         longer got all f g w0 w1 e0 e1 status long more canon
+
+-- ---- by what is known of the source
+
+abbrev pub OfSource : Option (List ℕ) → (List ℕ → Type 0) → Type 0
+OfSource left P = (bytes : List ℕ) × IfSome left (λ all. bytes ≡ all) × P bytes
+
+-- whatever the bytes are
+pub of_any : (left : Option (List ℕ)) (P : List ℕ → Type 0) → ((bytes : List ℕ) → P bytes) → OfSource left P
+of_any None P h = ([], tt, h [])
+of_any (Some all) P h = (all, refl, h all)
+
+pub of_read : (got : List ℕ) (old new : Option (List ℕ)) (f g : ℕ) (w0 w1 e0 e1 : Writer) (status : ℕ) → WasGathered old new got → Canon got f g w0 w1 e0 e1 status
+    → OfSource old (λ bytes. Canon bytes f g w0 w1 e0 e1 status)
+of_read got None new f g w0 w1 e0 e1 status h canon = (got, tt, canon)
+of_read got (Some all) new f g w0 w1 e0 e1 status h canon = (all, refl, all_read all got (Some all) new f g w0 w1 e0 e1 status h refl canon)

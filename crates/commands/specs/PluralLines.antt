@@ -1,10 +1,12 @@
 -- What `office plural` prints: this project's own rule. The rules and their faults are those of the GNU gettext manual,
 -- "Plural forms", as the crate of plural rules defines them.
-use Rattle.std.specs.Prelude.{ℕ, List, [], ◌∷◌, ◌++◌, codes, decimal, Option, Some, None, Result, Ok, Err}
+use Rattle.std.specs.Prelude.{◌≡◌, ◌⊎◌, ℕ, List, [], ◌∷◌, ◌++◌, codes, decimal, Option, Some, None, Result, Ok, Err}
 use Rattle.plural_expr.specs.declared.fault.EvalFault.{EvalFault}
 use Rattle.plural_expr.specs.declared.fault.PluralFault.{PluralFault}
+use Rattle.plural_expr.specs.declared.fault.PluralFault.TheVariants.{Memory}
 use Rattle.plural_expr.specs.Values.{Rule, Value, index_of}
 use Rattle.plural_expr.specs.Faults.{reading_of, fault_number, fault_at, eval_fault_number}
+use Rattle.office.specs.Writers.{Writer, TakesAll, TakesPart}
 
 -- a line `N INDEX`
 abbrev pub index_line : ℕ → ℕ → List ℕ
@@ -62,3 +64,18 @@ answered (Err fault) ns = refused fault
 
 abbrev pub printed : List ℕ → List ℕ → Printed
 printed value ns = answered (reading_of value) ns
+
+-- What came of it, on the two outputs and in the exit status:
+pub data IsPrinted (whole : Printed) (out_old out_new faults_old faults_new : Writer) (status : ℕ) : Type 0 where
+  -- all of it;
+  all : TakesAll out_old out_new whole.out → TakesAll faults_old faults_new whole.faults → status ≡ whole.status
+      → IsPrinted whole out_old out_new faults_old faults_new status
+  -- or a beginning of the lines, behind which the output failed, and no fault;
+  cut : TakesPart out_old out_new whole.out → TakesAll faults_old faults_new [] → status ≡ 1
+      → IsPrinted whole out_old out_new faults_old faults_new status
+  -- or the lines, and a beginning of their fault's;
+  untold : TakesAll out_old out_new whole.out → TakesPart faults_old faults_new whole.faults → status ≡ 1
+      → IsPrinted whole out_old out_new faults_old faults_new status
+  -- or, where memory ran out, only the line of that.
+  memory : TakesAll out_old out_new [] → TakesAll faults_old faults_new (plural_fault_line Memory) ⊎ TakesPart faults_old faults_new (plural_fault_line Memory) → status ≡ 1
+      → IsPrinted whole out_old out_new faults_old faults_new status

@@ -1,6 +1,6 @@
 //! `office canon`: the canonical text of a PO text.
 
-ghost use Rattle.std.specs.Prelude.{◌≡◌, ◌<◌, ◌≤◌, ◌⊎◌, [], ℕ, List, IfOk, OnErr, IfErr, OnOk, Some, length, take, Err};
+ghost use Rattle.std.specs.Prelude.{◌≡◌, ◌<◌, ◌≤◌, ◌⊎◌, [], ℕ, List, IfOk, OnErr, IfErr, OnOk, IfSome, length, take, Err};
 ghost use Rattle.byte_streams.specs.Streams.{RoseOrStands, prepend_known, IsAtEnd, one_more};
 ghost use Rattle.byte_streams.specs.Sending.{Sends};
 ghost use Rattle.commands.specs.CanonText.{WasRead, WasGathered, Canon, writer_at, po_fault_line};
@@ -166,8 +166,8 @@ pub fn canon_text<R: ByteSource, W: ByteSink, E: ByteSink>(
     w: &mut W,
     e: &mut E,
 ) -> u8
-    // What comes of the bytes, where the source's are known.
-    ensures canon { (bytes : List ℕ) → R.left source.old ≡ Some bytes → Canon bytes (R.failed source.old) (R.failed source.new)
+    // What comes of the bytes that the source gives.
+    ensures canon { (bytes : List ℕ) × IfSome (R.left source.old) (λ all. bytes ≡ all) × Canon bytes (R.failed source.old) (R.failed source.new)
         (writer_at W.taken W.failed w.old) (writer_at W.taken W.failed w.new)
         (writer_at E.taken E.failed e.old) (writer_at E.taken E.failed e.new) result }
     ensures status { result ≤ 1 }

@@ -1,10 +1,9 @@
 //! `office plural`: the number of the form that a rule gives at each n.
 
-ghost use Rattle.std.specs.Prelude.{◌≡◌, ◌⊎◌, ◌≤◌, IfOk, decimal};
-ghost use Rattle.plural_expr.specs.declared.fault.PluralFault.TheVariants.{Memory};
-ghost use Rattle.byte_streams.specs.Streams.{RoseOrStands};
-ghost use Rattle.byte_streams.specs.Sending.{Sends, TookAll};
-ghost use Rattle.commands.specs.PluralLines.{index_line, place, plural_fault_line, index_fault_line, lines_of, fault_of, printed, refused};
+ghost use Rattle.std.specs.Prelude.{◌≡◌, IfOk};
+ghost use Rattle.byte_streams.specs.Sending.{Sends};
+ghost use Rattle.office.specs.Writers.{writer_at};
+ghost use Rattle.commands.specs.PluralLines.{index_line, place, plural_fault_line, index_fault_line, lines_of, fault_of, printed, IsPrinted};
 
 use crate::numbers::send_number;
 use byte_streams::{ByteSink, SinkFault, send};
@@ -82,14 +81,9 @@ pub fn plural_lines<W: ByteSink, E: ByteSink>(
     w: &mut W,
     e: &mut E,
 ) -> u8
-    // All is printed, with its status; else a write failed, or memory ran out.
-    ensures { (TookAll (W.taken w.old) (W.taken w.new) (W.failed w.old) (W.failed w.new) (printed value.now ns.now).out
-        × TookAll (E.taken e.old) (E.taken e.new) (E.failed e.old) (E.failed e.new) (printed value.now ns.now).faults
-        × (result ≡ (printed value.now ns.now).status))
-        ⊎ ((result ≡ 1)
-        × (RoseOrStands (W.failed w.old) (W.failed w.new)
-        ⊎ (RoseOrStands (E.failed e.old) (E.failed e.new)
-        ⊎ TookAll (E.taken e.old) (E.taken e.new) (E.failed e.old) (E.failed e.new) (refused Memory).faults))) }
+    // All is printed, with its status; else a write failed behind a beginning of it, or memory ran out.
+    ensures { IsPrinted (printed value.now ns.now) (writer_at W.taken W.failed w.old) (writer_at W.taken W.failed w.new)
+        (writer_at E.taken E.failed e.old) (writer_at E.taken E.failed e.new) result }
 {
     let forms = match PluralForms::parse(alloc, value) {
         Ok(forms) => forms,

@@ -12,7 +12,11 @@ ghost use Rattle.review.specs.UnitStep.{is_vote, named_by};
 ghost use Rattle.review.specs.Parts.{is_suggest};
 ghost use Rattle.office_specification.specs.Deliveries.{reply_from, first_delivered};
 ghost use Rattle.office_specification.specs.Step.{step};
-ghost use Rattle.office_specification.specs.Parts.{part_of};
+ghost use Rattle.office_specification.specs.OfficeActs.{policy_step};
+ghost use Rattle.office_specification.specs.Parts.{part_of, is_policy_act};
+ghost use Rattle.units.specs.Project.{role_in};
+ghost use Rattle.units.specs.Units.{is_below};
+ghost use Rattle.units.specs.declared.unit.Role.TheVariants.{Manager};
 ghost use Rattle.office_specification.specs.UnitAccess.{without_suggestions, with_write_in, IsPossibleWrite};
 ghost use Rattle.office_specification.specs.OfficeChanges.{changed_by, IsPossibleChange};
 ghost use Rattle.office_specification.specs.OfficeRules.{KeepsRules};
@@ -25,14 +29,14 @@ ghost use Rattle.tables.specs.declared.faults.Lost.TheVariants.{Disk};
 
 use office_specification::{ActContext, Change, Part, UnitOutcome, UnitWrite};
 use outcomes::{
-    OfficeOutcome, number_used, office_outcome, row_outcome, suggested_outcome, voted_outcome,
-    whole_outcome,
+    OfficeOutcome, number_used, office_outcome, policy_outcome, row_outcome, suggested_outcome,
+    voted_outcome, whole_outcome,
 };
 use po_text::{Duplicate, Text};
 use request_book::{Act, Class, Record, Reply, Request, classify};
 use std::alloc::{AllocError, Global};
 use tables::{Lost, Tables};
-use units::{Key, Lang, Name, Refusal, Role, UnitAct, UnitAction};
+use units::{Key, Lang, Name, Policy, Refusal, Role, UnitAct, UnitAction};
 use uuid::Uuid;
 
 /// The reply to a request with this content, by what is recorded under its number, if anything is.
@@ -277,7 +281,7 @@ fn deliver_unit_act<T: Tables>(
     )
 }
 
-/// What an act on the office comes to, over the part of the office that is read for it.
+/// What an act on the office other than a policy comes to, over the part of the office that is read for it.
 fn read_part_and_decide<T: Tables>(
     alloc: Global,
     tables: &mut T,
@@ -285,6 +289,7 @@ fn read_part_and_decide<T: Tables>(
     request: &Request,
 ) -> Result<OfficeOutcome, Lost>
     requires act { is_unit_act request.now.act ≡ false }
+    requires no_policy { is_policy_act request.now.act ≡ false }
     requires part { part ≡ part_of request.now.act }
     ensures answer { T.is_honest tables.new → IfOk result
         (λ outcome. IsSettled (T.means tables.old).office outcome (step (T.means tables.old).office request.now)) }
@@ -294,6 +299,46 @@ fn read_part_and_decide<T: Tables>(
     tables.load_part(part)?;
     let outcome = office_outcome(alloc, tables.office(), request);
     Ok(outcome?)
+}
+
+/// What a manager's policy comes to, over how many units are approved: no part of the office is read for it.
+fn count_and_decide<T: Tables>(
+    alloc: Global,
+    tables: &mut T,
+    policy: &Policy,
+) -> Result<OfficeOutcome, Lost>
+    ensures answer { T.is_honest tables.new → IfOk result
+        (λ outcome. IsSettled (T.means tables.old).office outcome (policy_step (T.means tables.old).office policy.now)) }
+    ensures same { T.is_honest tables.new → T.is_whole tables.new → T.means tables.new ≡ T.means tables.old }
+    ensures kept { IsKept T.is_honest T.is_whole T.means T.may_leave T.faults T.is_stopped tables.old tables.new result Disk Nothing }
+{
+    let approvals = tables.approvals()?;
+    let outcome = policy_outcome(alloc, approvals, policy);
+    Ok(outcome?)
+}
+
+/// What a manager's act on the office comes to.
+fn decide_by_act<T: Tables>(
+    alloc: Global,
+    tables: &mut T,
+    part: Part,
+    request: &Request,
+) -> Result<OfficeOutcome, Lost>
+    requires act { is_unit_act request.now.act ≡ false }
+    requires manager { T.is_honest tables.old → is_below (role_in (T.means tables.old).office.team request.now.caller) Manager ≡ false }
+    requires part { part ≡ part_of request.now.act }
+    ensures answer { T.is_honest tables.new → IfOk result
+        (λ outcome. IsSettled (T.means tables.old).office outcome (step (T.means tables.old).office request.now)) }
+    ensures same { T.is_honest tables.new → T.is_whole tables.new → T.means tables.new ≡ T.means tables.old }
+    ensures kept { IsKept T.is_honest T.is_whole T.means T.may_leave T.faults T.is_stopped tables.old tables.new result Disk Nothing }
+{
+    match &request.act {
+        Act::SetPolicy(policy) => {
+            drop(part);
+            count_and_decide(alloc, tables, policy)
+        }
+        _ => read_part_and_decide(alloc, tables, part, request),
+    }
 }
 
 /// What an act on the office comes to. The caller's role is looked up first: whom it refuses costs no reading of the office. Then no more
@@ -315,7 +360,7 @@ fn ask_role_and_decide<T: Tables>(
         return Ok(outcome?);
     }
     let part = Part::of(&request.act)?;
-    read_part_and_decide(alloc, tables, part, request)
+    decide_by_act(alloc, tables, part, request)
 }
 
 /// Commits an act on the office, and hands on its reply, which is made before: what is committed is answered.

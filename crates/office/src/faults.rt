@@ -23,7 +23,7 @@ pub enum ExportFault {
     /// The text has more than 9,000,000,000,000,000 bytes.
     #[error("the text is too long")]
     Long = 5,
-    /// The file refused what was asked of it. Tables in memory never answer it.
+    /// The file refused what was asked of it.
     #[error("the file refused")]
     Refused = 6,
 }
@@ -92,7 +92,7 @@ pub enum QueryFault {
     /// The disk failed under the tables. Tables in memory never answer it.
     #[error("the disk failed")]
     Disk = 4,
-    /// The file refused what was asked of it. Tables in memory never answer it.
+    /// The file refused what was asked of it.
     #[error("the file refused")]
     Refused = 5,
 }

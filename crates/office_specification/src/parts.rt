@@ -17,12 +17,10 @@ pub enum Part {
     Languages(Name),
     /// The same, and its units: all that the domain of this name has.
     Domain(Name),
-    /// All of it.
-    Whole,
 }
 
 impl Part {
-    /// The part that an act reads.
+    /// The part that an act reads. A policy reads of the units how many are approved, beside it.
     pub fn of(act: &Act) -> Result<Part, AllocError>
         ensures { IfOk result (λ part. part ≡ part_of act.now) }
     {
@@ -30,8 +28,7 @@ impl Part {
             Act::OnUnit(domain, _, _, _) => Ok(Part::Domain(domain.duplicate()?)),
             Act::SetTemplate(domain, _) => Ok(Part::Domain(domain.duplicate()?)),
             Act::AddLanguage(domain, _, _) => Ok(Part::Languages(domain.duplicate()?)),
-            Act::SetRole(_, _) | Act::AddDomain(_) => Ok(Part::Team),
-            Act::SetPolicy(_) => Ok(Part::Whole),
+            Act::SetRole(_, _) | Act::SetPolicy(_) | Act::AddDomain(_) => Ok(Part::Team),
         }
     }
 }

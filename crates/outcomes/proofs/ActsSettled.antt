@@ -23,12 +23,6 @@ pub alike : {E : Type 0} (r : Result OfficeOutcome E) (Among Fewer : Office → 
 alike (Ok outcome) Among Fewer a b among same settled = λ whole few. subst (IsSettled whole outcome) (same whole few) (settled whole (among whole few))
 alike (Err fault) Among Fewer a b among same settled = tt
 
--- what is settled of an office is settled of what is the same
-pub of_whole : {E : Type 0} (r : Result OfficeOutcome E) (office : Office) (next : Office → Stepped Office) → IfOk r (λ outcome. IsSettled office outcome (next office))
-    → IfOk r (λ outcome. (whole : Office) → office ≡ whole → IsSettled whole outcome (next whole))
-of_whole (Ok outcome) office next settled = λ whole same. subst (λ (o : Office). IsSettled o outcome (next o)) same settled
-of_whole (Err fault) office next settled = tt
-
 -- an act in a domain that changes nothing, in each project of some
 pub unchanged_in : {E : Type 0} (r : Result DomainOutcome E) (said : Reply) (Among : Project → Type 0) (next : Project → Stepped Project)
     → ((whole : Project) → Among whole → ◌≡◌ {A = Stepped Project} (whole, said) (next whole))

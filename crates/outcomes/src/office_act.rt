@@ -8,7 +8,7 @@ ghost use Rattle.units.specs.declared.unit.Role.TheVariants.{Manager};
 ghost use Rattle.request_book.specs.Clash.{is_unit_act};
 ghost use Rattle.office_specification.specs.ProjectActs.{template_step, language_step};
 ghost use Rattle.office_specification.specs.Step.{step, in_known_domain};
-ghost use Rattle.office_specification.specs.Parts.{part_of, AreAlikeIn};
+ghost use Rattle.office_specification.specs.Parts.{part_of, AreAlikeIn, is_policy_act};
 ghost use Rattle.office_specification.specs.declared.parts.Part.TheVariants as parts;
 ghost use Rattle.outcomes.specs.Settled.{IsSettled};
 ghost use Rattle.office_maps.specs.OfficeIn.{office_in};
@@ -16,7 +16,6 @@ ghost use Rattle.office_maps.specs.OfficeIn.{office_in};
 use crate::domain_act::{domain_outcome, in_domain};
 use crate::language_act::language_outcome;
 use crate::outcome::OfficeOutcome;
-use crate::policy_act::policy_outcome;
 use crate::role_act::role_outcome;
 use crate::template_act::template_outcome;
 use office_maps::OfficeMaps;
@@ -71,8 +70,8 @@ fn language_in(
     }
 }
 
-/// What a request for an act on the office comes to: a refusal where the caller isn't a manager, and else what the act comes to. The
-/// maps need be those of its part alone: it comes to that in each office that is alike to them in what the act reads.
+/// What a request for an act on the office comes to, other than a policy: a refusal where the caller isn't a manager, and else what the act
+/// comes to. The maps need be those of its part alone: it comes to that in each office that is alike to them in what the act reads.
 ///
 /// `Memory` where a growth was refused.
 pub fn office_outcome(
@@ -80,7 +79,8 @@ pub fn office_outcome(
     office: &OfficeMaps,
     request: &Request,
 ) -> Result<OfficeOutcome, Memory>
-    requires { is_unit_act request.now.act ≡ false }
+    requires act { is_unit_act request.now.act ≡ false }
+    requires no_policy { is_policy_act request.now.act ≡ false }
     ensures { IfOk result (λ outcome. (whole : Office) → AreAlikeIn (part_of request.now.act) (office_in office.now) whole →
         IsSettled whole outcome (step whole request.now)) }
 {
@@ -91,8 +91,7 @@ pub fn office_outcome(
         Act::SetTemplate(domain, po) => template_in(alloc, office, domain, po),
         Act::AddLanguage(domain, lang, po) => language_in(alloc, office, domain, lang, po),
         Act::SetRole(name, role) => role_outcome(alloc, office, name, *role),
-        Act::SetPolicy(policy) => policy_outcome(alloc, office, policy),
         Act::AddDomain(domain) => domain_outcome(alloc, office, domain),
-        Act::OnUnit(_, _, _, _) => unreachable!(),
+        Act::SetPolicy(_) | Act::OnUnit(_, _, _, _) => unreachable!(),
     }
 }

@@ -42,7 +42,11 @@ fn are_projects(alloc: Global, maps: &OfficeMaps, langs: &[Lang]) -> Result<bool
 /// Whether an office keeps the rules of one. All languages of all its domains have to be among `langs`.
 ///
 /// `AllocError` where a growth was refused.
-pub fn is_office(alloc: Global, maps: &OfficeMaps, langs: &[Lang]) -> Result<bool, AllocError>
+pub(crate) fn is_office(
+    alloc: Global,
+    maps: &OfficeMaps,
+    langs: &[Lang],
+) -> Result<bool, AllocError>
     requires all { AreAllLangs (office_in maps.now) langs.now }
     ensures { IfOk result (λ is. (is ≡ true) ↔ IsOffice (office_in maps.now)) }
 {

@@ -4,7 +4,7 @@
 //! - `unit_rules`, `place_rules`: a unit, and a unit where it stands (`is_placed`, `fits_entry`)
 //! - `template_rules`, `language_rules`, `project_rules`: a template, the languages, and with these the project; apart from its units
 //!   `keeps_bare_rules`
-//! - `domain_rules`: an office's domains, each a project with the office's team and policy (`is_office`)
+//! - `domain_rules`: an office's domains, each a project with the office's team and policy
 //! - `book_rules`: the numbers and statuses of the book, and with them the office (`keeps_rules`, `is_status`)
 //! - `contents`: the content of a request (`is_content`)
 //!
@@ -23,6 +23,5 @@ mod unit_rules;
 
 pub use book_rules::{is_status, keeps_rules, note_status};
 pub use contents::is_content;
-pub use domain_rules::is_office;
 pub use place_rules::{fits_entry, is_placed};
 pub use project_rules::keeps_bare_rules;

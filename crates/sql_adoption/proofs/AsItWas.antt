@@ -3,7 +3,6 @@ use Rattle.std.proofs.Common.{◌≡◌, inl, inr, Option, Some, None, Result, O
 use Rattle.sqlite.specs.Effect.{Database}
 use Rattle.sqlite.specs.State.{State, HasCleanDisk}
 use Rattle.sqlite.specs.declared.error.Error.{Error}
-use Rattle.sql_schema.specs.Inside.{IsReadyFor}
 use Rattle.sql_schema.specs.Whole.{IsIdleOver, IsLookUp}
 use Rattle.sql_layouts.specs.Found.{HoldsOffice}
 use Rattle.sql_layouts.specs.Looks.{IsTested}
@@ -13,7 +12,7 @@ use Rattle.sql_layouts.specs.declared.office_tables.Form.{Form}
 use Rattle.sql_adoption.specs.declared.tested.Adopted.{Adopted}
 use Rattle.sql_adoption.proofs.Kept.{refused_so}
 use Rattle.sql_adoption.specs.declared.faults.OpenFault.{OpenFault}
-use Rattle.sql_adoption.specs.Adoption.{IsAdoptedAs, IsAdoptedIn, StaysAsItWas, Refuses}
+use Rattle.sql_adoption.specs.Adoption.{HasForm, IsAdoptedIn, IsAdoptedWith, StaysAsItWas, Refuses}
 use Rattle.sql_layouts.proofs.Looked.{idle_still}
 
 -- between transactions all is committed
@@ -43,16 +42,13 @@ module _ (old mid : State) (settled : IsSettled old) where
 
 -- the tables are an office's
 module _ (form : Form) (old mid : State) (it : IsTested old mid (Ok (Some form))) where
-  abbrev IsAnswer : Database → Adopted → Type 0
-  IsAnswer db adopted = (adopted.form ≡ form) × IsAdoptedAs db adopted
-
   pub tested_idle : IsIdleOver (form_told form) mid
   tested_idle = record {
     ready = λ clean is_open. (it.ready clean).ready clean is_open;
     settled = λ clean is_open. (it.ready clean).settled clean is_open;
   }
 
-  module _ (new : State) (r : Result Adopted OpenFault) (looked : IsLookUp mid new r IsAnswer) where
+  module _ (new : State) (r : Result Adopted OpenFault) (looked : IsLookUp mid new r IsAdoptedWith) where
     early : HasCleanDisk new → HasCleanDisk mid
     early clean = omega (arith, clean, looked.survives.clean)
 
@@ -83,20 +79,14 @@ module _ (form : Form) (old mid : State) (it : IsTested old mid (Ok (Some form))
             refused_so (form_told form) old.now (it.answer (early clean)).schema fault (subst (λ db. RefusesOf (form_told form) db fault) (it.same (early clean)).now (h clean))
 
 -- what was adopted
-pub is_adopted_in : (form : Form) (mid new : State) (r : Result Adopted OpenFault) → IsIdleOver (form_told form) mid
-    → IsLookUp mid new r (λ db adopted. (adopted.form ≡ form) × IsAdoptedAs db adopted) → IfOk r (IsAdoptedIn new)
-is_adopted_in form mid new (Ok adopted) idle looked = record {
+pub is_adopted_in : (form : Form) (mid new : State) (r : Result Adopted OpenFault) → IsIdleOver (form_told form) mid → IfOk r (HasForm form) → IsLookUp mid new r IsAdoptedWith → IfOk r (IsAdoptedIn new)
+is_adopted_in form mid new (Ok adopted) idle has looked = record {
   is_open = looked.is_open;
-  idle = record {
-    ready = λ clean is_open. subst (λ f. IsReadyFor (form_told f) new) (sym (same_form clean is_open)) ((idle_still mid new (Ok adopted) _ idle looked).ready clean is_open);
-    settled = λ clean is_open. (idle_still mid new (Ok adopted) _ idle looked).settled clean is_open;
-  };
-  adopted = λ clean. subst (λ db. IsAdoptedAs db adopted) (sym (looked.same clean (looked.is_open clean)).now) (looked.answer clean).1;
+  idle = subst (λ f. IsIdleOver f new) (sym has.same) (idle_still mid new (Ok adopted) IsAdoptedWith idle looked);
+  main = has.main;
+  adopted = λ clean. subst (λ db. IsAdoptedWith db adopted) (sym (looked.same clean (looked.is_open clean)).now) (looked.answer clean);
 }
-  where
-    same_form : HasCleanDisk new → IsTrue new.is_open → adopted.form ≡ form
-    same_form clean is_open = (looked.answer clean).0
-is_adopted_in form mid new (Err fault) idle looked = tt
+is_adopted_in form mid new (Err fault) idle has looked = tt
 
 -- the tables are no office's
 pub other_tables : (old new : State) → IsTested old new (Ok None) → HasCleanDisk new → ¬ HoldsOffice old.now

@@ -24,7 +24,6 @@ use Rattle.sql_schema.specs.Inside.{AreOfficeTablesOf}
 use Rattle.sql_schema.specs.Keys.{text_at, first_text, has_text, columns}
 use Rattle.sql_schema.specs.Layouts.{by_domain, NamedRows, rows_named}
 use Rattle.sql_schema.specs.SeenRows.{seen_in}
-use Rattle.sql_schema.proofs.DomainRows.{one_domain_name}
 use Rattle.sql_schema.proofs.DomainsSeen.{is_text}
 use Rattle.sql_statements.specs.DomainAnswers.{ShowsDomains}
 use Rattle.sql_statements.specs.Tables.{ShowsTableIn}
@@ -42,7 +41,10 @@ use Rattle.sql_decoding.proofs.RowsSoFar.{one_more}
 use Rattle.sql_adoption.specs.Adoption.{TellsForm, StandForOffice}
 use Rattle.sql_adoption.specs.Reading.{unread, AreNames, bare_office, with_seen, AddsDomain, AreDomainsRead, RefusesOf}
 use Rattle.sql_adoption.specs.declared.faults.OpenFault.{OpenFault}
+use Rattle.sql_adoption.specs.ReadParts.{part_of}
+use Rattle.sql_adoption.specs.declared.domains_read.Part.{Part}
 use Rattle.sql_adoption.specs.declared.office_put.ReadOffice.{ReadOffice}
+use Rattle.sql_adoption.proofs.ReadParts.{one_name_in_part}
 use Rattle.sql_adoption.proofs.Stand.{is_shown, was_there, each_stands, all_stand}
 
 -- ---- names
@@ -135,9 +137,9 @@ module _ (tables : NamedRows) where
   some_put [] some = absurd (omega (arith, some))
   some_put (name ∷ names) some = settled names (with_name maps.empty name)
 
-module _ (db : Database) (ready : AreOfficeTablesOf by_domain db) (names : List Text) (are : AreNames (rows_named db) names) where
+module _ (db : Database) (ready : AreOfficeTablesOf by_domain db) (part : Part) (names : List Text) (are : AreNames (part_of part (rows_named db)) names) where
   abbrev tables : NamedRows
-  tables = rows_named db
+  tables = part_of part (rows_named db)
 
   abbrev shown_domain : Row → Domain
   shown_domain row = domain_of_rows tables (text_at 0 row)
@@ -145,13 +147,13 @@ module _ (db : Database) (ready : AreOfficeTablesOf by_domain db) (names : List 
   in_rows : domains_in tables ≡ inserted (text_at 0) shown_domain are.rows
   in_rows =
       map_is text_cmp nat_list_cmp_total same_texts first_text (λ row. domain_of_rows tables (first_text row)) (columns (1 ∷ [])) (text_at 0) shown_domain (tables (codes "domain")) are.rows
-      (λ r there. refl) (λ r there. refl) are.shows.all (inserted (text_at 0) shown_domain are.rows) (one_domain_name db ready.schema ready.sound (ready.tables (codes "domain") refl))
+      (λ r there. refl) (λ r there. refl) are.shows.all (inserted (text_at 0) shown_domain are.rows) (one_name_in_part part db ready)
       (inserted_answers text_cmp nat_list_cmp_total same_texts (text_at 0) shown_domain are.rows)
 
   in_names : fold (with_name tables) maps.empty names ≡ domains_in tables
   in_names = ap (fold (with_name tables) maps.empty) are.named ∙ fold_mapped (with_name tables) (text_at 0) maps.empty are.rows ∙ sym in_rows
 
-  pub domains_are_read : 0 < length names → (read : ReadOffice) → HaveRead tables names (office_in read.maps) → AreDomainsRead db read
+  pub domains_are_read : 0 < length names → (read : ReadOffice) → HaveRead tables names (office_in read.maps) → AreDomainsRead tables read
   domains_are_read some read have =
       let first = some_name names some in
       record {

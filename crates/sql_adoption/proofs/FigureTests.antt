@@ -14,7 +14,8 @@ use Rattle.office_specification.specs.declared.tally.Tally.{Tally}
 use Rattle.sql_schema.specs.Keys.{columns}
 use Rattle.sql_meaning.specs.Cells.{tally_cells}
 use Rattle.sql_meaning.specs.Values.{integer_of}
-use Rattle.sql_adoption.specs.FigureRows.{is_words, is_integer, shows_counts, is_row_of, is_sum}
+use Rattle.sql_statements.specs.SummedVotes.{is_integer}
+use Rattle.sql_adoption.specs.FigureRows.{is_words, shows_counts, is_row_of, is_sum}
 use Rattle.sql_layouts.specs.RisingRows.{integer_in}
 use Rattle.sql_adoption.specs.declared.language_tallies.Counted.{Counted}
 

@@ -1,5 +1,5 @@
 -- The figures that rows show are those of an office, or why they are refused.
-use Rattle.std.proofs.Common.{◌≡◌, List, Bool, true, false, ◌&&◌, Result, Ok, Err, IfOk, IfErr, OnOk, [], ◌∷◌, codes, refl, sym, ap, subst, ◌∙◌}
+use Rattle.std.proofs.Common.{◌≡◌, List, Bool, true, false, ◌&&◌, Result, Ok, Err, IfErr, OnOk, refl, sym, subst, ◌∙◌}
 use Rattle.std.specs.Bool.{Decides}
 use Rattle.std.proofs.lemmas.Bool.{false≢true, and_parts, and_from}
 use Rattle.sqlite.specs.Order.{Row}
@@ -11,21 +11,20 @@ use Rattle.units.specs.Offices.{IsOffice}
 use Rattle.tables.specs.declared.faults.Lost.{Lost}
 use Rattle.tables.specs.declared.faults.Lost.TheVariants as lost
 use Rattle.sql_schema.specs.Inside.{AreOfficeTablesOf}
-use Rattle.sql_schema.specs.Layouts.{Form, for_main, by_domain, NamedRows, rows_named}
+use Rattle.sql_schema.specs.Layouts.{for_main, rows_named}
 use Rattle.sql_schema.specs.Whole.{IsIdleOver, IsLookUp}
 use Rattle.sql_decoding.specs.declared.faults.Failure.{Failure}
-use Rattle.sql_decoding.specs.RowTests.{IsUnread, holds_text, is_number, is_vote_row}
+use Rattle.sql_decoding.specs.RowTests.{IsUnread}
 use Rattle.sql_decoding.proofs.RowsTold.{disk_is_other}
-use Rattle.sql_figures.specs.Figures.{HoldFigures, figures_of_main}
+use Rattle.sql_figures.specs.Figures.{figures_of_main}
 use Rattle.sql_figures.specs.KeptTallies.{Counts, office_counts}
-use Rattle.sql_adoption.specs.FigureRows.{ShowsFigures, AreTalliesShown, ShowFigures, have_shown_sums, votes_stand}
-use Rattle.sql_adoption.specs.Adoption.{Each, StandForOfficeOf}
-use Rattle.sql_adoption.specs.Reading.{unread, FiguresOf, RefusesFigureRows, RefusesShown, RefusesFigures}
+use Rattle.sql_adoption.specs.FigureRows.{ShowsMainFigures, AreTalliesShown, ShowFigures, have_shown_sums, votes_stand}
+use Rattle.sql_adoption.specs.Reading.{unread, FiguresOf, RefusesFigureRows, RefusesFigures, RefusesShown}
 use Rattle.sql_adoption.specs.declared.faults.OpenFault.{OpenFault}
 use Rattle.sql_adoption.specs.declared.faults.OpenFault.TheVariants.{Memory, Disk, Foreign, Exists, Refused}
 use Rattle.sql_adoption.specs.declared.faults.Mismatch.TheVariants.{OtherTables, OtherForm, UnreadRow, OtherFigures, BrokenRules}
 use Rattle.sql_adoption.specs.declared.figure_rows.FigureRows.{FigureRows}
-use Rattle.sql_adoption.proofs.FiguresTold.{AreFiguresKeyed, figures_told, figures_shown, they_stand, keyed_by_domain, d_votes_stand, d_numbers_stand, keyed_for_main, main_numbers_stand}
+use Rattle.sql_adoption.proofs.FiguresTold.{figures_told, figures_shown, they_stand, keyed_for_main, main_numbers_stand}
 use Rattle.sql_layouts.proofs.Looked.{looked_on, looked_in_vain, looked_ready}
 
 -- ---- rows at hand
@@ -61,50 +60,20 @@ shown_refused office rows Refused h = tt
 pub others_shown : (office : Office) (rows : FigureRows) (are : Bool) → (IsOffice office → Decides are (ShowFigures (office_counts office) rows)) → are ≡ false → RefusesShown office rows (Foreign OtherFigures)
 others_shown office rows are told e is_office show = false≢true (sym e ∙ (told is_office).1 show)
 
--- ---- those of a database
+-- ---- those of tables without a column for a domain
 
--- In tables of a form figures are kept so: where they are, and what is true of their rows.
-pub record KeepsThem (form : Form) (figures : Database → NamedRows) : Type 0 where
-  pub keyed : (db : Database) → AreOfficeTablesOf form db → AreFiguresKeyed (figures db)
-  pub votes : (db : Database) → AreOfficeTablesOf form db → StandForOfficeOf form (rows_named db) → Each (codes "d_vote") (2 ∷ 3 ∷ 1 ∷ []) is_vote_row (figures db)
-  pub numbers : (db : Database) → AreOfficeTablesOf form db → StandForOfficeOf form (rows_named db) → Each (codes "d_suggestion") (1 ∷ []) (holds_text is_number 0) (figures db)
-  pub held : (office : Office) (db : Database) → HoldFigures office (figures db) → FiguresOf form office db
-  pub holds : (office : Office) (db : Database) → FiguresOf form office db → HoldFigures office (figures db)
-
-pub domains_keep : KeepsThem by_domain rows_named
-domains_keep = record {
-  keyed = keyed_by_domain;
-  votes = d_votes_stand;
-  numbers = λ db ready stand. d_numbers_stand db ready stand;
-  held = λ office db hold. hold;
-  holds = λ office db hold. hold;
-}
-
-pub main_keeps : KeepsThem (for_main true) (λ db. figures_of_main (rows_named db))
-main_keeps = record {
-  keyed = keyed_for_main;
-  votes = λ db ready stand. stand.votes;
-  numbers = λ db ready stand. main_numbers_stand (rows_named db) stand;
-  held = λ office db hold. hold;
-  holds = λ office db hold. hold;
-}
-
-module _ {form : Form} {figures : Database → NamedRows} (keeps : KeepsThem form figures) (old new : State) (rows : FigureRows) (office : Office) (idle : IsIdleOver form old)
-    (it : IsLookUp {E = Error} old new (Ok rows) (λ db rows. ShowsFigures (figures db) rows)) where
+module _ (old new : State) (rows : FigureRows) (office : Office) (idle : IsIdleOver (for_main true) old) (it : IsLookUp {E = Error} old new (Ok rows) ShowsMainFigures) where
   abbrev Hold : Database → Unit {0} → Type 0
-  Hold db _ = IsOffice office → FiguresOf form office db
+  Hold db _ = IsOffice office → FiguresOf (for_main true) office db
 
-  abbrev Shows : Database → FigureRows → Type 0
-  Shows db rows = ShowsFigures (figures db) rows
+  ready : HasCleanDisk new → AreOfficeTablesOf (for_main true) old.now
+  ready clean = looked_ready old new {E = Error} rows ShowsMainFigures idle it clean
 
-  ready : HasCleanDisk new → AreOfficeTablesOf form old.now
-  ready clean = looked_ready old new {E = Error} rows Shows idle it clean
-
-  refused_rows : HasCleanDisk new → (fault : OpenFault) → RefusesShown office rows fault → RefusesFigures form office old.now fault
+  refused_rows : HasCleanDisk new → (fault : OpenFault) → RefusesShown office rows fault → RefusesFigures (for_main true) office old.now fault
   refused_rows clean (Foreign UnreadRow) h = λ stand. false≢true (sym h
-      ∙ they_stand (figures old.now) (keeps.keyed old.now (ready clean)) rows (it.answer clean) (keeps.votes old.now (ready clean) stand) (keeps.numbers old.now (ready clean) stand))
+      ∙ they_stand (figures_of_main (rows_named old.now)) (keyed_for_main old.now (ready clean)) rows (it.answer clean) stand.votes (main_numbers_stand (rows_named old.now) stand))
   refused_rows clean (Foreign OtherFigures) h = λ is_office hold.
-      h is_office (figures_shown (figures old.now) (keeps.keyed old.now (ready clean)) rows (it.answer clean) office (keeps.holds office old.now hold))
+      h is_office (figures_shown (figures_of_main (rows_named old.now)) (keyed_for_main old.now (ready clean)) rows (it.answer clean) office hold)
   refused_rows clean (Foreign BrokenRules) h = absurd h
   refused_rows clean (Foreign OtherForm) h = absurd h
   refused_rows clean (Foreign OtherTables) h = absurd h
@@ -115,10 +84,10 @@ module _ {form : Form} {figures : Database → NamedRows} (keeps : KeepsThem for
 
   -- what was told of the rows that were read is so of the tables
   pub figures_found : (r : Result (Unit {0}) OpenFault) → (IsOffice office → OnOk r (ShowFigures (office_counts office) rows)) → IsLookUp old new r Hold
-  figures_found (Ok u) shown = looked_on old new {E = Error} rows (Ok u) Shows Hold it (λ early is_open shows is_office.
-      keeps.held office old.now (figures_told (figures old.now) (keeps.keyed old.now (idle.ready early is_open)) rows shows office (shown is_office)))
-  figures_found (Err fault) shown = looked_in_vain old new (Ok rows) fault Shows Hold it
+  figures_found (Ok u) shown = looked_on old new {E = Error} rows (Ok u) ShowsMainFigures Hold it (λ early is_open shows is_office.
+      figures_told (figures_of_main (rows_named old.now)) (keyed_for_main old.now (idle.ready early is_open)) rows shows office (shown is_office))
+  figures_found (Err fault) shown = looked_in_vain old new (Ok rows) fault ShowsMainFigures Hold it
 
-  pub figures_in_vain : (r : Result (Unit {0}) OpenFault) → IfErr r (RefusesShown office rows) → IfErr r (λ fault. HasCleanDisk new → RefusesFigures form office old.now fault)
+  pub figures_in_vain : (r : Result (Unit {0}) OpenFault) → IfErr r (RefusesShown office rows) → IfErr r (λ fault. HasCleanDisk new → RefusesFigures (for_main true) office old.now fault)
   figures_in_vain (Ok u) refused = tt
   figures_in_vain (Err fault) refused = λ clean. refused_rows clean fault refused

@@ -1,7 +1,6 @@
 -- What rows that show figures tell of those of tables.
-use Rattle.std.proofs.Common.{◌≡◌, ◌∷◌, inl, inr, ℤ, List, [], map, filter, Bool, true, false, ◌&&◌, Option, Some, None, is_some, codes, refl, sym, ap, subst, ◌∙◌}
+use Rattle.std.proofs.Common.{◌≡◌, ◌∷◌, inl, inr, ℤ, List, [], map, filter, true, ◌&&◌, Some, None, is_some, codes, refl, sym, ap, subst, ◌∙◌}
 use Rattle.std.specs.FinMap as maps
-use Rattle.std.specs.List.{list_all, list_any}
 use Rattle.std.proofs.lemmas.Bool.{and_parts, and_from}
 use Rattle.sqlite.specs.declared.types.Value.TheVariants.{Int}
 use Rattle.sqlite.specs.Order.{Row, column}
@@ -18,7 +17,7 @@ use Rattle.office_specification.specs.declared.tally.Tally.{Tally}
 use Rattle.sql_schema.specs.Inside.{AreOfficeTablesOf}
 use Rattle.sql_schema.specs.Keys.{text_at, first_text, first_texts, has_text, columns}
 use Rattle.sql_schema.specs.Layouts.{for_main, by_domain, NamedRows, rows_named}
-use Rattle.sql_schema.specs.SeenRows.{suggestion_seen, is_vote_in, vote_seen}
+use Rattle.sql_schema.specs.SeenRows.{is_vote_in, vote_seen}
 use Rattle.sql_schema.proofs.DomainRows.{one_d_vote, one_d_sum}
 use Rattle.sql_schema.proofs.TableRows.{one_vote, one_sum}
 use Rattle.sql_schema.proofs.DomainsSeen.{is_text}
@@ -34,20 +33,20 @@ use Rattle.sql_figures.specs.Figures.{HoldFigures, figures_of_main}
 use Rattle.sql_figures.specs.KeptSums.{votes_among, HasSum, HaveSums}
 use Rattle.sql_figures.specs.KeptTallies.{Counts, office_counts, IsTallyOf, tally_columns, HoldsTally, AreTalliesOf}
 use Rattle.sql_adoption.specs.Adoption.{Each, StandForOffice, StandInDomains}
-use Rattle.sql_adoption.specs.FigureRows.{ShowsFigures, AreTalliesShown, ShowFigures, sum_shown, has_shown_sum, have_shown_sums, votes_stand}
+use Rattle.sql_adoption.specs.FigureRows.{ListsTable, ShowsFigures, AreTalliesShown, ShowFigures, sum_shown, has_shown_sum, have_shown_sums, votes_stand}
 use Rattle.sql_adoption.specs.declared.figure_rows.FigureRows.{FigureRows}
 use Rattle.sql_adoption.proofs.FigureTests.{sum_told}
 use Rattle.sql_adoption.proofs.Stand.{is_listed, was_listed, all_listed}
-use Rattle.sql_adoption.proofs.SumsTold.{last_sum, one_of_rows, some_alike}
+use Rattle.sql_adoption.proofs.SumsTold.{one_of_rows, some_alike}
 
 -- rows of one key are one row
 pub record AreFiguresKeyed (tables : NamedRows) : Type 0 where
   pub one_vote : OneEach first_texts (tables (codes "d_vote"))
   pub one_sum : OneEach first_text (tables (codes "d_vote_sum"))
 
-module _ (tables : NamedRows) (keyed : AreFiguresKeyed tables) (rows : FigureRows) (shows : ShowsFigures tables rows) where
-  -- ---- tallies
+-- ---- tallies
 
+module _ (tables : NamedRows) (rows : List Row) (shows : ListsTable (codes "d_tally") tally_columns tables rows) where
   abbrev tallies : List Row
   tallies = tables (codes "d_tally")
 
@@ -55,29 +54,30 @@ module _ (tables : NamedRows) (keyed : AreFiguresKeyed tables) (rows : FigureRow
   ShowsTallyOf counts row =
       (tally : Tally) × (columns (0 ∷ 1 ∷ 2 ∷ 3 ∷ 4 ∷ 5 ∷ 6 ∷ 7 ∷ 8 ∷ []) row ≡ tally_cells (text_at 0 row) (text_at 1 row) tally) × (counts (text_at 0 row) (text_at 1 row) ≡ Some tally)
 
-  tallies_are : (counts : Counts) → AreTalliesShown counts rows.tallies.items → AreTalliesOf counts tallies
+  pub tallies_are : (counts : Counts) → AreTalliesShown counts rows → AreTalliesOf counts tallies
   tallies_are counts shown = record { counted = counted_so; all = all_so }
     where
       counted_so : (row : Row) → Has tallies row → (tally : Tally) × HoldsTally tally row × (counts (text_at 1 row) (text_at 2 row) ≡ Some tally)
-      counted_so row there = shown.counted (columns tally_columns row) (is_listed tables (codes "d_tally") tally_columns rows.tallies.items shows.tallies row there)
+      counted_so row there = shown.counted (columns tally_columns row) (is_listed tables (codes "d_tally") tally_columns rows shows row there)
 
       all_so : (domain lang : Text) → is_some (counts domain lang) ≡ true → (row : Row) × Has tallies row × IsTallyOf domain lang row
       all_so domain lang some =
           let it = shown.all domain lang some in
-          let was = was_listed tables (codes "d_tally") tally_columns rows.tallies.items shows.tallies it.0 it.1 in
+          let was = was_listed tables (codes "d_tally") tally_columns rows shows it.0 it.1 in
           (was.0, was.1, (ap (text_at 0) (sym was.2) ∙ it.2, ap (text_at 1) (sym was.2) ∙ it.3))
 
-  tallies_shown : (counts : Counts) → AreTalliesOf counts tallies → AreTalliesShown counts rows.tallies.items
+  pub tallies_shown : (counts : Counts) → AreTalliesOf counts tallies → AreTalliesShown counts rows
   tallies_shown counts are = record {
     counted = λ row here.
-        let was = was_listed tables (codes "d_tally") tally_columns rows.tallies.items shows.tallies row here in
+        let was = was_listed tables (codes "d_tally") tally_columns rows shows row here in
         let it : ShowsTallyOf counts (columns tally_columns was.0) = are.counted was.0 was.1 in
         subst (ShowsTallyOf counts) (sym was.2) it;
     all = λ domain lang some.
         let it = are.all domain lang some in
-        (columns tally_columns it.0, is_listed tables (codes "d_tally") tally_columns rows.tallies.items shows.tallies it.0 it.1, it.2.0, it.2.1);
+        (columns tally_columns it.0, is_listed tables (codes "d_tally") tally_columns rows shows it.0 it.1, it.2.0, it.2.1);
   }
 
+module _ (tables : NamedRows) (keyed : AreFiguresKeyed tables) (rows : FigureRows) (shows : ShowsFigures tables rows) where
   -- ---- sums
 
   abbrev votes : List Row
@@ -149,10 +149,10 @@ module _ (tables : NamedRows) (keyed : AreFiguresKeyed tables) (rows : FigureRow
   -- ---- both
 
   pub figures_told : (office : Office) → ShowFigures (office_counts office) rows → HoldFigures office tables
-  figures_told office shown = record { tallies = tallies_are (office_counts office) shown.tallies; sums = sums_are shown.sums }
+  figures_told office shown = record { tallies = tallies_are tables rows.tallies.items shows.tallies (office_counts office) shown.tallies; sums = sums_are shown.sums }
 
   pub figures_shown : (office : Office) → HoldFigures office tables → ShowFigures (office_counts office) rows
-  figures_shown office hold = record { tallies = tallies_shown (office_counts office) hold.tallies; sums = sums_shown hold.sums }
+  figures_shown office hold = record { tallies = tallies_shown tables rows.tallies.items shows.tallies (office_counts office) hold.tallies; sums = sums_shown hold.sums }
 
   -- ---- votes and numbers stand for values
 
@@ -169,24 +169,14 @@ module _ (db : Database) (ready : AreOfficeTablesOf by_domain db) where
     one_sum = one_d_sum db ready.schema ready.sound (ready.tables (codes "d_vote_sum") refl);
   }
 
-  module _ (stand : StandInDomains (rows_named db)) where
-    abbrev suggestions : List Row
-    suggestions = rows_named db (codes "d_suggestion")
-
-    pub d_votes_stand : Each (codes "d_vote") (2 ∷ 3 ∷ 1 ∷ []) is_vote_row (rows_named db)
-    d_votes_stand v there =
-        let s = on_suggestion db ready v there in
-        let domain : Text = text_at 2 s.0 in
-        let passes : is_vote_in domain suggestions v ≡ true =
-        some_from (λ s. has_text 1 (first_text v) s && has_text 2 domain s) suggestions s.0 s.1 (and_from _ _ (is_text 1 (first_text v) s.0 (sym s.2)) (is_text 2 domain s.0 refl)) in
-        (stand.each domain).votes v (to_seen (is_vote_in domain suggestions) vote_seen (rows_named db (codes "d_vote")) v there passes)
-
-    pub d_numbers_stand : Each (codes "d_suggestion") (1 ∷ []) (holds_text is_number 0) (rows_named db)
-    d_numbers_stand s there =
-        let domain : Text = text_at 2 s in
-        let it : is_suggestion_row (columns (1 ∷ 4 ∷ 5 ∷ 6 ∷ 2 ∷ 3 ∷ []) (suggestion_seen s)) ≡ true =
-        (stand.each domain).suggestions (suggestion_seen s) (to_seen (has_text 2 domain) suggestion_seen suggestions s there (is_text 2 domain s refl)) in
-        (and_parts _ _ (and_parts _ _ it).1).0
+  pub d_votes_stand : StandInDomains (rows_named db) → Each (codes "d_vote") (2 ∷ 3 ∷ 1 ∷ []) is_vote_row (rows_named db)
+  d_votes_stand stand v there =
+      let suggestions = rows_named db (codes "d_suggestion") in
+      let s = on_suggestion db ready v there in
+      let domain : Text = text_at 2 s.0 in
+      let passes : is_vote_in domain suggestions v ≡ true =
+      some_from (λ s. has_text 1 (first_text v) s && has_text 2 domain s) suggestions s.0 s.1 (and_from _ _ (is_text 1 (first_text v) s.0 (sym s.2)) (is_text 2 domain s.0 refl)) in
+      (stand.each domain).votes v (to_seen (is_vote_in domain suggestions) vote_seen (rows_named db (codes "d_vote")) v there passes)
 
 -- ---- those of tables without a column for a domain
 

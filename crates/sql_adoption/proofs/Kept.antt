@@ -20,7 +20,7 @@ use Rattle.sql_adoption.specs.Adoption.{KeepsFigures, AreContents, StandForBook,
 use Rattle.sql_layouts.proofs.LaidOut.{one_form}
 use Rattle.sql_layouts.specs.Tables.{form_told}
 use Rattle.sql_layouts.specs.declared.office_tables.Form as told
-use Rattle.sql_adoption.specs.declared.tested.Adopted.{Adopted}
+use Rattle.sql_adoption.specs.declared.tested.MainOffice.{MainOffice}
 use Rattle.sql_adoption.specs.Reading.{HoldsAll, IsReadOf, KeepsBook, KeepsRows, FiguresOf, RefusesWith, RefusesOf, RefusesBook, RefusesKept, RefusesFigures, RefusesKeptRows}
 use Rattle.sql_layouts.proofs.Looked.{idle_still, if_ok, looked_on, looked_in_vain, looked_weaker, both_looked, looked_same}
 use Rattle.sql_schema.specs.Layouts.{Form, for_main, by_domain, HasLayoutOf, NamedRows, rows_named}
@@ -107,30 +107,35 @@ pub kept_anyway : {U : Type 0} (office : Office) (Given : Database → Type 0) (
     → IsLookUp old new r (λ db _. Given db → KeepsBook office db)
 kept_anyway office Given old new r it = looked_weaker old new r (λ db _. KeepsBook office db) (λ db _. Given db → KeepsBook office db) (λ db u book given. book) it
 
+pub figures_anyway : {U : Type 0} (form : Form) (office : Office) (Given : Database → Type 0) (old new : State) (r : Result U OpenFault) → IsLookUp old new r (λ db _. IsOffice office → FiguresOf form office db)
+    → IsLookUp old new r (λ db _. Given db → IsOffice office → FiguresOf form office db)
+figures_anyway form office Given old new r it =
+    looked_weaker old new r (λ db _. IsOffice office → FiguresOf form office db) (λ db _. Given db → IsOffice office → FiguresOf form office db) (λ db u figures given. figures) it
+
 -- with the figures, where something is given
 module _ {U V : Type 0} (form : Form) (u : U) (office : Office) (Given : Database → Type 0) (old mid new : State) (r : Result V OpenFault) (one : IsLookUp {E = OpenFault} old mid (Ok u) (λ db _. Given db → KeepsBook office db))
-    (two : IsLookUp mid new r (λ db _. IsOffice office → FiguresOf form office db)) where
+    (two : IsLookUp mid new r (λ db _. Given db → IsOffice office → FiguresOf form office db)) where
   pub rows_are_kept : IsLookUp old new r (λ db _. Given db → KeepsRows form office db)
   rows_are_kept =
-      let both = both_looked old mid new u r (λ db _. Given db → KeepsBook office db) (λ db _. IsOffice office → FiguresOf form office db) one two in
+      let both = both_looked old mid new u r (λ db _. Given db → KeepsBook office db) (λ db _. Given db → IsOffice office → FiguresOf form office db) one two in
       record {
-        answer = λ clean. if_ok r (λ v it given. record { book = it.0 given; figures = it.1 (it.0 given).rules.office }) (both.answer clean);
+        answer = λ clean. if_ok r (λ v it given. record { book = it.0 given; figures = it.1 given (it.0 given).rules.office }) (both.answer clean);
         same = both.same;
         is_open = both.is_open;
         ended = both.ended;
         survives = both.survives;
       }
 
-  pub rows_refused : IfErr r (λ fault. HasCleanDisk new → RefusesFigures form office mid.now fault) → IfErr r (λ fault. HasCleanDisk new → Given old.now → RefusesKeptRows form office old.now fault)
+  pub rows_refused : IfErr r (λ fault. HasCleanDisk new → Given mid.now → RefusesFigures form office mid.now fault) → IfErr r (λ fault. HasCleanDisk new → Given old.now → RefusesKeptRows form office old.now fault)
   rows_refused h = by r two h
     where
-      by : (s : Result V OpenFault) → IsLookUp mid new s (λ db _. IsOffice office → FiguresOf form office db) → IfErr s (λ fault. HasCleanDisk new → RefusesFigures form office mid.now fault)
+      by : (s : Result V OpenFault) → IsLookUp mid new s (λ db _. Given db → IsOffice office → FiguresOf form office db) → IfErr s (λ fault. HasCleanDisk new → Given mid.now → RefusesFigures form office mid.now fault)
           → IfErr s (λ fault. HasCleanDisk new → Given old.now → RefusesKeptRows form office old.now fault)
       by (Ok v) looked k = tt
       by (Err fault) looked k = λ clean given.
           let before : HasCleanDisk mid = omega (arith, clean, looked.survives.clean) in
-          let same = looked_same old mid new u (Err fault) (λ db _. Given db → KeepsBook office db) (λ db _. IsOffice office → FiguresOf form office db) one looked clean in
-          figures_refused form office old.now (one.answer before given) fault (subst (λ db. RefusesFigures form office db fault) same (k clean))
+          let same = looked_same old mid new u (Err fault) (λ db _. Given db → KeepsBook office db) (λ db _. Given db → IsOffice office → FiguresOf form office db) one looked clean in
+          figures_refused form office old.now (one.answer before given) fault (subst (λ db. RefusesFigures form office db fault) same (k clean (subst Given (sym same) given)))
 
 -- the rows stay those of a form's tables
 pub read_idle : (form : told.Form) (old mid : State) (read : ReadOffice) → IsIdleOver (form_told form) old → IsLookUp {E = OpenFault} old mid (Ok read) (IsReadOf (form_told form))
@@ -151,43 +156,41 @@ module _ (form : told.Form) (old mid new : State) (read : ReadOffice) (all : Hol
   meant db is = ap (λ office. with_book office (rows_named db)) is.office ∙ in_both (form_told form) (rows_named db)
 
   -- what is answered
-  abbrev pub Answered : Adopted
+  abbrev pub Answered : MainOffice
   Answered = record { form = form; maps = read.maps; langs = read.langs }
 
-  abbrev pub IsAnswer : Database → Adopted → Type 0
-  IsAnswer db adopted = (adopted.form ≡ form) × IsAdoptedAs db adopted
-
-  adopted_as : (db : Database) → IsReadOf (form_told form) db read → KeepsRows (form_told form) (office_in read.maps) db → IsAnswer db Answered
-  adopted_as db is kept = (
-    refl,
-    record {
-      office = is.office;
-      langs = all.langs;
-      rows = record {
-        told = is.told;
-        office = is.stand;
-        book = kept.book.stand;
-        numbered = kept.book.numbered;
-        contents = kept.book.contents;
-        figures = figures_kept (form_told form) (office_in read.maps) db is.office kept.figures;
-        rules = subst KeepsRules (meant db is) kept.book.rules;
-      };
-    },
-  )
+  adopted_as : (db : Database) → IsReadOf (form_told form) db read → KeepsRows (form_told form) (office_in read.maps) db → IsAdoptedAs db Answered
+  adopted_as db is kept = record {
+    office = is.office;
+    langs = all.langs;
+    rows = record {
+      told = is.told;
+      office = is.stand;
+      book = kept.book.stand;
+      numbered = kept.book.numbered;
+      contents = kept.book.contents;
+      figures = figures_kept (form_told form) (office_in read.maps) db is.office kept.figures;
+      rules = subst KeepsRules (meant db is) kept.book.rules;
+    };
+  }
 
   -- what is asked of the rows behind the read of the office
   abbrev pub KeepsRead : Database → Type 0
   KeepsRead db = IsReadOf (form_told form) db read → KeepsRows (form_told form) (office_in read.maps) db
 
-  pub office_adopted : {U : Type 0} (kept : Result U OpenFault) (r : Result Adopted OpenFault) → IsLookUp mid new kept (λ db _. KeepsRead db)
-      → MatchResult kept (λ _. r ≡ Ok Answered) (λ fault. r ≡ Err fault) → IsLookUp old new r IsAnswer
+  pub office_form : {U : Type 0} (kept : Result U OpenFault) (r : Result MainOffice OpenFault) → MatchResult kept (λ _. r ≡ Ok Answered) (λ fault. r ≡ Err fault) → IfOk r (λ office. office.form ≡ form)
+  office_form (Ok u) r is = subst (λ s. IfOk s (λ (office : MainOffice). office.form ≡ form)) (sym is) refl
+  office_form (Err f) r is = subst (λ s. IfOk s (λ (office : MainOffice). office.form ≡ form)) (sym is) tt
+
+  pub office_adopted : {U : Type 0} (kept : Result U OpenFault) (r : Result MainOffice OpenFault) → IsLookUp mid new kept (λ db _. KeepsRead db)
+      → MatchResult kept (λ _. r ≡ Ok Answered) (λ fault. r ≡ Err fault) → IsLookUp old new r IsAdoptedAs
   office_adopted (Ok u) r two is =
-      subst (λ s. IsLookUp old new s IsAnswer) (sym is)
-      (looked_on old new {E = OpenFault} u (Ok Answered) _ IsAnswer (both_looked old mid new read (Ok u) (IsReadOf (form_told form)) (λ db _. KeepsRead db) one two)
+      subst (λ s. IsLookUp old new s IsAdoptedAs) (sym is)
+      (looked_on old new {E = OpenFault} u (Ok Answered) _ IsAdoptedAs (both_looked old mid new read (Ok u) (IsReadOf (form_told form)) (λ db _. KeepsRead db) one two)
       (λ early was_open both. adopted_as old.now both.0 (both.1 both.0)))
   office_adopted (Err f) r two is =
-      subst (λ s. IsLookUp old new s IsAnswer) (sym is)
-      (looked_in_vain old new (Err f) f _ IsAnswer (both_looked old mid new read (Err f) (IsReadOf (form_told form)) (λ db _. KeepsRead db) one two))
+      subst (λ s. IsLookUp old new s IsAdoptedAs) (sym is)
+      (looked_in_vain old new (Err f) f _ IsAdoptedAs (both_looked old mid new read (Err f) (IsReadOf (form_told form)) (λ db _. KeepsRead db) one two))
 
   refused_with : (db : Database) → IsReadOf (form_told form) db read → (fault : OpenFault) → RefusesKeptRows (form_told form) (office_in read.maps) db fault → RefusesOf (form_told form) db fault
   refused_with db is (Foreign UnreadRow) h = h
@@ -200,7 +203,7 @@ module _ (form : told.Form) (old mid new : State) (read : ReadOffice) (all : Hol
   refused_with db is Disk h = tt
   refused_with db is Refused h = tt
 
-  pub office_refused : {U : Type 0} (kept : Result U OpenFault) (r : Result Adopted OpenFault) → IsLookUp mid new kept (λ db _. KeepsRead db)
+  pub office_refused : {U : Type 0} (kept : Result U OpenFault) (r : Result MainOffice OpenFault) → IsLookUp mid new kept (λ db _. KeepsRead db)
       → IfErr kept (λ fault. HasCleanDisk new → IsReadOf (form_told form) mid.now read → RefusesKeptRows (form_told form) (office_in read.maps) mid.now fault)
       → MatchResult kept (λ _. r ≡ Ok Answered) (λ fault. r ≡ Err fault) → IfErr r (λ fault. HasCleanDisk new → RefusesOf (form_told form) old.now fault)
   office_refused (Ok u) r two h is = subst (λ s. IfErr s (λ fault. HasCleanDisk new → RefusesOf (form_told form) old.now fault)) (sym is) tt

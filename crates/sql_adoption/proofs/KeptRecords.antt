@@ -1,32 +1,28 @@
 -- Records that a walk over all of them tested: they keep their rules, or don't.
-use Rattle.std.proofs.Common.{◌≡◌, List, ◌∷◌, [], true, false, Result, Ok, Err, IfErr, sym, ap, subst, ◌∙◌, codes, All}
+use Rattle.std.proofs.Common.{◌≡◌, List, ◌∷◌, [], true, false, Result, Ok, Err, IfErr, sym, ap, ◌∙◌, codes, All}
 use Rattle.std.specs.List.{list_all}
 use Rattle.std.proofs.lemmas.Bool.{false≢true}
 use Rattle.sqlite.specs.Effect.{Database}
 use Rattle.sqlite.specs.Order.{Row}
 use Rattle.sqlite_rules.proofs.ListLemmas.{test_has, test_from}
 use Rattle.sql_laws.specs.RowMaps.{OneEach}
-use Rattle.units.specs.Office.{Office, main}
-use Rattle.units.specs.Offices.{IsOffice}
-use Rattle.office_maps.specs.OfficeIn.{office_in}
-use Rattle.office_specification.specs.OfficeRules.{KeepsRules}
+use Rattle.units.specs.Office.{main}
 use Rattle.sql_schema.specs.Keys.{columns}
 use Rattle.sql_schema.specs.Inside.{AreOfficeTablesOf}
 use Rattle.sql_schema.specs.Layouts.{by_domain, rows_named}
 use Rattle.sql_schema.specs.SeenRows.{seen_in}
 use Rattle.sql_statements.specs.RecordTable.{ShowsRecords, ShowsRecordsIn}
-use Rattle.sql_meaning.specs.Meaning.{number_at, book_in}
+use Rattle.sql_meaning.specs.Meaning.{number_at}
 use Rattle.sql_meaning.proofs.DomainOfficeRows.{domain_rows}
 use Rattle.sql_adoption.specs.declared.faults.OpenFault.{OpenFault}
 use Rattle.sql_adoption.specs.declared.faults.OpenFault.TheVariants.{Memory, Disk, Foreign, Exists, Refused}
 use Rattle.sql_adoption.specs.declared.faults.Mismatch.TheVariants.{OtherTables, OtherForm, UnreadRow, OtherFigures, BrokenRules}
-use Rattle.sql_adoption.specs.declared.office_put.ReadOffice.{ReadOffice}
 use Rattle.sql_adoption.specs.BookShown.{IsRecordRow}
 use Rattle.sql_adoption.specs.NotedRecords.{has_status}
-use Rattle.sql_adoption.specs.Reading.{IsReadOf, KeepsBook, KeepsRecords, RefusesBook, RefusesKept, RefusesRecords}
+use Rattle.sql_adoption.specs.Reading.{KeepsRecords, RefusesBook, RefusesRecords}
 use Rattle.sql_adoption.proofs.Stand.{all_contents, book_stands, is_shown, was_there}
 use Rattle.sql_adoption.proofs.WholeBook.{all_numbered, one_number}
-use Rattle.sql_adoption.proofs.Recorded.{statuses_kept, statuses_told, rules_kept}
+use Rattle.sql_adoption.proofs.Recorded.{statuses_kept, statuses_told}
 
 module _ (db : Database) (rows : List Row) (shows : ShowsRecords db rows) (stand : All IsRecordRow rows) where
   pub records_kept : list_all has_status rows ≡ true → KeepsRecords db
@@ -64,26 +60,3 @@ unread_records db Refused h = tt
 pub records_unread : (C : Type 0) {A : Type 0} (db : Database) (r : Result A OpenFault) → IfErr r (λ fault. C → RefusesBook db fault) → IfErr r (λ fault. C → RefusesRecords db fault)
 records_unread C db (Ok x) h = tt
 records_unread C db (Err fault) h = λ clean. unread_records db fault (h clean)
-
--- ---- with an office
-
--- the office of the rows keeps the rules with their book
-pub recorded_kept : (db : Database) (read : ReadOffice) → AreOfficeTablesOf by_domain db → KeepsRecords db → IsOffice (office_in read.maps) → IsReadOf by_domain db read → KeepsBook (office_in read.maps) db
-recorded_kept db read ready records rules is = record {
-  stand = records.stand;
-  numbered = records.numbered;
-  contents = records.contents;
-  rules = subst (λ (office : Office). KeepsRules (record { office = office; book = book_in (rows_named db) })) (sym is.office)
-      (rules_kept db ready (λ domain. (is.stand.each domain).suggestions) (subst IsOffice is.office rules) records.statuses);
-}
-
-pub recorded_refused : (office : Office) (db : Database) (fault : OpenFault) → RefusesRecords db fault → RefusesKept office db fault
-recorded_refused office db (Foreign UnreadRow) h = h
-recorded_refused office db (Foreign OtherFigures) h = absurd h
-recorded_refused office db (Foreign BrokenRules) h = λ rules. h rules.statuses
-recorded_refused office db (Foreign OtherForm) h = absurd h
-recorded_refused office db (Foreign OtherTables) h = absurd h
-recorded_refused office db Exists h = absurd h
-recorded_refused office db Memory h = tt
-recorded_refused office db Disk h = tt
-recorded_refused office db Refused h = tt

@@ -10,9 +10,8 @@ use Rattle.sql_laws.specs.RowMaps.{IsFound}
 use Rattle.sql_laws.proofs.RowMaps.{get-found}
 use Rattle.po_text.specs.Texts.{Text, text_cmp}
 use Rattle.units.specs.Changes.{with_domain}
-use Rattle.units.specs.Office.{Office, Domain, empty_domain, same_domain, domain_of}
+use Rattle.units.specs.Office.{Office, Domain, empty_domain, same_domain}
 use Rattle.units.specs.Orders.{text_total, text_IsAntisymmetric}
-use Rattle.units.specs.Project.{Project}
 use Rattle.office_specification.specs.Parts.{ShareTeam, AreAlikeIn}
 use Rattle.office_specification.specs.declared.parts.Part.TheVariants as parts
 use Rattle.office_specification.proofs.domains.InDomains.{equal_domains, its_own_domain}
@@ -22,17 +21,13 @@ use Rattle.sql_schema.specs.Layouts.{by_domain, NamedRows, rows_named}
 use Rattle.sql_schema.specs.SeenRows.{seen_in}
 use Rattle.sql_schema.proofs.DomainRows.{one_domain_name}
 use Rattle.sql_statements.specs.DomainAnswers.{ShowsDomains}
-use Rattle.sql_statements.specs.WholeOffice.{ShowsWholeOfficeIn, ShowsOfficeTablesIn}
-use Rattle.sql_statements.specs.declared.whole_office.WholeOffice.{WholeOffice}
+use Rattle.sql_statements.specs.WholeOffice.{without_units}
 use Rattle.sql_meaning.specs.Domains.{domain_of_rows, domains_in, office_of_rows}
-use Rattle.sql_meaning.specs.Meaning.{team_in, policy_in}
-use Rattle.sql_meaning.specs.OfficeShown.{project_shown, team_shown, policy_shown, with_shown}
 use Rattle.sql_meaning.proofs.Books.{same_texts}
 use Rattle.sql_meaning.proofs.DomainOfficeRows.{domain_rows}
-use Rattle.sql_meaning.proofs.OfficeTables.{whole_team, whole_policy, whole_template, whole_headers}
+use Rattle.sql_meaning.proofs.OfficeTables.{whole_team, whole_policy}
 use Rattle.sql_meaning.proofs.ShownMaps.{inserted, map_is, inserted_answers}
-use Rattle.sql_meaning.proofs.WholeOffice.{whole_rows}
-use Rattle.sql_adoption.specs.PartsRead.{ShowsShared, HasLanguages, with_named, shared_office}
+use Rattle.sql_adoption.specs.PartsRead.{ShowsShared, with_named, shared_office}
 use Rattle.sql_adoption.specs.Reading.{bare_office, with_seen}
 use Rattle.sql_adoption.specs.declared.look_ups.SharedRows.{SharedRows}
 
@@ -84,41 +79,6 @@ module _ (db : Database) (ready : AreOfficeTablesOf by_domain db) where
         ∙ (same_named rows.domains.items shown_domain maps.empty maps.empty (λ k. refl) q ∙ sym (ap (λ (m : Domains). maps.contains_key m q) (in_rows rows.domains.items shows.domains)));
   }
 
-  -- ---- one domain's languages
-
-  pub languages_put : (domain : Text) (rows : WholeOffice) → ShowsOfficeTablesIn (seen domain) rows.office → (office : Office) → HasLanguages domain tables office (with_shown office domain rows)
-  languages_put domain rows shows office = record {
-    domains = λ other. ap is_some (maps.get-insert text_total office.domains domain put other)
-        ∙ (put_still (eq_by_cmp text_cmp other domain) put empty_domain (maps.get office.domains other) (maps.get office.domains other) refl ∙ sym (ap is_some (maps.get-insert text_total office.domains domain empty_domain other)));
-    languages = record {
-      template = ap (λ (found : Option Domain). (unwrap_or found empty_domain).template) own ∙ sym (whole_template (seen domain) (domain_rows db ready domain) rows.office.template.items shows.template);
-      headers = ap (λ (found : Option Domain). (unwrap_or found empty_domain).headers) own ∙ sym (whole_headers (seen domain) (domain_rows db ready domain) rows.office.languages.items shows.languages);
-      team = team;
-      policy = policy;
-    };
-    team = team;
-    policy = policy;
-  }
-    where
-      put : Domain
-      put = domain_of (project_shown rows)
-
-      team : team_shown rows.office.team.items ≡ team_in tables
-      team = sym (whole_team (seen domain) (domain_rows db ready domain) rows.office.team.items shows.team)
-
-      policy : policy_shown rows.office.policy ≡ policy_in tables
-      policy = sym (whole_policy (seen domain) (domain_rows db ready domain) rows.office.policy shows.policy)
-
-      own : maps.get (maps.insert office.domains domain put) domain ≡ Some put
-      own = maps.get-insert text_total office.domains domain put domain ∙ ap (λ b. cond b (Some put) (maps.get office.domains domain)) (its_own_domain domain)
-
-  -- ---- one domain
-
-  -- it is put in with all that it sees
-  pub seen_put : (domain : Text) (rows : WholeOffice) → ShowsWholeOfficeIn (seen domain) rows → (office : Office) → with_shown office domain rows ≡ with_seen tables office domain
-  seen_put domain rows shows office =
-      ap (λ (project : Project). record { domains = maps.insert office.domains domain (domain_of project); team = project.team; policy = project.policy }) (whole_rows (seen domain) (domain_rows db ready domain) rows shows)
-
 -- where it isn't there
 no_two : (o p : Option Domain) → is_some o ≡ is_some p → is_some o ≡ false → o ≡ p
 no_two None None same none = refl
@@ -149,21 +109,27 @@ module _ (tables : NamedRows) (old : Office) (domain : Text) (shares : ShareTeam
       by true e = sym (ap (maps.contains_key (domains_in tables)) (equal_domains q domain e) ∙ meant)
       by false e = shares.domains q
 
+  -- the one that takes it
+  taken : (put : Domain) → maps.get (maps.insert old.domains domain put) domain ≡ Some put
+  taken put = maps.get-insert text_total old.domains domain put domain ∙ ap (λ b. cond b (Some put) (maps.get old.domains domain)) (its_own_domain domain)
+
   pub seen_alike : (new : Office) → new ≡ with_seen tables old domain → AreAlikeIn (parts.Domain domain) new (office_of_rows tables)
   seen_alike new is =
       subst (λ (office : Office). AreAlikeIn (parts.Domain domain) office (office_of_rows tables)) (sym is) (
         record { team = refl; policy = refl; domains = still_named (domain_of_rows tables domain) },
-        maps.get-insert text_total old.domains domain (domain_of_rows tables domain) domain
-            ∙ (ap (λ b. cond b (Some (domain_of_rows tables domain)) (maps.get old.domains domain)) (its_own_domain domain) ∙ sym (found_domain tables domain meant)),
+        taken (domain_of_rows tables domain) ∙ sym (found_domain tables domain meant),
       )
 
-  pub languages_alike : (new : Office) → HasLanguages domain tables old new → AreAlikeIn (parts.Languages domain) new (office_of_rows tables)
-  languages_alike new has = (
-    record { team = has.team; policy = has.policy; domains = λ q. has.domains q ∙ still_named empty_domain q },
-    record {
-      template = has.languages.template ∙ sym (ap (λ (found : Option Domain). (unwrap_or found empty_domain).template) (found_domain tables domain meant));
-      headers = has.languages.headers ∙ sym (ap (λ (found : Option Domain). (unwrap_or found empty_domain).headers) (found_domain tables domain meant));
-      team = has.team;
-      policy = has.policy;
-    },
-  )
+  pub frame_alike : (new : Office) → new ≡ with_seen (without_units tables) old domain → AreAlikeIn (parts.Languages domain) new (office_of_rows tables)
+  frame_alike new is =
+      subst (λ (office : Office). AreAlikeIn (parts.Languages domain) office (office_of_rows tables)) (sym is) (
+        record { team = refl; policy = refl; domains = still_named (domain_of_rows (without_units tables) domain) },
+        record {
+          template = ap (λ (found : Option Domain). (unwrap_or found empty_domain).template) (taken (domain_of_rows (without_units tables) domain))
+              ∙ sym (ap (λ (found : Option Domain). (unwrap_or found empty_domain).template) (found_domain tables domain meant));
+          headers = ap (λ (found : Option Domain). (unwrap_or found empty_domain).headers) (taken (domain_of_rows (without_units tables) domain))
+              ∙ sym (ap (λ (found : Option Domain). (unwrap_or found empty_domain).headers) (found_domain tables domain meant));
+          team = refl;
+          policy = refl;
+        },
+      )

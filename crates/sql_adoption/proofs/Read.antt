@@ -25,6 +25,7 @@ use Rattle.sql_decoding.specs.declared.faults.Failure.{Failure}
 use Rattle.office_specification.specs.MainAlone.{main_alone}
 use Rattle.sql_statements.specs.declared.whole_office.WholeOffice.{WholeOffice}
 use Rattle.sql_statements.specs.WholeOffice.{ShowsWholeOffice, ShowsWholeOfficeIn}
+use Rattle.sql_meaning.specs.OfficeShown.{with_shown}
 use Rattle.sql_meaning.proofs.WholeOffice.{whole_rows}
 use Rattle.sql_meaning.proofs.OfficeRows.{office_rows}
 use Rattle.sql_meaning.proofs.DomainOfficeRows.{domain_rows}
@@ -42,7 +43,10 @@ use Rattle.sql_adoption.specs.declared.faults.OpenFault.TheVariants.{Memory, Dis
 use Rattle.sql_adoption.specs.declared.faults.Mismatch.TheVariants.{OtherTables, OtherForm, UnreadRow, OtherFigures, BrokenRules}
 use Rattle.sql_adoption.specs.declared.office_put.ReadOffice.{ReadOffice}
 use Rattle.sql_adoption.specs.Adoption.{TellsForm}
-use Rattle.sql_adoption.specs.Reading.{unread, IsOfWalk, ShowsForm, IsOfRows, PutsRows, AddsDomain, RefusesRows, RefusesOf, RefusesBook, IsReadOf, AreStatusesIn}
+use Rattle.sql_adoption.specs.Reading.{unread, IsOfWalk, ShowsForm, IsOfRows, PutsRows, AddsDomain, RefusesRows, RefusesOf, RefusesBook, IsReadOf, AreStatusesIn, with_seen}
+use Rattle.sql_adoption.specs.ReadParts.{part_of}
+use Rattle.sql_adoption.specs.declared.domains_read.Part.{Part}
+use Rattle.sql_adoption.proofs.ReadParts.{told_in_part, policy_of_part, rows_of_part, stand_in_part}
 use Rattle.sql_adoption.proofs.Stand.{office_stands, rows_stand, all_contents, book_stands, records_stand}
 use Rattle.sql_schema.specs.Layouts.{Form, for_main, by_domain, is_own_table, NamedRows, rows_named}
 
@@ -98,23 +102,26 @@ module _ (figures : Bool) (db : Database) (office : AreOfficeTablesOf (for_main 
 
 -- ---- a domain of tables by domains
 
-module _ (db : Database) (office : AreOfficeTablesOf by_domain db) (domain : Text) (rows : WholeOffice) (shows : ShowsWholeOfficeIn (seen_in domain (rows_named db)) rows) where
+module _ (part : Part) (db : Database) (office : AreOfficeTablesOf by_domain db) (domain : Text) (rows : WholeOffice) (shows : ShowsWholeOfficeIn (seen_in domain (part_of part (rows_named db))) rows) where
   abbrev seen : NamedRows
-  seen = seen_in domain (rows_named db)
+  seen = seen_in domain (part_of part (rows_named db))
 
   abbrev with_project : Office → Project → Office
   with_project old project = record { domains = maps.insert old.domains domain (domain_of project); team = project.team; policy = project.policy }
 
-  pub domain_put : (old new : OfficeMaps) → PutsRows domain rows old new → ShowsForm by_domain rows.office.policy → AddsDomain domain (rows_named db) old new
+  pub seen_put : (old : Office) → with_shown old domain rows ≡ with_seen (part_of part (rows_named db)) old domain
+  seen_put old = ap (with_project old) (whole_rows seen (rows_of_part part db office domain) rows shows)
+
+  pub domain_put : (old new : OfficeMaps) → PutsRows domain rows old new → ShowsForm by_domain rows.office.policy → AddsDomain domain (part_of part (rows_named db)) old new
   domain_put old new it told = record {
-    told = form_told_so by_domain db rows.office.policy shows.office.policy told;
-    stand = office_stands seen (domain_rows db office domain) rows shows it.stand;
-    office = it.office ∙ ap (with_project (office_in old)) (whole_rows seen (domain_rows db office domain) rows shows);
+    told = told_in_part part (rows_named db) (form_told_so by_domain db rows.office.policy (policy_of_part part db domain rows.office.policy shows.office.policy) told);
+    stand = office_stands seen (rows_of_part part db office domain) rows shows it.stand;
+    office = it.office ∙ seen_put (office_in old);
   }
 
   pub domain_refused : (fault : OpenFault) → RefusesRows by_domain rows fault → RefusesOf by_domain db fault
-  domain_refused (Foreign UnreadRow) h = λ stand. h (rows_stand seen (domain_rows db office domain) rows shows (stand.0.each domain))
-  domain_refused (Foreign OtherForm) h = λ told. h (form_shown by_domain db rows.office.policy shows.office.policy office told)
+  domain_refused (Foreign UnreadRow) h = λ stand. h (rows_stand seen (rows_of_part part db office domain) rows shows (stand_in_part part (rows_named db) domain (stand.0.each domain)))
+  domain_refused (Foreign OtherForm) h = λ told. h (form_shown by_domain db rows.office.policy (policy_of_part part db domain rows.office.policy shows.office.policy) office told)
   domain_refused (Foreign OtherFigures) h = absurd h
   domain_refused (Foreign BrokenRules) h = absurd h
   domain_refused (Foreign OtherTables) h = absurd h
@@ -123,10 +130,10 @@ module _ (db : Database) (office : AreOfficeTablesOf by_domain db) (domain : Tex
   domain_refused Disk h = tt
   domain_refused Refused h = tt
 
-pub domains_put : (db : Database) (office : AreOfficeTablesOf by_domain db) (domain : Text) (rows : WholeOffice) (shows : ShowsWholeOfficeIn (seen_in domain (rows_named db)) rows) {U : Type 0} (r : Result U OpenFault)
-    (old new : OfficeMaps) → OnOk r (PutsRows domain rows old new) → OnOk r (ShowsForm by_domain rows.office.policy) → IfOk r (λ _. AddsDomain domain (rows_named db) old new)
-domains_put db office domain rows shows (Ok u) old new it told = domain_put db office domain rows shows old new it told
-domains_put db office domain rows shows (Err fault) old new it told = tt
+pub domains_put : (part : Part) (db : Database) (office : AreOfficeTablesOf by_domain db) (domain : Text) (rows : WholeOffice) (shows : ShowsWholeOfficeIn (seen_in domain (part_of part (rows_named db))) rows) {U : Type 0} (r : Result U OpenFault)
+    (old new : OfficeMaps) → OnOk r (PutsRows domain rows old new) → OnOk r (ShowsForm by_domain rows.office.policy) → IfOk r (λ _. AddsDomain domain (part_of part (rows_named db)) old new)
+domains_put part db office domain rows shows (Ok u) old new it told = domain_put part db office domain rows shows old new it told
+domains_put part db office domain rows shows (Err fault) old new it told = tt
 
 -- ---- why not
 

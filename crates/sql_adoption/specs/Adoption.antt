@@ -15,6 +15,9 @@ use Rattle.sql_schema.specs.Whole.{IsIdleOver}
 use Rattle.sql_layouts.specs.Found.{HoldsOfficeOf, HoldsOffice}
 use Rattle.sql_layouts.specs.Tables.{form_told}
 use Rattle.sql_adoption.specs.declared.tested.Adopted.{Adopted}
+use Rattle.sql_adoption.specs.declared.tested.Adopted.TheVariants as adopted
+use Rattle.sql_adoption.specs.declared.tested.MainOffice.{MainOffice}
+use Rattle.sql_layouts.specs.declared.office_tables.Form as told
 use Rattle.po_text.specs.Texts.{Text}
 use Rattle.sql_schema.specs.SeenRows.{seen_in}
 use Rattle.sql_meaning.specs.Meaning.{template_in, meaning_in, AreNumbered}
@@ -24,7 +27,7 @@ use Rattle.request_book.specs.Contents.{IsContent}
 use Rattle.sql_adoption.specs.declared.faults.OpenFault.{OpenFault}
 use Rattle.sql_adoption.specs.declared.faults.OpenFault.TheVariants.{Foreign, Exists}
 use Rattle.sql_adoption.specs.declared.faults.Mismatch.TheVariants.{OtherTables, OtherForm, UnreadRow, OtherFigures, BrokenRules}
-use Rattle.sql_schema.specs.Layouts.{Form, for_main, by_domain, HasLayoutOf, NamedRows, rows_named}
+use Rattle.sql_schema.specs.Layouts.{Form, IsForMain, for_main, by_domain, HasLayoutOf, NamedRows, rows_named}
 use Rattle.sql_figures.specs.Figures.{HasFigures, HoldFigures, figures_of_main}
 
 -- the number of the schema, which tells the form of the tables
@@ -101,17 +104,37 @@ pub record IsAdoptedOf (form : Form) (db : Database) : Type 0 where
 abbrev pub IsAdopted : Database → Type 0
 IsAdopted db = (form : Form) × HoldsOfficeOf form db × IsAdoptedOf form db
 
--- in maps, the office of the rows is this, and the languages of all its domains are here
-pub record IsAdoptedAs (db : Database) (adopted : Adopted) : Type 0 where
+-- in maps, the office of the rows of tables without a column for a domain is this, and its languages are here
+pub record IsAdoptedAs (db : Database) (adopted : MainOffice) : Type 0 where
   pub office : office_in adopted.maps ≡ (meaning_for (form_told adopted.form) (rows_named db)).office
   pub langs : AreAllLangs (office_in adopted.maps) adopted.langs.items
   pub rows : IsAdoptedOf (form_told adopted.form) db
 
--- An open connection between transactions over such rows, and their office in maps.
-pub record IsAdoptedIn (s : State) (office : Adopted) : Type 0 where
+-- the form of what was adopted; only of tables without a column for a domain an office is at hand
+abbrev pub adopted_form : Adopted → Form
+adopted_form adopted.ByDomain = by_domain
+adopted_form (adopted.ForMain office) = form_told office.form
+
+abbrev pub HasItsForm : Adopted → Type 0
+HasItsForm adopted.ByDomain = ⊤
+HasItsForm (adopted.ForMain office) = IsForMain (form_told office.form)
+
+-- such rows are adopted, with what is at hand of them
+abbrev pub IsAdoptedWith : Database → Adopted → Type 0
+IsAdoptedWith db adopted.ByDomain = IsAdoptedOf by_domain db
+IsAdoptedWith db (adopted.ForMain office) = IsAdoptedAs db office
+
+-- it is of tables of a form that was told
+pub record HasForm (form : told.Form) (adopted : Adopted) : Type 0 where
+  pub same : adopted_form adopted ≡ form_told form
+  pub main : HasItsForm adopted
+
+-- An open connection between transactions over such rows, and what is at hand of them.
+pub record IsAdoptedIn (s : State) (found : Adopted) : Type 0 where
   pub is_open : HasCleanDisk s → IsTrue s.is_open
-  pub idle : IsIdleOver (form_told office.form) s
-  pub adopted : HasCleanDisk s → IsAdoptedAs s.now office
+  pub idle : IsIdleOver (adopted_form found) s
+  pub main : HasItsForm found
+  pub adopted : HasCleanDisk s → IsAdoptedWith s.now found
 
 -- A connection between transactions that shows and has committed what it did, unless it is shut; a stop leaves what it left before, or the
 -- rows that were shown.

@@ -16,11 +16,3 @@ abbrev pub fault_of : Lost → OpenFault
 fault_of lost.Memory = Memory
 fault_of lost.Disk = Disk
 fault_of lost.Refused = Refused
-
--- what remains of the fault of rows that this program has written: of the disk is told where a statement does
-abbrev pub lost_of : OpenFault → Lost
-lost_of Memory = lost.Memory
-lost_of Disk = lost.Disk
-lost_of (Foreign why) = lost.Refused
-lost_of Exists = lost.Refused
-lost_of Refused = lost.Refused

@@ -14,6 +14,7 @@ use Rattle.po_text.specs.Texts.{Text, text_eq, text_cmp}
 use Rattle.units.specs.Units.{vote_sum}
 use Rattle.office_specification.specs.declared.tally.Tally.{Tally}
 use Rattle.sql_schema.specs.Keys.{text_at, has_text, columns}
+use Rattle.sql_statements.specs.SummedVotes.{is_integer}
 use Rattle.sql_statements.specs.Tables.{ShowsTable}
 use Rattle.sql_schema.specs.Layouts.{NamedRows, rows_named}
 use Rattle.sql_meaning.specs.Cells.{tally_cells}
@@ -32,18 +33,6 @@ use Rattle.sql_adoption.specs.declared.language_tallies.Counted.{Counted}
 abbrev pub ShowsAllTallies : Database → List Row → Type 0
 ShowsAllTallies = ShowsTable (codes "d_tally") tally_columns (0 ∷ 1 ∷ [])
 
--- number
-abbrev pub ShowsNumbers : Database → List Row → Type 0
-ShowsNumbers = ShowsTable (codes "d_suggestion") (1 ∷ []) (0 ∷ [])
-
--- voter, value, number
-abbrev pub ShowsAllVotes : Database → List Row → Type 0
-ShowsAllVotes = ShowsTable (codes "d_vote") (2 ∷ 3 ∷ 1 ∷ []) (2 ∷ 0 ∷ [])
-
--- number, sum
-abbrev pub ShowsAllSums : Database → List Row → Type 0
-ShowsAllSums = ShowsTable (codes "d_vote_sum") (1 ∷ 2 ∷ []) (0 ∷ [])
-
 -- All rows of the table of this name, each once, by these columns.
 abbrev pub ListsTable : List ℕ → List ℕ → NamedRows → List Row → Type 0
 ListsTable name places tables rows = IsPermutation (map (columns places) (tables name)) rows
@@ -54,10 +43,6 @@ pub record ShowsFigures (tables : NamedRows) (rows : FigureRows) : Type 0 where
   pub suggestions : ListsTable (codes "d_suggestion") (1 ∷ []) tables rows.suggestions.items
   pub votes : ListsTable (codes "d_vote") (2 ∷ 3 ∷ 1 ∷ []) tables rows.votes.items
   pub sums : ListsTable (codes "d_vote_sum") (1 ∷ 2 ∷ []) tables rows.sums.items
-
--- those of tables by domains
-abbrev pub ShowsFiguresOf : Database → FigureRows → Type 0
-ShowsFiguresOf db rows = ShowsFigures (rows_named db) rows
 
 -- those of tables without a column for a domain
 abbrev pub ShowsMainFigures : Database → FigureRows → Type 0
@@ -87,13 +72,6 @@ is_words text (Int n) = false
 is_words text (Real x) = false
 is_words text (Words t) = text_eq t text
 is_words text (Blob b) = false
-
-abbrev pub is_integer : ℤ → Value → Bool
-is_integer number Null = false
-is_integer number (Int n) = int_eq n number
-is_integer number (Real x) = false
-is_integer number (Words t) = false
-is_integer number (Blob b) = false
 
 -- ---- tallies
 

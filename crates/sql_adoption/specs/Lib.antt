@@ -5,4 +5,14 @@ pub mod Faults
 pub mod Reading
 pub mod FigureRows
 pub mod OwnedRows
+pub mod Told
+pub mod SumsKept
 pub mod PartsRead
+pub mod ApprovalsRead
+pub mod WalkedUnits
+pub mod TookUnits
+pub mod TookSuggestions
+pub mod LanguagesKept
+pub mod FramesKept
+pub mod ReadParts
+pub mod WalkedOffice

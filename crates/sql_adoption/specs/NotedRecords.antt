@@ -1,9 +1,6 @@
 -- What a walk over records notes: the statuses of their replies, by their numbers, or whether all are such that a reply may have. This project's own words.
-use Rattle.std.proofs.Common.{◌≡◌, ℕ, Bool, true, false, ◌&&◌, List, [], ◌∷◌, ◌++◌, All, refl, sym, ap, subst, ◌∙◌}
+use Rattle.std.proofs.Common.{◌≡◌, ℕ, Bool, ◌&&◌, List, [], ◌∷◌, ◌++◌, All, sym, subst}
 use Rattle.std.specs.Prelude.{fold}
-use Rattle.std.specs.List.{list_all}
-use Rattle.std.proofs.Math.Bool.{and-true}
-use Rattle.std.proofs.lemmas.List.Folds.{list_all-append}
 use Rattle.std.specs.BTreeMap.{BTreeMap}
 use Rattle.std.specs.FinMap as maps
 use Rattle.std.proofs.lemmas.List.Elements.{All-nil, All-cons, All-append}
@@ -17,6 +14,7 @@ use Rattle.sql_meaning.specs.Shown.{shown_record}
 use Rattle.rule_tests.specs.Given.{AreStatusesOf}
 use Rattle.rule_tests.specs.Books.{is_status}
 use Rattle.sql_adoption.specs.BookShown.{IsRecordRow}
+use Rattle.sql_adoption.specs.Told.{TellsAll, tells_none, tells_one, tells_more}
 
 -- content, status, body, number: a book with the record of a row
 abbrev pub with_record_shown : Book → Row → Book
@@ -48,23 +46,16 @@ has_status row = is_status (natural_at 1 row)
 -- Each row is a record's with a request's content, and it is told whether all have such a status, also those before.
 pub record TestsRecords (before : Bool) (rows : List Row) (after : Bool) : Type 0 where
   pub stand : All IsRecordRow rows
-  pub told : after ≡ (before && list_all has_status rows)
+  pub told : TellsAll has_status before rows after
 
 pub tests_none : (answered : Bool) → TestsRecords answered [] answered
-tests_none answered = record { stand = All-nil IsRecordRow; told = sym (and-true answered) }
+tests_none answered = record { stand = All-nil IsRecordRow; told = tells_none has_status answered }
 
 pub tests_one : (row : Row) (before after : Bool) → IsRecordRow row → after ≡ (before && has_status row) → TestsRecords before (row ∷ []) after
-tests_one row before after stands told = record {
-  stand = All-cons IsRecordRow row [] stands (All-nil IsRecordRow);
-  told = told ∙ ap (λ b. before && b) (sym (and-true (has_status row)));
-}
-
-both : (a b c : Bool) → ((a && b) && c) ≡ (a && (b && c))
-both true b c = refl
-both false b c = refl
+tests_one row before after stands told = record { stand = All-cons IsRecordRow row [] stands (All-nil IsRecordRow); told = tells_one has_status row before after told }
 
 pub tests_more : (a b c : Bool) (xs ys : List Row) → TestsRecords a xs b → TestsRecords b ys c → TestsRecords a (xs ++ ys) c
 tests_more a b c xs ys one two = record {
   stand = All-append IsRecordRow xs ys one.stand two.stand;
-  told = two.told ∙ ap (λ d. d && list_all has_status ys) one.told ∙ both a (list_all has_status xs) (list_all has_status ys) ∙ ap (λ d. a && d) (sym (list_all-append has_status xs ys));
+  told = tells_more has_status a b c xs ys one.told two.told;
 }

@@ -146,12 +146,12 @@ pub record AddsDomain (domain : Text) (tables : NamedRows) (old new : OfficeMaps
   pub office : office_in new ≡ with_seen tables (office_in old) domain
 
 -- the office of all domains, whatever is of another
-pub record AreDomainsRead (db : Database) (read : ReadOffice) : Type 0 where
-  pub told : TellsForm by_domain (rows_named db)
-  pub names : Each (codes "domain") (1 ∷ []) is_domain_row (rows_named db)
-  pub some : (domain : Text) × IsTrue (is_domain (rows_named db) domain)
-  pub each : (domain : Text) → IsTrue (is_domain (rows_named db) domain) → StandForOffice (seen_in domain (rows_named db))
-  pub office : office_in read.maps ≡ office_of_rows (rows_named db)
+pub record AreDomainsRead (tables : NamedRows) (read : ReadOffice) : Type 0 where
+  pub told : TellsForm by_domain tables
+  pub names : Each (codes "domain") (1 ∷ []) is_domain_row tables
+  pub some : (domain : Text) × IsTrue (is_domain tables domain)
+  pub each : (domain : Text) → IsTrue (is_domain tables domain) → StandForOffice (seen_in domain tables)
+  pub office : office_in read.maps ≡ office_of_rows tables
 
 -- ---- each form
 

@@ -1,5 +1,5 @@
 //! The book of the rows, beside an office that was read.
-ghost use Rattle.std.specs.Prelude.{◌≡◌, false, IfErr, IsTrue, OnOk};
+ghost use Rattle.std.specs.Prelude.{◌≡◌, false, IfErr, IsTrue, OnOk, ◌≢◌};
 ghost use Rattle.sqlite.specs.Held.{state};
 ghost use Rattle.sqlite.specs.State.{HasCleanDisk};
 ghost use Rattle.request_book.specs.Book.{Book};
@@ -8,12 +8,13 @@ ghost use Rattle.office_maps.specs.OfficeIn.{office_in};
 ghost use Rattle.sql_schema.specs.Layouts.{Form, by_domain};
 ghost use Rattle.sql_schema.specs.Whole.{IsIdleOver, IsLookUp};
 ghost use Rattle.rule_tests.specs.Given.{AreStatusesOf};
-ghost use Rattle.sql_adoption.specs.Reading.{AreStatusesIn, HoldsAll, IsReadOf, KeepsBook, KeepsRecords, RefusesWith, RefusesBook, RefusesKept, RefusesRecords};
+ghost use Rattle.sql_adoption.specs.declared.faults.OpenFault.TheVariants as faults;
+ghost use Rattle.sql_adoption.specs.Reading.{AreStatusesIn, HoldsAll, KeepsBook, KeepsRecords, RefusesWith, RefusesBook, RefusesKept, RefusesRecords, OpensTruly};
 
 use crate::faults::{Mismatch, OpenFault};
 use crate::office_put::ReadOffice;
 use crate::statuses::{Contents, Statuses};
-use rule_tests::{is_office, keeps_rules};
+use rule_tests::keeps_rules;
 use sql_statements::record_queries::walk_contents;
 use sqlite::{Alter, Connection};
 use std::alloc::Global;
@@ -30,6 +31,7 @@ fn read_statuses<S: Alter>(
     requires is_open { HasCleanDisk (state S.Store connection.old) → IsTrue (state S.Store connection.old).is_open }
     ensures found { IsLookUp (state S.Store connection.old) (state S.Store connection.new) result AreStatusesIn }
     ensures refused { IfErr result (λ fault. HasCleanDisk (state S.Store connection.new) → RefusesBook (state S.Store connection.old).now fault) }
+    ensures disk { OpensTruly (state S.Store connection.old) (state S.Store connection.new) result }
 {
     let mut statuses = Statuses::new(alloc);
     walk_contents(connection, &mut statuses)?;
@@ -45,6 +47,7 @@ fn keep_rules(
     requires holds { HoldsAll read.now }
     ensures kept { (book : Book) → AreStatusesOf book statuses.now → OnOk result (KeepsRules (record { office = office_in read.now.maps; book = book })) }
     ensures refused { (book : Book) → AreStatusesOf book statuses.now → IfErr result (RefusesWith (record { office = office_in read.now.maps; book = book })) }
+    ensures disk { IfErr result (λ fault. fault ≢ faults.Disk) }
 {
     if keeps_rules(alloc, &read.maps, read.langs.as_slice(), statuses)? {
         Ok(())
@@ -65,6 +68,7 @@ pub fn keep_book<S: Alter>(
     requires holds { HoldsAll read.now }
     ensures found { IsLookUp (state S.Store connection.old) (state S.Store connection.new) result (λ db _. KeepsBook (office_in read.now.maps) db) }
     ensures refused { IfErr result (λ fault. HasCleanDisk (state S.Store connection.new) → RefusesKept (office_in read.now.maps) (state S.Store connection.old).now fault) }
+    ensures disk { OpensTruly (state S.Store connection.old) (state S.Store connection.new) result }
 {
     let statuses = read_statuses(connection, alloc)?;
     keep_rules(alloc, read, &statuses)
@@ -74,12 +78,16 @@ pub fn keep_book<S: Alter>(
 
 /// Tests all records, whose rows are read one at a time, of a connection that is open: each row stands for a record, its content is a request's,
 /// and its reply has a status that one may have.
-fn keep_records<S: Alter>(connection: &mut Connection<S>, alloc: Global) -> Result<(), OpenFault>
+pub(crate) fn keep_records<S: Alter>(
+    connection: &mut Connection<S>,
+    alloc: Global,
+) -> Result<(), OpenFault>
     requires autocommit { connection.old.in_transaction ≡ false }
     requires idle { IsIdleOver by_domain (state S.Store connection.old) }
     requires is_open { HasCleanDisk (state S.Store connection.old) → IsTrue (state S.Store connection.old).is_open }
     ensures found { IsLookUp (state S.Store connection.old) (state S.Store connection.new) result (λ db _. KeepsRecords db) }
     ensures refused { IfErr result (λ fault. HasCleanDisk (state S.Store connection.new) → RefusesRecords (state S.Store connection.old).now fault) }
+    ensures disk { OpensTruly (state S.Store connection.old) (state S.Store connection.new) result }
 {
     let mut contents = Contents {
         alloc,
@@ -87,28 +95,6 @@ fn keep_records<S: Alter>(connection: &mut Connection<S>, alloc: Global) -> Resu
     };
     walk_contents(connection, &mut contents)?;
     if contents.answered {
-        Ok(())
-    } else {
-        Err(OpenFault::Foreign(Mismatch::BrokenRules))
-    }
-}
-
-/// Tests the rules of the office of tables by domains, which was read, with the book of the rows, of a connection that is open. That numbers of
-/// suggestions are recorded, and shared by none, the tables' keys say.
-pub fn keep_recorded<S: Alter>(
-    connection: &mut Connection<S>,
-    alloc: Global,
-    read: &ReadOffice,
-) -> Result<(), OpenFault>
-    requires autocommit { connection.old.in_transaction ≡ false }
-    requires idle { IsIdleOver by_domain (state S.Store connection.old) }
-    requires is_open { HasCleanDisk (state S.Store connection.old) → IsTrue (state S.Store connection.old).is_open }
-    requires holds { HoldsAll read.now }
-    ensures found { IsLookUp (state S.Store connection.old) (state S.Store connection.new) result (λ db _. IsReadOf by_domain db read.now → KeepsBook (office_in read.now.maps) db) }
-    ensures refused { IfErr result (λ fault. HasCleanDisk (state S.Store connection.new) → RefusesKept (office_in read.now.maps) (state S.Store connection.old).now fault) }
-{
-    keep_records(connection, alloc)?;
-    if is_office(alloc, &read.maps, read.langs.as_slice())? {
         Ok(())
     } else {
         Err(OpenFault::Foreign(Mismatch::BrokenRules))

@@ -130,7 +130,6 @@ impl From<WalkFault<Failure>> for OpenFault {
 
 impl OpenFault {
     ghost use Rattle.std.specs.Prelude.{◌≡◌};
-    ghost use Rattle.sql_adoption.specs.Faults.{lost_of};
     ghost use Rattle.sql_adoption.specs.Reading.{unread};
 
     /// Of rows that are at hand, and were not read.
@@ -141,20 +140,6 @@ impl OpenFault {
             Lost::Memory => OpenFault::Memory,
             Lost::Disk => OpenFault::Foreign(Mismatch::UnreadRow),
             Lost::Refused => OpenFault::Refused,
-        }
-    }
-
-    /// What the fault of rows that this program has written comes to: rows that aren't an office's are refused, so that `Disk` is told of
-    /// the connection alone.
-    pub(crate) fn failure(self) -> Failure
-        ensures { result.lost ≡ lost_of self }
-    {
-        match self {
-            OpenFault::Memory => Failure { lost: Lost::Memory },
-            OpenFault::Disk => Failure { lost: Lost::Disk },
-            OpenFault::Foreign(_) | OpenFault::Exists | OpenFault::Refused => Failure {
-                lost: Lost::Refused,
-            },
         }
     }
 }

@@ -7,7 +7,8 @@ ghost use Rattle.units.specs.Offices.{IsOffice};
 ghost use Rattle.office_maps.specs.OfficeIn.{office_in};
 ghost use Rattle.sql_figures.specs.KeptTallies.{office_counts};
 ghost use Rattle.sql_adoption.specs.FigureRows as spec;
-ghost use Rattle.sql_adoption.specs.FigureRows.{is_words, is_integer, is_row_of, are_rows_of, Place, places_of, AreCounted, CountsOneMore, AreTalliesShown};
+ghost use Rattle.sql_statements.specs.SummedVotes.{is_integer};
+ghost use Rattle.sql_adoption.specs.FigureRows.{is_words, is_row_of, are_rows_of, Place, places_of, AreCounted, CountsOneMore, AreTalliesShown};
 ghost use Rattle.sql_adoption.specs.Reading.{HoldsAll};
 
 use crate::office_put::ReadOffice;
@@ -21,10 +22,10 @@ use units::{Lang, Name};
 
 /// A language of a domain that is there, and what its units count.
 #[derive(Drop)]
-struct Counted<'a> {
-    domain: &'a Name,
-    lang: &'a Lang,
-    tally: Tally,
+pub(crate) struct Counted<'a> {
+    pub(crate) domain: &'a Name,
+    pub(crate) lang: &'a Lang,
+    pub(crate) tally: Tally,
 }
 
 /// Whether a column is this text.
@@ -98,7 +99,7 @@ fn have_rows(counted: &[Counted<'_>], rows: &[Row]) -> bool
 }
 
 /// Whether rows are those of these languages: each is one's, and each language has one.
-fn are_rows_of(counted: &[Counted<'_>], rows: &[Row]) -> bool
+pub(crate) fn are_rows_of(counted: &[Counted<'_>], rows: &[Row]) -> bool
     ensures { result ≡ are_rows_of counted.now rows.now }
 {
     are_of_some(counted, rows) && have_rows(counted, rows)

@@ -8,6 +8,7 @@ ghost use Rattle.sql_schema.specs.Whole.{IsIdleOver};
 ghost use Rattle.sql_meaning.specs.Domains.{HoldsOwnDomains};
 ghost use Rattle.sql_adoption.specs.Reading as spec;
 ghost use Rattle.sql_adoption.specs.OwnedRows.{AreOwnedAmong, AllOwnedAmong, TestsRows};
+ghost use Rattle.sql_adoption.specs.Reading.{OpensTruly};
 
 use crate::faults::OpenFault;
 use crate::look_ups::look_up_domains;
@@ -78,6 +79,7 @@ fn hold_owners<S: Alter>(
     requires idle { IsIdleOver by_domain (state S.Store connection.old) }
     requires is_open { HasCleanDisk (state S.Store connection.old) → IsTrue (state S.Store connection.old).is_open }
     ensures tests { TestsRows (λ db. AreOwnedAmong domains.now table (rows_named db)) (state S.Store connection.old) (state S.Store connection.new) result }
+    ensures disk { OpensTruly (state S.Store connection.old) (state S.Store connection.new) result }
 {
     let mut named = Named { domains };
     walk_owners(connection, table, &mut named)?;
@@ -93,6 +95,7 @@ fn hold_all_owners<S: Alter>(
     requires idle { IsIdleOver by_domain (state S.Store connection.old) }
     requires is_open { HasCleanDisk (state S.Store connection.old) → IsTrue (state S.Store connection.old).is_open }
     ensures tests { TestsRows (λ db. AllOwnedAmong domains.now (rows_named db)) (state S.Store connection.old) (state S.Store connection.new) result }
+    ensures disk { OpensTruly (state S.Store connection.old) (state S.Store connection.new) result }
 {
     hold_owners(connection, domains, Owned::Template)?;
     hold_owners(connection, domains, Owned::Languages)?;
@@ -105,6 +108,7 @@ pub(crate) fn hold_own_domains<S: Alter>(connection: &mut Connection<S>) -> Resu
     requires autocommit { connection.old.in_transaction ≡ false }
     requires idle { IsIdleOver by_domain (state S.Store connection.old) }
     ensures tests { TestsRows (λ db. HoldsOwnDomains (rows_named db)) (state S.Store connection.old) (state S.Store connection.new) result }
+    ensures disk { OpensTruly (state S.Store connection.old) (state S.Store connection.new) result }
 {
     let domains = look_up_domains(connection)?;
     hold_all_owners(connection, domains.as_slice())

@@ -10,16 +10,15 @@ ghost use Rattle.sql_meaning.specs.Domains.{office_of_rows};
 ghost use Rattle.sql_decoding.specs.DiskFailures.{FailsTruly};
 ghost use Rattle.sql_adoption.specs.Reading.{with_seen};
 ghost use Rattle.sql_adoption.specs.PartsRead as shown;
+ghost use Rattle.sql_adoption.specs.ReadParts.{part_of};
 
+use crate::domains_read::{Part as DomainPart, look_up};
 use crate::look_ups::{SharedRows, look_up_shared};
 use crate::office_put::bare_office;
-use crate::office_read::load_office;
 use office_maps::OfficeMaps;
 use office_specification::{Change, Part};
 use sql_decoding::{Failure, domain_at, needed};
 use sql_loading::{add_domain, set_team};
-use sql_statements::domain_office::{look_up_domain, look_up_languages};
-use sql_statements::whole_office::{UnitTables, WholeOffice};
 use sqlite::{Alter, Connection, Row};
 use std::alloc::Global;
 use units::Name;
@@ -60,49 +59,22 @@ fn load_shared<S: Alter>(
     needed(shared_office(alloc, &rows))
 }
 
-/// An office with a domain and all that it sees, and with the team and the policy.
+/// An office with a domain, or a part of it, and with the team and the policy.
 fn with_domain<S: Alter>(
     connection: &mut Connection<S>,
     alloc: Global,
     domain: &Name,
+    part: DomainPart,
     maps: OfficeMaps,
 ) -> Result<OfficeMaps, Failure>
     requires autocommit { connection.old.in_transaction ≡ false }
     requires idle { IsIdleOver by_domain (state S.Store connection.old) }
     ensures found { IsLookUp (state S.Store connection.old) (state S.Store connection.new) result
-        (λ db more. office_in more ≡ with_seen (rows_named db) (office_in maps) domain.now) }
+        (λ db more. office_in more ≡ with_seen (part_of part (rows_named db)) (office_in maps) domain.now) }
     ensures disk { FailsTruly (state S.Store connection.old) (state S.Store connection.new) result }
 {
     let mut maps = maps;
-    let rows = look_up_domain(connection, domain.as_str())?;
-    needed(add_domain(alloc, &mut maps, domain, &rows))?;
-    Ok(maps)
-}
-
-/// An office with a domain without units, as its template and its languages are, and with the team and the policy.
-fn with_languages<S: Alter>(
-    connection: &mut Connection<S>,
-    alloc: Global,
-    domain: &Name,
-    maps: OfficeMaps,
-) -> Result<OfficeMaps, Failure>
-    requires autocommit { connection.old.in_transaction ≡ false }
-    requires idle { IsIdleOver by_domain (state S.Store connection.old) }
-    ensures found { IsLookUp (state S.Store connection.old) (state S.Store connection.new) result
-        (λ db more. shown.HasLanguages domain.now (rows_named db) (office_in maps) (office_in more)) }
-    ensures disk { FailsTruly (state S.Store connection.old) (state S.Store connection.new) result }
-{
-    let mut maps = maps;
-    let office = look_up_languages(connection, domain.as_str())?;
-    let units = Vec::new(alloc);
-    let suggestions = Vec::new(alloc);
-    let votes = Vec::new(alloc);
-    let units = UnitTables {
-        units,
-        suggestions,
-        votes,
-    };
-    let rows = WholeOffice { office, units };
+    let rows = look_up(connection, alloc, domain.as_str(), part)?;
     needed(add_domain(alloc, &mut maps, domain, &rows))?;
     Ok(maps)
 }
@@ -123,7 +95,7 @@ fn load_languages<S: Alter>(
     if !maps.has_domain(domain) {
         return Ok(maps);
     }
-    with_languages(connection, alloc, domain, maps)
+    with_domain(connection, alloc, domain, DomainPart::Frame, maps)
 }
 
 /// The same with all that the domain sees.
@@ -142,7 +114,7 @@ fn load_domain<S: Alter>(
     if !maps.has_domain(domain) {
         return Ok(maps);
     }
-    with_domain(connection, alloc, domain, maps)
+    with_domain(connection, alloc, domain, DomainPart::Whole, maps)
 }
 
 /// A part of the office of tables by domains, in maps: in that they are alike to it. Of what isn't of the part nothing is read. Whether each
@@ -165,6 +137,5 @@ pub fn load_part<S: Alter>(
         Part::Team => load_shared(connection, alloc),
         Part::Languages(domain) => load_languages(connection, alloc, domain),
         Part::Domain(domain) => load_domain(connection, alloc, domain),
-        Part::Whole => load_office(connection, alloc),
     }
 }

@@ -1,5 +1,5 @@
 //! How a transaction that writes ends.
-ghost use Rattle.std.specs.Prelude.{◌≡◌, false};
+ghost use Rattle.std.specs.Prelude.{◌≡◌, false, IfErr, IsErrAnd};
 ghost use Rattle.sqlite.specs.Held.{state};
 ghost use Rattle.sql_commits.specs.Ends.{Finishes, EndsTruly};
 
@@ -10,6 +10,7 @@ use sqlite::{Alter, Transaction};
 pub fn finish<S: Alter>(tx: Transaction<'_, S>, written: Result<(), Failure>) -> Result<(), Failure>
     ensures ended { tx.exit.0.now.in_transaction ≡ false }
     ensures finished { Finishes S.Store tx.entry.conn.now tx.exit.0.now written result }
+    ensures told { IfErr written (λ failure. IsErrAnd result (λ told. told ≡ failure)) }
     ensures disk { EndsTruly (state S.Store tx.entry.conn.now) (state S.Store tx.exit.0.now) written result }
 {
     written?;

@@ -1,5 +1,5 @@
 -- What is taken over, and what is given back where that fails.
-use Rattle.std.proofs.Common.{◌≡◌, inl, inr, false, Result, Ok, Err, OnOk, OnErr, refl, sym, ap, subst, ◌∙◌, arith}
+use Rattle.std.proofs.Common.{◌≡◌, inl, inr, false, Result, Ok, Err, OnOk, OnErr, refl, sym, ap, subst, ◌∙◌, arith, true, ◌≤◌}
 use Rattle.std.specs.Prelude.{MatchResult, IsErrAnd, IfErr}
 use Rattle.sqlite.specs.Effect.{Database}
 use Rattle.sqlite.specs.State.{State, HasCleanDisk}
@@ -13,12 +13,20 @@ use Rattle.sql_meaning.specs.Domains.{meaning_by_domain, meaning_for, DatabaseMe
 use Rattle.sql_adoption.specs.Adoption.{IsAdopted, IsAdoptedOf, IsAdoptedIn, StaysAsItWas, Refuses}
 use Rattle.sql_layouts.specs.Tables.{form_told}
 use Rattle.sql_adoption.specs.declared.faults.OpenFault.{OpenFault}
-use Rattle.sql_layouts.specs.declared.office_tables.Form.TheVariants.{ByDomain}
 use Rattle.sql_adoption.specs.declared.tested.Adopted.{Adopted}
+use Rattle.sql_adoption.specs.declared.tested.Adopted.TheVariants as adopted_so
+use Rattle.sql_adoption.specs.declared.tested.MainOffice.{MainOffice}
 use Rattle.sql_schema.proofs.Layouts.{of_main}
 use Rattle.sql_files.specs.Files.{IsOfficeFile}
 use Rattle.sql_files.proofs.Listed.{database_means, file_left}
 use Rattle.sql_conversion.specs.Conversion.{KeepsOldRows, Converts, IsLeftOf, IsTakenOver, IsGivenBack}
+use Rattle.tables.specs.declared.faults.Lost.{Lost}
+use Rattle.tables.specs.declared.faults.Lost.TheVariants as lost
+use Rattle.sql_decoding.specs.declared.faults.Failure.{Failure}
+use Rattle.sql_decoding.specs.DiskFailures.{FailsTruly}
+use Rattle.sql_adoption.specs.declared.faults.OpenFault.TheVariants.{Disk}
+use Rattle.sql_adoption.specs.Faults.{fault_of}
+use Rattle.sql_adoption.specs.Reading.{OpensTruly}
 
 -- what was told in other words
 module _ {A E F : Type 0} (Tells : E → F → Type 0) (X : Type 0) where
@@ -35,13 +43,24 @@ module _ {A E F : Type 0} (Tells : E → F → Type 0) (X : Type 0) where
   told_err (Err e) (Ok x) is h = absurd is
   told_err (Err e) (Err f) is h = h
 
+-- a failure that is told as a fault
+pub disk_told : (why : Lost) → fault_of why ≡ Disk → why ≡ lost.Disk
+disk_told lost.Memory same = absurd cc
+disk_told lost.Disk same = refl
+disk_told lost.Refused same = absurd cc
+
+pub told_truly : {A : Type 0} (old new : State) (r : Result A Failure) (told : Result A OpenFault) → MatchResult r (λ x. told ≡ Ok x) (λ failure. IsErrAnd told (λ fault. fault ≡ fault_of failure.lost)) → FailsTruly old new r → OpensTruly old new told
+told_truly old new (Ok x) told is fails = subst (OpensTruly old new) (sym is) (λ clean. tt)
+told_truly old new (Err failure) (Ok x) is fails = absurd is
+told_truly old new (Err failure) (Err fault) is fails = λ clean disk. fails clean (disk_told failure.lost (sym is ∙ disk))
+
 -- ---- tables without a column for a domain
 
 -- they mean what they always meant
 meant_so : (form : Form) → IsForMain form → (rows : NamedRows) → meaning_for form rows ≡ meaning_in rows
 meant_so form is_main rows = of_main (λ f. meaning_for f rows ≡ meaning_in rows) form is_main (λ figures. refl)
 
-module _ (old new : State) (adopted : Adopted) (it : IsAdoptedIn old adopted) (is_main : IsForMain (form_told adopted.form)) where
+module _ (old new : State) (adopted : MainOffice) (it : IsAdoptedIn old (adopted_so.ForMain adopted)) (is_main : IsForMain (form_told adopted.form)) where
   ready : HasCleanDisk old → AreOfficeTablesOf (form_told adopted.form) old.now
   ready clean = it.idle.ready clean (it.is_open clean)
 
@@ -101,23 +120,22 @@ module _ (old new : State) (adopted : Adopted) (it : IsAdoptedIn old adopted) (i
 
 -- ---- tables by domains
 
-pub as_they_stand : (s : State) (adopted : Adopted) → IsAdoptedIn s adopted → adopted.form ≡ ByDomain → s.in_transaction ≡ false → IsTakenOver s s
-as_they_stand s adopted it form ended =
-    let idle : IsIdleOver by_domain s = subst (λ f. IsIdleOver (form_told f) s) form it.idle in
-    let ready : HasCleanDisk s → AreOfficeTablesOf by_domain s.now = λ clean. idle.ready clean (it.is_open clean) in
-    let rows : HasCleanDisk s → IsAdoptedOf by_domain s.now = λ clean. subst (λ f. IsAdoptedOf (form_told f) s.now) form (it.adopted clean).rows in
+pub as_they_stand : (s : State) → IsAdoptedIn s adopted_so.ByDomain → s.in_transaction ≡ false → IsTakenOver s s
+as_they_stand s it ended =
+    let ready : HasCleanDisk s → AreOfficeTablesOf by_domain s.now = λ clean. it.idle.ready clean (it.is_open clean) in
+    let rows : HasCleanDisk s → IsAdoptedOf by_domain s.now = λ clean. it.adopted clean in
     record {
       honest = λ clean. clean;
       was_open = it.is_open;
       is_open = it.is_open;
-      idle = idle;
+      idle = it.idle;
       rows = λ clean. (by_domain, record { schema = (ready clean).schema; tables = (ready clean).tables }, rows clean);
       means = λ clean. (by_domain, (ready clean).schema, refl);
       file = λ clean.
           let own = rows clean in
           record { ready = ready clean; rows = record { form_told = own.told; office = own.office; book = own.book; figures = own.figures; rules = own.rules } };
       kept = λ clean name own apart. refl;
-      committed = λ clean. idle.settled clean (it.is_open clean);
+      committed = λ clean. it.idle.settled clean (it.is_open clean);
       ended = ended;
       stops = λ clean db leaves. inl leaves;
       limit = refl;
@@ -186,3 +204,11 @@ module _ (old mid new : State) (first : StaysAsItWas old mid) where
       pub all_refused : (r : Result A OpenFault) → OnErr r (IsGivenBack mid new) → IfErr r (Refuses mid.now) → IfErr r (λ fault. HasCleanDisk new → Refuses old.now fault)
       all_refused (Ok x) h refused = tt
       all_refused (Err e) h refused = λ clean. subst (λ d. Refuses d e) (same_now (h.honest clean)) refused
+
+      -- where the disk failed behind the tests, it failed: what was adopted isn't shut
+      pub all_truly : (r : Result A OpenFault) → old.faults ≤ mid.faults → OnErr r (IsGivenBack mid new) → OpensTruly mid new r → OpensTruly old new r
+      all_truly (Ok x) counts h opens clean = tt
+      all_truly (Err e) counts h opens clean = λ disk. elim (opens clean disk) [
+        | inl shut ↦ absurd (let never : true ≡ false = sym (it.is_open (h.honest clean)) ∙ shut in cc)
+        | inr more ↦ inr (omega (arith, more, counts))
+      ]

@@ -40,7 +40,7 @@ use Rattle.sql_decoding.proofs.ColumnsTested.{text_stands}
 use Rattle.sql_changes.proofs.Template.{template_put, entries_spare, entries_ready}
 use Rattle.sql_adoption.specs.Adoption.{Each, IsAdoptedOf, IsAdoptedAs, StandInDomains}
 use Rattle.sql_layouts.specs.Tables.{form_told}
-use Rattle.sql_adoption.specs.declared.tested.Adopted.{Adopted}
+use Rattle.sql_adoption.specs.declared.tested.MainOffice.{MainOffice}
 use Rattle.office_maps.specs.OfficeIn.{office_in}
 use Rattle.sql_files.specs.Files.{StandForAll}
 use Rattle.sql_files.proofs.DomainKept.{plain}
@@ -198,7 +198,7 @@ module _ {figures : Bool} (old new : Database) (langs : List Text) (adopted : Is
       converts_alone (subst (λ (o : Office). WritesAnew o langs old new) is written.0) (subst (λ (o : Office). FollowsLanguages o langs old new) is written.1)
 
 -- what was adopted in tables without a column for a domain
-module _ (old new : Database) (adopted : Adopted) (is : IsAdoptedAs old adopted) (ready : AreOfficeTablesOf by_domain new)
+module _ (old new : Database) (adopted : MainOffice) (is : IsAdoptedAs old adopted) (ready : AreOfficeTablesOf by_domain new)
     (written : WritesAnew (office_in adopted.maps) adopted.langs.items old new × FollowsLanguages (office_in adopted.maps) adopted.langs.items old new) where
   converts_from : (figures : Bool) → form_told adopted.form ≡ for_main figures → AreOfficeTablesOf (for_main figures) old → Converts old new
   converts_from figures told was_ready =

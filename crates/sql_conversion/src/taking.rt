@@ -5,11 +5,12 @@ ghost use Rattle.sqlite.specs.State.{HasCleanDisk};
 ghost use Rattle.sql_schema.specs.Layouts.{IsForMain};
 ghost use Rattle.sql_adoption.specs.Adoption.{IsAdoptedIn, Refuses};
 ghost use Rattle.sql_layouts.specs.Tables.{form_told};
+ghost use Rattle.sql_adoption.specs.declared.tested.Adopted.TheVariants as adopted_so;
 ghost use Rattle.sql_conversion.specs.Conversion.{IsTakenOver, IsGivenBack};
+ghost use Rattle.sql_adoption.specs.Reading.{OpensTruly};
 
 use crate::converting::convert;
-use sql_adoption::{Adopted, OpenFault, adopted_office};
-use sql_layouts::Form;
+use sql_adoption::{Adopted, MainOffice, OpenFault, adopted_office};
 use sqlite::{Alter, Connection};
 use std::alloc::Global;
 
@@ -17,14 +18,15 @@ use std::alloc::Global;
 fn convert_adopted<S: Alter>(
     connection: &mut Connection<S>,
     alloc: Global,
-    adopted: Adopted,
+    adopted: MainOffice,
 ) -> Result<(), OpenFault>
     requires autocommit { connection.old.in_transaction ≡ false }
     requires form { IsForMain (form_told adopted.form) }
-    requires adopted { IsAdoptedIn (state S.Store connection.old) adopted }
+    requires adopted { IsAdoptedIn (state S.Store connection.old) (adopted_so.ForMain adopted) }
     ensures taken { OnOk result (IsTakenOver (state S.Store connection.old) (state S.Store connection.new)) }
     ensures lost { IfErr result (Refuses (state S.Store connection.old).now) }
     ensures given_back { OnErr result (IsGivenBack (state S.Store connection.old) (state S.Store connection.new)) }
+    ensures disk { OpensTruly (state S.Store connection.old) (state S.Store connection.new) result }
 {
     let done = convert(connection, alloc, &adopted).map_err(OpenFault::from);
     drop(adopted);
@@ -42,13 +44,11 @@ fn converted<S: Alter>(
     ensures taken { OnOk result (IsTakenOver (state S.Store connection.old) (state S.Store connection.new)) }
     ensures lost { IfErr result (Refuses (state S.Store connection.old).now) }
     ensures given_back { OnErr result (IsGivenBack (state S.Store connection.old) (state S.Store connection.new)) }
+    ensures disk { OpensTruly (state S.Store connection.old) (state S.Store connection.new) result }
 {
-    match adopted.form {
-        Form::ForMain | Form::WithFigures => convert_adopted(connection, alloc, adopted),
-        Form::ByDomain => {
-            drop(adopted);
-            Ok(())
-        }
+    match adopted {
+        Adopted::ForMain(office) => convert_adopted(connection, alloc, office),
+        Adopted::ByDomain => Ok(()),
     }
 }
 
@@ -57,12 +57,13 @@ fn converted<S: Alter>(
 /// a column for a domain keep their rows, but for the policy's, which tells the form.
 ///
 /// `Foreign` tells why the tables aren't taken, as of `adopted_office`; then nothing was changed. `Memory` where a growth was refused, `Disk`
-/// where the disk failed: the rows are as before, and a stop leaves what was there, or what the conversion makes, which means the same.
+/// only where the disk failed: the rows are as before, and a stop leaves what was there, or what the conversion makes, which means the same.
 pub fn take_over<S: Alter>(connection: &mut Connection<S>, alloc: Global) -> Result<(), OpenFault>
     requires autocommit { connection.old.in_transaction ≡ false }
     ensures taken { OnOk result (IsTakenOver (state S.Store connection.old) (state S.Store connection.new)) }
     ensures refused { IfErr result (λ fault. HasCleanDisk (state S.Store connection.new) → Refuses (state S.Store connection.old).now fault) }
     ensures given_back { OnErr result (IsGivenBack (state S.Store connection.old) (state S.Store connection.new)) }
+    ensures disk { OpensTruly (state S.Store connection.old) (state S.Store connection.new) result }
 {
     let adopted = adopted_office(connection, alloc)?;
     converted(connection, alloc, adopted)

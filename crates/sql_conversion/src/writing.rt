@@ -1,5 +1,5 @@
 //! The office of one domain, written by domains inside a transaction, where nothing of it is yet.
-ghost use Rattle.std.specs.Prelude.{◌≡◌, [], ◌∷◌, unwrap_or, IfOk, IsTrue};
+ghost use Rattle.std.specs.Prelude.{◌≡◌, [], ◌∷◌, unwrap_or, IfOk, IsTrue, ◌≢◌, IfErr};
 ghost use Rattle.sqlite.specs.Held.{state};
 ghost use Rattle.sqlite.specs.State.{HasCleanDisk};
 ghost use Rattle.units.specs.Office.{project_in};
@@ -13,6 +13,8 @@ ghost use Rattle.sql_schema.specs.Inside.{IsSteadyForMain, IsSteadyOver, IsInsid
 ghost use Rattle.sql_changes.specs.OnDomains.{OnDomain};
 ghost use Rattle.sql_figures.specs.Figures.{FiguresStay};
 ghost use Rattle.sql_conversion.specs.Conversion.{WritesKept, WritesThere, WritesLanguages, WritesProject, WritesAnew, FollowsLanguages, FollowsLanguagesIn};
+ghost use Rattle.sql_decoding.specs.DiskFailures.{FailsTruly};
+ghost use Rattle.tables.specs.declared.faults.Lost.TheVariants.{Disk};
 
 use office_maps::{OfficeMaps, Place, ProjectMaps};
 use office_specification::Tally;
@@ -40,6 +42,7 @@ fn write_units_of<S: Alter>(
     ensures put { IsInsideOf by_domain (state S.Store tx.old.conn.now) (state S.Store tx.new.conn.now) result
         (OnDomain domain.now (WritesKept lang.now (units_of (lent_project project.now) lang.now))) }
     ensures figures { IsInsideOf by_domain (state S.Store tx.old.conn.now) (state S.Store tx.new.conn.now) result FiguresStay }
+    ensures disk { FailsTruly (state S.Store tx.old.conn.now) (state S.Store tx.new.conn.now) result }
 {
     let first = Place::first_of(alloc, lang)?;
     for (place, unit) in project.domain.units.range(first..) {
@@ -54,7 +57,8 @@ fn write_units_of<S: Alter>(
 
 /// The tally of a domain's language, of an office that keeps its rules; nothing is counted where the language isn't there.
 fn tally_of(alloc: Global, maps: &OfficeMaps, domain: &Name, lang: &Lang) -> Result<Tally, Failure>
-    ensures { IsOffice (office_in maps.now) → IfOk result (λ tally. tally ≡ unwrap_or (counts_of (project_in (office_in maps.now) domain.now) lang.now) none_counted) }
+    ensures tally { IsOffice (office_in maps.now) → IfOk result (λ tally. tally ≡ unwrap_or (counts_of (project_in (office_in maps.now) domain.now) lang.now) none_counted) }
+    ensures disk { IfErr result (λ failure. failure.lost ≢ Disk) }
 {
     match counts_in(alloc, maps, domain, lang)? {
         Some(tally) => Ok(tally),
@@ -78,6 +82,7 @@ fn write_language_of<S: Alter>(
     ensures put { IsInsideOf by_domain (state S.Store tx.old.conn.now) (state S.Store tx.new.conn.now) result
         (OnDomain domain.now (WritesThere (lent_project project.now) lang.now)) }
     ensures figures { IsInsideOf by_domain (state S.Store tx.old.conn.now) (state S.Store tx.new.conn.now) result (FollowsLanguagesIn domain.now (office_in maps.now) (lang.now ∷ [])) }
+    ensures disk { FailsTruly (state S.Store tx.old.conn.now) (state S.Store tx.new.conn.now) result }
 {
     match project.domain.languages.get(lang) {
         Some(language) => {
@@ -107,6 +112,7 @@ fn write_languages<S: Alter>(
     ensures put { IsInsideOf by_domain (state S.Store tx.old.conn.now) (state S.Store tx.new.conn.now) result
         (OnDomain domain.now (WritesLanguages (lent_project project.now) langs.now)) }
     ensures figures { IsInsideOf by_domain (state S.Store tx.old.conn.now) (state S.Store tx.new.conn.now) result (FollowsLanguagesIn domain.now (office_in maps.now) langs.now) }
+    ensures disk { FailsTruly (state S.Store tx.old.conn.now) (state S.Store tx.new.conn.now) result }
 {
     for lang in langs {
         write_language_of(tx, alloc, maps, domain, project, lang)?;
@@ -130,6 +136,7 @@ fn write_project<S: Alter>(
     ensures put { IsInsideOf by_domain (state S.Store tx.old.conn.now) (state S.Store tx.new.conn.now) result
         (OnDomain domain.now (WritesProject (lent_project project.now) langs.now)) }
     ensures figures { IsInsideOf by_domain (state S.Store tx.old.conn.now) (state S.Store tx.new.conn.now) result (FollowsLanguagesIn domain.now (office_in maps.now) langs.now) }
+    ensures disk { FailsTruly (state S.Store tx.old.conn.now) (state S.Store tx.new.conn.now) result }
 {
     let entries = project.domain.template.catalogue.entries();
     entries_fit(entries);
@@ -150,6 +157,7 @@ pub(crate) fn write_anew<S: Alter>(
     ensures put { IsInsideOf by_domain (state S.Store tx.old.conn.now) (state S.Store tx.new.conn.now) result
         (WritesAnew (office_in maps.now) langs.now) }
     ensures figures { IsInsideOf by_domain (state S.Store tx.old.conn.now) (state S.Store tx.new.conn.now) result (FollowsLanguages (office_in maps.now) langs.now) }
+    ensures disk { FailsTruly (state S.Store tx.old.conn.now) (state S.Store tx.new.conn.now) result }
 {
     make_domain_tables(tx)?;
     let domain = Name::main_domain();

@@ -107,7 +107,7 @@ pub(crate) fn texts_at(alloc: Global, row: &Row, at: usize) -> Result<Items<Text
 }
 
 /// The msgid_plural in a column, none where it is null.
-pub fn plural_at(alloc: Global, row: &Row, at: usize) -> Result<Option<PoString>, Failure>
+pub(crate) fn plural_at(alloc: Global, row: &Row, at: usize) -> Result<Option<PoString>, Failure>
     ensures shown { IfOk result (λ v. v ≡ values.text_or_null_at at row.now) }
     ensures stands { OnOk result (holds_text_or_null is_string at row.now ≡ true) }
     ensures unread { IfErr result (IsUnread (holds_text_or_null is_string at row.now)) }

@@ -30,7 +30,7 @@ mod units_read;
 pub use act_contexts::{context_in, header_in, policy_in, role_in, suggestion_found, view_in};
 pub use columns::{
     domain_at, integer_in, is_text, is_text_or_null, key_at, lang_at, name_text_at, natural_in,
-    plural_at, role_at, text_in,
+    role_at, text_in,
 };
 pub use entries_read::{message_in, obsolete_in};
 pub use faults::{Failure, needed};

@@ -1,5 +1,5 @@
 -- The queries on the rowids of each table, and their test one after another.
-use Rattle.std.proofs.Common.{◌≡◌, inl, ℕ, zero, suc, ◌+◌, ◌<◌, ◌≤◌, List, [], ◌∷◌, map, filter, take, get_or, length, codes, Bor, Bool, true, false, Result, None, Ok, Err, IsTrue, All, refl, sym, ap, subst, ◌∙◌, arith}
+use Rattle.std.proofs.Common.{◌≡◌, ◌⊎◌, inl, inr, ℕ, zero, suc, ◌+◌, ◌<◌, ◌≤◌, List, [], ◌∷◌, map, filter, take, get_or, length, codes, Bor, Bool, true, false, Result, None, Ok, Err, IsTrue, All, refl, sym, ap, subst, ◌∙◌, arith}
 use Rattle.std.proofs.Math.Path.{fun_ext}
 use Rattle.std.specs.Bool.{Decides}
 use Rattle.std.specs.List.{AllByRecursion}
@@ -18,7 +18,7 @@ use Rattle.sqlite.specs.Table.{Table}
 use Rattle.sqlite.specs.Program.{overlay}
 use Rattle.sqlite.specs.Listing.{understood}
 use Rattle.sqlite.specs.declared.error.Error.{Error}
-use Rattle.sqlite.specs.State.{State, HasCleanDisk, KeepsCommit, Survives, Shown}
+use Rattle.sqlite.specs.State.{State, HasCleanDisk, KeepsCommit, Survives, Shown, FailsToQuery, IsTooLate}
 use Rattle.sqlite.specs.Given.{IsPlain}
 use Rattle.sqlite.proofs.Callers.{reads_as}
 use Rattle.sqlite.proofs.StateLemmas.{survives_then}
@@ -30,6 +30,8 @@ use Rattle.sql_laws.proofs.OrderedQueries.{answers_in_order}
 use Rattle.sql_schema.specs.Inside.{AreTablesOf}
 use Rattle.sql_schema.specs.Keys.{columns}
 use Rattle.sql_schema.proofs.Queries.{rows_read, shows_columns}
+use Rattle.sql_schema.specs.Errors.{IsUnread}
+use Rattle.sql_schema.proofs.Unread.{unread, no_sums}
 use Rattle.sql_layouts.specs.Looks.{IsOver, IsLook, HasSchema}
 use Rattle.sql_layouts.specs.RisingRows.{ShowsRowids, are_rising}
 use Rattle.sql_layouts.specs.RowidQueries.{IsRowidQuery, AskAll}
@@ -67,110 +69,123 @@ apart_told {form} text table query old new rows apart over shown survives is =
     (looks_inside text [] old new (HasSchema form) (λ db has. subst (λ s. IsPlain (understood s text)) (sym has.schema.1) (query has.schema.0).plain) (λ (a : Bool). rows)
     (λ db a. (a ≡ are_rising None rows) → Decides a (AreApart (rows_named db table.name))) (λ a has h e. rowids_told table.name old.now rows (shows_rowids text table query old new rows has h) a e) (Ok apart) over shown (λ _. tt) survives)
 
+-- a query that isn't answered wants memory, or the disk failed, or a limit was met
+pub rowids_unread : {form : Form} (text : List ℕ) (table : Table) → IsRowidQuery form text table → (old new : State) (e : Error) → IsOver (HasSchema form) old
+    → (HasCleanDisk new → FailsToQuery text [] old new e ⊎ IsTooLate text [] old new e) → Survives old new (λ _. ⊥) → HasCleanDisk new → IsUnread old new e
+rowids_unread {form} text table query old new e over failed survives clean = by old.is_open refl
+  where
+    by : (b : Bool) → old.is_open ≡ b → IsUnread old new e
+    by true is_open =
+        let early : HasCleanDisk old = omega (arith, clean, survives.clean) in
+        let has = over.holds early is_open in
+        let asks = query has.schema.0 in
+        unread text [] (schema_of has.schema.0) _ asks.names asks.asks asks.own_tables asks.plain asks.whole asks.typed (λ db. no_sums (db (placed has.schema.0 table).tree)) old new e has.schema.1 (failed clean)
+    by false shut = inr (inl (inl shut))
+
 pub record_is : {form : Form} → IsRowidQuery form (codes "SELECT rowid FROM record ORDER BY rowid") record_table
 unfolding understood everything
-record_is made_new = record { names = _; is_placed = record_placed made_new; asks = refl; own_tables = refl; plain = (refl, refl) }
-record_is made_second = record { names = _; is_placed = record_placed made_second; asks = refl; own_tables = refl; plain = (refl, refl) }
-record_is made_last = record { names = _; is_placed = record_placed made_last; asks = refl; own_tables = refl; plain = (refl, refl) }
-record_is from_first = record { names = _; is_placed = record_placed from_first; asks = refl; own_tables = refl; plain = (refl, refl) }
-record_is from_second = record { names = _; is_placed = record_placed from_second; asks = refl; own_tables = refl; plain = (refl, refl) }
+record_is made_new = record { names = _; is_placed = record_placed made_new; asks = refl; own_tables = refl; plain = (refl, refl); whole = refl; typed = refl }
+record_is made_second = record { names = _; is_placed = record_placed made_second; asks = refl; own_tables = refl; plain = (refl, refl); whole = refl; typed = refl }
+record_is made_last = record { names = _; is_placed = record_placed made_last; asks = refl; own_tables = refl; plain = (refl, refl); whole = refl; typed = refl }
+record_is from_first = record { names = _; is_placed = record_placed from_first; asks = refl; own_tables = refl; plain = (refl, refl); whole = refl; typed = refl }
+record_is from_second = record { names = _; is_placed = record_placed from_second; asks = refl; own_tables = refl; plain = (refl, refl); whole = refl; typed = refl }
 
 pub team_is : {form : Form} → IsRowidQuery form (codes "SELECT rowid FROM team ORDER BY rowid") team_table
 unfolding understood everything
-team_is made_new = record { names = _; is_placed = team_placed made_new; asks = refl; own_tables = refl; plain = (refl, refl) }
-team_is made_second = record { names = _; is_placed = team_placed made_second; asks = refl; own_tables = refl; plain = (refl, refl) }
-team_is made_last = record { names = _; is_placed = team_placed made_last; asks = refl; own_tables = refl; plain = (refl, refl) }
-team_is from_first = record { names = _; is_placed = team_placed from_first; asks = refl; own_tables = refl; plain = (refl, refl) }
-team_is from_second = record { names = _; is_placed = team_placed from_second; asks = refl; own_tables = refl; plain = (refl, refl) }
+team_is made_new = record { names = _; is_placed = team_placed made_new; asks = refl; own_tables = refl; plain = (refl, refl); whole = refl; typed = refl }
+team_is made_second = record { names = _; is_placed = team_placed made_second; asks = refl; own_tables = refl; plain = (refl, refl); whole = refl; typed = refl }
+team_is made_last = record { names = _; is_placed = team_placed made_last; asks = refl; own_tables = refl; plain = (refl, refl); whole = refl; typed = refl }
+team_is from_first = record { names = _; is_placed = team_placed from_first; asks = refl; own_tables = refl; plain = (refl, refl); whole = refl; typed = refl }
+team_is from_second = record { names = _; is_placed = team_placed from_second; asks = refl; own_tables = refl; plain = (refl, refl); whole = refl; typed = refl }
 
 pub policy_is : {form : Form} → IsRowidQuery form (codes "SELECT rowid FROM policy ORDER BY rowid") policy_table
 unfolding understood everything
-policy_is made_new = record { names = _; is_placed = policy_placed made_new; asks = refl; own_tables = refl; plain = (refl, refl) }
-policy_is made_second = record { names = _; is_placed = policy_placed made_second; asks = refl; own_tables = refl; plain = (refl, refl) }
-policy_is made_last = record { names = _; is_placed = policy_placed made_last; asks = refl; own_tables = refl; plain = (refl, refl) }
-policy_is from_first = record { names = _; is_placed = policy_placed from_first; asks = refl; own_tables = refl; plain = (refl, refl) }
-policy_is from_second = record { names = _; is_placed = policy_placed from_second; asks = refl; own_tables = refl; plain = (refl, refl) }
+policy_is made_new = record { names = _; is_placed = policy_placed made_new; asks = refl; own_tables = refl; plain = (refl, refl); whole = refl; typed = refl }
+policy_is made_second = record { names = _; is_placed = policy_placed made_second; asks = refl; own_tables = refl; plain = (refl, refl); whole = refl; typed = refl }
+policy_is made_last = record { names = _; is_placed = policy_placed made_last; asks = refl; own_tables = refl; plain = (refl, refl); whole = refl; typed = refl }
+policy_is from_first = record { names = _; is_placed = policy_placed from_first; asks = refl; own_tables = refl; plain = (refl, refl); whole = refl; typed = refl }
+policy_is from_second = record { names = _; is_placed = policy_placed from_second; asks = refl; own_tables = refl; plain = (refl, refl); whole = refl; typed = refl }
 
 pub template_is : {figures : Bool} → IsRowidQuery (for_main figures) (codes "SELECT rowid FROM template ORDER BY rowid") template_table
 unfolding understood everything
-template_is made_new = record { names = _; is_placed = template_placed made_new; asks = refl; own_tables = refl; plain = (refl, refl) }
-template_is made_second = record { names = _; is_placed = template_placed made_second; asks = refl; own_tables = refl; plain = (refl, refl) }
+template_is made_new = record { names = _; is_placed = template_placed made_new; asks = refl; own_tables = refl; plain = (refl, refl); whole = refl; typed = refl }
+template_is made_second = record { names = _; is_placed = template_placed made_second; asks = refl; own_tables = refl; plain = (refl, refl); whole = refl; typed = refl }
 
 pub language_is : {figures : Bool} → IsRowidQuery (for_main figures) (codes "SELECT rowid FROM language ORDER BY rowid") language_table
 unfolding understood everything
-language_is made_new = record { names = _; is_placed = language_placed made_new; asks = refl; own_tables = refl; plain = (refl, refl) }
-language_is made_second = record { names = _; is_placed = language_placed made_second; asks = refl; own_tables = refl; plain = (refl, refl) }
+language_is made_new = record { names = _; is_placed = language_placed made_new; asks = refl; own_tables = refl; plain = (refl, refl); whole = refl; typed = refl }
+language_is made_second = record { names = _; is_placed = language_placed made_second; asks = refl; own_tables = refl; plain = (refl, refl); whole = refl; typed = refl }
 
 pub unit_is : {figures : Bool} → IsRowidQuery (for_main figures) (codes "SELECT rowid FROM unit ORDER BY rowid") unit_table
 unfolding understood everything
-unit_is made_new = record { names = _; is_placed = unit_placed made_new; asks = refl; own_tables = refl; plain = (refl, refl) }
-unit_is made_second = record { names = _; is_placed = unit_placed made_second; asks = refl; own_tables = refl; plain = (refl, refl) }
+unit_is made_new = record { names = _; is_placed = unit_placed made_new; asks = refl; own_tables = refl; plain = (refl, refl); whole = refl; typed = refl }
+unit_is made_second = record { names = _; is_placed = unit_placed made_second; asks = refl; own_tables = refl; plain = (refl, refl); whole = refl; typed = refl }
 
 pub suggestion_is : {figures : Bool} → IsRowidQuery (for_main figures) (codes "SELECT rowid FROM suggestion ORDER BY rowid") suggestion_table
 unfolding understood everything
-suggestion_is made_new = record { names = _; is_placed = suggestion_placed made_new; asks = refl; own_tables = refl; plain = (refl, refl) }
-suggestion_is made_second = record { names = _; is_placed = suggestion_placed made_second; asks = refl; own_tables = refl; plain = (refl, refl) }
+suggestion_is made_new = record { names = _; is_placed = suggestion_placed made_new; asks = refl; own_tables = refl; plain = (refl, refl); whole = refl; typed = refl }
+suggestion_is made_second = record { names = _; is_placed = suggestion_placed made_second; asks = refl; own_tables = refl; plain = (refl, refl); whole = refl; typed = refl }
 
 pub vote_is : {figures : Bool} → IsRowidQuery (for_main figures) (codes "SELECT rowid FROM vote ORDER BY rowid") vote_table
 unfolding understood everything
-vote_is made_new = record { names = _; is_placed = vote_placed made_new; asks = refl; own_tables = refl; plain = (refl, refl) }
-vote_is made_second = record { names = _; is_placed = vote_placed made_second; asks = refl; own_tables = refl; plain = (refl, refl) }
+vote_is made_new = record { names = _; is_placed = vote_placed made_new; asks = refl; own_tables = refl; plain = (refl, refl); whole = refl; typed = refl }
+vote_is made_second = record { names = _; is_placed = vote_placed made_second; asks = refl; own_tables = refl; plain = (refl, refl); whole = refl; typed = refl }
 
 pub vote_sum_is : IsRowidQuery (for_main true) (codes "SELECT rowid FROM vote_sum ORDER BY rowid") vote_sum_table
 unfolding understood everything
-vote_sum_is made_second = record { names = _; is_placed = vote_sum_placed made_second; asks = refl; own_tables = refl; plain = (refl, refl) }
+vote_sum_is made_second = record { names = _; is_placed = vote_sum_placed made_second; asks = refl; own_tables = refl; plain = (refl, refl); whole = refl; typed = refl }
 
 pub tally_is : IsRowidQuery (for_main true) (codes "SELECT rowid FROM tally ORDER BY rowid") tally_table
 unfolding understood everything
-tally_is made_second = record { names = _; is_placed = tally_placed made_second; asks = refl; own_tables = refl; plain = (refl, refl) }
+tally_is made_second = record { names = _; is_placed = tally_placed made_second; asks = refl; own_tables = refl; plain = (refl, refl); whole = refl; typed = refl }
 
 pub domain_is : IsRowidQuery by_domain (codes "SELECT rowid FROM domain ORDER BY rowid") domain_table
 unfolding understood everything
-domain_is made_last = record { names = _; is_placed = domain_placed made_last; asks = refl; own_tables = refl; plain = (refl, refl) }
-domain_is from_first = record { names = _; is_placed = domain_placed from_first; asks = refl; own_tables = refl; plain = (refl, refl) }
-domain_is from_second = record { names = _; is_placed = domain_placed from_second; asks = refl; own_tables = refl; plain = (refl, refl) }
+domain_is made_last = record { names = _; is_placed = domain_placed made_last; asks = refl; own_tables = refl; plain = (refl, refl); whole = refl; typed = refl }
+domain_is from_first = record { names = _; is_placed = domain_placed from_first; asks = refl; own_tables = refl; plain = (refl, refl); whole = refl; typed = refl }
+domain_is from_second = record { names = _; is_placed = domain_placed from_second; asks = refl; own_tables = refl; plain = (refl, refl); whole = refl; typed = refl }
 
 pub d_template_is : IsRowidQuery by_domain (codes "SELECT rowid FROM d_template ORDER BY rowid") d_template_table
 unfolding understood everything
-d_template_is made_last = record { names = _; is_placed = d_template_placed made_last; asks = refl; own_tables = refl; plain = (refl, refl) }
-d_template_is from_first = record { names = _; is_placed = d_template_placed from_first; asks = refl; own_tables = refl; plain = (refl, refl) }
-d_template_is from_second = record { names = _; is_placed = d_template_placed from_second; asks = refl; own_tables = refl; plain = (refl, refl) }
+d_template_is made_last = record { names = _; is_placed = d_template_placed made_last; asks = refl; own_tables = refl; plain = (refl, refl); whole = refl; typed = refl }
+d_template_is from_first = record { names = _; is_placed = d_template_placed from_first; asks = refl; own_tables = refl; plain = (refl, refl); whole = refl; typed = refl }
+d_template_is from_second = record { names = _; is_placed = d_template_placed from_second; asks = refl; own_tables = refl; plain = (refl, refl); whole = refl; typed = refl }
 
 pub d_language_is : IsRowidQuery by_domain (codes "SELECT rowid FROM d_language ORDER BY rowid") d_language_table
 unfolding understood everything
-d_language_is made_last = record { names = _; is_placed = d_language_placed made_last; asks = refl; own_tables = refl; plain = (refl, refl) }
-d_language_is from_first = record { names = _; is_placed = d_language_placed from_first; asks = refl; own_tables = refl; plain = (refl, refl) }
-d_language_is from_second = record { names = _; is_placed = d_language_placed from_second; asks = refl; own_tables = refl; plain = (refl, refl) }
+d_language_is made_last = record { names = _; is_placed = d_language_placed made_last; asks = refl; own_tables = refl; plain = (refl, refl); whole = refl; typed = refl }
+d_language_is from_first = record { names = _; is_placed = d_language_placed from_first; asks = refl; own_tables = refl; plain = (refl, refl); whole = refl; typed = refl }
+d_language_is from_second = record { names = _; is_placed = d_language_placed from_second; asks = refl; own_tables = refl; plain = (refl, refl); whole = refl; typed = refl }
 
 pub d_unit_is : IsRowidQuery by_domain (codes "SELECT rowid FROM d_unit ORDER BY rowid") d_unit_table
 unfolding understood everything
-d_unit_is made_last = record { names = _; is_placed = d_unit_placed made_last; asks = refl; own_tables = refl; plain = (refl, refl) }
-d_unit_is from_first = record { names = _; is_placed = d_unit_placed from_first; asks = refl; own_tables = refl; plain = (refl, refl) }
-d_unit_is from_second = record { names = _; is_placed = d_unit_placed from_second; asks = refl; own_tables = refl; plain = (refl, refl) }
+d_unit_is made_last = record { names = _; is_placed = d_unit_placed made_last; asks = refl; own_tables = refl; plain = (refl, refl); whole = refl; typed = refl }
+d_unit_is from_first = record { names = _; is_placed = d_unit_placed from_first; asks = refl; own_tables = refl; plain = (refl, refl); whole = refl; typed = refl }
+d_unit_is from_second = record { names = _; is_placed = d_unit_placed from_second; asks = refl; own_tables = refl; plain = (refl, refl); whole = refl; typed = refl }
 
 pub d_suggestion_is : IsRowidQuery by_domain (codes "SELECT rowid FROM d_suggestion ORDER BY rowid") d_suggestion_table
 unfolding understood everything
-d_suggestion_is made_last = record { names = _; is_placed = d_suggestion_placed made_last; asks = refl; own_tables = refl; plain = (refl, refl) }
-d_suggestion_is from_first = record { names = _; is_placed = d_suggestion_placed from_first; asks = refl; own_tables = refl; plain = (refl, refl) }
-d_suggestion_is from_second = record { names = _; is_placed = d_suggestion_placed from_second; asks = refl; own_tables = refl; plain = (refl, refl) }
+d_suggestion_is made_last = record { names = _; is_placed = d_suggestion_placed made_last; asks = refl; own_tables = refl; plain = (refl, refl); whole = refl; typed = refl }
+d_suggestion_is from_first = record { names = _; is_placed = d_suggestion_placed from_first; asks = refl; own_tables = refl; plain = (refl, refl); whole = refl; typed = refl }
+d_suggestion_is from_second = record { names = _; is_placed = d_suggestion_placed from_second; asks = refl; own_tables = refl; plain = (refl, refl); whole = refl; typed = refl }
 
 pub d_vote_is : IsRowidQuery by_domain (codes "SELECT rowid FROM d_vote ORDER BY rowid") d_vote_table
 unfolding understood everything
-d_vote_is made_last = record { names = _; is_placed = d_vote_placed made_last; asks = refl; own_tables = refl; plain = (refl, refl) }
-d_vote_is from_first = record { names = _; is_placed = d_vote_placed from_first; asks = refl; own_tables = refl; plain = (refl, refl) }
-d_vote_is from_second = record { names = _; is_placed = d_vote_placed from_second; asks = refl; own_tables = refl; plain = (refl, refl) }
+d_vote_is made_last = record { names = _; is_placed = d_vote_placed made_last; asks = refl; own_tables = refl; plain = (refl, refl); whole = refl; typed = refl }
+d_vote_is from_first = record { names = _; is_placed = d_vote_placed from_first; asks = refl; own_tables = refl; plain = (refl, refl); whole = refl; typed = refl }
+d_vote_is from_second = record { names = _; is_placed = d_vote_placed from_second; asks = refl; own_tables = refl; plain = (refl, refl); whole = refl; typed = refl }
 
 pub d_vote_sum_is : IsRowidQuery by_domain (codes "SELECT rowid FROM d_vote_sum ORDER BY rowid") d_vote_sum_table
 unfolding understood everything
-d_vote_sum_is made_last = record { names = _; is_placed = d_vote_sum_placed made_last; asks = refl; own_tables = refl; plain = (refl, refl) }
-d_vote_sum_is from_first = record { names = _; is_placed = d_vote_sum_placed from_first; asks = refl; own_tables = refl; plain = (refl, refl) }
-d_vote_sum_is from_second = record { names = _; is_placed = d_vote_sum_placed from_second; asks = refl; own_tables = refl; plain = (refl, refl) }
+d_vote_sum_is made_last = record { names = _; is_placed = d_vote_sum_placed made_last; asks = refl; own_tables = refl; plain = (refl, refl); whole = refl; typed = refl }
+d_vote_sum_is from_first = record { names = _; is_placed = d_vote_sum_placed from_first; asks = refl; own_tables = refl; plain = (refl, refl); whole = refl; typed = refl }
+d_vote_sum_is from_second = record { names = _; is_placed = d_vote_sum_placed from_second; asks = refl; own_tables = refl; plain = (refl, refl); whole = refl; typed = refl }
 
 pub d_tally_is : IsRowidQuery by_domain (codes "SELECT rowid FROM d_tally ORDER BY rowid") d_tally_table
 unfolding understood everything
-d_tally_is made_last = record { names = _; is_placed = d_tally_placed made_last; asks = refl; own_tables = refl; plain = (refl, refl) }
-d_tally_is from_first = record { names = _; is_placed = d_tally_placed from_first; asks = refl; own_tables = refl; plain = (refl, refl) }
-d_tally_is from_second = record { names = _; is_placed = d_tally_placed from_second; asks = refl; own_tables = refl; plain = (refl, refl) }
+d_tally_is made_last = record { names = _; is_placed = d_tally_placed made_last; asks = refl; own_tables = refl; plain = (refl, refl); whole = refl; typed = refl }
+d_tally_is from_first = record { names = _; is_placed = d_tally_placed from_first; asks = refl; own_tables = refl; plain = (refl, refl); whole = refl; typed = refl }
+d_tally_is from_second = record { names = _; is_placed = d_tally_placed from_second; asks = refl; own_tables = refl; plain = (refl, refl); whole = refl; typed = refl }
 
 -- ---- one table after another
 

@@ -6,6 +6,7 @@ ghost use Rattle.sqlite.specs.State.{IsLive};
 ghost use Rattle.sql_layouts.specs.Found.{HoldsOfficeOf};
 ghost use Rattle.sql_layouts.specs.Looks.{IsOver, IsLook, HasSchema, IsTestedOf, IsTested};
 ghost use Rattle.sql_layouts.specs.Tables.{form_told};
+ghost use Rattle.sql_schema.specs.Errors.{RefusesNoRead};
 ghost use Rattle.sql_schema.specs.Layouts.{Form as FormOf, HasLayoutOf};
 
 use crate::office_tables::{Form, form_of};
@@ -18,6 +19,7 @@ fn holds_office<S: Alter>(tx: &mut Transaction<'_, S>, form: Form) -> Result<boo
     ensures same_reference { tx.new.conn.ghost_name ≡ tx.old.conn.ghost_name }
     ensures found { IsLook (state S.Store tx.old.conn.now) (state S.Store tx.new.conn.now) result
         (λ db holds. (holds ≡ true) ↔ HoldsOfficeOf (form_told form) db) }
+    ensures errors { RefusesNoRead (state S.Store tx.old.conn.now) (state S.Store tx.new.conn.now) result }
 {
     are_tables_apart(tx, form)
 }
@@ -28,6 +30,7 @@ fn is_office_by_rows<S: Alter>(connection: &mut Connection<S>, form: Form) -> Re
     requires live { IsLive (state S.Store connection.old) }
     requires schema { HasLayoutOf (form_told form) (state S.Store connection.old).now }
     ensures tested { IsTestedOf (form_told form) (state S.Store connection.old) (state S.Store connection.new) result }
+    ensures errors { RefusesNoRead (state S.Store connection.old) (state S.Store connection.new) result }
 {
     let mut tx = connection.transaction();
     let holds = holds_office(&mut tx, form)?;
@@ -41,6 +44,7 @@ fn form_by_rows<S: Alter>(connection: &mut Connection<S>, form: Form) -> Result<
     requires live { IsLive (state S.Store connection.old) }
     requires schema { HasLayoutOf (form_told form) (state S.Store connection.old).now }
     ensures tested { IsTested (state S.Store connection.old) (state S.Store connection.new) result }
+    ensures errors { RefusesNoRead (state S.Store connection.old) (state S.Store connection.new) result }
 {
     if is_office_by_rows(connection, form)? {
         Ok(Some(form))
@@ -55,6 +59,7 @@ fn is_no_office<S: Alter>(connection: &mut Connection<S>) -> Result<Option<Form>
     requires live { IsLive (state S.Store connection.old) }
     requires other { (form : FormOf) → ¬ HasLayoutOf form (state S.Store connection.old).now }
     ensures tested { IsTested (state S.Store connection.old) (state S.Store connection.new) result }
+    ensures errors { RefusesNoRead (state S.Store connection.old) (state S.Store connection.new) result }
 {
     let tx = connection.transaction();
     tx.commit()?;
@@ -63,10 +68,12 @@ fn is_no_office<S: Alter>(connection: &mut Connection<S>) -> Result<Option<Form>
 
 /// Which form the tables of a connection have, if they are an office's: what the texts of a form define, in their order, with nothing else
 /// beside them but the tables of an earlier form, and with rowids that are integers, no two of a table the same. How the texts are spelled is
-/// not asked. It changes nothing. On an error the connection shows what was last committed, or is shut.
+/// not asked. It changes nothing. On an error the connection shows what was last committed, or is shut: memory was wanting, the disk failed, or
+/// a limit on steps was met.
 pub fn office_form<S: Alter>(connection: &mut Connection<S>) -> Result<Option<Form>, Error>
     requires autocommit { connection.old.in_transaction ≡ false }
     ensures tested { IsTested (state S.Store connection.old) (state S.Store connection.new) result }
+    ensures errors { RefusesNoRead (state S.Store connection.old) (state S.Store connection.new) result }
 {
     match form_of(connection.schema()) {
         Some(form) => form_by_rows(connection, form),

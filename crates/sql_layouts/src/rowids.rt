@@ -4,6 +4,7 @@ ghost use Rattle.sqlite.specs.Held.{state};
 ghost use Rattle.sqlite.specs.Order.{column};
 ghost use Rattle.sqlite.specs.Table.{Table};
 ghost use Rattle.sql_laws.specs.ApartRows.{AreApart};
+ghost use Rattle.sql_schema.specs.Errors.{RefusesNoRead};
 ghost use Rattle.sql_schema.specs.Inside.{AreTablesOf};
 ghost use Rattle.sql_layouts.specs.Looks.{IsOver, IsLook, HasSchema};
 ghost use Rattle.sql_layouts.specs.RisingRows as spec;
@@ -105,6 +106,8 @@ fn is_apart<S: Alter>(tx: &mut Transaction<'_, S>, query: &str) -> Result<bool, 
     ensures found { (form : FormOf) (table : Table) → IsOver (HasSchema form) (state S.Store tx.old.conn.now) → IsRowidQuery form query.now table
         → IsLook (state S.Store tx.old.conn.now) (state S.Store tx.new.conn.now) result
         (λ db apart. (apart ≡ true) ↔ AreApart (rows_named db table.name)) }
+    ensures errors { (form : FormOf) (table : Table) → IsOver (HasSchema form) (state S.Store tx.old.conn.now) → IsRowidQuery form query.now table
+        → RefusesNoRead (state S.Store tx.old.conn.now) (state S.Store tx.new.conn.now) result }
 {
     let rows = tx.query_all(query, &[])?;
     Ok(are_rising(&rows))
@@ -116,6 +119,8 @@ fn are_apart<S: Alter>(tx: &mut Transaction<'_, S>, queries: &[&str]) -> Result<
     ensures found { (form : FormOf) (tables : List Table) → IsOver (HasSchema form) (state S.Store tx.old.conn.now) → AskAll form queries.now tables → 0 < length tables
         → IsLook (state S.Store tx.old.conn.now) (state S.Store tx.new.conn.now) result
         (λ db apart. (apart ≡ true) ↔ All (λ table. AreApart (rows_named db table.name)) tables) }
+    ensures errors { (form : FormOf) (tables : List Table) → IsOver (HasSchema form) (state S.Store tx.old.conn.now) → AskAll form queries.now tables
+        → RefusesNoRead (state S.Store tx.old.conn.now) (state S.Store tx.new.conn.now) result }
 {
     for query in queries {
         if !is_apart(tx, query)? {
@@ -134,6 +139,7 @@ pub(crate) fn are_tables_apart<S: Alter>(
     ensures same_reference { tx.new.conn.ghost_name ≡ tx.old.conn.ghost_name }
     ensures found { IsLook (state S.Store tx.old.conn.now) (state S.Store tx.new.conn.now) result
         (λ db apart. (apart ≡ true) ↔ AreTablesOf (form_told form) (rows_named db)) }
+    ensures errors { RefusesNoRead (state S.Store tx.old.conn.now) (state S.Store tx.new.conn.now) result }
 {
     match form {
         Form::ForMain => are_apart(tx, &ROWIDS),

@@ -1,5 +1,8 @@
 -- What CREATE TABLE does to a database that has some of the tables.
-use Rattle.std.proofs.Common.{◌≡◌, ◌⊎◌, ℕ, List, [], ◌∷◌, ◌++◌, false, None, Result, Ok, Err, OnOk, IsTrue, sym, ap, subst, ◌∙◌, inl, inr, arith}
+use Rattle.std.proofs.Common.{◌≡◌, ◌⊎◌, ℕ, ◌+◌, ◌*◌, ◌^◌, List, [], ◌∷◌, ◌++◌, length, codes, Bool, true, false, not, None, Result, Ok, Err, OnOk, IsTrue, sym, ap, subst, ◌∙◌, inl, inr, arith}
+use Rattle.std.specs.Prelude.{◌&&◌, nat_lt}
+use Rattle.std.specs.List.{list_all}
+use Rattle.std.specs.Str.{is_utf8, chars}
 use Rattle.std.proofs.lemmas.List.Sums.{fold-append}
 use Rattle.sqlite.specs.Effect.{Database}
 use Rattle.sqlite.specs.declared.error.Error.{Error}
@@ -13,13 +16,46 @@ use Rattle.sqlite.specs.Does.{Tally, lacks_sequence}
 use Rattle.sqlite.specs.Listing.{understood}
 use Rattle.sqlite.specs.State.{State, HasCleanDisk, Survives, Writes, Executes, ExecutesInside}
 use Rattle.sqlite.proofs.Callers.{IsPlain, command_of, statement_of, runs_as}
+use Rattle.sqlite.specs.declared.types.Value.TheVariants.{Text}
+use Rattle.sqlite_catalog.specs.Change.{is_used, is_reserved, automatics}
+use Rattle.sqlite_catalog.specs.Listing.{is_formed, is_fit}
+use Rattle.sqlite_schema.specs.declared.schema.Index.{Index}
+use Rattle.sqlite_schema.specs.Rules.{table_reals, index_reals}
+use Rattle.sqlite_trees.specs.Sound as sound
+use Rattle.sqlite_value.specs.Order.{value_cmp}
 use Rattle.sqlite_rules.specs.Lists.{Has}
 use Rattle.sqlite_rules.proofs.ListLemmas.{all_has, all_from, has_either}
 use Rattle.sql_laws.proofs.Writes.{same_ok, went_on}
 use Rattle.sql_laws.proofs.KeptCommits.{execute_keeps_commit}
 use Rattle.sql_schema.specs.Inside.{StaysInside}
 use Rattle.sql_schema.specs.Schema.{schema_with}
+use Rattle.sql_schema.specs.Errors.{is_whole}
 use Rattle.sql_schema.specs.Creation.{AreEmpty, HasTables, IsBegun, CreatesInside}
+
+-- ---- what nothing refuses
+
+-- no name that it makes is taken or reserved
+abbrev pub has_free_names : Schema → Table → Bool
+has_free_names schema table =
+    is_utf8 table.name && (not (is_reserved table.name) && (not (is_used schema table.name) && list_all (λ (i : Index). not (is_used schema i.name)) (automatics table 0 0 table.uniques)))
+
+-- no number of it is past what a file can tell
+abbrev pub is_small : Schema → Table → List ℕ → Bool
+is_small schema table text =
+    nat_lt (next_tree schema + length table.uniques) 65536
+    && (nat_lt (table_reals table) (2 ^ 64) && (list_all (λ (key : List ℕ). nat_lt (index_reals (table_reals table) key) (2 ^ 64)) table.uniques && nat_lt (2 * length table.name + length text + 200) (10 ^ 9)))
+
+-- its text can be listed
+abbrev pub is_listed : Table → List ℕ → Bool
+is_listed table text = is_utf8 text && (is_formed table && is_fit (Text (codes "table")) (Text table.name) (Text table.name) (Text text))
+
+abbrev pub is_allowed : Schema → Table → List ℕ → Bool
+is_allowed schema table text = has_free_names schema table && (is_small schema table text && is_listed table text)
+
+-- what unfolds when that is computed
+unfoldable pub allowing : Unit {0}
+unfolding is_utf8 chars lib.Utf8.encode value_cmp lib.Ieee.is_nan lib.Ieee.lt sound.same_name sound.begins sound.is_free_name sound.fits_kind
+allowing = tt
 
 -- The text makes this table after those.
 pub record IsCreation (tables : List Table) (table : Table) (text : List ℕ) : Type 0 where
@@ -28,6 +64,8 @@ pub record IsCreation (tables : List Table) (table : Table) (text : List ℕ) : 
   pub plain : IsPlain (understood (schema_with tables) text)
   pub defines : table_defined_by text ≡ Ok table
   pub uncounted : lacks_sequence (created (schema_with tables) table) ≡ false
+  pub whole : is_whole text 0 (understood (schema_with tables) text) ≡ true
+  pub allowed : is_allowed (schema_with tables) table text ≡ true
 
 -- the new table is empty, and the others keep their rows
 empty_after : (schema : Schema) (table : Table) (old new : Trees) → AreEmpty schema.tables old → KeepsRows schema.tables old new

@@ -10,7 +10,10 @@ pub mod Parents
 pub mod DomainParents
 pub mod RowNumbers
 pub mod Whole
+pub mod Losses
 pub mod Creations
+pub mod Unrefused
+pub mod Unread
 pub mod TablesSoFar
 pub mod Queries
 pub mod OrderedQueries

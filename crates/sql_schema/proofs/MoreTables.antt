@@ -31,9 +31,11 @@ use Rattle.sql_schema.specs.declared.new_tables.TheConstants.{DOMAIN, D_TEMPLATE
 use Rattle.sql_schema.specs.Layouts.{Form, for_main, by_domain, Layout, made_new, made_second, from_first, from_second, tables_for_main, tables_of, schema_of, IsLaidOut, is_named, own_tables, is_own_table, NamedRows, rows_in, rows_named}
 use Rattle.sql_schema.specs.Inside.{AreTablesOf, AreOfficeTablesOf, IsSteadyOver, IsInsideOf, StaysInside}
 use Rattle.sql_schema.specs.Creation.{KeepsNamedRows, HasMoreTables, IsMaking}
-use Rattle.sql_schema.proofs.Creations.{IsCreation}
+use Rattle.sql_schema.proofs.Creations.{IsCreation, allowing}
 use Rattle.sql_schema.proofs.Layouts.{record_placed, team_placed, policy_placed}
 use Rattle.sql_schema.proofs.TablesSoFar.{none_apart}
+use Rattle.sql_schema.proofs.Losses.{IsLost, lost_behind}
+use Rattle.sql_schema.proofs.Unrefused.{creation_lost}
 
 -- ---- rows by names, where a table comes
 
@@ -103,44 +105,44 @@ module _ (before : Database) (tables : List Table) (table : Table) (text : List 
 -- ---- what each text makes, behind an office's tables without a column for a domain
 
 makes_domain : (figures : Bool) → IsCreation (tables_for_main figures ++ take 0 domain_tables) domain_table DOMAIN.now
-unfolding understood everything
-makes_domain false = record { command = refl; statement = refl; plain = (refl, refl); defines = refl; uncounted = refl }
-makes_domain true = record { command = refl; statement = refl; plain = (refl, refl); defines = refl; uncounted = refl }
+unfolding understood everything allowing
+makes_domain false = record { command = refl; statement = refl; plain = (refl, refl); defines = refl; uncounted = refl; whole = refl; allowed = refl }
+makes_domain true = record { command = refl; statement = refl; plain = (refl, refl); defines = refl; uncounted = refl; whole = refl; allowed = refl }
 
 makes_template : (figures : Bool) → IsCreation (tables_for_main figures ++ take 1 domain_tables) d_template_table D_TEMPLATE.now
-unfolding understood everything
-makes_template false = record { command = refl; statement = refl; plain = (refl, refl); defines = refl; uncounted = refl }
-makes_template true = record { command = refl; statement = refl; plain = (refl, refl); defines = refl; uncounted = refl }
+unfolding understood everything allowing
+makes_template false = record { command = refl; statement = refl; plain = (refl, refl); defines = refl; uncounted = refl; whole = refl; allowed = refl }
+makes_template true = record { command = refl; statement = refl; plain = (refl, refl); defines = refl; uncounted = refl; whole = refl; allowed = refl }
 
 makes_language : (figures : Bool) → IsCreation (tables_for_main figures ++ take 2 domain_tables) d_language_table D_LANGUAGE.now
-unfolding understood everything
-makes_language false = record { command = refl; statement = refl; plain = (refl, refl); defines = refl; uncounted = refl }
-makes_language true = record { command = refl; statement = refl; plain = (refl, refl); defines = refl; uncounted = refl }
+unfolding understood everything allowing
+makes_language false = record { command = refl; statement = refl; plain = (refl, refl); defines = refl; uncounted = refl; whole = refl; allowed = refl }
+makes_language true = record { command = refl; statement = refl; plain = (refl, refl); defines = refl; uncounted = refl; whole = refl; allowed = refl }
 
 makes_unit : (figures : Bool) → IsCreation (tables_for_main figures ++ take 3 domain_tables) d_unit_table D_UNIT.now
-unfolding understood everything
-makes_unit false = record { command = refl; statement = refl; plain = (refl, refl); defines = refl; uncounted = refl }
-makes_unit true = record { command = refl; statement = refl; plain = (refl, refl); defines = refl; uncounted = refl }
+unfolding understood everything allowing
+makes_unit false = record { command = refl; statement = refl; plain = (refl, refl); defines = refl; uncounted = refl; whole = refl; allowed = refl }
+makes_unit true = record { command = refl; statement = refl; plain = (refl, refl); defines = refl; uncounted = refl; whole = refl; allowed = refl }
 
 makes_suggestion : (figures : Bool) → IsCreation (tables_for_main figures ++ take 4 domain_tables) d_suggestion_table D_SUGGESTION.now
-unfolding understood everything
-makes_suggestion false = record { command = refl; statement = refl; plain = (refl, refl); defines = refl; uncounted = refl }
-makes_suggestion true = record { command = refl; statement = refl; plain = (refl, refl); defines = refl; uncounted = refl }
+unfolding understood everything allowing
+makes_suggestion false = record { command = refl; statement = refl; plain = (refl, refl); defines = refl; uncounted = refl; whole = refl; allowed = refl }
+makes_suggestion true = record { command = refl; statement = refl; plain = (refl, refl); defines = refl; uncounted = refl; whole = refl; allowed = refl }
 
 makes_vote : (figures : Bool) → IsCreation (tables_for_main figures ++ take 5 domain_tables) d_vote_table D_VOTE.now
-unfolding understood everything
-makes_vote false = record { command = refl; statement = refl; plain = (refl, refl); defines = refl; uncounted = refl }
-makes_vote true = record { command = refl; statement = refl; plain = (refl, refl); defines = refl; uncounted = refl }
+unfolding understood everything allowing
+makes_vote false = record { command = refl; statement = refl; plain = (refl, refl); defines = refl; uncounted = refl; whole = refl; allowed = refl }
+makes_vote true = record { command = refl; statement = refl; plain = (refl, refl); defines = refl; uncounted = refl; whole = refl; allowed = refl }
 
 makes_sum : (figures : Bool) → IsCreation (tables_for_main figures ++ take 6 domain_tables) d_vote_sum_table D_VOTE_SUM.now
-unfolding understood everything
-makes_sum false = record { command = refl; statement = refl; plain = (refl, refl); defines = refl; uncounted = refl }
-makes_sum true = record { command = refl; statement = refl; plain = (refl, refl); defines = refl; uncounted = refl }
+unfolding understood everything allowing
+makes_sum false = record { command = refl; statement = refl; plain = (refl, refl); defines = refl; uncounted = refl; whole = refl; allowed = refl }
+makes_sum true = record { command = refl; statement = refl; plain = (refl, refl); defines = refl; uncounted = refl; whole = refl; allowed = refl }
 
 makes_tally : (figures : Bool) → IsCreation (tables_for_main figures ++ take 7 domain_tables) d_tally_table D_TALLY.now
-unfolding understood everything
-makes_tally false = record { command = refl; statement = refl; plain = (refl, refl); defines = refl; uncounted = refl }
-makes_tally true = record { command = refl; statement = refl; plain = (refl, refl); defines = refl; uncounted = refl }
+unfolding understood everything allowing
+makes_tally false = record { command = refl; statement = refl; plain = (refl, refl); defines = refl; uncounted = refl; whole = refl; allowed = refl }
+makes_tally true = record { command = refl; statement = refl; plain = (refl, refl); defines = refl; uncounted = refl; whole = refl; allowed = refl }
 
 abbrev pub domain_texts : List (List ℕ)
 domain_texts = DOMAIN.now ∷ D_TEMPLATE.now ∷ D_LANGUAGE.now ∷ D_UNIT.now ∷ D_SUGGESTION.now ∷ D_VOTE.now ∷ D_VOTE_SUM.now ∷ D_TALLY.now ∷ []
@@ -231,6 +233,31 @@ module _ (figures : Bool) {S : Type 0} (g : store.Ghosts S) (old mid : Held S) w
         by (inr made) makes =
             makes_both (HasSoFar figures before k) (HasSoFar figures before (k + 1)) (state g old) (state g mid) (state g new) r made
             (makes (λ clean. (made.stays clean).inside) (λ clean is_open. made.made clean))
+
+    -- or is lost
+    pub one_lost : (text : List ℕ) (e : Error) → MadeSoFar k
+        → (HasCleanDisk (state g new) → IsTrue (state g mid).in_transaction → ExecutesInside 0 text [] (state g mid) (state g new) (Err e)) → Survives (state g mid) (state g new) (λ _. ⊥)
+        → text ≡ get_or domain_texts k [] → HasCleanDisk (state g new) → IsLost (state g old) (state g new) e
+    one_lost text e so_far runs survives is clean = by so_far
+      where
+        early : HasCleanDisk (state g mid)
+        early = omega (arith, clean, survives.clean)
+
+        lost : IsTrue (state g mid).in_transaction → (IsTrue (state g mid).is_open → HasSoFar figures before k (state g mid)) → IsLost (state g mid) (state g new) e
+        lost inside has =
+            let next = text_makes figures k within in
+            let ran = subst (λ (t : List ℕ). ExecutesInside 0 t [] (state g mid) (state g new) (Err e)) is (runs clean inside) in
+            creation_lost (tables_for_main figures ++ take k domain_tables) next.0 _ next.1 (state g mid) (state g new) e (λ is_open. (has is_open).schema) ran
+
+        by : MadeSoFar k → IsLost (state g old) (state g new) e
+        by (inl none) =
+            let same : state g mid ≡ state g old = ap (λ (h : Held S). state g h) none.1 in
+            let early_old : HasCleanDisk (state g old) = subst HasCleanDisk same early in
+            let inside = subst (λ (h : Held S). IsTrue (state g h).in_transaction) (sym none.1) (steady.inside early_old) in
+            let has = subst (λ (h : Held S). IsTrue (state g h).is_open → HasSoFar figures before k (state g h)) (sym none.1)
+            (λ is_open. subst (λ n. HasSoFar figures before n (state g old)) (sym none.0) (at_first steady early_old is_open)) in
+            subst (λ (h : Held S). IsLost (state g h) (state g new) e) none.1 (lost inside has)
+        by (inr made) = lost_behind (state g old) (state g mid) (state g new) e made.survives survives clean (lost (made.stays early).inside (λ is_open. made.made early))
 
   -- ---- all of them
 

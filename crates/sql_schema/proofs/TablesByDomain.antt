@@ -6,53 +6,53 @@ use Rattle.sql_schema.specs.Schema.{record_table, team_table, policy_table, doma
 use Rattle.sql_schema.specs.Layouts.{made_last, tables_of}
 use Rattle.sql_schema.specs.declared.new_tables.TheConstants.{RECORD, TEAM, POLICY}
 use Rattle.sql_schema.specs.declared.new_tables.TheConstants.{DOMAIN, D_TEMPLATE, D_LANGUAGE, D_UNIT, D_SUGGESTION, D_VOTE, D_VOTE_SUM, D_TALLY}
-use Rattle.sql_schema.proofs.Creations.{IsCreation}
+use Rattle.sql_schema.proofs.Creations.{IsCreation, allowing}
 use Rattle.sql_schema.proofs.TablesSoFar.{MakeInTurn}
 use Rattle.sql_schema.proofs.MoreTables.{domain_texts}
 
 makes_record : IsCreation (take 0 (tables_of made_last)) record_table RECORD.now
-unfolding understood everything
-makes_record = record { command = refl; statement = refl; plain = (refl, refl); defines = refl; uncounted = refl }
+unfolding understood everything allowing
+makes_record = record { command = refl; statement = refl; plain = (refl, refl); defines = refl; uncounted = refl; whole = refl; allowed = refl }
 
 makes_team : IsCreation (take 1 (tables_of made_last)) team_table TEAM.now
-unfolding understood everything
-makes_team = record { command = refl; statement = refl; plain = (refl, refl); defines = refl; uncounted = refl }
+unfolding understood everything allowing
+makes_team = record { command = refl; statement = refl; plain = (refl, refl); defines = refl; uncounted = refl; whole = refl; allowed = refl }
 
 makes_policy : IsCreation (take 2 (tables_of made_last)) policy_table POLICY.now
-unfolding understood everything
-makes_policy = record { command = refl; statement = refl; plain = (refl, refl); defines = refl; uncounted = refl }
+unfolding understood everything allowing
+makes_policy = record { command = refl; statement = refl; plain = (refl, refl); defines = refl; uncounted = refl; whole = refl; allowed = refl }
 
 makes_domain : IsCreation (take 3 (tables_of made_last)) domain_table DOMAIN.now
-unfolding understood everything
-makes_domain = record { command = refl; statement = refl; plain = (refl, refl); defines = refl; uncounted = refl }
+unfolding understood everything allowing
+makes_domain = record { command = refl; statement = refl; plain = (refl, refl); defines = refl; uncounted = refl; whole = refl; allowed = refl }
 
 makes_template : IsCreation (take 4 (tables_of made_last)) d_template_table D_TEMPLATE.now
-unfolding understood everything
-makes_template = record { command = refl; statement = refl; plain = (refl, refl); defines = refl; uncounted = refl }
+unfolding understood everything allowing
+makes_template = record { command = refl; statement = refl; plain = (refl, refl); defines = refl; uncounted = refl; whole = refl; allowed = refl }
 
 makes_language : IsCreation (take 5 (tables_of made_last)) d_language_table D_LANGUAGE.now
-unfolding understood everything
-makes_language = record { command = refl; statement = refl; plain = (refl, refl); defines = refl; uncounted = refl }
+unfolding understood everything allowing
+makes_language = record { command = refl; statement = refl; plain = (refl, refl); defines = refl; uncounted = refl; whole = refl; allowed = refl }
 
 makes_unit : IsCreation (take 6 (tables_of made_last)) d_unit_table D_UNIT.now
-unfolding understood everything
-makes_unit = record { command = refl; statement = refl; plain = (refl, refl); defines = refl; uncounted = refl }
+unfolding understood everything allowing
+makes_unit = record { command = refl; statement = refl; plain = (refl, refl); defines = refl; uncounted = refl; whole = refl; allowed = refl }
 
 makes_suggestion : IsCreation (take 7 (tables_of made_last)) d_suggestion_table D_SUGGESTION.now
-unfolding understood everything
-makes_suggestion = record { command = refl; statement = refl; plain = (refl, refl); defines = refl; uncounted = refl }
+unfolding understood everything allowing
+makes_suggestion = record { command = refl; statement = refl; plain = (refl, refl); defines = refl; uncounted = refl; whole = refl; allowed = refl }
 
 makes_vote : IsCreation (take 8 (tables_of made_last)) d_vote_table D_VOTE.now
-unfolding understood everything
-makes_vote = record { command = refl; statement = refl; plain = (refl, refl); defines = refl; uncounted = refl }
+unfolding understood everything allowing
+makes_vote = record { command = refl; statement = refl; plain = (refl, refl); defines = refl; uncounted = refl; whole = refl; allowed = refl }
 
 makes_sum : IsCreation (take 9 (tables_of made_last)) d_vote_sum_table D_VOTE_SUM.now
-unfolding understood everything
-makes_sum = record { command = refl; statement = refl; plain = (refl, refl); defines = refl; uncounted = refl }
+unfolding understood everything allowing
+makes_sum = record { command = refl; statement = refl; plain = (refl, refl); defines = refl; uncounted = refl; whole = refl; allowed = refl }
 
 makes_tally : IsCreation (take 10 (tables_of made_last)) d_tally_table D_TALLY.now
-unfolding understood everything
-makes_tally = record { command = refl; statement = refl; plain = (refl, refl); defines = refl; uncounted = refl }
+unfolding understood everything allowing
+makes_tally = record { command = refl; statement = refl; plain = (refl, refl); defines = refl; uncounted = refl; whole = refl; allowed = refl }
 
 -- the texts in the order of their tables
 abbrev pub texts_by_domain : List (List ℕ)

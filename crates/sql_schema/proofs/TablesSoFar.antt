@@ -15,6 +15,8 @@ use Rattle.sql_schema.specs.Inside.{IsInsideOf}
 use Rattle.sql_schema.proofs.Layouts.{of_names}
 use Rattle.sql_schema.proofs.Creations.{IsCreation, creates_inside}
 use Rattle.sql_schema.proofs.Sequences.{creates_both, creates_fails, begun_next}
+use Rattle.sql_schema.proofs.Losses.{IsLost, lost_behind}
+use Rattle.sql_schema.proofs.Unrefused.{creation_lost}
 
 -- ---- the texts
 
@@ -71,6 +73,21 @@ module _ {form : Form} (layout : Layout form) {S : Type 0} (g : store.Ghosts S) 
         let next = makes k within in
         let ran = subst (λ (t : List ℕ). HasCleanDisk (state g new) → IsTrue (state g mid).in_transaction → ExecutesInside 0 t [] (state g mid) (state g new) r) is runs in
         after r k so_far (subst (CreatesInside (state g mid) (state g new) r) next.2 (creates_inside (take k (tables_of layout)) next.0 _ next.1 (state g mid) (state g new) r (begun fresh k so_far) ran survives))
+
+    -- or is lost
+    pub one_lost : (texts : List (List ℕ)) → MakeInTurn layout texts → IsFresh (state g old) → (k : ℕ) (text : List ℕ) (e : Error) → MadeSoFar k → k < length (tables_of layout)
+        → (HasCleanDisk (state g new) → IsTrue (state g mid).in_transaction → ExecutesInside 0 text [] (state g mid) (state g new) (Err e)) → Survives (state g mid) (state g new) (λ _. ⊥)
+        → text ≡ get_or texts k [] → HasCleanDisk (state g new) → IsLost (state g old) (state g new) e
+    one_lost texts makes fresh k text e so_far within runs survives is clean =
+        let next = makes k within in
+        let began = begun fresh k so_far in
+        let early : HasCleanDisk (state g mid) = omega (arith, clean, survives.clean) in
+        let ran = subst (λ (t : List ℕ). ExecutesInside 0 t [] (state g mid) (state g new) (Err e)) is (runs clean (began.inside early)) in
+        by so_far (creation_lost (take k (tables_of layout)) next.0 _ next.1 (state g mid) (state g new) e (λ is_open. (began.has early is_open).schema) ran)
+      where
+        by : MadeSoFar k → IsLost (state g mid) (state g new) e → IsLost (state g old) (state g new) e
+        by (inl none) lost = subst (λ h. IsLost (state g h) (state g new) e) none.1 lost
+        by (inr made) lost = lost_behind (state g old) (state g mid) (state g new) e made.survives survives clean lost
 
 module _ {form : Form} (layout : Layout form) {S : Type 0} (g : store.Ghosts S) (old new : Held S) where
   pub counted : (count k : ℕ) → CreatesInside {A = ℕ} {E = Error} (state g old) (state g new) (Ok count) (take k (tables_of layout)) → MadeSoFar layout g old new k

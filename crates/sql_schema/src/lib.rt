@@ -6,7 +6,7 @@
 //!
 //! Specs: `Schema` (the tables), `Layouts` (their forms, and in which trees their rows may be), `Keys`, `Rows` (rows as
 //! they are written), `SeenRows` (what a domain sees), `Creation`, `Inside` (what a statement inside a transaction does,
-//! and keeps however it ends), `Cleared`, `Whole` (transactions).
+//! and keeps however it ends), `Errors` (which errors come where nothing is refused), `Cleared`, `Whole` (transactions).
 //!
 //! What is said of values is said while the disk returns what was written.
 #![tactic(auto)]

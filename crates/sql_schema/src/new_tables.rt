@@ -3,6 +3,7 @@ ghost use Rattle.std.specs.Prelude.{◌≡◌};
 ghost use Rattle.sqlite.specs.Held.{state};
 ghost use Rattle.sql_schema.specs.Layouts.{by_domain};
 ghost use Rattle.sql_schema.specs.Creation.{IsFresh, MakesTables, KeepsNamedRows};
+ghost use Rattle.sql_schema.specs.Errors.{RefusesNothing};
 ghost use Rattle.sql_schema.specs.Inside.{IsSteadyForMain, IsInsideOf};
 
 use sqlite::{Alter, Error, Transaction};
@@ -228,6 +229,7 @@ pub fn make_domain_tables<S: Alter>(tx: &mut Transaction<'_, S>) -> Result<(), E
     requires steady { IsSteadyForMain (state S.Store tx.old.conn.now) }
     ensures same_reference { tx.new.conn.ghost_name ≡ tx.old.conn.ghost_name }
     ensures made { IsInsideOf by_domain (state S.Store tx.old.conn.now) (state S.Store tx.new.conn.now) result KeepsNamedRows }
+    ensures errors { RefusesNothing (state S.Store tx.old.conn.now) (state S.Store tx.new.conn.now) result }
 {
     for text in &DOMAIN_TABLES {
         tx.execute(text, &[])?;
@@ -240,6 +242,7 @@ pub fn make_tables_by_domain<S: Alter>(tx: &mut Transaction<'_, S>) -> Result<()
     requires fresh { IsFresh (state S.Store tx.old.conn.now) }
     ensures same_reference { tx.new.conn.ghost_name ≡ tx.old.conn.ghost_name }
     ensures made { IsInsideOf by_domain (state S.Store tx.old.conn.now) (state S.Store tx.new.conn.now) result MakesTables }
+    ensures errors { RefusesNothing (state S.Store tx.old.conn.now) (state S.Store tx.new.conn.now) result }
 {
     for text in &TABLES_BY_DOMAIN {
         tx.execute(text, &[])?;

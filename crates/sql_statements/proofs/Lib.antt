@@ -39,8 +39,10 @@ pub mod OwnersRead
 pub mod ContextSeen
 pub mod ReadsBlame
 pub mod SumsWalked
+pub mod ApprovalsRead
 pub mod UnitWalks
 pub mod UnitsWalked
 pub mod SuggestionsWalked
 pub mod UnplacedWalked
+pub mod UnsummedWalked
 pub mod Frames

@@ -1,4 +1,4 @@
--- What the walk over all suggestions shows of the votes on each.
+-- What the walk over all sums shows of the votes on suggestions.
 use Rattle.std.proofs.Common.{◌≡◌, inl, inr, ℕ, ℤ, pos, negsuc, List, [], ◌∷◌, ◌++◌, ◌&&◌, map, filter, length, codes, true, refl, sym, ap, subst, ◌∙◌}
 use Rattle.std.specs.Prelude.{min}
 use Rattle.std.specs.List.{list_all}
@@ -19,7 +19,7 @@ use Rattle.sqlite.specs.State.{State, Begins, Shown}
 use Rattle.sqlite.proofs.Callers.{IsPlain, reads_as, begins_as}
 use Rattle.sqlite_sql.specs.Ops.{is_true}
 use Rattle.sqlite_sql.specs.Term.{Env, eval_all, holds}
-use Rattle.sqlite_sql.specs.Query.{Join, matches_as, first, counted, sort_cmp, least, shown_by}
+use Rattle.sqlite_sql.specs.Query.{Join, matches_as, counted}
 use Rattle.sqlite_sql.specs.declared.ops.CompareOp.TheVariants as compare
 use Rattle.sqlite_sql.specs.declared.ops.BinaryOp.TheVariants as by
 use Rattle.sqlite_tied.specs.Compute.{everything}
@@ -27,44 +27,43 @@ use Rattle.sqlite_value.proofs.OrderLemmas.{value_cmp-Int}
 use Rattle.sqlite_rules.specs.Edit.{id_in}
 use Rattle.sqlite_rules.specs.Lists.{Has}
 use Rattle.sql_laws.proofs.Comparisons.{texts_compared, ints_compared}
-use Rattle.sql_streams.specs.RowQueries.{row_query, first_column}
+use Rattle.sql_streams.specs.RowQueries.{row_query}
 use Rattle.sql_streams.proofs.RowByRow.{row_by_row, in_its_order}
-use Rattle.sql_streams.proofs.Subqueries.{counted_in, first_in}
+use Rattle.sql_streams.proofs.Subqueries.{counted_in}
 use Rattle.sql_schema.specs.Inside.{IsReadyFor}
 use Rattle.sql_schema.specs.Keys.{first_text, has_text}
 use Rattle.sql_schema.specs.Layouts.{by_domain, Layout, NamedRows, made_last, from_first, from_second, schema_of, placed, rows_named}
-use Rattle.sql_schema.specs.Schema.{d_suggestion_table, d_vote_table, d_vote_sum_table}
-use Rattle.sql_schema.proofs.DomainRows.{d_suggestion_texts, d_vote_texts, d_vote_sum_texts}
-use Rattle.sql_schema.proofs.Layouts.{d_suggestion_placed, d_vote_placed, d_vote_sum_placed}
+use Rattle.sql_schema.specs.Schema.{d_vote_table, d_vote_sum_table}
+use Rattle.sql_schema.proofs.DomainRows.{d_vote_texts, d_vote_sum_texts}
+use Rattle.sql_schema.proofs.Layouts.{d_vote_placed, d_vote_sum_placed}
 use Rattle.sql_schema.proofs.Queries.{Asks, filtered_same, rows_read}
 use Rattle.sql_schema.proofs.TextKeys.{holds_int}
-use Rattle.sql_statements.specs.SummedVotes.{is_integer, is_counted, votes_counted, most_counted, told, summed, ShowsSummed}
+use Rattle.sql_statements.specs.SummedVotes.{is_integer, is_counted, votes_counted, most_counted, told, sum_counted, ShowsSummed}
 use Rattle.sql_statements.specs.Tables.{by_columns}
 
 abbrev pub sums_text : List ℕ
-sums_text = codes "SELECT number, (SELECT sum FROM d_vote_sum WHERE d_vote_sum.number = d_suggestion.number) AS kept, (SELECT count(*) FROM d_vote WHERE d_vote.number = d_suggestion.number AND value = 1) AS votes_for, (SELECT count(*) FROM d_vote WHERE d_vote.number = d_suggestion.number AND value = -1) AS against FROM d_suggestion ORDER BY number"
+sums_text = codes "SELECT number, sum, (SELECT count(*) FROM d_vote WHERE d_vote.number = d_vote_sum.number AND value = 1) AS votes_for, (SELECT count(*) FROM d_vote WHERE d_vote.number = d_vote_sum.number AND value = -1) AS against FROM d_vote_sum ORDER BY number"
 
--- the row in this slot has the suggestion's number
+-- the vote in this slot has the sum's number
 abbrev is_its : ℕ → Term
 is_its slot = op2 (by.Compare compare.Eq Binary) (col slot 1) (col 1 1)
 
--- and the vote this value
+-- and this value
 abbrev are_its : ℕ → ℤ → List Term
 are_its slot value = is_its slot ∷ op2 (by.Compare compare.Eq Binary) (col slot 3) (lit (Int value)) ∷ []
 
 abbrev shown_terms : List Term
-shown_terms = col 1 1 ∷ col 2 0 ∷ col 3 0 ∷ col 4 0 ∷ []
+shown_terms = col 1 1 ∷ col 1 2 ∷ col 2 0 ∷ col 3 0 ∷ []
 
 abbrev beside : Layout by_domain → Join
 beside layout =
-    first (inner (placed layout d_vote_sum_table).tree end) (is_its 2 ∷ []) [] (col 2 2 ∷ [])
-    (counted 9223372036854775807 (inner (placed layout d_vote_table).tree end) (are_its 3 (pos 1))
-    (counted 9223372036854775807 (inner (placed layout d_vote_table).tree end) (are_its 4 (negsuc 0)) end))
+    counted 9223372036854775807 (inner (placed layout d_vote_table).tree end) (are_its 2 (pos 1))
+    (counted 9223372036854775807 (inner (placed layout d_vote_table).tree end) (are_its 3 (negsuc 0)) end)
 
 abbrev sums_query : Layout by_domain → Query
-sums_query layout = row_query (placed layout d_suggestion_table).tree (beside layout) [] shown_terms (1 ∷ [])
+sums_query layout = row_query (placed layout d_vote_sum_table).tree (beside layout) [] shown_terms (1 ∷ [])
 
-sums_are : (layout : Layout by_domain) → Asks layout sums_text (sums_query layout) (codes "number" ∷ codes "kept" ∷ codes "votes_for" ∷ codes "against" ∷ [])
+sums_are : (layout : Layout by_domain) → Asks layout sums_text (sums_query layout) (codes "number" ∷ codes "sum" ∷ codes "votes_for" ∷ codes "against" ∷ [])
 unfolding understood everything
 sums_are made_last = record { command = refl; own_tables = refl; plain = (refl, refl) }
 sums_are from_first = record { command = refl; own_tables = refl; plain = (refl, refl) }
@@ -80,7 +79,7 @@ pub mapped_same : (f g : Row → Row) (rows : List Row) → ((row : Row) → Has
 mapped_same f g [] same = refl
 mapped_same f g (row ∷ rows) same = (λ i. same row (inl refl) i ∷ mapped_same f g rows (λ r there. same r (inr there)) i)
 
-value_compared : (v : Value) (n : ℤ) → v ≡ Int (id_in v) → is_true (binary (by.Compare compare.Eq Binary) v (Int n)) ≡ is_integer n v
+pub value_compared : (v : Value) (n : ℤ) → v ≡ Int (id_in v) → is_true (binary (by.Compare compare.Eq Binary) v (Int n)) ≡ is_integer n v
 value_compared v n is = rw is (ints_compared (Int (id_in v)) (Int n) refl refl ∙ ap is_eq (value_cmp-Int (id_in v) n))
 
 -- ---- over an office's tables
@@ -95,17 +94,11 @@ module _ (s : State) (ready : IsReadyFor by_domain s) where
   abbrev trees : Trees
   trees = overlay s.now.trees []
 
-  abbrev suggestions : List Row
-  suggestions = tables (codes "d_suggestion")
-
   abbrev votes : List Row
   votes = tables (codes "d_vote")
 
   abbrev sums : List Row
   sums = tables (codes "d_vote_sum")
-
-  suggestions_read : trees (placed layout d_suggestion_table).tree ≡ suggestions
-  suggestions_read = rows_read layout d_suggestion_table (d_suggestion_placed layout) s.now ready.schema.1
 
   votes_read : trees (placed layout d_vote_table).tree ≡ votes
   votes_read = rows_read layout d_vote_table (d_vote_placed layout) s.now ready.schema.1
@@ -114,44 +107,31 @@ module _ (s : State) (ready : IsReadyFor by_domain s) where
   sums_read = rows_read layout d_vote_sum_table (d_vote_sum_placed layout) s.now ready.schema.1
 
   -- what the subqueries bring, one after the other
-  abbrev kept_row : Row → Row
-  kept_row suggestion =
-      shown_by (col 2 2 ∷ []) (least (sort_cmp []) (matches_as Null trees (is_its 2 ∷ []) (inner (placed layout d_vote_sum_table).tree end) ([] ∷ suggestion ∷ [])))
-
   abbrev count_row : List Term → Env → Row
   count_row test env = Int (pos (min most_counted (length (matches_as Null trees test (inner (placed layout d_vote_table).tree end) env)))) ∷ []
 
-  abbrev with_kept : Row → Env
-  with_kept suggestion = [] ∷ suggestion ∷ kept_row suggestion ∷ []
+  abbrev start : Row → Env
+  start own = [] ∷ own ∷ []
 
   abbrev with_for : Row → Env
-  with_for suggestion = with_kept suggestion ++ count_row (are_its 3 (pos 1)) (with_kept suggestion) ∷ []
+  with_for own = start own ++ count_row (are_its 2 (pos 1)) (start own) ∷ []
 
   abbrev whole : Row → Env
-  whole suggestion = with_for suggestion ++ count_row (are_its 4 (negsuc 0)) (with_for suggestion) ∷ []
+  whole own = with_for own ++ count_row (are_its 3 (negsuc 0)) (with_for own) ∷ []
 
-  module _ (suggestion : Row) (there : Has suggestions suggestion) where
+  module _ (own : Row) (there : Has sums own) where
     abbrev number : List ℕ
-    number = first_text suggestion
+    number = first_text own
 
-    numbered : column suggestion 1 ≡ Text number
-    numbered = d_suggestion_texts.0 s.now ready.schema ready.sound suggestion there
-
-    sum_passes : (row : Row) → Has sums row → list_all (holds ([] ∷ suggestion ∷ row ∷ [])) (is_its 2 ∷ []) ≡ has_text 1 number row
-    sum_passes row listed = rw (d_vote_sum_texts.0 s.now ready.schema ready.sound row listed, numbered) (rw (texts_compared (first_text row) number) (and-true _))
-
-    kept_is : column (kept_row suggestion) 0 ≡ first_column 2 (filter (has_text 1 number) sums)
-    kept_is =
-        first_in trees (placed layout d_vote_sum_table).tree (is_its 2 ∷ []) ([] ∷ suggestion ∷ []) 2 2 (λ row. refl)
-        ∙ ap (first_column 2) (ap (filter (λ row. list_all (holds ([] ∷ suggestion ∷ row ∷ [])) (is_its 2 ∷ []))) sums_read
-        ∙ filtered_same (λ row. list_all (holds ([] ∷ suggestion ∷ row ∷ [])) (is_its 2 ∷ [])) (has_text 1 number) sums sum_passes)
+    numbered : column own 1 ≡ Text number
+    numbered = d_vote_sum_texts.0 s.now ready.schema ready.sound own there
 
     vote_value : (vote : Row) → Has votes vote → column vote 3 ≡ Int (id_in (column vote 3))
     vote_value vote listed = holds_int d_vote_table d_vote_placed 2 (codes "value") refl s.now ready.schema ready.sound vote listed refl
 
     -- a vote passes the tests of a subquery where it is counted
     tested : (vote : Row) → Has votes vote → (value : ℤ)
-        → (is_true (binary (by.Compare compare.Eq Binary) (column vote 1) (column suggestion 1)) && (is_true (binary (by.Compare compare.Eq Binary) (column vote 3) (Int value)) && true)) ≡ is_counted value number vote
+        → (is_true (binary (by.Compare compare.Eq Binary) (column vote 1) (column own 1)) && (is_true (binary (by.Compare compare.Eq Binary) (column vote 3) (Int value)) && true)) ≡ is_counted value number vote
     tested vote listed value =
         rw (value_compared (column vote 3) value (vote_value vote listed), d_vote_texts.0 s.now ready.schema ready.sound vote listed, numbered)
         (rw (texts_compared (first_text vote) number) (ap (λ b. has_text 1 number vote && b) (and-true _)))
@@ -165,18 +145,18 @@ module _ (s : State) (ready : IsReadyFor by_domain s) where
         ∙ ap (λ rows. length (filter (λ vote. list_all (holds (env ++ vote ∷ [])) (are_its slot value)) rows)) votes_read
         ∙ ap length (filtered_same (λ vote. list_all (holds (env ++ vote ∷ [])) (are_its slot value)) (is_counted value number) votes passes))
 
-    shows_summed : eval_all shown_terms (whole suggestion) ≡ summed tables suggestion
-    shows_summed = (λ i.
-        column suggestion 1 ∷ kept_is i ∷ counts (with_kept suggestion) 3 (pos 1) (λ vote listed. tested vote listed (pos 1)) i
-        ∷ counts (with_for suggestion) 4 (negsuc 0) (λ vote listed. tested vote listed (negsuc 0)) i ∷ [])
+    shows_counted : eval_all shown_terms (whole own) ≡ sum_counted tables own
+    shows_counted = (λ i.
+        column own 1 ∷ column own 2 ∷ counts (start own) 2 (pos 1) (λ vote listed. tested vote listed (pos 1)) i
+        ∷ counts (with_for own) 3 (negsuc 0) (λ vote listed. tested vote listed (negsuc 0)) i ∷ [])
 
   answered : (rows : List Row) → IsAnswer (sums_query layout) trees [] rows → ShowsSummed s.now rows
   answered rows answer = record {
     all = subst (λ l. IsPermutation l rows)
-        (ap (map (λ suggestion. eval_all shown_terms (whole suggestion))) (all_kept (trees (placed layout d_suggestion_table).tree) ∙ suggestions_read)
-        ∙ mapped_same (λ suggestion. eval_all shown_terms (whole suggestion)) (summed tables) suggestions shows_summed)
-        (row_by_row (placed layout d_suggestion_table).tree (beside layout) [] shown_terms (1 ∷ []) trees [] (λ row. true) whole (λ row there. refl) rows answer);
-    in_order = in_its_order (placed layout d_suggestion_table).tree (beside layout) [] shown_terms (1 ∷ []) trees [] (λ row. true) whole (λ row there. refl) rows answer
+        (ap (map (λ own. eval_all shown_terms (whole own))) (all_kept (trees (placed layout d_vote_sum_table).tree) ∙ sums_read)
+        ∙ mapped_same (λ own. eval_all shown_terms (whole own)) (sum_counted tables) sums shows_counted)
+        (row_by_row (placed layout d_vote_sum_table).tree (beside layout) [] shown_terms (1 ∷ []) trees [] (λ row. true) whole (λ row there. refl) rows answer);
+    in_order = in_its_order (placed layout d_vote_sum_table).tree (beside layout) [] shown_terms (1 ∷ []) trees [] (λ row. true) whole (λ row there. refl) rows answer
         (by_columns (0 ∷ [])) (λ r t at_r at_t. refl);
   }
 

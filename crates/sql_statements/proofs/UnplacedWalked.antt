@@ -71,7 +71,7 @@ some_counted : (n : ℕ) → 0 < n → is_eq (value_cmp (Int (pos n)) (Int (pos 
 some_counted n some = let above : int_cmp (pos n) (pos 0) ≡ Greater = grind (arith, ints, nat_tests) in ap is_eq (value_cmp-Int (pos n) (pos 0) ∙ above)
 
 -- none is counted where there is none
-none_there : (rows : List Row) → is_eq (value_cmp (Int (pos (min most_counted (length rows)))) (Int (pos 0))) ≡ is_empty rows
+pub none_there : (rows : List Row) → is_eq (value_cmp (Int (pos (min most_counted (length rows)))) (Int (pos 0))) ≡ is_empty rows
 none_there [] = ap is_eq (value_cmp-Int (pos 0) (pos 0))
 none_there (row ∷ rows) = some_counted (min most_counted (length (row ∷ rows))) (omega arith)
 

@@ -16,4 +16,5 @@ pub mod Owners
 pub mod DomainEntries
 pub mod DomainVotes
 pub mod SummedVotes
+pub mod ApprovalCounts
 pub mod WalkedRows

@@ -1,4 +1,4 @@
--- What a walk over all suggestions shows of the votes on each: the sum that is kept of them, and how many are for it and against it.
+-- What a walk over all sums shows of the votes on suggestions: the sum that is kept of them, and how many are for it and against it.
 use Rattle.std.specs.Prelude.{◌&&◌, ℕ, ℤ, pos, negsuc, min, Bool, false, List, [], ◌∷◌, filter, length, map, codes}
 use Rattle.std.specs.List.Sorted.{IsPermutation, IsSorted}
 use Rattle.std.specs.Ordering.{int_eq}
@@ -39,7 +39,12 @@ summed tables s =
     column s 1 ∷ first_column 2 (filter (has_text 1 (first_text s)) (tables (codes "d_vote_sum"))) ∷ told (votes_counted (pos 1) (first_text s) (tables (codes "d_vote")))
     ∷ told (votes_counted (negsuc 0) (first_text s) (tables (codes "d_vote"))) ∷ []
 
--- Of each suggestion these, in the order of the numbers.
+-- of a sum: its suggestion's number, the sum, how many votes are for that suggestion, and how many against
+abbrev pub sum_counted : NamedRows → Row → Row
+sum_counted tables r =
+    column r 1 ∷ column r 2 ∷ told (votes_counted (pos 1) (first_text r) (tables (codes "d_vote"))) ∷ told (votes_counted (negsuc 0) (first_text r) (tables (codes "d_vote"))) ∷ []
+
+-- Of each sum these, in the order of the numbers.
 pub record ShowsSummed (db : Database) (rows : List Row) : Type 0 where
-  pub all : IsPermutation (map (summed (rows_named db)) (rows_named db (codes "d_suggestion"))) rows
+  pub all : IsPermutation (map (sum_counted (rows_named db)) (rows_named db (codes "d_vote_sum"))) rows
   pub in_order : IsSorted (by_columns (0 ∷ [])) rows

@@ -2,9 +2,10 @@
 use Rattle.std.specs.Prelude.{◌&&◌, ℕ, Bool, true, false, List, [], ◌∷◌, filter, length, map, codes}
 use Rattle.std.specs.List.Sorted.{IsPermutation, IsSorted}
 use Rattle.sqlite.specs.Effect.{Database}
+use Rattle.sqlite.specs.declared.types.Value.{Value}
+use Rattle.sqlite.specs.declared.types.Value.TheVariants.{Null, Int, Real, Blob, Text as Words}
 use Rattle.sqlite.specs.Order.{Row, column}
-use Rattle.sql_streams.specs.RowQueries.{first_column}
-use Rattle.sql_schema.specs.Keys.{text_at, has_text, columns}
+use Rattle.sql_schema.specs.Keys.{text_at, first_text, has_text, columns}
 use Rattle.sql_schema.specs.Layouts.{NamedRows, rows_named}
 use Rattle.sql_statements.specs.DomainCleared.{is_on_domain_unit}
 use Rattle.sql_statements.specs.SummedVotes.{told}
@@ -25,6 +26,14 @@ is_unplaced tables u = is_empty (filter (λ l. has_text 1 (text_at 1 u) l && has
 -- domain, lang: of each unit of which that is so
 abbrev pub ShowsUnplaced : Database → List Row → Type 0
 ShowsUnplaced db rows = IsPermutation (map (columns (1 ∷ 2 ∷ [])) (filter (is_unplaced (rows_named db)) (rows_named db (codes "d_unit")))) rows
+
+-- no sum is kept of a suggestion's votes
+abbrev pub is_unsummed : NamedRows → Row → Bool
+is_unsummed tables s = is_empty (filter (has_text 1 (first_text s)) (tables (codes "d_vote_sum")))
+
+-- number: of each suggestion of which that is so
+abbrev pub ShowsUnsummed : Database → List Row → Type 0
+ShowsUnsummed db rows = IsPermutation (map (columns (1 ∷ [])) (filter (is_unsummed (rows_named db)) (rows_named db (codes "d_suggestion")))) rows
 
 -- ---- of a domain's language
 
@@ -49,10 +58,24 @@ pub record ShowsUnitsOf (domain lang : List ℕ) (db : Database) (rows : List Ro
 abbrev pub is_unit_under : Row → Row → Bool
 is_unit_under s u = has_text 1 (text_at 2 s) u && (has_text 2 (text_at 3 s) u && has_text 3 (text_at 4 s) u)
 
--- number, place, suggester, forms, lang, key, and the unit's plural
+abbrev pub is_textual : Value → Bool
+is_textual Null = false
+is_textual (Int n) = false
+is_textual (Real x) = false
+is_textual (Words t) = true
+is_textual (Blob b) = false
+
+-- it has a plural
+abbrev pub has_plural : Row → Bool
+has_plural u = is_textual (column u 4)
+
+-- how many units are a suggestion's and have a plural: one, or none
+abbrev pub plurals_under : NamedRows → Row → ℕ
+plurals_under tables s = length (filter (λ u. is_unit_under s u && has_plural u) (tables (codes "d_unit")))
+
+-- number, place, suggester, forms, lang, key, and how many plurals its unit has
 abbrev pub suggestion_beside : NamedRows → Row → Row
-suggestion_beside tables s =
-    column s 1 ∷ column s 5 ∷ column s 6 ∷ column s 7 ∷ column s 3 ∷ column s 4 ∷ first_column 4 (filter (is_unit_under s) (tables (codes "d_unit"))) ∷ []
+suggestion_beside tables s = column s 1 ∷ column s 5 ∷ column s 6 ∷ column s 7 ∷ column s 3 ∷ column s 4 ∷ told (plurals_under tables s) ∷ []
 
 abbrev pub is_suggestion_of : List ℕ → List ℕ → Row → Bool
 is_suggestion_of domain lang s = has_text 2 domain s && has_text 3 lang s

@@ -80,24 +80,6 @@ pub fn domain_tables<S: Alter>(
     Ok(WholeOffice { office, units })
 }
 
-/// The team, the policy, and the template and the languages of a domain, without its units, read in one transaction. On an error nothing is
-/// known of them, and the rows are as before.
-pub fn look_up_languages<S: Alter>(
-    connection: &mut Connection<S>,
-    domain: &str,
-) -> Result<OfficeTables, Error>
-    requires autocommit { connection.old.in_transaction ≡ false }
-    requires idle { IsIdleOver by_domain (state S.Store connection.old) }
-    ensures found { IsLookUp (state S.Store connection.old) (state S.Store connection.new) result
-        (λ db rows. ShowsOfficeTablesIn (seen_in domain.now (rows_named db)) rows) }
-    ensures disk { BlamesTruly (state S.Store connection.old) (state S.Store connection.new) result }
-{
-    let mut tx = connection.transaction();
-    let rows = domain_office_tables(&mut tx, domain)?;
-    tx.commit()?;
-    Ok(rows)
-}
-
 /// All rows that a domain sees, each table in the order of its key. On an error nothing is known of them, and the rows are as before.
 pub fn look_up_domain<S: Alter>(
     connection: &mut Connection<S>,

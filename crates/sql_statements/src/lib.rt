@@ -9,18 +9,20 @@
 //! - `unit_rows`: the rows that a look at a unit shows
 //! - `whole_office`: the rows of all tables without a column for a domain, read in one transaction
 //! - `domain_office`: what a domain sees of those by domains
-//! - `owners`: of which domain each row of a table is
+//! - `owners`: of which domain each row of a table is; `approval_counts`: how many units of each domain are approved
 //! - `unit_walks`: units, suggestions and votes one at a time, each with what a test of it asks of other tables
 //!
-//! Specs: `Answers`, `DomainAnswers`, `UnitRows`, `Queries`, `Tables`, `RecordTable`, `RecordsInOrder`, `WholeOffice`, `Owners`, `SummedVotes`, `WalkedRows` are what reads show; `Added`,
+//! Specs: `Answers`, `DomainAnswers`, `UnitRows`, `Queries`, `Tables`, `RecordTable`, `RecordsInOrder`, `WholeOffice`, `Owners`, `SummedVotes`, `WalkedRows`, `ApprovalCounts` are what reads show; `Added`,
 //! `Taken`, `Renewed`, `DomainCleared`, `DomainVotes` what becomes of rows. A lemma about one table's texts stands in `proofs/` under the
 //! table's name (`DomainUnitPuts`, `PolicySet`, `DomainUnitReads`); what INSERT, INSERT with ON CONFLICT, DELETE and UPDATE do to
 //! any table of the office in `Additions`, `Upserts`, `Removals`, `Renewals`.
 //!
 //! A function takes a transaction that is open and leaves it open, but those of `domain_queries`,
-//! `record_queries`, `owners`, `unit_walks`, `whole_office`, `look_up_domain`, `look_up_languages` and `walk_sums`. What is said of values is said while the disk returns what was written.
+//! `record_queries`, `owners`, `unit_walks`, `whole_office`, `look_up_domain`, `look_up_frame`, `walk_sums` and `walk_unsummed`. What is said of
+//! values is said while the disk returns what was written.
 #![tactic(auto)]
 
+pub mod approval_counts;
 pub mod domain_languages;
 pub mod domain_office;
 pub mod domain_queries;

@@ -1,12 +1,12 @@
 //! Units, suggestions and votes, handed on one at a time, each with what a test of it asks of other tables.
 
-ghost use Rattle.std.specs.Prelude.{◌≡◌, ⊤, false, IsTrue};
+ghost use Rattle.std.specs.Prelude.{◌≡◌, ⊤, false, IsTrue, IfErr};
 ghost use Rattle.sqlite.specs.Held.{state};
 ghost use Rattle.sqlite.specs.State.{HasCleanDisk};
 ghost use Rattle.sql_schema.specs.Layouts.{by_domain};
 ghost use Rattle.sql_schema.specs.Whole.{IsIdleOver, IsLookUp};
 ghost use Rattle.sql_statements.specs.WalkedRows.{ShowsAllVotes, ShowsUnplaced, ShowsUnitsOf, ShowsSuggestionsOf};
-ghost use Rattle.sql_streams.specs.Walks.{HandsOut};
+ghost use Rattle.sql_streams.specs.Walks.{HandsOut, FailsTruly};
 
 use sql_streams::{RowSink, WalkFault, walk};
 use sqlite::{Alter, Connection, params};
@@ -22,6 +22,7 @@ pub fn walk_votes<S: Alter, K: RowSink>(
     ensures handed { HasCleanDisk (state S.Store connection.new)
         → HandsOut K.Took K.Refuses (ShowsAllVotes (state S.Store connection.old).now) sink.old sink.new result }
     ensures looked { IsLookUp (state S.Store connection.old) (state S.Store connection.new) result (λ _ _. ⊤) }
+    ensures disk { HasCleanDisk (state S.Store connection.new) → IfErr result (FailsTruly (state S.Store connection.old) (state S.Store connection.new)) }
 {
     walk(
         connection,
@@ -42,6 +43,7 @@ pub fn walk_unplaced<S: Alter, K: RowSink>(
     ensures handed { HasCleanDisk (state S.Store connection.new)
         → HandsOut K.Took K.Refuses (ShowsUnplaced (state S.Store connection.old).now) sink.old sink.new result }
     ensures looked { IsLookUp (state S.Store connection.old) (state S.Store connection.new) result (λ _ _. ⊤) }
+    ensures disk { HasCleanDisk (state S.Store connection.new) → IfErr result (FailsTruly (state S.Store connection.old) (state S.Store connection.new)) }
 {
     walk(
         connection,
@@ -65,6 +67,7 @@ pub fn walk_units<S: Alter, K: RowSink>(
     ensures handed { HasCleanDisk (state S.Store connection.new)
         → HandsOut K.Took K.Refuses (ShowsUnitsOf domain.now lang.now (state S.Store connection.old).now) sink.old sink.new result }
     ensures looked { IsLookUp (state S.Store connection.old) (state S.Store connection.new) result (λ _ _. ⊤) }
+    ensures disk { HasCleanDisk (state S.Store connection.new) → IfErr result (FailsTruly (state S.Store connection.old) (state S.Store connection.new)) }
 {
     walk(
         connection,
@@ -75,7 +78,7 @@ pub fn walk_units<S: Alter, K: RowSink>(
 }
 
 /// Hands the suggestions on units of a domain's language to a sink by key and place: each one's number, place, suggester, forms, language and
-/// key, and its unit's plural, of a connection that is open.
+/// key, and how many plurals its unit has, of a connection that is open.
 pub fn walk_suggestions<S: Alter, K: RowSink>(
     connection: &mut Connection<S>,
     domain: &str,
@@ -88,10 +91,11 @@ pub fn walk_suggestions<S: Alter, K: RowSink>(
     ensures handed { HasCleanDisk (state S.Store connection.new)
         → HandsOut K.Took K.Refuses (ShowsSuggestionsOf domain.now lang.now (state S.Store connection.old).now) sink.old sink.new result }
     ensures looked { IsLookUp (state S.Store connection.old) (state S.Store connection.new) result (λ _ _. ⊤) }
+    ensures disk { HasCleanDisk (state S.Store connection.new) → IfErr result (FailsTruly (state S.Store connection.old) (state S.Store connection.new)) }
 {
     walk(
         connection,
-        "SELECT number, place, suggester, forms, lang, key, (SELECT plural FROM d_unit WHERE d_unit.domain = d_suggestion.domain AND d_unit.lang = d_suggestion.lang AND d_unit.key = d_suggestion.key) AS plural FROM d_suggestion WHERE domain = ?1 AND lang = ?2 ORDER BY key, place",
+        "SELECT number, place, suggester, forms, lang, key, (SELECT count(*) FROM d_unit WHERE d_unit.domain = d_suggestion.domain AND d_unit.lang = d_suggestion.lang AND d_unit.key = d_suggestion.key AND typeof(plural) = 'text') AS plurals FROM d_suggestion WHERE domain = ?1 AND lang = ?2 ORDER BY key, place",
         params![domain, lang],
         sink,
     )

@@ -1,6 +1,6 @@
 //! The table of sums: what each suggestion's votes come to, and how many there are beside it.
 
-ghost use Rattle.std.specs.Prelude.{◌≡◌, ◌∷◌, [], ⊤, false, codes, IsTrue};
+ghost use Rattle.std.specs.Prelude.{◌≡◌, ◌∷◌, [], ⊤, false, codes, IsTrue, IfErr};
 ghost use Rattle.sqlite.specs.Held.{state};
 ghost use Rattle.sqlite.specs.State.{HasCleanDisk};
 ghost use Rattle.sqlite.specs.declared.types.Value.TheVariants.{Int, Text};
@@ -11,7 +11,8 @@ ghost use Rattle.sql_schema.specs.Keys.{first_text};
 ghost use Rattle.sql_schema.specs.Whole.{IsIdleOver, IsLookUp};
 ghost use Rattle.sql_statements.specs.DomainAnswers.{ShowsSum};
 ghost use Rattle.sql_statements.specs.SummedVotes.{ShowsSummed};
-ghost use Rattle.sql_streams.specs.Walks.{HandsOut};
+ghost use Rattle.sql_statements.specs.WalkedRows.{ShowsUnsummed};
+ghost use Rattle.sql_streams.specs.Walks.{HandsOut, FailsTruly};
 
 use sql_streams::{RowSink, WalkFault, walk};
 use sqlite::{Alter, Connection, Error, Row, Transaction, params};
@@ -46,8 +47,8 @@ pub fn find_sum<S: Alter>(tx: &mut Transaction<'_, S>, number: &str) -> Result<O
     Ok(rows.pop())
 }
 
-/// Hands each suggestion to a sink, in the order of their numbers: its number, the sum that is kept of the votes on it, and how many of these
-/// are for it, and how many against, of a connection that is open. Where no sum is kept, there is null in its place.
+/// Hands each sum to a sink, in the order of the suggestions' numbers: the suggestion's number, the sum that is kept of the votes on it, and how
+/// many of these are for it, and how many against, of a connection that is open.
 pub fn walk_sums<S: Alter, K: RowSink>(
     connection: &mut Connection<S>,
     sink: &mut K,
@@ -58,10 +59,32 @@ pub fn walk_sums<S: Alter, K: RowSink>(
     ensures handed { HasCleanDisk (state S.Store connection.new)
         → HandsOut K.Took K.Refuses (ShowsSummed (state S.Store connection.old).now) sink.old sink.new result }
     ensures looked { IsLookUp (state S.Store connection.old) (state S.Store connection.new) result (λ _ _. ⊤) }
+    ensures disk { HasCleanDisk (state S.Store connection.new) → IfErr result (FailsTruly (state S.Store connection.old) (state S.Store connection.new)) }
 {
     walk(
         connection,
-        "SELECT number, (SELECT sum FROM d_vote_sum WHERE d_vote_sum.number = d_suggestion.number) AS kept, (SELECT count(*) FROM d_vote WHERE d_vote.number = d_suggestion.number AND value = 1) AS votes_for, (SELECT count(*) FROM d_vote WHERE d_vote.number = d_suggestion.number AND value = -1) AS against FROM d_suggestion ORDER BY number",
+        "SELECT number, sum, (SELECT count(*) FROM d_vote WHERE d_vote.number = d_vote_sum.number AND value = 1) AS votes_for, (SELECT count(*) FROM d_vote WHERE d_vote.number = d_vote_sum.number AND value = -1) AS against FROM d_vote_sum ORDER BY number",
+        &[],
+        sink,
+    )
+}
+
+/// Hands each suggestion to a sink of which no sum is kept, in the order of their numbers: its number, of a connection that is open.
+pub fn walk_unsummed<S: Alter, K: RowSink>(
+    connection: &mut Connection<S>,
+    sink: &mut K,
+) -> Result<(), WalkFault<K::Refusal>>
+    requires autocommit { connection.old.in_transaction ≡ false }
+    requires idle { IsIdleOver by_domain (state S.Store connection.old) }
+    requires is_open { HasCleanDisk (state S.Store connection.old) → IsTrue (state S.Store connection.old).is_open }
+    ensures handed { HasCleanDisk (state S.Store connection.new)
+        → HandsOut K.Took K.Refuses (ShowsUnsummed (state S.Store connection.old).now) sink.old sink.new result }
+    ensures looked { IsLookUp (state S.Store connection.old) (state S.Store connection.new) result (λ _ _. ⊤) }
+    ensures disk { HasCleanDisk (state S.Store connection.new) → IfErr result (FailsTruly (state S.Store connection.old) (state S.Store connection.new)) }
+{
+    walk(
+        connection,
+        "SELECT number FROM d_suggestion WHERE (SELECT count(*) FROM d_vote_sum WHERE d_vote_sum.number = d_suggestion.number) = 0 ORDER BY number",
         &[],
         sink,
     )

@@ -1,5 +1,5 @@
 -- What a writer took of the lines of records.
-use Rattle.std.proofs.Common.{◌≡◌, inl, inr, ℕ, true, false, List, [], ◌∷◌, ◌++◌, Option, Some, None, refl, sym, ap, subst, ◌∙◌, append-nil}
+use Rattle.std.proofs.Common.{◌≡◌, ◌≢◌, inl, inr, ℕ, true, false, List, [], ◌∷◌, ◌++◌, Option, Some, None, refl, sym, ap, subst, ◌∙◌, append-nil}
 use Rattle.std.specs.Borrow.{MutBor}
 use Rattle.std.proofs.lemmas.List.Concat.{flat_map-append}
 use Rattle.sqlite.specs.Order.{Row}
@@ -41,12 +41,12 @@ module _ {W : Type 0} (taken : W → Option (List ℕ)) (failed : W → ℕ) whe
   as_writer = writer_at taken failed
 
   -- a row that wasn't read was refused, and nothing was written
-  unread_so : (why : Lost) (row : Row) (w : W) → (why ≡ lost.Disk → is_head row ≡ false) → IsRefusal taken failed w row (lost_told why) w
+  unread_so : (why : Lost) (row : Row) (w : W) → (why ≢ lost.Memory → is_head row ≡ false) → IsRefusal taken failed w row (lost_told why) w
   unread_so lost.Memory row w unread = refl
-  unread_so lost.Refused row w unread = refl
-  unread_so lost.Disk row w unread = (unread refl, refl)
+  unread_so lost.Refused row w unread = (unread (λ is. cc), refl)
+  unread_so lost.Disk row w unread = (unread (λ is. cc), refl)
 
-  pub refused_unread : (old : MutBor W) (row : Row) (why : Lost) (fault : RecordsFault) → fault ≡ lost_told why → (why ≡ lost.Disk → is_head row ≡ false) → RefusedLine taken failed old row fault old
+  pub refused_unread : (old : MutBor W) (row : Row) (why : Lost) (fault : RecordsFault) → fault ≡ lost_told why → (why ≢ lost.Memory → is_head row ≡ false) → RefusedLine taken failed old row fault old
   refused_unread old row why fault is unread = record {
     same_reference = refl;
     refused = subst (λ f. IsRefusal taken failed old.now row f old.now) (sym is) (unread_so why row old.now unread);
@@ -101,7 +101,7 @@ module _ {W : Type 0} (taken : W → Option (List ℕ)) (failed : W → ℕ) whe
           (took_part (lines_of h.front) (row_line h.row ++ lines_of h.rest) h.took.lines (part_of_longer (as_writer (writer h.mid).now) (as_writer (writer last).now) (row_line h.row) (lines_of h.rest) h.refused.refused));
     }
     printed_up_to Memory h = unread Memory h h.refused.refused
-    printed_up_to Refused h = unread Refused h h.refused.refused
+    printed_up_to Refused h = unread Refused h h.refused.refused.1
     printed_up_to Disk h = unread Disk h h.refused.refused.1
 
     pub cut_printed : (fault : HandingFault RecordsFault) → HandedCut Took Refuses after db first last fault → WereCut after db (as_writer (writer first).now) (as_writer (writer last).now) (fault_told fault)

@@ -1,17 +1,20 @@
 -- What comes of `office init`, in the database, on the two outputs and in the exit status. This project's own rule.
 use Rattle.std.specs.Prelude.{◌≡◌, ◌≢◌, ◌⊎◌, ℕ, List, [], codes}
 use Rattle.sqlite.specs.Held.{Held, state}
+use Rattle.sqlite.specs.State.{HasCleanDisk}
 use Rattle.sqlite_trees.specs.declared.store.Store as store
 use Rattle.tables.specs.Starts.{started}
 use Rattle.tables.specs.declared.start.Start.{Start}
 use Rattle.sql_schema.specs.Schema.{no_schema}
 use Rattle.sql_adoption.specs.declared.faults.OpenFault.{OpenFault}
+use Rattle.sql_adoption.specs.declared.faults.OpenFault.TheVariants.{Disk}
 use Rattle.sql_files.specs.Files.{KeepsFile, LeavesFiles}
 use Rattle.store_sql.specs.Faults.{RefusesIn}
 use Rattle.store_sql.specs.Making.{IsHandedBack}
 use Rattle.office.specs.Writers.{Writer, TakesAll, TakesPart}
 use Rattle.store_commands.specs.Faults.{store_fault_line, TellsLine}
 use Rattle.store_commands.specs.Opening.{Holds}
+use Rattle.sql_laws.specs.DiskErrors.{HasFailed}
 
 abbrev pub ready_line : List ℕ
 ready_line = codes "ready\n"
@@ -28,6 +31,7 @@ pub record IsMade {S : Type 0} (g : store.Ghosts S) (start : Start) (old new : H
 pub record IsUnmade {S : Type 0} (g : store.Ghosts S) (start : Start) (old new : Held S) (fault : OpenFault) : Type 0 where
   pub why : RefusesIn (state g old).now.schema fault
   pub untouched : (state g old).now.schema ≢ no_schema → new ≡ old
+  pub disk : HasCleanDisk (state g new) → fault ≡ Disk → HasFailed (state g old) (state g new)
   pub same : IsHandedBack start (state g old) (state g new)
 
 -- `ready` is printed, or a write failed behind a beginning of it

@@ -12,7 +12,9 @@ use Rattle.sql_files.specs.Files.{IsOfficeFile, IsLost, KeepsFile, LeavesFiles}
 use Rattle.sqlite.specs.Effect.{IsDatabase}
 use Rattle.sqlite.specs.Tree.{Trees}
 use Rattle.sql_adoption.specs.declared.faults.OpenFault.{OpenFault}
+use Rattle.sql_adoption.specs.declared.faults.OpenFault.TheVariants.{Disk}
 use Rattle.sql_schema.specs.Layouts.{rows_named}
+use Rattle.sql_laws.specs.DiskErrors.{HasFailed}
 
 -- what the rows of running tables mean, which are by domains
 abbrev pub running_meaning : State → OfficeWithBook
@@ -37,6 +39,7 @@ pub record IsOpened {S : Type 0} (g : store.Ghosts S) (old opened : Held S) : Ty
 pub record IsUnopened {S : Type 0} (g : store.Ghosts S) (old new : Held S) (fault : OpenFault) : Type 0 where
   pub why : HasCleanDisk (state g new) → Refuses (state g old).now fault
   pub again : HasCleanDisk (state g new) → IsDatabase (state g old).now → IsOfficeFile (state g old).now.trees → IsLost fault
+  pub disk : HasCleanDisk (state g new) → fault ≡ Disk → HasFailed (state g old) (state g new)
   pub same : IsGivenBack (state g old) (state g new)
 
 -- Tables that a failed disk stopped: it failed or refused since they were opened.

@@ -29,13 +29,12 @@ module _ {W : Type 0} (taken : W → Option (List ℕ)) (failed : W → ℕ) whe
     pub same_reference : new.ghost_name ≡ old.ghost_name
     pub lines : TakesAll (writer_at taken failed old.now) (writer_at taken failed new.now) (lines_of rows)
 
-  -- why it took no line more: it failed in that line, or nothing was written, since memory ran out, the file refused or the row shows no number
-  -- and status
+  -- why it took no line more: it failed in that line, or nothing was written, since memory ran out or the row shows no number and status
   abbrev pub IsRefusal : W → Row → RecordsFault → W → Type 0
   IsRefusal old row NoRecord new = ⊥
   IsRefusal old row Device new = TakesPart (writer_at taken failed old) (writer_at taken failed new) (row_line row)
   IsRefusal old row Memory new = new ≡ old
-  IsRefusal old row Refused new = new ≡ old
+  IsRefusal old row Refused new = (is_head row ≡ false) × (new ≡ old)
   IsRefusal old row Disk new = (is_head row ≡ false) × (new ≡ old)
 
   pub record RefusedLine (old : MutBor W) (row : Row) (fault : RecordsFault) (new : MutBor W) : Type 0 where

@@ -8,7 +8,7 @@ use Rattle.office.specs.Writers.{Writer}
 use Rattle.store_commands.specs.Faults.{store_fault_line, TellsLine}
 use Rattle.store_commands.specs.Opening.{IsOpened, IsUnopened, IsClosed}
 
--- `Done opened` says what the work did from the office that was opened, `Undone` that nothing was read and nothing printed.
+-- `Done opened` says what the work did from the office that was opened, `Undone` that no tables were stopped, nothing was read and nothing printed.
 pub data Ran {S : Type 0} (g : store.Ghosts S) (Done : Held S → Type 0) (Undone : Type 0) (old new : Held S) (faults_old faults_new : Writer) (status : ℕ) : Type 0 where
   worked : (opened : Held S) → IsOpened g old opened → Done opened → IsClosed (state g new)
       → Ran g Done Undone old new faults_old faults_new status

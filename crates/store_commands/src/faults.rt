@@ -1,5 +1,5 @@
 //! What is told where an office's tables can't be had.
-ghost use Rattle.std.specs.Prelude.{◌≡◌};
+ghost use Rattle.std.specs.Prelude.{◌≡◌, false, OnOk};
 ghost use Rattle.byte_streams.specs.Sending.{Sends};
 ghost use Rattle.office.specs.Writers.{writer_at};
 ghost use Rattle.store_commands.specs.Faults.{store_fault_line, TellsLine};
@@ -10,7 +10,8 @@ use store_sql::OpenFault;
 
 /// Writes a line, and hands it on.
 pub(crate) fn send_line<W: ByteSink>(w: &mut W, line: &[u8]) -> Result<(), SinkFault>
-    ensures { Sends W.taken W.failed w.old w.new line.now result }
+    ensures sent { Sends W.taken W.failed w.old w.new line.now result }
+    ensures handed_on { OnOk result (W.holds_back w.new ≡ false) }
 {
     send(w, line)?;
     hand_on(w)

@@ -15,9 +15,11 @@ use store_sql::{SqliteTables, Start};
 /// Exit status of a run that did what it was asked for.
 const DONE: u8 = 0;
 
-/// Prints `ready`, for an office that was made and whose file is closed. Answers the exit status: 0, or 1 after a failed write.
+/// Prints `ready`, for an office that was made and whose file is closed, and hands it on. Answers the exit status: 0, or 1 after a failed write.
 pub fn say_ready<W: ByteSink>(w: &mut W) -> u8
     ensures said { Said (writer_at W.taken W.failed w.old) (writer_at W.taken W.failed w.new) result }
+    // It isn't held back.
+    ensures handed_on { result ≡ 0 → W.holds_back w.new ≡ false }
 {
     match send_line(w, b"ready\n") {
         Ok(()) => DONE,
@@ -38,6 +40,8 @@ pub fn init_store<S: Alter + Drop, E: ByteSink>(
     requires autocommit { connection.in_transaction ≡ false }
     ensures initialised { Initialised S.Store start.now connection result.connection
         (writer_at E.taken E.failed e.old) (writer_at E.taken E.failed e.new) result.status }
+    // No tables ran that a failure of the disk could stop.
+    ensures stopped { result.stopped ≡ false }
     ensures between { result.connection.in_transaction ≡ false }
 {
     match SqliteTables::create(connection, alloc, start) {

@@ -142,13 +142,13 @@ pub fn records_store<S: Alter + Drop, W: ByteSink, E: ByteSink>(
 ) -> Closed<S>
     requires autocommit { connection.in_transaction ≡ false }
     // The lines are those of the office that was opened, whose rows are afterwards as they were. It is told that the disk failed where the
-    // tables were stopped, and they are only where it failed since they were opened.
+    // tables were stopped, and they are only where it failed since they were opened. Where the office can't be opened, none ran.
     ensures printed { Ran S.Store
         (λ opened. Printed (HasCleanDisk (state S.Store result.connection)) (result.stopped ≡ true) after (state S.Store opened).now
         (writer_at W.taken W.failed w.old) (writer_at W.taken W.failed w.new) (writer_at E.taken E.failed e.old) (writer_at E.taken E.failed e.new) result.status
         × (HasCleanDisk (state S.Store result.connection) → IsTrue (state S.Store result.connection).is_open → (state S.Store result.connection).now ≡ (state S.Store opened).now)
         × StoppedTruly (result.stopped ≡ true) (state S.Store opened) (state S.Store result.connection))
-        (w.new ≡ w.old)
+        ((result.stopped ≡ false) × (w.new ≡ w.old))
         connection result.connection (writer_at E.taken E.failed e.old) (writer_at E.taken E.failed e.new) result.status }
     ensures status { result.status ≤ 1 }
     // Nothing of the lines is held back.

@@ -37,7 +37,8 @@ pub fn deliver_store<S: Alter + Drop, R: SourceBehind<W>, W: ByteSink, E: ByteSi
 ) -> Closed<S>
     requires autocommit { connection.in_transaction ≡ false }
     // What the connection's rows meant behind the lines is what these left, behind the office that was opened, and the export is of that. A line is
-    // told that the disk failed where the tables were stopped, and they are only where it failed since they were opened.
+    // told that the disk failed where the tables were stopped, and they are only where it failed since they were opened. Where the office can't
+    // be opened, none ran.
     ensures delivered { Ran S.Store
         (λ opened. (text : List ℕ) × IfSome (R.left source.old) (λ all. text ≡ all)
         × (between : Held S) × LeavesMeaning (HasCleanDisk (state S.Store result.connection)) (IsTrue (state S.Store between).is_open) (IsTrue (state S.Store result.connection).is_open)
@@ -48,7 +49,7 @@ pub fn deliver_store<S: Alter + Drop, R: SourceBehind<W>, W: ByteSink, E: ByteSi
         (writer_at W.taken W.failed replies.old) (writer_at W.taken W.failed replies.new)
         (writer_at E.taken E.failed faults.old) (writer_at E.taken E.failed faults.new) result.status
         × StoppedTruly (result.stopped ≡ true) (state S.Store opened) (state S.Store result.connection))
-        ((source.new ≡ source.old) × (replies.new ≡ replies.old))
+        ((result.stopped ≡ false) × (source.new ≡ source.old) × (replies.new ≡ replies.old))
         connection result.connection (writer_at E.taken E.failed faults.old) (writer_at E.taken E.failed faults.new) result.status }
     ensures status { result.status ≤ 1 }
     // Nothing of the answers and of the text is held back.
@@ -108,7 +109,7 @@ pub fn export_store<S: Alter + Drop, W: ByteSink, E: ByteSink>(
 ) -> Closed<S>
     requires autocommit { connection.in_transaction ≡ false }
     // The rows mean afterwards what they meant when the office was opened, and the text is that office's. It is told that the disk failed
-    // where the tables were stopped, and they are only where it failed since they were opened.
+    // where the tables were stopped, and they are only where it failed since they were opened. Where the office can't be opened, none ran.
     ensures exported { Ran S.Store
         (λ opened. Finished (λ old new exit. Printed (HasCleanDisk (state S.Store result.connection)) (result.stopped ≡ true)
         (running_meaning (state S.Store opened)).office domain.now lang.now
@@ -117,7 +118,7 @@ pub fn export_store<S: Alter + Drop, W: ByteSink, E: ByteSink>(
         × (HasCleanDisk (state S.Store result.connection) → IsTrue (state S.Store result.connection).is_open
         → running_meaning (state S.Store result.connection) ≡ running_meaning (state S.Store opened))
         × StoppedTruly (result.stopped ≡ true) (state S.Store opened) (state S.Store result.connection))
-        (w.new ≡ w.old)
+        ((result.stopped ≡ false) × (w.new ≡ w.old))
         connection result.connection (writer_at E.taken E.failed e.old) (writer_at E.taken E.failed e.new) result.status }
     ensures status { result.status ≤ 1 }
     // Nothing of the text is held back.

@@ -15,6 +15,7 @@ ghost use Rattle.tables.specs.KeptByCalls.{IsKept};
 ghost use Rattle.tables.specs.Stops.{Nothing};
 ghost use Rattle.tables.specs.Sinks.{WasCutShort};
 ghost use Rattle.tables.specs.Entries.{entries_of};
+ghost use Rattle.office_specification.specs.Approvals.{approvals_in};
 ghost use Rattle.office_specification.specs.Tally.{counts_of};
 ghost use Rattle.tables.specs.declared.faults.EachFault.TheVariants.{NoTables};
 ghost use Rattle.units.specs.Project.{role_in};
@@ -27,6 +28,7 @@ ghost use Rattle.tables.specs.declared.faults.Lost.TheVariants.{Disk};
 ghost use Rattle.sqlite.specs.State.{HasCleanDisk};
 ghost use Rattle.sql_schema.specs.Schema.{no_schema};
 ghost use Rattle.sql_adoption.specs.Adoption.{Refuses};
+ghost use Rattle.sql_adoption.specs.declared.faults.OpenFault.TheVariants as faults;
 ghost use Rattle.sql_conversion.specs.Conversion.{IsGivenBack};
 ghost use Rattle.sql_files.specs.Files.{IsOfficeFile, IsLost, KeepsFile, LeavesFiles};
 ghost use Rattle.sqlite.specs.Effect.{IsDatabase};
@@ -36,8 +38,10 @@ ghost use Rattle.store_sql.specs.TablesInFile.{KeepsOffice, KeepsOwnRules, Leave
 ghost use Rattle.store_sql.specs.Making.{AreMade, IsHandedBack};
 ghost use Rattle.store_sql.specs.RecordsBehind.{WereHanded};
 ghost use Rattle.store_sql.specs.declared.recorded.HandingFault.TheVariants.{NoTables as Unreadable};
+ghost use Rattle.sql_laws.specs.DiskErrors.{HasFailed};
 
 use crate::act_contexts::{read_context, read_role, read_suggestion, read_suggestions, read_unit};
+use crate::approvals::read_approvals;
 use crate::entries::hand_entries;
 use crate::keepable_values::{change_fits, record_fits, write_fits};
 use crate::loaded_part::{LoadedPart, forget, keep, read_part};
@@ -47,7 +51,7 @@ use crate::recorded::{HandingFault, hand_records};
 use crate::records::read_record;
 use crate::tallies::read_tally;
 use office_maps::OfficeMaps;
-use office_specification::{ActContext, Change, Part, Tally, UnitWrite};
+use office_specification::{ActContext, Approvals, Change, Part, Tally, UnitWrite};
 use po_text::Items;
 use request_book::Record;
 use sql_adoption::OpenFault;
@@ -106,7 +110,7 @@ impl<S: Alter> OfficeConnection<S> {
     /// which nothing is recorded.
     ///
     /// On a fault the connection is handed back with its rows as before: `Exists` where an office is there already, `Foreign` where
-    /// other tables are, `Memory` where a growth was refused, `Disk` where the disk failed.
+    /// other tables are, `Memory` where a growth was refused, `Disk` only where the disk failed.
     pub(crate) fn create(
         connection: Connection<S>,
         alloc: Global,
@@ -118,6 +122,7 @@ impl<S: Alter> OfficeConnection<S> {
         ensures refused { IfErr result (λ refusal. RefusesIn (state S.Store connection).now.schema refusal.0) }
         ensures untouched { IfErr result (λ refusal. (state S.Store connection).now.schema ≢ no_schema → refusal.1 ≡ connection) }
         ensures handed_back { IfErr result (λ refusal. IsHandedBack start.now (state S.Store connection) (state S.Store refusal.1)) }
+        ensures disk { IfErr result (λ refusal. HasCleanDisk (state S.Store refusal.1) → refusal.0 ≡ faults.Disk → HasFailed (state S.Store connection) (state S.Store refusal.1)) }
     {
         let mut connection = connection;
         match make(&mut connection, alloc, start) {
@@ -143,6 +148,7 @@ impl<S: Alter> OfficeConnection<S> {
         ensures refused { IfErr result (λ refusal. HasCleanDisk (state S.Store refusal.1) → Refuses (state S.Store connection).now refusal.0) }
         ensures again { IfErr result (λ refusal. HasCleanDisk (state S.Store refusal.1) → IsDatabase (state S.Store connection).now → IsOfficeFile (state S.Store connection).now.trees → IsLost refusal.0) }
         ensures handed_back { IfErr result (λ refusal. IsGivenBack (state S.Store connection) (state S.Store refusal.1)) }
+        ensures disk { IfErr result (λ refusal. HasCleanDisk (state S.Store refusal.1) → refusal.0 ≡ faults.Disk → HasFailed (state S.Store connection) (state S.Store refusal.1)) }
     {
         let mut connection = connection;
         match take_over(&mut connection, alloc) {
@@ -443,6 +449,25 @@ impl<S: Alter> OfficeConnection<S> {
         }
         match read_tally(&mut self.connection, domain, lang) {
             Ok(counts) => Ok(counts),
+            Err(failure) => {
+                forget(self.alloc, &mut self.office);
+                Err(self.lost(failure))
+            }
+        }
+    }
+
+    /// How many units are approved, and how many of these are at the last revision. No unit is read; the office need not be at hand, and isn't
+    /// read.
+    pub(crate) fn approvals(&mut self) -> Result<Approvals, Lost>
+        ensures answer { is_honest S.Store self.new → IfOk result (λ r. r ≡ approvals_in (means S.Store self.old).office) }
+        ensures same { is_honest S.Store self.new → is_whole S.Store self.new → means S.Store self.new ≡ means S.Store self.old }
+        ensures kept { IsKept (is_honest S.Store) (is_whole S.Store) (means S.Store) (may_leave S.Store) (faults S.Store) (is_stopped S.Store) self.old self.new result Disk Nothing }
+    {
+        if self.stopped {
+            return Err(Lost::Disk);
+        }
+        match read_approvals(&mut self.connection) {
+            Ok(approvals) => Ok(approvals),
             Err(failure) => {
                 forget(self.alloc, &mut self.office);
                 Err(self.lost(failure))

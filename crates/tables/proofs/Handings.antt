@@ -35,6 +35,7 @@ module _ {S R : Type 0} {Took : S → List Entry → S → Type 0} (Refuses : S 
   no_room {left = left} so_far = record {
     cut = record { front = so_far.front; rest = left; whole = so_far.cut; took = so_far.took };
     no_disk = λ e. cc;
+    memory = λ lost e. cc;
   }
 
   cut_in : ((a b c : S) (xs ys : List Entry) → Took a xs b → Took b ys c → Took a (xs ++ ys) c) → {old mid : S} (new : S) {all left : List Entry} (piece behind : List Entry) (fault : EachFault R) →
@@ -60,7 +61,7 @@ module _ {S R : Type 0} {Took : S → List Entry → S → Type 0} (Refuses : S 
   -- some more was cut short
   pub cut_off : ((a b c : S) (xs ys : List Entry) → Took a xs b → Took b ys c → Took a (xs ++ ys) c) → {old mid new : S} {all left piece : List Entry} (behind : List Entry) (fault : EachFault R) →
       HandedSoFar Took old mid all left → left ≡ piece ++ behind → CutShort Took Refuses mid new piece fault → CutShort Took Refuses old new all fault
-  cut_off join {new = new} {piece = piece} behind fault so_far is part = record { cut = cut_in join new piece behind fault so_far is part.cut; no_disk = part.no_disk }
+  cut_off join {new = new} {piece = piece} behind fault so_far is part = record { cut = cut_in join new piece behind fault so_far is part.cut; no_disk = part.no_disk; memory = part.memory }
 
   -- the same of what `?` passes on
   pub stopped : {T : Type 0} → ((a b c : S) (xs ys : List Entry) → Took a xs b → Took b ys c → Took a (xs ++ ys) c) → {old mid new : S} {all left piece : List Entry} (behind : List Entry)
@@ -80,4 +81,5 @@ module _ {S R : Type 0} {Took : S → List Entry → S → Type 0} (Refuses : S 
   refused none old new entry refusal said = record {
     cut = record { front = []; entry = entry; rest = []; mid = old; whole = refl; took = none old; refused = said };
     no_disk = λ e. cc;
+    memory = λ lost e. cc;
   }

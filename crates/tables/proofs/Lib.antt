@@ -12,3 +12,4 @@ mod Written
 pub mod TotalsPut
 pub mod TallyMoves
 pub mod TallyPolicy
+mod ApprovalsCounted

@@ -6,13 +6,15 @@ use Rattle.units.specs.declared.unit.Unit.{Unit}
 use Rattle.office_specification.specs.ExportedEntries.{obsolete_entry}
 use Rattle.tables.specs.declared.faults.EachFault.{EachFault}
 use Rattle.tables.specs.declared.faults.EachFault.TheVariants.{NoTables}
-use Rattle.tables.specs.declared.faults.Lost.TheVariants.{Disk}
+use Rattle.tables.specs.declared.faults.Lost.{Lost}
+use Rattle.tables.specs.declared.faults.Lost.TheVariants.{Memory, Disk}
 use Rattle.tables.specs.Sinks.{WasCutShort}
 
--- The sink took a beginning of the entries, and no disk failed.
+-- The sink took a beginning of the entries; of the tables want of memory alone is told.
 pub record CutShort {S R : Type 0} (Took : S → List Entry → S → Type 0) (Refuses : S → Entry → R → S → Type 0) (old new : S) (entries : List Entry) (fault : EachFault R) : Type 0 where
   pub cut : WasCutShort Took Refuses old new entries fault
   pub no_disk : fault ≢ NoTables Disk
+  pub memory : (lost : Lost) → fault ≡ NoTables lost → lost ≡ Memory
 
 -- The sink took all of the entries, or the walk was cut short.
 abbrev pub Hands : {S R T : Type 0} → (S → List Entry → S → Type 0) → (S → Entry → R → S → Type 0) → S → S → List Entry → Result T (EachFault R) → Type 0

@@ -9,3 +9,4 @@ pub mod Handing
 pub mod MapsMeaning
 pub mod PlainMeaning
 pub mod Tallies
+pub mod ApprovalTests

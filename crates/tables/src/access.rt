@@ -7,6 +7,7 @@ ghost use Rattle.units.specs.Office.{project_in};
 ghost use Rattle.office_specification.specs.UnitAccess.{context_of, without_suggestions, suggestions_at, suggestion_at, with_write_in, IsPossibleWrite};
 ghost use Rattle.office_specification.specs.OfficeChanges.{changed_by, IsPossibleChange};
 ghost use Rattle.office_specification.specs.OfficeRules.{KeepsRules};
+ghost use Rattle.office_specification.specs.Approvals.{approvals_in};
 ghost use Rattle.office_specification.specs.Parts.{AreAlikeIn};
 ghost use Rattle.office_specification.specs.declared.parts.Part.{Part as OfficePart};
 ghost use Rattle.request_book.specs.Contents.{IsContent};
@@ -22,7 +23,7 @@ ghost use Rattle.tables.specs.declared.faults.EachFault.TheVariants.{NoTables};
 use crate::faults::{EachFault, Lost};
 use crate::sink::EntrySink;
 use office_maps::OfficeMaps;
-use office_specification::{ActContext, Change, Part, Tally, UnitWrite};
+use office_specification::{ActContext, Approvals, Change, Part, Tally, UnitWrite};
 use po_text::Items;
 use request_book::Record;
 use units::{Key, Lang, Name, Role, Suggestion};
@@ -140,6 +141,13 @@ pub trait Tables: Drop {
     fn office(&self) -> &OfficeMaps
         requires loaded { (part : OfficePart) × is_loaded self.now part }
         ensures { is_honest self.now → is_whole self.now → (part : OfficePart) → is_loaded self.now part → AreAlikeIn part (office_in result.now) (means self.now).office };
+
+    /// How many units are approved, in all languages of all domains and also obsolete ones, and how many of these are at the last revision:
+    /// what a policy needs of the units.
+    fn approvals(&mut self) -> Result<Approvals, Lost>
+        ensures answer { is_honest self.new → IfOk result (λ r. r ≡ approvals_in (means self.old).office) }
+        ensures same { is_honest self.new → is_whole self.new → means self.new ≡ means self.old }
+        ensures kept { IsKept is_honest is_whole means may_leave faults is_stopped self.old self.new result Disk Nothing };
 
     /// Writes a request's record and what its act writes of a unit, if it writes anything and the unit is there; or neither. The number must be
     /// new, the content a request's, what is written of the unit that is there, and what the commit leaves must keep the rules.

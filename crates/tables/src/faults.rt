@@ -16,7 +16,7 @@ pub enum Lost {
     #[error("the disk failed")]
     Disk = 2,
     /// The file takes no such rows, as a row that is too large, or shows rows that stand for no value, since another program has written
-    /// them: the tables run on. Tables in memory never answer it.
+    /// them: the tables run on.
     #[error("the file takes no such rows")]
     Refused = 3,
 }

@@ -124,7 +124,8 @@ fn hand_obsolete<S: EntrySink>(
 }
 
 /// Hands the entries of a language to a sink: its header, the template's entries, each with its unit, and the obsolete units with a
-/// nonempty form. None where the language isn't there. A fault leaves the sink with a beginning of them, and is never `Disk`.
+/// nonempty form. None where the language isn't there. A fault leaves the sink with a beginning of them; of the tables it tells want of memory
+/// alone.
 pub fn hand_entries<S: EntrySink>(
     alloc: Global,
     project: &ProjectMaps<'_>,

@@ -17,16 +17,18 @@
 //! Tables in maps:
 //!
 //! - `plain`, `plain_access`: `PlainTables`, and its `impl Tables`
+//! - `approval_counts`: how many units are approved
 //! - `record_maps`: the office in maps, with the records of its requests
 //! - `domain_reads`: what is found in a domain: nothing, where it isn't there
 //! - `plain_start`: what these tables begin with
 //!
 //! Specs: `KeptByCalls` (what a call keeps), `Stops` (what a stop may leave), `Sinks`, `Entries`, `Starts`, `Faults`,
 //! `Tallies` (counts that are kept); of tables in maps `MapsMeaning` (the office with its book that the maps stand for), `PlainMeaning` (the
-//! same of `PlainTables`); `Handing`, for inner functions.
+//! same of `PlainTables`); `Handing` and `ApprovalTests`, for inner functions.
 #![tactic(auto)]
 
 mod access;
+mod approval_counts;
 mod counting;
 mod domain_reads;
 mod entries;

@@ -10,8 +10,7 @@ use crate::record_maps::Maps;
 use crate::start::Start;
 use std::alloc::Global;
 
-/// Tables of an office with its book that stand in memory. They keep the rules of an office with its book, are never stopped, and
-/// answer no error but `Memory`.
+/// Tables of an office with its book that stand in memory. They keep the rules of an office with its book, and are never stopped.
 #[derive(Drop)]
 pub struct PlainTables {
     pub(crate) maps: Maps,

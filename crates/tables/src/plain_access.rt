@@ -3,13 +3,14 @@
 ghost use Rattle.std.specs.Prelude.{◌≡◌, false, ⊤};
 
 use crate::access::Tables;
+use crate::approval_counts::approvals_in;
 use crate::counting::counts_in;
 use crate::domain_reads::hand_in;
 use crate::faults::{EachFault, Lost};
 use crate::plain::PlainTables;
 use crate::sink::EntrySink;
 use office_maps::OfficeMaps;
-use office_specification::{ActContext, Change, Part, Tally, UnitWrite};
+use office_specification::{ActContext, Approvals, Change, Part, Tally, UnitWrite};
 use po_text::Items;
 use request_book::Record;
 use units::{Key, Lang, Name, Role, Suggestion};
@@ -104,6 +105,10 @@ impl Tables for PlainTables {
 
     fn office(&self) -> &OfficeMaps {
         &self.maps.office
+    }
+
+    fn approvals(&mut self) -> Result<Approvals, Lost> {
+        Ok(approvals_in(&self.maps.office)?)
     }
 
     fn commit_unit(

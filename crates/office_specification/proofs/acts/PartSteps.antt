@@ -1,6 +1,6 @@
 -- An act reads no more of an office than its part.
 use Rattle.std.proofs.Common.{◌≡◌, Bool, true, false, cond, not, ◌&&◌, List, [], ◌∷◌, map, length, Option, Some, None, is_some, refl, sym, ap, subst, ◌∙◌}
-use Rattle.std.specs.Prelude.{T, nat_lt, nat_le, unwrap_or, option_map}
+use Rattle.std.specs.Prelude.{T, nat_lt, nat_le, sum_by, unwrap_or, option_map}
 use Rattle.std.specs.List.{list_any}
 use Rattle.std.specs.Ordering.{eq_by_cmp, is_lt}
 use Rattle.std.specs.FinMap as maps
@@ -12,7 +12,8 @@ use Rattle.units.specs.Units.{is_below}
 use Rattle.units.specs.Project.{Project, role_in}
 use Rattle.units.specs.Office.{Office, Domain, empty_domain, same_domain, project_in, domain_of}
 use Rattle.units.specs.Orders.{text_total, text_IsAntisymmetric}
-use Rattle.units.specs.Changes.{set_role, with_team, with_domain}
+use Rattle.units.specs.Changes.{set_role, office_under, with_team, with_domain}
+use Rattle.units.specs.declared.unit.Policy.{Policy}
 use Rattle.units.specs.declared.unit.Role.{Role}
 use Rattle.units.specs.declared.unit.Role.TheVariants.{Manager}
 use Rattle.units.specs.declared.unit.Refusal.{Refusal}
@@ -20,16 +21,17 @@ use Rattle.units.specs.declared.unit.Refusal.TheVariants.{BelowRole, PastLimit, 
 use Rattle.request_book.specs.declared.act.Act.{Act}
 use Rattle.request_book.specs.declared.act.Act.TheVariants.{OnUnit, SetTemplate, AddLanguage, SetRole, SetPolicy, AddDomain}
 use Rattle.request_book.specs.declared.act.Request.{Request}
-use Rattle.replies.specs.Bodies.{Stepped, refuse, reply, team_fields, domain_fields}
+use Rattle.replies.specs.Bodies.{Stepped, refuse, reply, team_fields, policy_fields, domain_fields}
 use Rattle.office_specification.specs.declared.parts.Part.{Part}
 use Rattle.office_specification.specs.declared.parts.Part.TheVariants as parts
 use Rattle.office_specification.specs.Laws.{IsStepAlike}
-use Rattle.office_specification.specs.OfficeActs.{is_manager, managed, team_step, domain_step}
-use Rattle.office_specification.specs.Parts.{part_of, ShareTeam, ShareLanguages, AreAlikeIn}
+use Rattle.office_specification.specs.OfficeActs.{is_manager, managed, team_step, policy_step, domain_step, passes, turned}
+use Rattle.office_specification.specs.Parts.{part_of, ShareTeam, ShareLanguages, AreAlikeIn, ShareTurned, ShareCounts}
 use Rattle.office_specification.specs.ProjectActs.{unit_act_step, template_step, language_step}
 use Rattle.office_specification.specs.Step.{in_domain, in_known_domain, act_step, step}
 use Rattle.office_specification.proofs.acts.LanguageSteps.{IsLanguageAlike, language_alike}
 use Rattle.office_specification.proofs.domains.InDomains.{put_there, get-put_there, contains-put_there}
+use Rattle.office_specification.proofs.rules.DomainsKept.{get-under}
 
 -- ---- domains of the same names
 
@@ -88,14 +90,12 @@ pub same_alike : (part : Part) (office : Office) → AreAlikeIn part office offi
 same_alike parts.Team office = record { team = refl; policy = refl; domains = λ domain. refl }
 same_alike (parts.Languages domain) office = (record { team = refl; policy = refl; domains = λ other. refl }, record { template = refl; headers = refl; team = refl; policy = refl })
 same_alike (parts.Domain domain) office = (record { team = refl; policy = refl; domains = λ other. refl }, refl)
-same_alike parts.Whole office = refl
 
 -- in whichever part offices are alike, they have one team
 pub one_team : (part : Part) (x y : Office) → AreAlikeIn part x y → x.team ≡ y.team
 one_team parts.Team x y alike = alike.team
 one_team (parts.Languages domain) x y alike = alike.0.team
 one_team (parts.Domain domain) x y alike = alike.0.team
-one_team parts.Whole x y alike = ap (λ (office : Office). office.team) alike
 
 -- domains are one but for their units
 abbrev HaveOneFrame : Domain → Domain → Type 0
@@ -140,6 +140,14 @@ managed_alike : (part : Part) (x y : Office) (caller : Text) (s t : Stepped Offi
 managed_alike part x y caller s t team alike steps =
     either part (is_below (role_in x.team caller) Manager) (is_below (role_in y.team caller) Manager) (ap (λ team. is_below (role_in team caller) Manager) team) x y BelowRole s t alike steps
 
+-- under a policy there are the same domains
+still_there : (office : Office) (policy : Policy) (domain : Text) → maps.contains_key (office_under office policy).domains domain ≡ maps.contains_key office.domains domain
+still_there office policy domain = ap is_some (get-under office policy domain) ∙ by _ (maps.get office.domains domain)
+  where
+    by : (f : Domain → Domain) (o : Option Domain) → is_some (option_map f o) ≡ is_some o
+    by f None = refl
+    by f (Some d) = refl
+
 -- ---- a role
 
 module _ (x y : Office) (alike : ShareTeam x y) where
@@ -151,6 +159,17 @@ module _ (x y : Office) (alike : ShareTeam x y) where
       (ap (λ team. not (list_any is_manager (maps.values (set_role name role team)))) alike.team) x y LastManager
       (with_team x (set_role name role x.team), reply 200 (team_fields name role)) (with_team y (set_role name role y.team), reply 200 (team_fields name role)) alike
       (record { reply = refl; left = record { team = ap (set_role name role) alike.team; policy = alike.policy; domains = alike.domains } }))
+
+  -- ---- a policy
+
+  policy_alike : (policy : Policy) → ShareTurned policy x y → IsStepAlike parts.Team (policy_step x policy) (policy_step y policy)
+  policy_alike policy counts =
+      either parts.Team (list_any (passes policy) (maps.values x.domains)) (list_any (passes policy) (maps.values y.domains)) counts.past x y PastLimit
+      (office_under x policy, reply 200 (policy_fields (sum_by (turned policy) (maps.values x.domains)))) (office_under y policy, reply 200 (policy_fields (sum_by (turned policy) (maps.values y.domains)))) alike
+      (record {
+        reply = ap (λ n. reply 200 (policy_fields n)) counts.count;
+        left = record { team = alike.team; policy = refl; domains = λ other. still_there x policy other ∙ (alike.domains other ∙ sym (still_there y policy other)) };
+      })
 
   -- ---- a domain
 
@@ -224,19 +243,16 @@ module _ (x y : Office) (alike : ShareTeam x y) where
 
 -- ---- each act
 
-act_alike : (x y : Office) (caller number : Text) (act : Act) → AreAlikeIn (part_of act) x y → IsStepAlike (part_of act) (act_step x caller number act) (act_step y caller number act)
+act_alike : (x y : Office) (caller number : Text) (act : Act) → AreAlikeIn (part_of act) x y → ShareCounts act x y → IsStepAlike (part_of act) (act_step x caller number act) (act_step y caller number act)
 unfolding act_step
-act_alike x y caller number (OnUnit domain lang key act) alike = in_domain_alike x y alike.0 domain alike.1 (λ project. unit_act_step project caller number (lang, key) act)
-act_alike x y caller number (SetTemplate domain po) alike =
+act_alike x y caller number (OnUnit domain lang key act) alike counts = in_domain_alike x y alike.0 domain alike.1 (λ project. unit_act_step project caller number (lang, key) act)
+act_alike x y caller number (SetTemplate domain po) alike counts =
     managed_alike (parts.Domain domain) x y caller _ _ alike.0.team alike (known_alike x y alike.0 domain alike.1 (λ project. template_step project po))
-act_alike x y caller number (AddLanguage domain lang po) alike =
+act_alike x y caller number (AddLanguage domain lang po) alike counts =
     managed_alike (parts.Languages domain) x y caller _ _ alike.0.team alike (known_languages x y alike.0 domain alike.1 (λ project. language_step project lang po) (λ p q same. language_alike p q same lang po))
-act_alike x y caller number (SetRole name role) alike = managed_alike parts.Team x y caller _ _ alike.team alike (team_alike x y alike name role)
-act_alike x y caller number (SetPolicy policy) alike = record {
-  reply = ap (λ (office : Office). (act_step office caller number (SetPolicy policy)).1) alike;
-  left = ap (λ (office : Office). (act_step office caller number (SetPolicy policy)).0) alike;
-}
-act_alike x y caller number (AddDomain domain) alike = managed_alike parts.Team x y caller _ _ alike.team alike (domain_alike x y alike domain)
+act_alike x y caller number (SetRole name role) alike counts = managed_alike parts.Team x y caller _ _ alike.team alike (team_alike x y alike name role)
+act_alike x y caller number (SetPolicy policy) alike counts = managed_alike parts.Team x y caller _ _ alike.team alike (policy_alike x y alike policy counts)
+act_alike x y caller number (AddDomain domain) alike counts = managed_alike parts.Team x y caller _ _ alike.team alike (domain_alike x y alike domain)
 
-pub step_alike : (x y : Office) (request : Request) → AreAlikeIn (part_of request.act) x y → IsStepAlike (part_of request.act) (step x request) (step y request)
-step_alike x y request alike = act_alike x y request.caller request.number request.act alike
+pub step_alike : (x y : Office) (request : Request) → AreAlikeIn (part_of request.act) x y → ShareCounts request.act x y → IsStepAlike (part_of request.act) (step x request) (step y request)
+step_alike x y request alike counts = act_alike x y request.caller request.number request.act alike counts

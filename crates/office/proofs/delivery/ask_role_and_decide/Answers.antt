@@ -1,6 +1,10 @@
-use Rattle.std.proofs.Common.{sym, ◌∙◌, subst}
+use Rattle.std.proofs.Common.{sym, ◌∙◌, ap, subst}
 use Rattle.std.specs.Prelude.{IfOk}
 use Rattle.std.proofs.lemmas.Result.{err_from_is_err_and}
+use Rattle.units.specs.Project.{role_in}
+use Rattle.units.specs.Units.{is_below}
+use Rattle.units.specs.declared.unit.Role.{Role}
+use Rattle.units.specs.declared.unit.Role.TheVariants.{Manager}
 use Rattle.request_book.specs.Book.{OfficeWithBook}
 use Rattle.office_specification.specs.Step.{step}
 use Rattle.outcomes.specs.Settled.{IsSettled}
@@ -17,22 +21,28 @@ returns-then-is_below-clause-answer g c = λ honest.
 pub returns-then-is_below-clause-kept : goal.returns-then-is_below-clause-kept
 returns-then-is_below-clause-kept g c = read_done c.in_ok-role.ensures.kept
 
+pub decide_by_act-requires-clause-manager : goal.decide_by_act-requires-clause-manager
+decide_by_act-requires-clause-manager g c = λ honest.
+    let whole = c.in_ok-role.ensures.kept.open_still honest in
+    ap (λ (m : OfficeWithBook). is_below (role_in m.office.team c.args.request.now.caller) Manager) (c.role_of.ensures.same honest whole)
+    ∙ (ap (λ (role : Role). is_below role Manager) (sym (c.in_ok-role.ensures.answer honest)) ∙ (sym c.is_below.ensures ∙ c.if-is_below.false))
+
 -- decided over the office
 pub returns-clause-answer : goal.returns-clause-answer
 returns-clause-answer g c = λ honest.
-    let was = c.read_part_and_decide.ensures.kept.honest honest in
+    let was = c.decide_by_act.ensures.kept.honest honest in
     let whole = c.in_ok-role.ensures.kept.open_still was in
-    subst (λ (m : OfficeWithBook). IfOk c.read_part_and_decide.result (λ outcome. IsSettled m.office outcome (step m.office c.args.request.now)))
-    (c.role_of.ensures.same was whole) (c.read_part_and_decide.ensures.answer honest)
+    subst (λ (m : OfficeWithBook). IfOk c.decide_by_act.result (λ outcome. IsSettled m.office outcome (step m.office c.args.request.now)))
+    (c.role_of.ensures.same was whole) (c.decide_by_act.ensures.answer honest)
 
 pub returns-clause-same : goal.returns-clause-same
 returns-clause-same g c = λ honest whole.
-    let was = c.read_part_and_decide.ensures.kept.honest honest in
-    c.read_part_and_decide.ensures.same honest whole ∙ c.role_of.ensures.same was (c.read_part_and_decide.ensures.kept.whole honest whole)
+    let was = c.decide_by_act.ensures.kept.honest honest in
+    c.decide_by_act.ensures.same honest whole ∙ c.role_of.ensures.same was (c.decide_by_act.ensures.kept.whole honest whole)
 
 pub returns-clause-kept : goal.returns-clause-kept
 returns-clause-kept g c =
-    read_then (alike c.read_part_and_decide.result) c.in_ok-role.ensures.kept c.read_part_and_decide.ensures.kept (λ honest m never. never)
+    read_then (alike c.decide_by_act.result) c.in_ok-role.ensures.kept c.decide_by_act.ensures.kept (λ honest m never. never)
 
 -- failures
 pub returns-in_err-role-clause-kept : goal.returns-in_err-role-clause-kept

@@ -1,18 +1,16 @@
-use Rattle.std.proofs.Common.{true, false, sym, ap, subst, ◌∙◌}
-use Rattle.po_text.specs.Texts.{Text}
+use Rattle.std.proofs.Common.{true, false, sym, subst, ◌∙◌}
 use Rattle.units.specs.Office.{Office}
 use Rattle.units.specs.declared.unit.Refusal.TheVariants.{BelowRole}
 use Rattle.request_book.specs.declared.act.Act.{Act}
-use Rattle.replies.specs.Bodies.{Stepped, refused}
-use Rattle.office_specification.specs.OfficeActs.{team_step, policy_step, domain_step}
+use Rattle.replies.specs.Bodies.{refused}
+use Rattle.office_specification.specs.OfficeActs.{team_step, domain_step}
 use Rattle.office_specification.specs.Parts.{part_of, ShareTeam, AreAlikeIn}
 use Rattle.office_specification.specs.ProjectActs.{template_step, language_step}
 use Rattle.office_specification.specs.Step.{step, in_known_domain}
 use Rattle.office_specification.specs.declared.parts.Part.TheVariants as parts
 use Rattle.office_maps.specs.OfficeIn.{office_in}
-use Rattle.outcomes.specs.Settled.{IsSettled}
-use Rattle.outcomes.proofs.ActsSettled.{unchanged, alike, of_whole}
-use Rattle.outcomes.proofs.Settling.{same_right, refused_request, template_request, language_request, role_request, policy_request, domain_request}
+use Rattle.outcomes.proofs.ActsSettled.{unchanged, alike}
+use Rattle.outcomes.proofs.Settling.{same_right, refused_request, template_request, language_request, role_request, domain_request}
 use Rattle.outcomes.proofs.office_act.office_outcome.Goals as goal
 
 pub returns-then-is_below_manager : goal.returns-then-is_below_manager
@@ -20,7 +18,7 @@ returns-then-is_below_manager c =
     let office = office_in c.args.office.now in
     let request = c.args.request.now in
     unchanged c.refused.result (refused BelowRole) (AreAlikeIn (part_of request.act) office) (λ (whole : Office). step whole request)
-    (λ whole same. refused_request whole request c.requires (same_right office request true (sym c.is_below_manager.ensures ∙ c.if-is_below_manager.true) whole same)) c.refused.ensures
+    (λ whole same. refused_request whole request c.requires.act (same_right office request true (sym c.is_below_manager.ensures ∙ c.if-is_below_manager.true) whole same)) c.refused.ensures
 
 pub returns-in-SetTemplate : goal.returns-in-SetTemplate
 returns-in-SetTemplate c =
@@ -55,16 +53,6 @@ returns-in-SetRole c =
     (λ (whole : Office). step whole request) (λ whole same. subst (λ (act : Act). AreAlikeIn (part_of act) office whole) c.in-SetRole.is same)
     (λ whole same. role_request whole request name role c.in-SetRole.is (same_right office request false (sym c.is_below_manager.ensures ∙ c.if-is_below_manager.false) whole same))
     c.role_outcome.ensures
-
-pub returns-in-SetPolicy : goal.returns-in-SetPolicy
-returns-in-SetPolicy c =
-    let office = office_in c.args.office.now in
-    let request = c.args.request.now in
-    let policy = c.in-SetPolicy.policy in
-    alike c.policy_outcome.result (AreAlikeIn parts.Whole office) (AreAlikeIn (part_of request.act) office) (λ (whole : Office). policy_step whole policy)
-    (λ (whole : Office). step whole request) (λ whole same. subst (λ (act : Act). AreAlikeIn (part_of act) office whole) c.in-SetPolicy.is same)
-    (λ whole same. policy_request whole request policy c.in-SetPolicy.is (same_right office request false (sym c.is_below_manager.ensures ∙ c.if-is_below_manager.false) whole same))
-    (of_whole c.policy_outcome.result office (λ (whole : Office). policy_step whole policy) c.policy_outcome.ensures)
 
 pub returns-in-AddDomain : goal.returns-in-AddDomain
 returns-in-AddDomain c =

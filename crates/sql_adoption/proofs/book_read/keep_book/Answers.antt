@@ -8,6 +8,7 @@ use Rattle.sql_layouts.proofs.Looked.{looked_on, if_err_under}
 use Rattle.sql_adoption.proofs.Kept.{book_is_kept, book_refused, rules_refused}
 use Rattle.sql_adoption.proofs.book_read.keep_book.Goals as goal
 use Rattle.sql_schema.specs.Layouts.{rows_named}
+use Rattle.sql_adoption.proofs.OpensBlame.{fault_opens, never_opens}
 
 pub returns-clause-found : goal.returns-clause-found
 returns-clause-found g c =
@@ -27,3 +28,9 @@ pub returns-in_err-statuses-clause-refused : goal.returns-in_err-statuses-clause
 returns-in_err-statuses-clause-refused g c =
     let p = err_from_is_err_and c.from_residual.result c.from_residual.ensures.1 in
     rw (p.1, p.2) (λ clean. book_refused (office_in c.args.read.now.maps) (state g.S.Store c.args.connection.now).now c.in_err-statuses.field-0.0 (c.in_err-statuses.ensures.refused clean))
+
+pub returns-in_err-statuses-clause-disk : goal.returns-in_err-statuses-clause-disk
+returns-in_err-statuses-clause-disk g c = fault_opens (state g.S.Store c.args.connection.now) (state g.S.Store c.read_statuses.new.connection) _ c.from_residual.result c.from_residual.ensures.1 c.in_err-statuses.ensures.disk
+
+pub returns-clause-disk : goal.returns-clause-disk
+returns-clause-disk g c = never_opens (state g.S.Store c.args.connection.now) (state g.S.Store c.read_statuses.new.connection) c.keep_rules.result c.keep_rules.ensures.disk

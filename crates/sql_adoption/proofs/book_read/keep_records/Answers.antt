@@ -12,6 +12,7 @@ use Rattle.sql_adoption.specs.declared.faults.Mismatch.TheVariants.{BrokenRules}
 use Rattle.sql_layouts.proofs.Looked.{walked_on, looked_in_vain, looked_failed, looked_ready}
 use Rattle.sql_adoption.proofs.Read.{walk_refused}
 use Rattle.sql_adoption.proofs.KeptRecords.{records_kept, records_refused, records_unread}
+use Rattle.sql_adoption.proofs.OpensBlame.{walk_opens}
 use Rattle.sql_adoption.proofs.book_read.keep_records.Goals as goal
 
 pub walk_contents-requires-clause-idle : goal.walk_contents-requires-clause-idle
@@ -43,3 +44,9 @@ returns-in_err-walk_contents-clause-refused g c =
     let db = (state g.S.Store c.args.connection.now).now in
     records_unread _ db c.from_residual.result (walk_refused db (λ (a : Contents) (rows : List Row) (b : Contents). TestsRecords a.answered rows b.answered) _ c.walk_contents.new.sink c.from_residual.result c.in_err-walk_contents.field-0.0
     c.from_residual.ensures.1 c.in_err-walk_contents.ensures.handed)
+
+pub returns-in_err-walk_contents-clause-disk : goal.returns-in_err-walk_contents-clause-disk
+returns-in_err-walk_contents-clause-disk g c = walk_opens (state g.S.Store c.args.connection.now) (state g.S.Store c.walk_contents.new.connection) c.in_err-walk_contents.field-0.0 c.from_residual.result c.from_residual.ensures.1 c.in_err-walk_contents.ensures.disk
+
+pub returns-else-contents-clause-disk : goal.returns-else-contents-clause-disk
+returns-else-contents-clause-disk g c = λ clean same. absurd cc

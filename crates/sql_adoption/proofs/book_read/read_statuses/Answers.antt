@@ -9,6 +9,7 @@ use Rattle.sql_adoption.specs.NotedRecords.{NotesRecords}
 use Rattle.sql_adoption.specs.Reading.{AreStatusesIn}
 use Rattle.sql_layouts.proofs.Looked.{walked_on, looked_failed}
 use Rattle.sql_adoption.proofs.Read.{statuses_are_read, walk_refused}
+use Rattle.sql_adoption.proofs.OpensBlame.{walk_opens}
 use Rattle.sql_adoption.proofs.book_read.read_statuses.Goals as goal
 
 pub returns-clause-found : goal.returns-clause-found
@@ -29,3 +30,6 @@ pub returns-in_err-walk_contents-clause-refused : goal.returns-in_err-walk_conte
 returns-in_err-walk_contents-clause-refused g c =
     walk_refused (state g.S.Store c.args.connection.now).now (λ (a : Statuses) (rows : List Row) (b : Statuses). NotesRecords a.by_number rows b.by_number) c.new-statuses.result c.walk_contents.new.sink c.from_residual.result c.in_err-walk_contents.field-0.0
     c.from_residual.ensures.1 c.in_err-walk_contents.ensures.handed
+
+pub returns-in_err-walk_contents-clause-disk : goal.returns-in_err-walk_contents-clause-disk
+returns-in_err-walk_contents-clause-disk g c = walk_opens (state g.S.Store c.args.connection.now) (state g.S.Store c.walk_contents.new.connection) c.in_err-walk_contents.field-0.0 c.from_residual.result c.from_residual.ensures.1 c.in_err-walk_contents.ensures.disk

@@ -11,6 +11,6 @@ use Rattle.sql_adoption.proofs.domains_read.read_domains.Given as goal
 abbrev pub invariant-loop-domain : goal.invariant-loop-domain
 invariant-loop-domain g l = record {
   looked : IsLookUp {E = OpenFault} (state g.S.Store l.fn.connection) (state g.S.Store l.connection) (Ok tt)
-      (SoFar l.names (take l.domain-index l.names) (office_in l.maps));
+      (SoFar l.part l.names (take l.domain-index l.names) (office_in l.maps));
   all : HoldAll (office_in l.maps) (take l.domain-index l.names) l.langs.items;
 }

@@ -2,9 +2,13 @@ use Rattle.std.proofs.Common.{Vec, Global}
 use Rattle.sqlite.specs.Order.{Row}
 use Rattle.sqlite.specs.Held.{state}
 use Rattle.sql_adoption.proofs.MainFigureReads.{reads_main_sums}
+use Rattle.sql_laws.proofs.DiskErrors.{query_blames}
 use Rattle.sql_adoption.proofs.figure_rows.main_sums.Goals as goal
 
 pub returns-clause-found : goal.returns-clause-found
 returns-clause-found g c =
     reads_main_sums (Vec Row Global) (λ rows. rows.items) (state g.S.Store c.args.tx.now.conn.now) (state g.S.Store c.query_all.new.self.conn.now) c.query_all.result c.requires.steady
     c.query_all.ensures.ok c.query_all.ensures.err c.query_all.ensures.survives
+
+pub returns-clause-disk : goal.returns-clause-disk
+returns-clause-disk g c = query_blames _ _ (state g.S.Store c.args.tx.now.conn.now) (state g.S.Store c.query_all.new.self.conn.now) c.query_all.result c.query_all.ensures.err

@@ -4,6 +4,7 @@ use Rattle.office_maps.specs.OfficeIn.{office_in}
 use Rattle.sql_figures.specs.KeptTallies.{office_counts}
 use Rattle.sql_adoption.specs.FigureRows.{ShowFigures}
 use Rattle.sql_adoption.proofs.FiguresKept.{both_told, figures_unread}
+use Rattle.sql_adoption.proofs.OpensBlame.{memory_mild, unread_mild}
 use Rattle.sql_adoption.proofs.figures_kept.are_figures.Goals as goal
 
 pub returns-then-tallies-clause-told : goal.returns-then-tallies-clause-told
@@ -22,3 +23,9 @@ returns-else-tallies-clause-told c = λ is_office.
 
 pub returns-in-Err-clause-refused : goal.returns-in-Err-clause-refused
 returns-in-Err-clause-refused c = figures_unread c.args.rows.now c.in-Err.failure c.unread.result c.unread.ensures c.in-Err.ensures.unread
+
+pub returns-in_err-tallies-clause-disk : goal.returns-in_err-tallies-clause-disk
+returns-in_err-tallies-clause-disk c = memory_mild c.from_residual.result c.from_residual.ensures.1
+
+pub returns-in-Err-clause-disk : goal.returns-in-Err-clause-disk
+returns-in-Err-clause-disk c = λ same. unread_mild c.in-Err.failure.lost (sym c.unread.ensures ∙ same)

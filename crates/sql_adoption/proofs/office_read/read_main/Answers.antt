@@ -5,11 +5,12 @@ use Rattle.sqlite.specs.declared.error.Error.{Error}
 use Rattle.sql_schema.specs.Layouts.{Form, for_main}
 use Rattle.sql_schema.specs.Whole.{IsIdleOver, IsLookUp}
 use Rattle.sql_statements.specs.WholeOffice.{ShowsWholeOffice}
-use Rattle.sql_adoption.specs.Reading.{IsReadOf, ShowsForm, RefusesRows, RefusesOf}
+use Rattle.sql_adoption.specs.Reading.{IsReadOf, ShowsForm, RefusesRows, RefusesOf, OpensTruly}
 use Rattle.sql_layouts.specs.Tables.{form_told}
 use Rattle.sql_layouts.proofs.Looked.{looked_on, looked_failed, looked_ready}
 use Rattle.sql_schema.proofs.Layouts.{of_main}
 use Rattle.sql_adoption.proofs.Read.{main_read, main_refused, all_refused}
+use Rattle.sql_adoption.proofs.OpensBlame.{never_opens, statement_opens}
 use Rattle.sql_adoption.proofs.office_read.read_main.Goals as goal
 
 pub returns-in_err-rows-clause-found : goal.returns-in_err-rows-clause-found
@@ -39,3 +40,13 @@ returns-clause-refused g c =
     (λ figures idle refused. let found = c.in_ok-rows.ensures.found figures idle in
     all_refused (for_main figures) rows old.now read
     (λ clean. main_refused figures old.now (looked_ready old new {E = Error} rows ShowsWholeOffice idle found clean) rows (found.answer clean)) refused) c.requires.idle c.office_of_main-read.ensures.refused
+
+pub returns-in_err-rows-clause-disk : goal.returns-in_err-rows-clause-disk
+returns-in_err-rows-clause-disk g c =
+    let old = state g.S.Store c.args.connection.now in
+    let new = state g.S.Store c.look_up_office.new.connection in
+    of_main (λ (form : Form). IsIdleOver form old → OpensTruly old new c.from_residual.result) (form_told c.args.form) c.requires.main
+    (λ figures idle. statement_opens old new _ c.from_residual.result c.from_residual.ensures.1 (c.in_err-rows.ensures.disk figures idle)) c.requires.idle
+
+pub returns-clause-disk : goal.returns-clause-disk
+returns-clause-disk g c = never_opens (state g.S.Store c.args.connection.now) (state g.S.Store c.look_up_office.new.connection) c.office_of_main-read.result c.office_of_main-read.ensures.disk

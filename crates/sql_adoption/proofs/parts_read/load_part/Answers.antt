@@ -28,10 +28,3 @@ returns-in-Domain g c = record {
       (sym c.in-Domain.is) c.load_domain.ensures.found;
   disk = c.load_domain.ensures.disk;
 }
-
-pub returns-in-Whole : goal.returns-in-Whole
-returns-in-Whole g c = record {
-  found = subst (λ (part : Part). IsLookUp (state g.S.Store c.args.connection.now) (state g.S.Store c.load_office.new.connection) c.load_office.result (λ db maps. AreAlikeIn part (office_in maps) (office_of_rows (rows_named db))))
-      (sym c.in-Whole.is) c.load_office.ensures.found;
-  disk = c.load_office.ensures.disk;
-}

@@ -1,4 +1,4 @@
-use Rattle.std.proofs.Common.{◌≡◌, [], ◌∷◌, Ok, codes, rules, subst}
+use Rattle.std.proofs.Common.{◌≡◌, [], ◌∷◌, Ok, codes, rules, subst, ℕ, Err}
 use Rattle.sqlite.specs.Held.{state}
 use Rattle.sqlite.specs.declared.types.Value.TheVariants.{Text as Words}
 use Rattle.po_text.specs.Texts.{Text}
@@ -16,6 +16,9 @@ use Rattle.sql_commits.proofs.WritesInTurn.{write_told, write_then, write_left}
 use Rattle.sql_conversion.specs.Conversion.{TellsPolicy, WritesProject, WritesAnew, FollowsLanguages, FollowsLanguagesIn}
 use Rattle.sql_conversion.proofs.LanguagesCounted.{counted_behind, none_there}
 use Rattle.sql_conversion.proofs.NothingThere.{nothing_there, MakesDomain, Begins, anew_then, begins_uncounted}
+use Rattle.sql_decoding.proofs.DiskFailures.{error_told, fails_behind}
+use Rattle.sql_schema.proofs.Losses.{blames_of_lost}
+use Rattle.sql_laws.proofs.Transactions.{survives_both}
 use Rattle.sql_conversion.proofs.writing.write_anew.Goals as goal
 
 pub returns-in-Some-clause-put : goal.returns-in-Some-clause-put
@@ -87,3 +90,29 @@ returns-in-None-clause-figures g c =
     write_told old told {F = Failure} c.in_ok-put_policy_of.field-0 _ FiguresStay (FollowsLanguages office langs)
     (λ stays. counted_behind main office langs old.now told.now told.now stays (none_there main office langs told.now (search rules)))
     (begins_uncounted old made named told c.in_ok-make_domain_tables.field-0 c.in_ok-put_domain.field-0 c.in_ok-put_policy_of.field-0 c.in_ok-make_domain_tables.ensures.made c.in_ok-put_domain.ensures.put c.in_ok-put_policy_of.ensures.others)
+
+pub returns-in_err-make_domain_tables-clause-disk : goal.returns-in_err-make_domain_tables-clause-disk
+returns-in_err-make_domain_tables-clause-disk g c =
+    let made = state g.S.Store c.make_domain_tables.new.tx.conn.now in
+    error_told (state g.S.Store c.args.tx.now.conn.now) made _ c.from_residual.result c.from_residual.ensures.1 (blames_of_lost {A = ℕ} (state g.S.Store c.args.tx.now.conn.now) made (Err c.in_err-make_domain_tables.field-0.0) c.in_err-make_domain_tables.ensures.errors)
+
+pub returns-in_err-put_domain-clause-disk : goal.returns-in_err-put_domain-clause-disk
+returns-in_err-put_domain-clause-disk g c =
+    let made = state g.S.Store c.make_domain_tables.new.tx.conn.now in
+    let named = state g.S.Store c.put_domain.new.tx.conn.now in
+    fails_behind (state g.S.Store c.args.tx.now.conn.now) made named (λ _. ⊥) (λ _. ⊥) c.from_residual-in_err-put_domain.result c.in_ok-make_domain_tables.ensures.made.survives c.in_err-put_domain.ensures.put.survives
+    (error_told made named _ c.from_residual-in_err-put_domain.result c.from_residual-in_err-put_domain.ensures.1 c.in_err-put_domain.ensures.disk)
+
+pub returns-in_err-put_policy_of-clause-disk : goal.returns-in_err-put_policy_of-clause-disk
+returns-in_err-put_policy_of-clause-disk g c =
+    let named = state g.S.Store c.put_domain.new.tx.conn.now in
+    let told = state g.S.Store c.put_policy_of.new.tx.conn.now in
+    let both = survives_both g.S.Store c.args.tx.now.conn.now c.make_domain_tables.new.tx.conn.now c.put_domain.new.tx.conn.now c.in_ok-make_domain_tables.ensures.made.survives c.in_ok-put_domain.ensures.put.survives in
+    fails_behind (state g.S.Store c.args.tx.now.conn.now) named told (λ _. ⊥) (λ _. ⊥) c.from_residual-in_err-put_policy_of.result both c.in_err-put_policy_of.ensures.put.survives
+    (error_told named told _ c.from_residual-in_err-put_policy_of.result c.from_residual-in_err-put_policy_of.ensures.1 c.in_err-put_policy_of.ensures.disk)
+
+pub returns-in-Some-clause-disk : goal.returns-in-Some-clause-disk
+returns-in-Some-clause-disk g c =
+    let both = survives_both g.S.Store c.args.tx.now.conn.now c.make_domain_tables.new.tx.conn.now c.put_domain.new.tx.conn.now c.in_ok-make_domain_tables.ensures.made.survives c.in_ok-put_domain.ensures.put.survives in
+    let all = survives_both g.S.Store c.args.tx.now.conn.now c.put_domain.new.tx.conn.now c.put_policy_of.new.tx.conn.now both c.in_ok-put_policy_of.ensures.put.survives in
+    fails_behind (state g.S.Store c.args.tx.now.conn.now) (state g.S.Store c.put_policy_of.new.tx.conn.now) (state g.S.Store c.write_project.new.tx.conn.now) (λ _. ⊥) (λ _. ⊥) c.write_project.result all c.write_project.ensures.put.survives c.write_project.ensures.disk

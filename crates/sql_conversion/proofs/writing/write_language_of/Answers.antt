@@ -19,6 +19,8 @@ use Rattle.sql_commits.proofs.WritesInTurn.{nothing_put, write_then, write_as, w
 use Rattle.sql_conversion.specs.Conversion.{WritesKept, WritesWhole, WritesThere, FollowsLanguagesIn}
 use Rattle.sql_conversion.proofs.LanguagesFound.{found_there, writes_found, writes_none}
 use Rattle.sql_conversion.proofs.LanguagesCounted.{language_counted, none_counted_of}
+use Rattle.sql_decoding.proofs.DiskFailures.{fails_behind, failure_told, mild_told}
+use Rattle.sql_laws.proofs.Transactions.{survives_both}
 use Rattle.sql_conversion.proofs.writing.write_language_of.Goals as goal
 
 -- its row, its units and their tally
@@ -61,7 +63,7 @@ returns-in_ok-tally-in-Some-clause-figures g c =
     let written = write_then old mid next {F = Failure} c.in_ok-put_language_of-in-Some.field-0 (Ok c.in_ok-write_units_of-in-Some.field-0) FiguresStay FiguresStay FiguresStay stay_both
     c.in_ok-put_language_of-in-Some.ensures.figures c.in_ok-write_units_of-in-Some.ensures.figures in
     write_then old next new c.in_ok-write_units_of-in-Some.field-0 c.put_tally_of.result FiguresStay (PutsTally domain lang tally) (FollowsLanguagesIn domain office (lang ∷ []))
-    (language_counted domain office lang header tally old.now next.now new.now there c.in_ok-tally-in-Some.ensures) written c.put_tally_of.ensures.put
+    (language_counted domain office lang header tally old.now next.now new.now there c.in_ok-tally-in-Some.ensures.tally) written c.put_tally_of.ensures.put
 
 -- where nothing could be counted
 pub returns-in_err-tally-in-Some-clause-put : goal.returns-in_err-tally-in-Some-clause-put
@@ -102,3 +104,21 @@ returns-in-None-clause-figures g c =
     let missing : maps.get (project_in office domain).headers lang ≡ None =
     ap (λ (p : Project). maps.get p.headers lang) (sym c.requires.lent) ∙ found_there c.args.project.now lang None c.in-None.ensures in
     nothing_put old {E = Failure} _ (FollowsLanguagesIn domain office (lang ∷ [])) c.requires.steady c.requires.open (none_counted_of domain office lang old.now missing)
+
+pub returns-in_err-put_language_of-in-Some-clause-disk : goal.returns-in_err-put_language_of-in-Some-clause-disk
+returns-in_err-put_language_of-in-Some-clause-disk g c = failure_told (state g.S.Store c.args.tx.now.conn.now) (state g.S.Store c.put_language_of.new.tx.conn.now) _ c.from_residual.result c.from_residual.ensures.1 c.in_err-put_language_of-in-Some.ensures.disk
+
+pub returns-in_err-write_units_of-in-Some-clause-disk : goal.returns-in_err-write_units_of-in-Some-clause-disk
+returns-in_err-write_units_of-in-Some-clause-disk g c =
+    let mid = state g.S.Store c.put_language_of.new.tx.conn.now in
+    let next = state g.S.Store c.write_units_of.new.tx.conn.now in
+    fails_behind (state g.S.Store c.args.tx.now.conn.now) mid next (λ _. ⊥) (λ _. ⊥) c.from_residual-in_err-write_units_of-in-Some.result c.in_ok-put_language_of-in-Some.ensures.put.survives c.in_err-write_units_of-in-Some.ensures.put.survives
+    (failure_told mid next _ c.from_residual-in_err-write_units_of-in-Some.result c.from_residual-in_err-write_units_of-in-Some.ensures.1 c.in_err-write_units_of-in-Some.ensures.disk)
+
+pub returns-in_err-tally-in-Some-clause-disk : goal.returns-in_err-tally-in-Some-clause-disk
+returns-in_err-tally-in-Some-clause-disk g c = mild_told (state g.S.Store c.args.tx.now.conn.now) (state g.S.Store c.write_units_of.new.tx.conn.now) _ c.from_residual-in_err-tally-in-Some.result c.from_residual-in_err-tally-in-Some.ensures.1 c.in_err-tally-in-Some.ensures.disk
+
+pub returns-in_ok-tally-in-Some-clause-disk : goal.returns-in_ok-tally-in-Some-clause-disk
+returns-in_ok-tally-in-Some-clause-disk g c =
+    let both = survives_both g.S.Store c.args.tx.now.conn.now c.put_language_of.new.tx.conn.now c.write_units_of.new.tx.conn.now c.in_ok-put_language_of-in-Some.ensures.put.survives c.in_ok-write_units_of-in-Some.ensures.put.survives in
+    fails_behind (state g.S.Store c.args.tx.now.conn.now) (state g.S.Store c.write_units_of.new.tx.conn.now) (state g.S.Store c.put_tally_of.new.tx.conn.now) (λ _. ⊥) (λ _. ⊥) c.put_tally_of.result both c.put_tally_of.ensures.put.survives c.put_tally_of.ensures.disk

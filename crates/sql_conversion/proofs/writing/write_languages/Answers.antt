@@ -11,6 +11,7 @@ use Rattle.sql_commits.proofs.WritesInTurn.{nothing_put, write_then, write_told}
 use Rattle.sql_conversion.specs.Conversion.{WritesThere, WritesLanguages, FollowsLanguagesIn}
 use Rattle.sql_conversion.proofs.WrittenInTurn.{languages_next}
 use Rattle.sql_conversion.proofs.LanguagesCounted.{one_more_counted}
+use Rattle.sql_decoding.proofs.DiskFailures.{fails_behind, failure_told}
 use Rattle.sql_conversion.proofs.writing.write_languages.Goals as goal
 
 pub loop-lang-init : goal.loop-lang-init
@@ -54,3 +55,10 @@ returns-clause-figures g c =
     let i = c.loop-lang.lang-index in
     let Counted = FollowsLanguagesIn domain (office_in c.args.maps.now) in
     write_told old last {E = Error} 0 _ (Counted (take i langs)) (Counted langs) (subst (λ ls. Counted ls old.now last.now) (take_all i langs c.loop-lang-test.false)) c.loop-lang.invariant.2
+
+pub returns-in_err-write_language_of-clause-disk : goal.returns-in_err-write_language_of-clause-disk
+returns-in_err-write_language_of-clause-disk g c =
+    let mid = state g.S.Store c.loop-lang.tx.conn.now in
+    let new = state g.S.Store c.write_language_of.new.tx.conn.now in
+    fails_behind (state g.S.Store c.args.tx.now.conn.now) mid new (λ _. ⊥) (λ _. ⊥) c.from_residual.result c.loop-lang.invariant.1.survives c.in_err-write_language_of.ensures.put.survives
+    (failure_told mid new _ c.from_residual.result c.from_residual.ensures.1 c.in_err-write_language_of.ensures.disk)

@@ -8,6 +8,7 @@ use Rattle.sql_figures.specs.Figures.{FiguresStay}
 use Rattle.sql_commits.proofs.WritesInTurn.{write_then}
 use Rattle.sql_conversion.specs.Conversion.{WritesEntries, WritesLanguages, WritesProject, FollowsLanguagesIn}
 use Rattle.sql_conversion.proofs.LanguagesCounted.{counted_behind}
+use Rattle.sql_decoding.proofs.DiskFailures.{fails_behind, failure_told}
 use Rattle.sql_conversion.proofs.writing.write_project.Goals as goal
 
 -- its template, and its languages
@@ -37,3 +38,11 @@ returns-clause-figures g c =
     let langs = c.args.langs.now in
     write_then old mid new c.in_ok-put_entries.field-0 c.write_languages.result FiguresStay (FollowsLanguagesIn domain office langs) (FollowsLanguagesIn domain office langs)
     (counted_behind domain office langs old.now mid.now new.now) c.in_ok-put_entries.ensures.figures c.write_languages.ensures.figures
+
+pub returns-in_err-put_entries-clause-disk : goal.returns-in_err-put_entries-clause-disk
+returns-in_err-put_entries-clause-disk g c = failure_told (state g.S.Store c.args.tx.now.conn.now) (state g.S.Store c.put_entries.new.tx.conn.now) _ c.from_residual.result c.from_residual.ensures.1 c.in_err-put_entries.ensures.disk
+
+pub returns-clause-disk : goal.returns-clause-disk
+returns-clause-disk g c =
+    fails_behind (state g.S.Store c.args.tx.now.conn.now) (state g.S.Store c.put_entries.new.tx.conn.now) (state g.S.Store c.write_languages.new.tx.conn.now) (λ _. ⊥) (λ _. ⊥) c.write_languages.result c.in_ok-put_entries.ensures.put.survives c.write_languages.ensures.put.survives
+    c.write_languages.ensures.disk

@@ -17,6 +17,7 @@ use Rattle.sql_figures.proofs.FigureSteps.{stay_both, nothing_follows}
 use Rattle.sql_commits.proofs.WritesInTurn.{nothing_put, write_then, write_told, write_fails}
 use Rattle.sql_conversion.specs.Conversion.{WritesKept}
 use Rattle.sql_conversion.proofs.WrittenInTurn.{UnitsBefore, no_unit_yet, one_unit_more, all_units_before}
+use Rattle.sql_decoding.proofs.DiskFailures.{fails_behind, failure_told, memory_told}
 use Rattle.sql_conversion.proofs.writing.write_units_of.Goals as goal
 
 pub loop-place-init : goal.loop-place-init
@@ -106,3 +107,13 @@ returns-in-None-clause-put g c =
     let All = WritesKept lang all in
     write_told old mid {A = ℕ} {E = Error} {F = Failure} 0 _ (OnDomain domain Before) (OnDomain domain All)
     (on_domain_as domain Before All (all_units_before lang all (taken lang c.loop-place.place-iterator) (seen domain old.now) (seen domain mid.now) none)) c.loop-place.invariant.1
+
+pub returns-in_err-first-clause-disk : goal.returns-in_err-first-clause-disk
+returns-in_err-first-clause-disk g c = memory_told (state g.S.Store c.args.tx.now.conn.now) (state g.S.Store c.args.tx.now.conn.now) c.from_residual.result c.from_residual.ensures.1
+
+pub returns-in_err-write_planned-clause-disk : goal.returns-in_err-write_planned-clause-disk
+returns-in_err-write_planned-clause-disk g c =
+    let mid = state g.S.Store c.loop-place.tx.conn.now in
+    let new = state g.S.Store c.write_planned.new.tx.conn.now in
+    fails_behind (state g.S.Store c.args.tx.now.conn.now) mid new (λ _. ⊥) (λ _. ⊥) c.from_residual-in_err-write_planned.result c.loop-place.invariant.1.survives c.in_err-write_planned.ensures.put.survives
+    (failure_told mid new _ c.from_residual-in_err-write_planned.result c.from_residual-in_err-write_planned.ensures.1 c.in_err-write_planned.ensures.disk)

@@ -23,7 +23,7 @@ returns-in-Ok-clause-initialised g c =
 pub returns-in-Err-clause-initialised : goal.returns-in-Err-clause-initialised
 returns-in-Err-clause-initialised g c =
     refused c.in-Err.fault
-    (record { why = c.in-Err.ensures.refused; untouched = c.in-Err.ensures.untouched; same = c.in-Err.ensures.handed_back })
+    (record { why = c.in-Err.ensures.refused; untouched = c.in-Err.ensures.untouched; disk = c.in-Err.ensures.disk; same = c.in-Err.ensures.handed_back })
     c.tell_store_fault.ensures.told c.tell_store_fault.ensures.status
 
 pub returns-in-Err-clause-between : goal.returns-in-Err-clause-between

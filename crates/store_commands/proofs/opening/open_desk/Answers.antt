@@ -9,6 +9,7 @@ pub returns-in-Err-clause-refused : goal.returns-in-Err-clause-refused
 returns-in-Err-clause-refused g c = record {
   why = c.in-Err.ensures.refused;
   again = c.in-Err.ensures.again;
+  disk = c.in-Err.ensures.disk;
   same = c.in-Err.ensures.handed_back;
 }
 

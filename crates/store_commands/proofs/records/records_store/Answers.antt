@@ -18,4 +18,4 @@ returns-in-Ok-clause-printed g c =
     (worked (connection_of g.S.Store c.in-Ok.desk) c.in-Ok.ensures.opened (rw c.into_tables-tables.ensures at printed, rw c.into_tables-tables.ensures at same, λ clean stopped. stopped_by_disk _ (held_by g.S.Store c.print_records-status.new.tables) ran clean stopped) (rw (c.close_desk.ensures.held, c.new.ensures) at closed))
 
 pub returns-in-Err-clause-printed : goal.returns-in-Err-clause-printed
-returns-in-Err-clause-printed g c = refused c.in-Err.field-0.fault c.in-Err.ensures.refused refl c.tell_store_fault.ensures.told c.tell_store_fault.ensures.status
+returns-in-Err-clause-printed g c = refused c.in-Err.field-0.fault c.in-Err.ensures.refused (refl, refl) c.tell_store_fault.ensures.told c.tell_store_fault.ensures.status

@@ -12,4 +12,4 @@ returns-in-Ok-clause-delivered g c =
     rw (c.close_desk.ensures.held, c.close_desk.ensures.stopped, c.close_desk.ensures.status) (worked (connection_of g.S.Store c.in-Ok.desk) c.in-Ok.ensures.opened (delivered.0, delivered.1, connection_of g.S.Store delivered.2, delivered.3, delivered.4, λ clean stopped. stopped_by_disk _ c.deliver_lines-status.new.desk ran clean stopped) (rw c.close_desk.ensures.held at closed))
 
 pub returns-in-Err-clause-delivered : goal.returns-in-Err-clause-delivered
-returns-in-Err-clause-delivered g c = refused c.in-Err.field-0.fault c.in-Err.ensures.refused (refl, refl) c.tell_store_fault.ensures.told c.tell_store_fault.ensures.status
+returns-in-Err-clause-delivered g c = refused c.in-Err.field-0.fault c.in-Err.ensures.refused (refl, refl, refl) c.tell_store_fault.ensures.told c.tell_store_fault.ensures.status

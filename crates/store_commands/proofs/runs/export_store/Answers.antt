@@ -11,4 +11,4 @@ returns-in-Ok-clause-exported g c =
     rw (c.close_desk.ensures.held, c.close_desk.ensures.stopped, c.close_desk.ensures.status) (worked (connection_of g.S.Store c.in-Ok.desk) c.in-Ok.ensures.opened (c.export_whole-status.ensures.printed, c.export_whole-status.ensures.same, λ clean stopped. stopped_by_disk _ c.export_whole-status.new.desk ran clean stopped) (rw c.close_desk.ensures.held at closed))
 
 pub returns-in-Err-clause-exported : goal.returns-in-Err-clause-exported
-returns-in-Err-clause-exported g c = refused c.in-Err.field-0.fault c.in-Err.ensures.refused refl c.tell_store_fault.ensures.told c.tell_store_fault.ensures.status
+returns-in-Err-clause-exported g c = refused c.in-Err.field-0.fault c.in-Err.ensures.refused (refl, refl) c.tell_store_fault.ensures.told c.tell_store_fault.ensures.status
