@@ -38,6 +38,7 @@ use Rattle.sql_schema.proofs.TextKeys.{holds_int}
 use Rattle.sql_statements.specs.ApprovalCounts.{is_approved_row, is_last_row, rows_counted, approvals_counted, ShowsApprovals}
 use Rattle.sql_statements.specs.SummedVotes.{is_integer, most_counted, told}
 use Rattle.sql_statements.proofs.SumsWalked.{mapped_same, value_compared}
+use Rattle.sql_statements.proofs.ReadsUnread.{IsAcceptedBy, IsUnreadBy, unread_by}
 
 abbrev pub approvals_text : List ℕ
 approvals_text = codes "SELECT (SELECT count(*) FROM d_unit WHERE d_unit.domain = domain.name AND state = 3) AS approved, (SELECT count(*) FROM d_unit WHERE d_unit.domain = domain.name AND state = 3 AND revision = 9000000000000000) AS at_last FROM domain"
@@ -69,6 +70,15 @@ unfolding understood everything
 approvals_are made_last = record { command = refl; own_tables = refl; plain = (refl, refl) }
 approvals_are from_first = record { command = refl; own_tables = refl; plain = (refl, refl) }
 approvals_are from_second = record { command = refl; own_tables = refl; plain = (refl, refl) }
+
+approvals_accepted : IsAcceptedBy by_domain approvals_text []
+unfolding understood everything
+approvals_accepted made_last = refl
+approvals_accepted from_first = refl
+approvals_accepted from_second = refl
+
+pub approvals_unread : IsUnreadBy by_domain approvals_text []
+approvals_unread = unread_by approvals_text [] _ _ approvals_are approvals_accepted
 
 all_kept : (rows : List Row) → filter (λ row. true) rows ≡ rows
 all_kept [] = refl

@@ -15,6 +15,7 @@ use Rattle.sql_schema.proofs.Queries.{IsQueryOf, ReadsLastOf}
 use Rattle.sql_schema.proofs.TextQueries.{are_given, reads_by_all}
 use Rattle.sql_schema.proofs.DomainRows.{d_language_texts, one_d_language}
 use Rattle.sql_statements.specs.DomainAnswers.{ShowsDomainLanguage}
+use Rattle.sql_statements.proofs.ReadsUnread.{IsAcceptedBy, IsUnreadBy, unread_by}
 
 abbrev pub insert_text : List ℕ
 insert_text = codes "INSERT INTO d_language (domain, lang, header, plural) VALUES (?1, ?2, ?3, ?4)"
@@ -43,6 +44,15 @@ unfolding understood everything
 find_is made_last = record { command = refl; own_tables = refl; plain = (refl, refl) }
 find_is from_first = record { command = refl; own_tables = refl; plain = (refl, refl) }
 find_is from_second = record { command = refl; own_tables = refl; plain = (refl, refl) }
+
+find_accepted : (domain lang : List ℕ) → IsAcceptedBy by_domain find_text (Text domain ∷ Text lang ∷ [])
+unfolding understood everything
+find_accepted domain lang made_last = refl
+find_accepted domain lang from_first = refl
+find_accepted domain lang from_second = refl
+
+pub find_unread : (domain lang : List ℕ) → IsUnreadBy by_domain find_text (Text domain ∷ Text lang ∷ [])
+find_unread domain lang = unread_by find_text (Text domain ∷ Text lang ∷ []) _ _ find_is (find_accepted domain lang)
 
 pub finds_language : (domain lang : List ℕ) → ReadsLastOf by_domain find_text (Text domain ∷ Text lang ∷ []) (ShowsDomainLanguage domain lang)
 finds_language domain lang =

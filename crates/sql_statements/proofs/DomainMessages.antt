@@ -34,6 +34,7 @@ use Rattle.sql_schema.proofs.SeenRows.{from_seen, to_seen}
 use Rattle.sql_statements.specs.Queries.{AreUnits, ShowsMessagesIn, by_column, entry_places, unit_places}
 use Rattle.sql_statements.proofs.OnePassing.{none_passing, one_passing}
 use Rattle.sql_statements.proofs.Seen.{mapped_seen}
+use Rattle.sql_statements.proofs.ReadsUnread.{IsAcceptedBy, IsUnreadBy, unread_by}
 
 abbrev pub messages_text : List ℕ
 messages_text = codes "SELECT d_template.plural, extracted, refs, flags, d_template.key, place, forms, state, comment, previous FROM d_template JOIN d_unit ON d_unit.domain = d_template.domain AND d_unit.key = d_template.key WHERE d_template.domain = ?1 AND d_unit.lang = ?2 ORDER BY place"
@@ -59,6 +60,15 @@ unfolding understood everything
 messages_are made_last = record { command = refl; own_tables = refl; plain = (refl, refl) }
 messages_are from_first = record { command = refl; own_tables = refl; plain = (refl, refl) }
 messages_are from_second = record { command = refl; own_tables = refl; plain = (refl, refl) }
+
+messages_accepted : (domain lang : List ℕ) → IsAcceptedBy by_domain messages_text (Text domain ∷ Text lang ∷ [])
+unfolding understood everything
+messages_accepted domain lang made_last = refl
+messages_accepted domain lang from_first = refl
+messages_accepted domain lang from_second = refl
+
+pub messages_unread : (domain lang : List ℕ) → IsUnreadBy by_domain messages_text (Text domain ∷ Text lang ∷ [])
+messages_unread domain lang = unread_by messages_text (Text domain ∷ Text lang ∷ []) _ _ messages_are (messages_accepted domain lang)
 
 third_false : (a b c d : Bool) → c ≡ false → (a && (b && (c && d))) ≡ false
 third_false false b c d e = refl

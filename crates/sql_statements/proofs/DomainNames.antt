@@ -14,6 +14,7 @@ use Rattle.sql_schema.proofs.Queries.{IsQueryOf, ReadsLastOf, ReadsAllOf, is_giv
 use Rattle.sql_schema.proofs.DomainRows.{domain_names, one_domain_name}
 use Rattle.sql_statements.specs.DomainAnswers.{ShowsDomain, ShowsDomains}
 use Rattle.sql_statements.proofs.TableQueries.{IsTableQueryOf, reads_table}
+use Rattle.sql_statements.proofs.ReadsUnread.{IsAcceptedBy, IsUnreadBy, unread_by}
 
 abbrev pub insert_text : List ℕ
 insert_text = codes "INSERT INTO domain (name) VALUES (?1)"
@@ -36,6 +37,15 @@ find_is made_last = record { command = refl; own_tables = refl; plain = (refl, r
 find_is from_first = record { command = refl; own_tables = refl; plain = (refl, refl) }
 find_is from_second = record { command = refl; own_tables = refl; plain = (refl, refl) }
 
+find_accepted : (name : List ℕ) → IsAcceptedBy by_domain find_text (Text name ∷ [])
+unfolding understood everything
+find_accepted name made_last = refl
+find_accepted name from_first = refl
+find_accepted name from_second = refl
+
+pub find_unread : (name : List ℕ) → IsUnreadBy by_domain find_text (Text name ∷ [])
+find_unread name = unread_by find_text (Text name ∷ []) _ _ find_is (find_accepted name)
+
 pub finds_domain : (name : List ℕ) → ReadsLastOf by_domain find_text (Text name ∷ []) (ShowsDomain name)
 finds_domain name = reads_by_text find_text domain_table domain_placed 1 (1 ∷ []) _ find_is domain_names.0 name
 
@@ -47,6 +57,15 @@ unfolding understood everything
 names_are made_last = record { command = refl; own_tables = refl; plain = (refl, refl) }
 names_are from_first = record { command = refl; own_tables = refl; plain = (refl, refl) }
 names_are from_second = record { command = refl; own_tables = refl; plain = (refl, refl) }
+
+names_accepted : IsAcceptedBy by_domain names_text []
+unfolding understood everything
+names_accepted made_last = refl
+names_accepted from_first = refl
+names_accepted from_second = refl
+
+pub names_unread : IsUnreadBy by_domain names_text []
+names_unread = unread_by names_text [] _ _ names_are names_accepted
 
 pub reads_domains : ReadsAllOf by_domain names_text [] ShowsDomains
 reads_domains = reads_table names_text domain_table domain_placed (1 ∷ []) (1 ∷ []) (0 ∷ []) _ names_are (λ tree r s. refl)

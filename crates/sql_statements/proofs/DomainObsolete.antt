@@ -33,6 +33,7 @@ use Rattle.sql_schema.proofs.TextKeys.{holds_int}
 use Rattle.sql_schema.proofs.DomainRows.{d_unit_texts}
 use Rattle.sql_statements.specs.Queries.{ShowsObsoleteIn, is_obsolete_of}
 use Rattle.sql_statements.proofs.Seen.{mapped_seen, filtered_seen}
+use Rattle.sql_statements.proofs.ReadsUnread.{IsAcceptedBy, IsUnreadBy, unread_by}
 
 abbrev pub obsolete_text : List ℕ
 obsolete_text = codes "SELECT plural, forms, state, comment, previous, key FROM d_unit WHERE domain = ?1 AND lang = ?2 AND obsolete = 1 ORDER BY key"
@@ -48,6 +49,15 @@ unfolding understood everything
 obsolete_is made_last = record { command = refl; own_tables = refl; plain = (refl, refl) }
 obsolete_is from_first = record { command = refl; own_tables = refl; plain = (refl, refl) }
 obsolete_is from_second = record { command = refl; own_tables = refl; plain = (refl, refl) }
+
+obsolete_accepted : (domain lang : List ℕ) → IsAcceptedBy by_domain obsolete_text (Text domain ∷ Text lang ∷ [])
+unfolding understood everything
+obsolete_accepted domain lang made_last = refl
+obsolete_accepted domain lang from_first = refl
+obsolete_accepted domain lang from_second = refl
+
+pub obsolete_unread : (domain lang : List ℕ) → IsUnreadBy by_domain obsolete_text (Text domain ∷ Text lang ∷ [])
+obsolete_unread domain lang = unread_by obsolete_text (Text domain ∷ Text lang ∷ []) _ _ obsolete_is (obsolete_accepted domain lang)
 
 module _ (domain lang : List ℕ) (s : State) (ready : IsReadyFor by_domain s) where
   abbrev params : Row

@@ -29,6 +29,7 @@ use Rattle.sql_schema.proofs.DomainRows.{one_d_number, d_suggestion_texts, d_sug
 use Rattle.sql_statements.specs.DomainCleared.{is_on_domain_unit}
 use Rattle.sql_statements.specs.DomainAnswers.{ShowsDomainSuggestions, ShowsPlaces, ShowsSuggestionOf, ShowsPlaceOf}
 use Rattle.sql_statements.proofs.Additions.{AddsOf, adds_values}
+use Rattle.sql_statements.proofs.ReadsUnread.{IsAcceptedBy, IsUnreadBy, unread_by}
 
 -- ---- a suggestion is added
 
@@ -62,6 +63,15 @@ unit_is made_last = record { command = refl; own_tables = refl; plain = (refl, r
 unit_is from_first = record { command = refl; own_tables = refl; plain = (refl, refl) }
 unit_is from_second = record { command = refl; own_tables = refl; plain = (refl, refl) }
 
+unit_accepted : (domain lang key : List ℕ) → IsAcceptedBy by_domain unit_text (Text domain ∷ Text lang ∷ Text key ∷ [])
+unfolding understood everything
+unit_accepted domain lang key made_last = refl
+unit_accepted domain lang key from_first = refl
+unit_accepted domain lang key from_second = refl
+
+pub unit_unread : (domain lang key : List ℕ) → IsUnreadBy by_domain unit_text (Text domain ∷ Text lang ∷ Text key ∷ [])
+unit_unread domain lang key = unread_by unit_text (Text domain ∷ Text lang ∷ Text key ∷ []) _ _ unit_is (unit_accepted domain lang key)
+
 abbrev places_text : List ℕ
 places_text = codes "SELECT place FROM d_suggestion WHERE domain = ?1 AND lang = ?2 AND key = ?3 ORDER BY place"
 
@@ -70,6 +80,15 @@ unfolding understood everything
 places_are made_last = record { command = refl; own_tables = refl; plain = (refl, refl) }
 places_are from_first = record { command = refl; own_tables = refl; plain = (refl, refl) }
 places_are from_second = record { command = refl; own_tables = refl; plain = (refl, refl) }
+
+places_accepted : (domain lang key : List ℕ) → IsAcceptedBy by_domain places_text (Text domain ∷ Text lang ∷ Text key ∷ [])
+unfolding understood everything
+places_accepted domain lang key made_last = refl
+places_accepted domain lang key from_first = refl
+places_accepted domain lang key from_second = refl
+
+pub places_unread : (domain lang key : List ℕ) → IsUnreadBy by_domain places_text (Text domain ∷ Text lang ∷ Text key ∷ [])
+places_unread domain lang key = unread_by places_text (Text domain ∷ Text lang ∷ Text key ∷ []) _ _ places_are (places_accepted domain lang key)
 
 module _ (domain lang key : List ℕ) where
   abbrev given : Row
@@ -105,6 +124,15 @@ one_is made_last = record { command = refl; own_tables = refl; plain = (refl, re
 one_is from_first = record { command = refl; own_tables = refl; plain = (refl, refl) }
 one_is from_second = record { command = refl; own_tables = refl; plain = (refl, refl) }
 
+one_accepted : (number domain lang key : List ℕ) → IsAcceptedBy by_domain one_text (Text number ∷ Text domain ∷ Text lang ∷ Text key ∷ [])
+unfolding understood everything
+one_accepted number domain lang key made_last = refl
+one_accepted number domain lang key from_first = refl
+one_accepted number domain lang key from_second = refl
+
+pub one_unread : (number domain lang key : List ℕ) → IsUnreadBy by_domain one_text (Text number ∷ Text domain ∷ Text lang ∷ Text key ∷ [])
+one_unread number domain lang key = unread_by one_text (Text number ∷ Text domain ∷ Text lang ∷ Text key ∷ []) _ _ one_is (one_accepted number domain lang key)
+
 abbrev place_text : List ℕ
 place_text = codes "SELECT place FROM d_suggestion WHERE number = ?1 AND +domain = ?2 AND +lang = ?3 AND +key = ?4"
 
@@ -113,6 +141,15 @@ unfolding understood everything
 place_is made_last = record { command = refl; own_tables = refl; plain = (refl, refl) }
 place_is from_first = record { command = refl; own_tables = refl; plain = (refl, refl) }
 place_is from_second = record { command = refl; own_tables = refl; plain = (refl, refl) }
+
+place_accepted : (number domain lang key : List ℕ) → IsAcceptedBy by_domain place_text (Text number ∷ Text domain ∷ Text lang ∷ Text key ∷ [])
+unfolding understood everything
+place_accepted number domain lang key made_last = refl
+place_accepted number domain lang key from_first = refl
+place_accepted number domain lang key from_second = refl
+
+pub place_unread : (number domain lang key : List ℕ) → IsUnreadBy by_domain place_text (Text number ∷ Text domain ∷ Text lang ∷ Text key ∷ [])
+place_unread number domain lang key = unread_by place_text (Text number ∷ Text domain ∷ Text lang ∷ Text key ∷ []) _ _ place_is (place_accepted number domain lang key)
 
 -- a text is not null
 text_stays : (text : List ℕ) → binary by.Coalesce (Text text) Null ≡ Text text

@@ -21,6 +21,7 @@ use Rattle.sql_schema.proofs.DomainRows.{d_entry_texts, one_d_entry_place}
 use Rattle.sql_statements.specs.DomainAnswers.{ShowsDomainEntry}
 use Rattle.sql_statements.specs.DomainEntries.{is_entry_of}
 use Rattle.sql_statements.proofs.Removals.{IsRemoval, TakesOf, takes_rows}
+use Rattle.sql_statements.proofs.ReadsUnread.{IsAcceptedBy, IsUnreadBy, unread_by}
 
 -- ---- an entry goes in
 
@@ -84,6 +85,15 @@ unfolding understood everything
 find_is made_last = record { command = refl; own_tables = refl; plain = (refl, refl) }
 find_is from_first = record { command = refl; own_tables = refl; plain = (refl, refl) }
 find_is from_second = record { command = refl; own_tables = refl; plain = (refl, refl) }
+
+find_accepted : (domain key : List ℕ) → IsAcceptedBy by_domain find_text (Text domain ∷ Text key ∷ [])
+unfolding understood everything
+find_accepted domain key made_last = refl
+find_accepted domain key from_first = refl
+find_accepted domain key from_second = refl
+
+pub find_unread : (domain key : List ℕ) → IsUnreadBy by_domain find_text (Text domain ∷ Text key ∷ [])
+find_unread domain key = unread_by find_text (Text domain ∷ Text key ∷ []) _ _ find_is (find_accepted domain key)
 
 pub finds_entry : (domain key : List ℕ) → ReadsLastOf by_domain find_text (Text domain ∷ Text key ∷ []) (ShowsDomainEntry domain key)
 finds_entry domain key =

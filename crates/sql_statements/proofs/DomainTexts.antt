@@ -12,6 +12,7 @@ use Rattle.sql_schema.proofs.DomainRows.{d_entry_texts, d_language_texts, d_unit
 use Rattle.sql_statements.specs.Tables.{ShowsTemplateIn, ShowsLanguagesIn, ShowsUnitsIn, ShowsSuggestionsIn}
 use Rattle.sql_statements.proofs.TableQueries.{IsPartQueryOf}
 use Rattle.sql_statements.proofs.Seen.{reads_seen}
+use Rattle.sql_statements.proofs.ReadsUnread.{IsAcceptedBy, IsUnreadBy, unread_by}
 
 abbrev entries_text : List ℕ
 entries_text = codes "SELECT plural, extracted, refs, flags, key, place FROM d_template WHERE domain = ?1 ORDER BY place"
@@ -22,6 +23,15 @@ unfolding understood everything
 entries_are made_last = record { command = refl; own_tables = refl; plain = (refl, refl) }
 entries_are from_first = record { command = refl; own_tables = refl; plain = (refl, refl) }
 entries_are from_second = record { command = refl; own_tables = refl; plain = (refl, refl) }
+
+entries_accepted : (domain : List ℕ) → IsAcceptedBy by_domain entries_text (Text domain ∷ [])
+unfolding understood everything
+entries_accepted domain made_last = refl
+entries_accepted domain from_first = refl
+entries_accepted domain from_second = refl
+
+pub entries_unread : (domain : List ℕ) → IsUnreadBy by_domain entries_text (Text domain ∷ [])
+entries_unread domain = unread_by entries_text (Text domain ∷ []) _ _ entries_are (entries_accepted domain)
 
 pub reads_entries : (domain : List ℕ) → ReadsAllOf by_domain entries_text (Text domain ∷ []) (λ db rows. ShowsTemplateIn (seen_in domain (rows_named db)) rows)
 reads_entries domain = reads_seen entries_text d_template_table d_template_placed 1 (4 ∷ 5 ∷ 6 ∷ 7 ∷ 3 ∷ 2 ∷ []) (2 ∷ []) (5 ∷ []) _ entries_are d_entry_texts.0 domain (λ tree r s. refl)
@@ -37,6 +47,15 @@ languages_are made_last = record { command = refl; own_tables = refl; plain = (r
 languages_are from_first = record { command = refl; own_tables = refl; plain = (refl, refl) }
 languages_are from_second = record { command = refl; own_tables = refl; plain = (refl, refl) }
 
+languages_accepted : (domain : List ℕ) → IsAcceptedBy by_domain languages_text (Text domain ∷ [])
+unfolding understood everything
+languages_accepted domain made_last = refl
+languages_accepted domain from_first = refl
+languages_accepted domain from_second = refl
+
+pub languages_unread : (domain : List ℕ) → IsUnreadBy by_domain languages_text (Text domain ∷ [])
+languages_unread domain = unread_by languages_text (Text domain ∷ []) _ _ languages_are (languages_accepted domain)
+
 pub reads_languages : (domain : List ℕ) → ReadsAllOf by_domain languages_text (Text domain ∷ []) (λ db rows. ShowsLanguagesIn (seen_in domain (rows_named db)) rows)
 reads_languages domain = reads_seen languages_text d_language_table d_language_placed 1 (3 ∷ 4 ∷ 2 ∷ []) (2 ∷ []) (2 ∷ []) _ languages_are d_language_texts.0 domain (λ tree r s. refl)
     (codes "language") language_seen (2 ∷ 3 ∷ 1 ∷ []) (λ tables. refl) (λ row. refl)
@@ -51,6 +70,15 @@ units_are made_last = record { command = refl; own_tables = refl; plain = (refl,
 units_are from_first = record { command = refl; own_tables = refl; plain = (refl, refl) }
 units_are from_second = record { command = refl; own_tables = refl; plain = (refl, refl) }
 
+units_accepted : (domain : List ℕ) → IsAcceptedBy by_domain units_text (Text domain ∷ [])
+unfolding understood everything
+units_accepted domain made_last = refl
+units_accepted domain from_first = refl
+units_accepted domain from_second = refl
+
+pub units_unread : (domain : List ℕ) → IsUnreadBy by_domain units_text (Text domain ∷ [])
+units_unread domain = unread_by units_text (Text domain ∷ []) _ _ units_are (units_accepted domain)
+
 pub reads_units : (domain : List ℕ) → ReadsAllOf by_domain units_text (Text domain ∷ []) (λ db rows. ShowsUnitsIn (seen_in domain (rows_named db)) rows)
 reads_units domain = reads_seen units_text d_unit_table d_unit_placed 1 (4 ∷ 5 ∷ 6 ∷ 7 ∷ 8 ∷ 9 ∷ 10 ∷ 2 ∷ 3 ∷ []) (2 ∷ 3 ∷ []) (7 ∷ 8 ∷ []) _ units_are d_unit_texts.0 domain (λ tree r s. refl)
     (codes "unit") unit_seen (3 ∷ 4 ∷ 5 ∷ 6 ∷ 7 ∷ 8 ∷ 9 ∷ 1 ∷ 2 ∷ []) (λ tables. refl) (λ row. refl)
@@ -64,6 +92,15 @@ unfolding understood everything
 suggestions_are made_last = record { command = refl; own_tables = refl; plain = (refl, refl) }
 suggestions_are from_first = record { command = refl; own_tables = refl; plain = (refl, refl) }
 suggestions_are from_second = record { command = refl; own_tables = refl; plain = (refl, refl) }
+
+suggestions_accepted : (domain : List ℕ) → IsAcceptedBy by_domain suggestions_text (Text domain ∷ [])
+unfolding understood everything
+suggestions_accepted domain made_last = refl
+suggestions_accepted domain from_first = refl
+suggestions_accepted domain from_second = refl
+
+pub suggestions_unread : (domain : List ℕ) → IsUnreadBy by_domain suggestions_text (Text domain ∷ [])
+suggestions_unread domain = unread_by suggestions_text (Text domain ∷ []) _ _ suggestions_are (suggestions_accepted domain)
 
 pub reads_suggestions : (domain : List ℕ) → ReadsAllOf by_domain suggestions_text (Text domain ∷ []) (λ db rows. ShowsSuggestionsIn (seen_in domain (rows_named db)) rows)
 reads_suggestions domain = reads_seen suggestions_text d_suggestion_table d_suggestion_placed 2 (1 ∷ 5 ∷ 6 ∷ 7 ∷ 3 ∷ 4 ∷ []) (3 ∷ 4 ∷ 5 ∷ []) (4 ∷ 5 ∷ 1 ∷ []) _ suggestions_are d_suggestion_units.0 domain (λ tree r s. refl)

@@ -14,6 +14,7 @@ use Rattle.sql_schema.proofs.Queries.{IsQueryOf, ReadsLastOf, ReadsAllOf, AreTes
 use Rattle.sql_schema.proofs.TextQueries.{are_given, reads_by_all}
 use Rattle.sql_statements.specs.DomainAnswers.{ShowsDomainUnit, ShowsLanguageUnits}
 use Rattle.sql_statements.proofs.TableQueries.{IsPartQueryOf, reads_part}
+use Rattle.sql_statements.proofs.ReadsUnread.{IsAcceptedBy, IsUnreadBy, unread_by}
 
 abbrev unit_text : List ℕ
 unit_text = codes "SELECT plural, forms, state, obsolete, revision, comment, previous FROM d_unit WHERE domain = ?1 AND lang = ?2 AND key = ?3"
@@ -24,6 +25,15 @@ unfolding understood everything
 unit_is made_last = record { command = refl; own_tables = refl; plain = (refl, refl) }
 unit_is from_first = record { command = refl; own_tables = refl; plain = (refl, refl) }
 unit_is from_second = record { command = refl; own_tables = refl; plain = (refl, refl) }
+
+unit_accepted : (domain lang key : List ℕ) → IsAcceptedBy by_domain unit_text (Text domain ∷ Text lang ∷ Text key ∷ [])
+unfolding understood everything
+unit_accepted domain lang key made_last = refl
+unit_accepted domain lang key from_first = refl
+unit_accepted domain lang key from_second = refl
+
+pub unit_unread : (domain lang key : List ℕ) → IsUnreadBy by_domain unit_text (Text domain ∷ Text lang ∷ Text key ∷ [])
+unit_unread domain lang key = unread_by unit_text (Text domain ∷ Text lang ∷ Text key ∷ []) _ _ unit_is (unit_accepted domain lang key)
 
 pub finds_unit : (domain lang key : List ℕ) → ReadsLastOf by_domain unit_text (Text domain ∷ Text lang ∷ Text key ∷ []) (ShowsDomainUnit domain lang key)
 finds_unit domain lang key =
@@ -41,6 +51,15 @@ unfolding understood everything
 language_is made_last = record { command = refl; own_tables = refl; plain = (refl, refl) }
 language_is from_first = record { command = refl; own_tables = refl; plain = (refl, refl) }
 language_is from_second = record { command = refl; own_tables = refl; plain = (refl, refl) }
+
+language_accepted : (domain lang : List ℕ) → IsAcceptedBy by_domain language_text (Text domain ∷ Text lang ∷ [])
+unfolding understood everything
+language_accepted domain lang made_last = refl
+language_accepted domain lang from_first = refl
+language_accepted domain lang from_second = refl
+
+pub language_unread : (domain lang : List ℕ) → IsUnreadBy by_domain language_text (Text domain ∷ Text lang ∷ [])
+language_unread domain lang = unread_by language_text (Text domain ∷ Text lang ∷ []) _ _ language_is (language_accepted domain lang)
 
 module _ (domain lang : List ℕ) where
   abbrev pub given : Row

@@ -32,6 +32,7 @@ use Rattle.sql_statements.specs.DomainVotes.{is_vote_of}
 use Rattle.sql_statements.proofs.Removals.{IsRemoval, TakesOf, takes_rows}
 use Rattle.sql_statements.proofs.Untouched.{none_refers, drop_false}
 use Rattle.sql_statements.proofs.Upserts.{IsUpsert, puts_or_renews_values}
+use Rattle.sql_statements.proofs.ReadsUnread.{IsAcceptedBy, IsUnreadBy, unread_by}
 
 -- ---- an upsert
 
@@ -109,6 +110,15 @@ unfolding understood everything
 votes_are made_last = record { command = refl; own_tables = refl; plain = (refl, refl) }
 votes_are from_first = record { command = refl; own_tables = refl; plain = (refl, refl) }
 votes_are from_second = record { command = refl; own_tables = refl; plain = (refl, refl) }
+
+votes_accepted : (number : List ℕ) → IsAcceptedBy by_domain votes_text (Text number ∷ [])
+unfolding understood everything
+votes_accepted number made_last = refl
+votes_accepted number from_first = refl
+votes_accepted number from_second = refl
+
+pub votes_unread : (number : List ℕ) → IsUnreadBy by_domain votes_text (Text number ∷ [])
+votes_unread number = unread_by votes_text (Text number ∷ []) _ _ votes_are (votes_accepted number)
 
 pub reads_votes : (number : List ℕ) → ReadsAllOf by_domain votes_text (Text number ∷ []) (ShowsDomainVotes number)
 reads_votes = reads_with_text votes_text d_vote_table d_vote_placed 1 (2 ∷ 3 ∷ []) _ votes_are d_vote_texts.0

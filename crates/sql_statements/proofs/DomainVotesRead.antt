@@ -31,6 +31,7 @@ use Rattle.sql_schema.proofs.DomainRows.{d_vote_texts, d_suggestion_texts, d_sug
 use Rattle.sql_statements.specs.Tables.{by_columns, ShowsVotesIn}
 use Rattle.sql_statements.proofs.OnePassing.{first_or_none}
 use Rattle.sql_statements.proofs.Seen.{mapped_seen}
+use Rattle.sql_statements.proofs.ReadsUnread.{IsAcceptedBy, IsUnreadBy, unread_by}
 
 abbrev votes_text : List ℕ
 votes_text = codes "SELECT voter, value, d_vote.number FROM d_vote JOIN d_suggestion ON d_suggestion.number = d_vote.number WHERE d_suggestion.domain = ?1 ORDER BY d_vote.number, voter"
@@ -50,6 +51,15 @@ unfolding understood everything
 votes_are made_last = record { command = refl; own_tables = refl; plain = (refl, refl) }
 votes_are from_first = record { command = refl; own_tables = refl; plain = (refl, refl) }
 votes_are from_second = record { command = refl; own_tables = refl; plain = (refl, refl) }
+
+votes_accepted : (domain : List ℕ) → IsAcceptedBy by_domain votes_text (Text domain ∷ [])
+unfolding understood everything
+votes_accepted domain made_last = refl
+votes_accepted domain from_first = refl
+votes_accepted domain from_second = refl
+
+pub votes_unread : (domain : List ℕ) → IsUnreadBy by_domain votes_text (Text domain ∷ [])
+votes_unread domain = unread_by votes_text (Text domain ∷ []) _ _ votes_are (votes_accepted domain)
 
 module _ (domain : List ℕ) where
   abbrev params : Row

@@ -38,6 +38,7 @@ pub mod SeenAnswers
 pub mod OwnersRead
 pub mod ContextSeen
 pub mod ReadsBlame
+pub mod ReadsUnread
 pub mod SumsWalked
 pub mod ApprovalsRead
 pub mod UnitWalks

@@ -25,6 +25,7 @@ use Rattle.sql_schema.proofs.Queries.{IsQueryOf, ReadsLastOf, AreTestsOf, is_giv
 use Rattle.sql_schema.specs.Layouts.{Form, made_new, made_second, made_last, from_first, from_second}
 use Rattle.sql_schema.proofs.Layouts.{team_placed, policy_placed}
 use Rattle.sql_schema.specs.Schema.{team_table, policy_table}
+use Rattle.sql_statements.proofs.ReadsUnread.{IsAcceptedBy, IsUnreadBy, unread_by}
 
 -- ---- a member's role
 
@@ -42,6 +43,17 @@ member_is from_second = record { command = refl; own_tables = refl; plain = (ref
 pub finds_member : {form : Form} (name : List ℕ) → ReadsLastOf form member_text (Text name ∷ []) (ShowsKey (codes "team") first_text (columns (2 ∷ [])) name)
 finds_member = reads_by_text member_text team_table team_placed 1 (2 ∷ []) _ member_is member_names
 
+member_accepted : {form : Form} (name : List ℕ) → IsAcceptedBy form member_text (Text name ∷ [])
+unfolding understood everything
+member_accepted name made_new = refl
+member_accepted name made_second = refl
+member_accepted name made_last = refl
+member_accepted name from_first = refl
+member_accepted name from_second = refl
+
+pub member_unread : {form : Form} (name : List ℕ) → IsUnreadBy form member_text (Text name ∷ [])
+member_unread name = unread_by member_text (Text name ∷ []) _ _ member_is (member_accepted name)
+
 -- ---- the policy
 
 abbrev policy_text : List ℕ
@@ -58,6 +70,17 @@ policy_is made_second = record { command = refl; own_tables = refl; plain = (ref
 policy_is made_last = record { command = refl; own_tables = refl; plain = (refl, refl) }
 policy_is from_first = record { command = refl; own_tables = refl; plain = (refl, refl) }
 policy_is from_second = record { command = refl; own_tables = refl; plain = (refl, refl) }
+
+policy_accepted : {form : Form} → IsAcceptedBy form policy_text []
+unfolding understood everything
+policy_accepted made_new = refl
+policy_accepted made_second = refl
+policy_accepted made_last = refl
+policy_accepted from_first = refl
+policy_accepted from_second = refl
+
+pub policy_unread : {form : Form} → IsUnreadBy form policy_text []
+policy_unread = unread_by policy_text [] _ _ policy_is policy_accepted
 
 -- the policy's row has the rowid 1
 abbrev is_one : Value → Bool

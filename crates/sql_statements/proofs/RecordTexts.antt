@@ -11,6 +11,7 @@ use Rattle.sql_statements.specs.RecordTable.{ShowsRecords}
 use Rattle.sql_schema.specs.Layouts.{Form, made_new, made_second, made_last, from_first, from_second}
 use Rattle.sql_schema.proofs.Layouts.{record_placed}
 use Rattle.sql_schema.specs.Schema.{record_table}
+use Rattle.sql_statements.proofs.ReadsUnread.{IsAcceptedBy, IsUnreadBy, unread_by}
 
 abbrev pub records_text : List ℕ
 records_text = codes "SELECT content, status, body, number FROM record ORDER BY number"
@@ -23,6 +24,17 @@ records_are made_second = record { command = refl; own_tables = refl; plain = (r
 records_are made_last = record { command = refl; own_tables = refl; plain = (refl, refl) }
 records_are from_first = record { command = refl; own_tables = refl; plain = (refl, refl) }
 records_are from_second = record { command = refl; own_tables = refl; plain = (refl, refl) }
+
+records_accepted : {form : Form} → IsAcceptedBy form records_text []
+unfolding understood everything
+records_accepted made_new = refl
+records_accepted made_second = refl
+records_accepted made_last = refl
+records_accepted from_first = refl
+records_accepted from_second = refl
+
+pub records_unread : {form : Form} → IsUnreadBy form records_text []
+records_unread = unread_by records_text [] _ _ records_are records_accepted
 
 module _ {form : Form} (s : State) (ready : IsReadyFor form s) where
   pub records_plain : IsPlain (understood s.now.schema records_text)

@@ -35,6 +35,7 @@ use Rattle.sql_schema.proofs.OrderedQueries.{IsOrderedQueryOf}
 use Rattle.sql_schema.proofs.Queries.{IsQueryOf, ReadsLastOf, is_given, reads_by_text, rows_read, shows_columns, filtered_same}
 use Rattle.sql_schema.proofs.TableRows.{record_numbers}
 use Rattle.sql_statements.specs.RecordsInOrder.{is_behind, ShowsBehind}
+use Rattle.sql_statements.proofs.ReadsUnread.{IsAcceptedBy, IsUnreadBy, unread_by}
 
 -- ---- the place of one
 
@@ -48,6 +49,17 @@ place_is made_second = record { command = refl; own_tables = refl; plain = (refl
 place_is made_last = record { command = refl; own_tables = refl; plain = (refl, refl) }
 place_is from_first = record { command = refl; own_tables = refl; plain = (refl, refl) }
 place_is from_second = record { command = refl; own_tables = refl; plain = (refl, refl) }
+
+place_accepted : {form : Form} (number : List ℕ) → IsAcceptedBy form place_text (Text number ∷ [])
+unfolding understood everything
+place_accepted number made_new = refl
+place_accepted number made_second = refl
+place_accepted number made_last = refl
+place_accepted number from_first = refl
+place_accepted number from_second = refl
+
+pub place_unread : {form : Form} (number : List ℕ) → IsUnreadBy form place_text (Text number ∷ [])
+place_unread number = unread_by place_text (Text number ∷ []) _ _ place_is (place_accepted number)
 
 pub finds_place : {form : Form} (number : List ℕ) → ReadsLastOf form place_text (Text number ∷ []) (ShowsKey (codes "record") first_text (columns (0 ∷ [])) number)
 finds_place number = reads_by_text place_text record_table record_placed 1 (0 ∷ []) _ place_is record_numbers number
@@ -77,6 +89,17 @@ all_is made_last = record { command = refl; own_tables = refl; plain = (refl, re
 all_is from_first = record { command = refl; own_tables = refl; plain = (refl, refl) }
 all_is from_second = record { command = refl; own_tables = refl; plain = (refl, refl) }
 
+all_accepted : {form : Form} → IsAcceptedBy form all_text []
+unfolding understood everything
+all_accepted made_new = refl
+all_accepted made_second = refl
+all_accepted made_last = refl
+all_accepted from_first = refl
+all_accepted from_second = refl
+
+pub all_unread : {form : Form} → IsUnreadBy form all_text []
+all_unread = unread_by all_text [] _ _ all_is all_accepted
+
 behind_is : {form : Form} → IsOrderedQueryOf form behind_text record_table behind_terms places 0 names
 unfolding understood everything
 behind_is made_new = record { command = refl; own_tables = refl; plain = (refl, refl) }
@@ -84,6 +107,17 @@ behind_is made_second = record { command = refl; own_tables = refl; plain = (ref
 behind_is made_last = record { command = refl; own_tables = refl; plain = (refl, refl) }
 behind_is from_first = record { command = refl; own_tables = refl; plain = (refl, refl) }
 behind_is from_second = record { command = refl; own_tables = refl; plain = (refl, refl) }
+
+behind_accepted : {form : Form} (place : ℤ) → IsAcceptedBy form behind_text (Int place ∷ [])
+unfolding understood everything
+behind_accepted place made_new = refl
+behind_accepted place made_second = refl
+behind_accepted place made_last = refl
+behind_accepted place from_first = refl
+behind_accepted place from_second = refl
+
+pub behind_unread : {form : Form} (place : ℤ) → IsUnreadBy form behind_text (Int place ∷ [])
+behind_unread place = unread_by behind_text (Int place ∷ []) _ _ behind_is (behind_accepted place)
 
 -- how SQL finds that an integer is above another
 above : (a : Value) (n : ℤ) → is_int a ≡ true → is_true (binary (by.Compare compare.Gt Binary) a (Int n)) ≡ is_gt (value_cmp a (Int n))

@@ -41,6 +41,7 @@ use Rattle.sql_statements.specs.Tables.{by_columns}
 use Rattle.sql_statements.specs.WalkedRows.{is_unit_under, is_textual, has_plural, plurals_under, suggestion_beside, is_suggestion_of, ShowsSuggestionsOf}
 use Rattle.sql_statements.proofs.DomainUnitReads.{given}
 use Rattle.sql_statements.proofs.SumsWalked.{mapped_same}
+use Rattle.sql_statements.proofs.ReadsUnread.{IsAcceptedBy, IsUnreadBy, unread_by}
 
 abbrev pub suggestions_text : List ℕ
 suggestions_text = codes "SELECT number, place, suggester, forms, lang, key, (SELECT count(*) FROM d_unit WHERE d_unit.domain = d_suggestion.domain AND d_unit.lang = d_suggestion.lang AND d_unit.key = d_suggestion.key AND typeof(plural) = 'text') AS plurals FROM d_suggestion WHERE domain = ?1 AND lang = ?2 ORDER BY key, place"
@@ -74,6 +75,15 @@ unfolding understood everything
 suggestions_are made_last = record { command = refl; own_tables = refl; plain = (refl, refl) }
 suggestions_are from_first = record { command = refl; own_tables = refl; plain = (refl, refl) }
 suggestions_are from_second = record { command = refl; own_tables = refl; plain = (refl, refl) }
+
+suggestions_accepted : (domain lang : List ℕ) → IsAcceptedBy by_domain suggestions_text (given domain lang)
+unfolding understood everything
+suggestions_accepted domain lang made_last = refl
+suggestions_accepted domain lang from_first = refl
+suggestions_accepted domain lang from_second = refl
+
+pub suggestions_unread : (domain lang : List ℕ) → IsUnreadBy by_domain suggestions_text (given domain lang)
+suggestions_unread domain lang = unread_by suggestions_text (given domain lang) _ _ suggestions_are (suggestions_accepted domain lang)
 
 textual_told : (v : Value) → is_true (binary (by.Compare compare.Eq Binary) (unary alone.TypeOf v) (Words (codes "text"))) ≡ is_textual v
 unfolding unary

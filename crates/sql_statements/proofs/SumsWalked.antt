@@ -40,6 +40,7 @@ use Rattle.sql_schema.proofs.Queries.{Asks, filtered_same, rows_read}
 use Rattle.sql_schema.proofs.TextKeys.{holds_int}
 use Rattle.sql_statements.specs.SummedVotes.{is_integer, is_counted, votes_counted, most_counted, told, sum_counted, ShowsSummed}
 use Rattle.sql_statements.specs.Tables.{by_columns}
+use Rattle.sql_statements.proofs.ReadsUnread.{IsAcceptedBy, IsUnreadBy, unread_by}
 
 abbrev pub sums_text : List ℕ
 sums_text = codes "SELECT number, sum, (SELECT count(*) FROM d_vote WHERE d_vote.number = d_vote_sum.number AND value = 1) AS votes_for, (SELECT count(*) FROM d_vote WHERE d_vote.number = d_vote_sum.number AND value = -1) AS against FROM d_vote_sum ORDER BY number"
@@ -68,6 +69,15 @@ unfolding understood everything
 sums_are made_last = record { command = refl; own_tables = refl; plain = (refl, refl) }
 sums_are from_first = record { command = refl; own_tables = refl; plain = (refl, refl) }
 sums_are from_second = record { command = refl; own_tables = refl; plain = (refl, refl) }
+
+sums_accepted : IsAcceptedBy by_domain sums_text []
+unfolding understood everything
+sums_accepted made_last = refl
+sums_accepted from_first = refl
+sums_accepted from_second = refl
+
+pub sums_unread : IsUnreadBy by_domain sums_text []
+sums_unread = unread_by sums_text [] _ _ sums_are sums_accepted
 
 -- ---- rows
 

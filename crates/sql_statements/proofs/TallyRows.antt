@@ -32,6 +32,7 @@ use Rattle.sql_statements.proofs.Untouched.{none_refers, drop_false}
 use Rattle.sql_statements.proofs.TableQueries.{IsPartQueryOf}
 use Rattle.sql_statements.proofs.Seen.{reads_of_domain}
 use Rattle.sql_statements.proofs.Upserts.{IsUpsert, puts_or_renews_values}
+use Rattle.sql_statements.proofs.ReadsUnread.{IsAcceptedBy, IsUnreadBy, unread_by}
 
 -- ---- a look
 
@@ -44,6 +45,15 @@ unfolding understood everything
 find_is made_last = record { command = refl; own_tables = refl; plain = (refl, refl) }
 find_is from_first = record { command = refl; own_tables = refl; plain = (refl, refl) }
 find_is from_second = record { command = refl; own_tables = refl; plain = (refl, refl) }
+
+find_accepted : (domain lang : List ℕ) → IsAcceptedBy by_domain find_text (Text domain ∷ Text lang ∷ [])
+unfolding understood everything
+find_accepted domain lang made_last = refl
+find_accepted domain lang from_first = refl
+find_accepted domain lang from_second = refl
+
+pub find_unread : (domain lang : List ℕ) → IsUnreadBy by_domain find_text (Text domain ∷ Text lang ∷ [])
+find_unread domain lang = unread_by find_text (Text domain ∷ Text lang ∷ []) _ _ find_is (find_accepted domain lang)
 
 pub finds_tally : (domain lang : List ℕ) → ReadsLastOf by_domain find_text (Text domain ∷ Text lang ∷ []) (ShowsTally domain lang)
 finds_tally domain lang =
@@ -60,6 +70,15 @@ unfolding understood everything
 domain_is made_last = record { command = refl; own_tables = refl; plain = (refl, refl) }
 domain_is from_first = record { command = refl; own_tables = refl; plain = (refl, refl) }
 domain_is from_second = record { command = refl; own_tables = refl; plain = (refl, refl) }
+
+domain_accepted : (domain : List ℕ) → IsAcceptedBy by_domain domain_text (Text domain ∷ [])
+unfolding understood everything
+domain_accepted domain made_last = refl
+domain_accepted domain from_first = refl
+domain_accepted domain from_second = refl
+
+pub domain_unread : (domain : List ℕ) → IsUnreadBy by_domain domain_text (Text domain ∷ [])
+domain_unread domain = unread_by domain_text (Text domain ∷ []) _ _ domain_is (domain_accepted domain)
 
 pub reads_tallies : (domain : List ℕ) → ReadsAllOf by_domain domain_text (Text domain ∷ []) (ShowsTallies domain)
 reads_tallies domain = reads_of_domain domain_text d_tally_table d_tally_placed 1 (3 ∷ 4 ∷ 5 ∷ 6 ∷ 7 ∷ 8 ∷ 9 ∷ 2 ∷ []) (2 ∷ []) (7 ∷ []) _ domain_is d_tally_texts.0 domain (λ tree r s. refl)

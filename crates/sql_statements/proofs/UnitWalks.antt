@@ -11,6 +11,7 @@ use Rattle.sql_schema.specs.Schema.{d_vote_table}
 use Rattle.sql_schema.proofs.Layouts.{d_vote_placed}
 use Rattle.sql_statements.specs.WalkedRows.{ShowsAllVotes}
 use Rattle.sql_statements.proofs.TableQueries.{IsTableQueryOf, table_plain, table_shown, table_begun}
+use Rattle.sql_statements.proofs.ReadsUnread.{IsAcceptedBy, IsUnreadBy, unread_by}
 
 abbrev pub votes_text : List ℕ
 votes_text = codes "SELECT voter, value, number FROM d_vote ORDER BY number, voter"
@@ -20,6 +21,15 @@ unfolding understood everything
 votes_are made_last = record { command = refl; own_tables = refl; plain = (refl, refl) }
 votes_are from_first = record { command = refl; own_tables = refl; plain = (refl, refl) }
 votes_are from_second = record { command = refl; own_tables = refl; plain = (refl, refl) }
+
+votes_accepted : IsAcceptedBy by_domain votes_text []
+unfolding understood everything
+votes_accepted made_last = refl
+votes_accepted from_first = refl
+votes_accepted from_second = refl
+
+pub votes_unread : IsUnreadBy by_domain votes_text []
+votes_unread = unread_by votes_text [] _ _ votes_are votes_accepted
 
 module _ (s : State) (ready : IsReadyFor by_domain s) where
   pub votes_plain : IsPlain (understood s.now.schema votes_text)

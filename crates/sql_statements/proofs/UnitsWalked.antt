@@ -5,7 +5,7 @@ use Rattle.std.specs.List.{list_all}
 use Rattle.std.specs.List.Sorted.{IsPermutation}
 use Rattle.std.proofs.Math.Bool.{and-true}
 use Rattle.sqlite.specs.Collation.TheVariants.{Binary}
-use Rattle.sqlite.specs.declared.types.Value.TheVariants.{Null, Int}
+use Rattle.sqlite.specs.declared.types.Value.TheVariants.{Text, Null, Int}
 use Rattle.sqlite.specs.Order.{Row, column}
 use Rattle.sqlite.specs.Tree.{Trees}
 use Rattle.sqlite.specs.Term.{Term, col, op2}
@@ -38,6 +38,7 @@ use Rattle.sql_statements.specs.Tables.{by_columns}
 use Rattle.sql_statements.specs.WalkedRows.{suggestions_on, unit_counted, is_unit_of, ShowsUnitsOf}
 use Rattle.sql_statements.proofs.DomainUnitReads.{given, of_language}
 use Rattle.sql_statements.proofs.SumsWalked.{mapped_same}
+use Rattle.sql_statements.proofs.ReadsUnread.{IsAcceptedBy, IsUnreadBy, unread_by}
 
 abbrev pub units_text : List ℕ
 units_text = codes "SELECT plural, forms, state, obsolete, revision, comment, previous, lang, key, (SELECT count(*) FROM d_suggestion WHERE d_suggestion.domain = d_unit.domain AND d_suggestion.lang = d_unit.lang AND d_suggestion.key = d_unit.key) AS suggestions FROM d_unit WHERE domain = ?1 AND lang = ?2 ORDER BY key"
@@ -67,6 +68,15 @@ unfolding understood everything
 units_are made_last = record { command = refl; own_tables = refl; plain = (refl, refl) }
 units_are from_first = record { command = refl; own_tables = refl; plain = (refl, refl) }
 units_are from_second = record { command = refl; own_tables = refl; plain = (refl, refl) }
+
+units_accepted : (domain lang : List ℕ) → IsAcceptedBy by_domain units_text (Text domain ∷ Text lang ∷ [])
+unfolding understood everything
+units_accepted domain lang made_last = refl
+units_accepted domain lang from_first = refl
+units_accepted domain lang from_second = refl
+
+pub units_unread : (domain lang : List ℕ) → IsUnreadBy by_domain units_text (Text domain ∷ Text lang ∷ [])
+units_unread domain lang = unread_by units_text (Text domain ∷ Text lang ∷ []) _ _ units_are (units_accepted domain lang)
 
 module _ (domain lang : List ℕ) (s : State) (ready : IsReadyFor by_domain s) where
   abbrev params : Row

@@ -38,6 +38,7 @@ use Rattle.sql_schema.proofs.Layouts.{d_language_placed, d_unit_placed}
 use Rattle.sql_schema.proofs.Queries.{Asks, filtered_same, rows_read}
 use Rattle.sql_statements.specs.SummedVotes.{most_counted}
 use Rattle.sql_statements.specs.WalkedRows.{is_empty, is_unplaced, ShowsUnplaced}
+use Rattle.sql_statements.proofs.ReadsUnread.{IsAcceptedBy, IsUnreadBy, unread_by}
 
 abbrev pub unplaced_text : List ℕ
 unplaced_text = codes "SELECT domain, lang FROM d_unit WHERE (SELECT count(*) FROM d_language WHERE d_language.domain = d_unit.domain AND d_language.lang = d_unit.lang) = 0 ORDER BY domain, lang, key"
@@ -66,6 +67,15 @@ unfolding understood everything
 unplaced_are made_last = record { command = refl; own_tables = refl; plain = (refl, refl) }
 unplaced_are from_first = record { command = refl; own_tables = refl; plain = (refl, refl) }
 unplaced_are from_second = record { command = refl; own_tables = refl; plain = (refl, refl) }
+
+unplaced_accepted : IsAcceptedBy by_domain unplaced_text []
+unfolding understood everything
+unplaced_accepted made_last = refl
+unplaced_accepted from_first = refl
+unplaced_accepted from_second = refl
+
+pub unplaced_unread : IsUnreadBy by_domain unplaced_text []
+unplaced_unread = unread_by unplaced_text [] _ _ unplaced_are unplaced_accepted
 
 some_counted : (n : ℕ) → 0 < n → is_eq (value_cmp (Int (pos n)) (Int (pos 0))) ≡ false
 some_counted n some = let above : int_cmp (pos n) (pos 0) ≡ Greater = grind (arith, ints, nat_tests) in ap is_eq (value_cmp-Int (pos n) (pos 0) ∙ above)

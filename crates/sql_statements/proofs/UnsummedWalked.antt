@@ -35,6 +35,7 @@ use Rattle.sql_schema.proofs.Queries.{Asks, filtered_same, rows_read}
 use Rattle.sql_statements.specs.SummedVotes.{most_counted}
 use Rattle.sql_statements.specs.WalkedRows.{is_unsummed, ShowsUnsummed}
 use Rattle.sql_statements.proofs.UnplacedWalked.{none_there}
+use Rattle.sql_statements.proofs.ReadsUnread.{IsAcceptedBy, IsUnreadBy, unread_by}
 
 abbrev pub unsummed_text : List ℕ
 unsummed_text = codes "SELECT number FROM d_suggestion WHERE (SELECT count(*) FROM d_vote_sum WHERE d_vote_sum.number = d_suggestion.number) = 0 ORDER BY number"
@@ -60,6 +61,15 @@ unfolding understood everything
 unsummed_are made_last = record { command = refl; own_tables = refl; plain = (refl, refl) }
 unsummed_are from_first = record { command = refl; own_tables = refl; plain = (refl, refl) }
 unsummed_are from_second = record { command = refl; own_tables = refl; plain = (refl, refl) }
+
+unsummed_accepted : IsAcceptedBy by_domain unsummed_text []
+unfolding understood everything
+unsummed_accepted made_last = refl
+unsummed_accepted from_first = refl
+unsummed_accepted from_second = refl
+
+pub unsummed_unread : IsUnreadBy by_domain unsummed_text []
+unsummed_unread = unread_by unsummed_text [] _ _ unsummed_are unsummed_accepted
 
 module _ (s : State) (ready : IsReadyFor by_domain s) where
   abbrev layout : Layout by_domain

@@ -31,6 +31,7 @@ use Rattle.sql_schema.proofs.DomainRows.{d_vote_sum_texts, one_d_sum}
 use Rattle.sql_statements.specs.DomainAnswers.{ShowsSum}
 use Rattle.sql_statements.proofs.Untouched.{none_refers, drop_false}
 use Rattle.sql_statements.proofs.Upserts.{IsUpsert, puts_or_renews_values}
+use Rattle.sql_statements.proofs.ReadsUnread.{IsAcceptedBy, IsUnreadBy, unread_by}
 
 -- ---- an upsert
 
@@ -87,6 +88,15 @@ unfolding understood everything
 find_is made_last = record { command = refl; own_tables = refl; plain = (refl, refl) }
 find_is from_first = record { command = refl; own_tables = refl; plain = (refl, refl) }
 find_is from_second = record { command = refl; own_tables = refl; plain = (refl, refl) }
+
+find_accepted : (number : List ℕ) → IsAcceptedBy by_domain find_text (Text number ∷ [])
+unfolding understood everything
+find_accepted number made_last = refl
+find_accepted number from_first = refl
+find_accepted number from_second = refl
+
+pub find_unread : (number : List ℕ) → IsUnreadBy by_domain find_text (Text number ∷ [])
+find_unread number = unread_by find_text (Text number ∷ []) _ _ find_is (find_accepted number)
 
 pub finds_sum : (number : List ℕ) → ReadsLastOf by_domain find_text (Text number ∷ []) (ShowsSum number)
 finds_sum = reads_by_text find_text d_vote_sum_table d_vote_sum_placed 1 (2 ∷ []) _ find_is d_vote_sum_texts.0

@@ -18,3 +18,4 @@ pub mod DomainVotes
 pub mod SummedVotes
 pub mod ApprovalCounts
 pub mod WalkedRows
+pub mod Unrefused

@@ -3,6 +3,7 @@
 ghost use Rattle.std.specs.Prelude.{◌≡◌, [], false};
 ghost use Rattle.sqlite.specs.Held.{state};
 ghost use Rattle.sql_laws.specs.DiskErrors.{BlamesTruly};
+ghost use Rattle.sql_schema.specs.Errors.{RefusesNoRead};
 ghost use Rattle.sql_schema.specs.Layouts.{by_domain, rows_named};
 ghost use Rattle.sql_schema.specs.SeenRows.{seen_in};
 ghost use Rattle.sql_schema.specs.Inside.{IsSteadyOver, IsReadOf};
@@ -30,6 +31,7 @@ fn domain_office_tables<S: Alter>(
     ensures found { IsReadOf by_domain (state S.Store tx.old.conn.now) (state S.Store tx.new.conn.now) result
         (λ db rows. ShowsOfficeTablesIn (seen_in domain.now (rows_named db)) rows) }
     ensures disk { BlamesTruly (state S.Store tx.old.conn.now) (state S.Store tx.new.conn.now) result }
+    ensures errors { RefusesNoRead (state S.Store tx.old.conn.now) (state S.Store tx.new.conn.now) result }
 {
     let policy = find_policy(tx)?;
     let team = all_members(tx)?;
@@ -53,6 +55,7 @@ fn domain_unit_tables<S: Alter>(
     ensures found { IsReadOf by_domain (state S.Store tx.old.conn.now) (state S.Store tx.new.conn.now) result
         (λ db rows. ShowsUnitTablesIn (seen_in domain.now (rows_named db)) rows) }
     ensures disk { BlamesTruly (state S.Store tx.old.conn.now) (state S.Store tx.new.conn.now) result }
+    ensures errors { RefusesNoRead (state S.Store tx.old.conn.now) (state S.Store tx.new.conn.now) result }
 {
     let units = all_domain_units(tx, domain)?;
     let suggestions = all_domain_suggestions(tx, domain)?;
@@ -74,6 +77,7 @@ pub fn domain_tables<S: Alter>(
     ensures found { IsReadOf by_domain (state S.Store tx.old.conn.now) (state S.Store tx.new.conn.now) result
         (λ db rows. ShowsWholeOfficeIn (seen_in domain.now (rows_named db)) rows) }
     ensures disk { BlamesTruly (state S.Store tx.old.conn.now) (state S.Store tx.new.conn.now) result }
+    ensures errors { RefusesNoRead (state S.Store tx.old.conn.now) (state S.Store tx.new.conn.now) result }
 {
     let office = domain_office_tables(tx, domain)?;
     let units = domain_unit_tables(tx, domain)?;
@@ -90,6 +94,7 @@ pub fn look_up_domain<S: Alter>(
     ensures found { IsLookUp (state S.Store connection.old) (state S.Store connection.new) result
         (λ db rows. ShowsWholeOfficeIn (seen_in domain.now (rows_named db)) rows) }
     ensures disk { BlamesTruly (state S.Store connection.old) (state S.Store connection.new) result }
+    ensures errors { RefusesNoRead (state S.Store connection.old) (state S.Store connection.new) result }
 {
     let mut tx = connection.transaction();
     let rows = domain_tables(&mut tx, domain)?;
@@ -124,6 +129,7 @@ pub fn look_up_frame<S: Alter>(
     ensures found { IsLookUp (state S.Store connection.old) (state S.Store connection.new) result
         (λ db rows. ShowsWholeOfficeIn (seen_in domain.now (without_units (rows_named db))) rows) }
     ensures disk { BlamesTruly (state S.Store connection.old) (state S.Store connection.new) result }
+    ensures errors { RefusesNoRead (state S.Store connection.old) (state S.Store connection.new) result }
 {
     let mut tx = connection.transaction();
     let office = domain_office_tables(&mut tx, domain)?;

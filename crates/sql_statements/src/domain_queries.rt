@@ -8,6 +8,7 @@ ghost use Rattle.sql_schema.specs.Layouts.{by_domain, rows_named};
 ghost use Rattle.sql_schema.specs.SeenRows.{seen_in};
 ghost use Rattle.sql_schema.specs.Whole.{IsIdleOver, IsLookUp};
 ghost use Rattle.sql_statements.specs.Queries.{AreUnits, ShowsMessagesIn, ShowsObsoleteIn};
+ghost use Rattle.sql_statements.specs.Unrefused.{RefusesNoWalk};
 ghost use Rattle.sql_streams.specs.Walks.{HandsOut, FailsTruly};
 
 use sql_streams::{RowSink, WalkFault, walk};
@@ -27,6 +28,7 @@ pub fn walk_domain_messages<'a, S: Alter, K: RowSink>(
         → HandsOut K.Took K.Refuses (ShowsMessagesIn unit_of (seen_in domain.now (rows_named (state S.Store connection.old).now))) sink.old sink.new result }
     ensures looked { IsLookUp (state S.Store connection.old) (state S.Store connection.new) result (λ _ _. ⊤) }
     ensures disk { HasCleanDisk (state S.Store connection.new) → IfErr result (FailsTruly (state S.Store connection.old) (state S.Store connection.new)) }
+    ensures errors { RefusesNoWalk (state S.Store connection.old) (state S.Store connection.new) result }
 {
     walk(
         connection,
@@ -50,6 +52,7 @@ pub fn walk_domain_obsolete<'a, S: Alter, K: RowSink>(
         → HandsOut K.Took K.Refuses (ShowsObsoleteIn lang.now (seen_in domain.now (rows_named (state S.Store connection.old).now))) sink.old sink.new result }
     ensures looked { IsLookUp (state S.Store connection.old) (state S.Store connection.new) result (λ _ _. ⊤) }
     ensures disk { HasCleanDisk (state S.Store connection.new) → IfErr result (FailsTruly (state S.Store connection.old) (state S.Store connection.new)) }
+    ensures errors { RefusesNoWalk (state S.Store connection.old) (state S.Store connection.new) result }
 {
     walk(
         connection,

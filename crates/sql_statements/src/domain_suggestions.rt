@@ -7,6 +7,7 @@ ghost use Rattle.std.specs.Prelude.{◌≡◌, ◌∷◌, [], codes};
 ghost use Rattle.sqlite.specs.Held.{state};
 ghost use Rattle.sqlite.specs.declared.types.Value.TheVariants.{Int, Text};
 ghost use Rattle.sql_laws.specs.DiskErrors.{BlamesTruly};
+ghost use Rattle.sql_schema.specs.Errors.{RefusesNoRead};
 ghost use Rattle.sql_schema.specs.Layouts.{by_domain, rows_named};
 ghost use Rattle.sql_schema.specs.SeenRows.{seen_in};
 ghost use Rattle.sql_schema.specs.Inside.{IsSteadyOver, IsInsideOf, HoldsValues, IsReadOf};
@@ -91,6 +92,7 @@ pub fn domain_suggestions_of<'a, S: Alter>(
     ensures found { IsReadOf by_domain (state S.Store tx.old.conn.now) (state S.Store tx.new.conn.now) result
         (λ db rows. ShowsDomainSuggestions domain.now lang.now key.now db rows.items) }
     ensures disk { BlamesTruly (state S.Store tx.old.conn.now) (state S.Store tx.new.conn.now) result }
+    ensures errors { RefusesNoRead (state S.Store tx.old.conn.now) (state S.Store tx.new.conn.now) result }
 {
     tx.query_all(
         "SELECT number, place, suggester, forms FROM d_suggestion WHERE domain = ?1 AND lang = ?2 AND key = ?3 ORDER BY place",
@@ -110,6 +112,7 @@ pub fn places_of<'a, S: Alter>(
     ensures found { IsReadOf by_domain (state S.Store tx.old.conn.now) (state S.Store tx.new.conn.now) result
         (λ db rows. ShowsPlaces domain.now lang.now key.now db rows.items) }
     ensures disk { BlamesTruly (state S.Store tx.old.conn.now) (state S.Store tx.new.conn.now) result }
+    ensures errors { RefusesNoRead (state S.Store tx.old.conn.now) (state S.Store tx.new.conn.now) result }
 {
     tx.query_all(
         "SELECT place FROM d_suggestion WHERE domain = ?1 AND lang = ?2 AND key = ?3 ORDER BY place",
@@ -131,6 +134,7 @@ pub fn find_domain_suggestion<'a, S: Alter>(
     ensures found { IsReadOf by_domain (state S.Store tx.old.conn.now) (state S.Store tx.new.conn.now) result
         (ShowsSuggestionOf domain.now lang.now key.now number.now) }
     ensures disk { BlamesTruly (state S.Store tx.old.conn.now) (state S.Store tx.new.conn.now) result }
+    ensures errors { RefusesNoRead (state S.Store tx.old.conn.now) (state S.Store tx.new.conn.now) result }
 {
     let mut rows = tx.query_all(
         "SELECT number, place, suggester, forms FROM d_suggestion WHERE number = ?1 AND +domain = ?2 AND +lang = ?3 AND +key = ?4",
@@ -152,6 +156,7 @@ pub fn find_domain_place<'a, S: Alter>(
     ensures found { IsReadOf by_domain (state S.Store tx.old.conn.now) (state S.Store tx.new.conn.now) result
         (ShowsPlaceOf domain.now lang.now key.now number.now) }
     ensures disk { BlamesTruly (state S.Store tx.old.conn.now) (state S.Store tx.new.conn.now) result }
+    ensures errors { RefusesNoRead (state S.Store tx.old.conn.now) (state S.Store tx.new.conn.now) result }
 {
     let mut rows = tx.query_all(
         "SELECT place FROM d_suggestion WHERE number = ?1 AND +domain = ?2 AND +lang = ?3 AND +key = ?4",
@@ -170,6 +175,7 @@ pub(crate) fn all_domain_suggestions<S: Alter>(
     ensures found { IsReadOf by_domain (state S.Store tx.old.conn.now) (state S.Store tx.new.conn.now) result
         (λ db rows. ShowsSuggestionsIn (seen_in domain.now (rows_named db)) rows.items) }
     ensures disk { BlamesTruly (state S.Store tx.old.conn.now) (state S.Store tx.new.conn.now) result }
+    ensures errors { RefusesNoRead (state S.Store tx.old.conn.now) (state S.Store tx.new.conn.now) result }
 {
     tx.query_all(
         "SELECT number, place, suggester, forms, lang, key FROM d_suggestion WHERE domain = ?1 ORDER BY lang, key, place",

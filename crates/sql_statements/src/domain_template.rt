@@ -3,6 +3,7 @@ ghost use Rattle.std.specs.Prelude.{◌≡◌, ◌∷◌, [], codes};
 ghost use Rattle.sqlite.specs.Held.{state};
 ghost use Rattle.sqlite.specs.declared.types.Value.TheVariants.{Int, Text};
 ghost use Rattle.sql_laws.specs.DiskErrors.{BlamesTruly};
+ghost use Rattle.sql_schema.specs.Errors.{RefusesNoRead};
 ghost use Rattle.sql_schema.specs.Layouts.{by_domain, rows_named};
 ghost use Rattle.sql_schema.specs.SeenRows.{seen_in};
 ghost use Rattle.sql_schema.specs.Inside.{IsSteadyOver, IsInsideOf, PutsRow, HoldsValues, IsReadOf};
@@ -76,6 +77,7 @@ pub fn find_domain_entry<'a, S: Alter>(
     ensures found { IsReadOf by_domain (state S.Store tx.old.conn.now) (state S.Store tx.new.conn.now) result
         (ShowsDomainEntry domain.now key.now) }
     ensures disk { BlamesTruly (state S.Store tx.old.conn.now) (state S.Store tx.new.conn.now) result }
+    ensures errors { RefusesNoRead (state S.Store tx.old.conn.now) (state S.Store tx.new.conn.now) result }
 {
     let mut rows = tx.query_all(
         "SELECT plural, extracted, refs, flags FROM d_template WHERE domain = ?1 AND key = ?2",
@@ -120,6 +122,7 @@ pub fn all_domain_entries<S: Alter>(
     ensures found { IsReadOf by_domain (state S.Store tx.old.conn.now) (state S.Store tx.new.conn.now) result
         (λ db rows. ShowsTemplateIn (seen_in domain.now (rows_named db)) rows.items) }
     ensures disk { BlamesTruly (state S.Store tx.old.conn.now) (state S.Store tx.new.conn.now) result }
+    ensures errors { RefusesNoRead (state S.Store tx.old.conn.now) (state S.Store tx.new.conn.now) result }
 {
     tx.query_all(
         "SELECT plural, extracted, refs, flags, key, place FROM d_template WHERE domain = ?1 ORDER BY place",

@@ -3,6 +3,7 @@ ghost use Rattle.std.specs.Prelude.{◌≡◌, ◌∷◌, [], codes};
 ghost use Rattle.sqlite.specs.Held.{state};
 ghost use Rattle.sqlite.specs.declared.types.Value.TheVariants.{Int, Text};
 ghost use Rattle.sql_laws.specs.DiskErrors.{BlamesTruly};
+ghost use Rattle.sql_schema.specs.Errors.{RefusesNoRead};
 ghost use Rattle.sql_schema.specs.Layouts.{by_domain, rows_named};
 ghost use Rattle.sql_schema.specs.SeenRows.{seen_in};
 ghost use Rattle.sql_schema.specs.Inside.{IsSteadyOver, IsInsideOf, PutsRow, HoldsValues, IsReadOf};
@@ -63,6 +64,7 @@ pub fn domain_votes_on<S: Alter>(
     ensures found { IsReadOf by_domain (state S.Store tx.old.conn.now) (state S.Store tx.new.conn.now) result
         (λ db rows. ShowsDomainVotes number.now db rows.items) }
     ensures disk { BlamesTruly (state S.Store tx.old.conn.now) (state S.Store tx.new.conn.now) result }
+    ensures errors { RefusesNoRead (state S.Store tx.old.conn.now) (state S.Store tx.new.conn.now) result }
 {
     tx.query_all(
         "SELECT voter, value FROM d_vote WHERE number = ?1",
@@ -80,6 +82,7 @@ pub(crate) fn all_domain_votes<S: Alter>(
     ensures found { IsReadOf by_domain (state S.Store tx.old.conn.now) (state S.Store tx.new.conn.now) result
         (λ db rows. ShowsVotesIn (seen_in domain.now (rows_named db)) rows.items) }
     ensures disk { BlamesTruly (state S.Store tx.old.conn.now) (state S.Store tx.new.conn.now) result }
+    ensures errors { RefusesNoRead (state S.Store tx.old.conn.now) (state S.Store tx.new.conn.now) result }
 {
     tx.query_all(
         "SELECT voter, value, d_vote.number FROM d_vote JOIN d_suggestion ON d_suggestion.number = d_vote.number WHERE d_suggestion.domain = ?1 ORDER BY d_vote.number, voter",

@@ -3,6 +3,7 @@ ghost use Rattle.std.specs.Prelude.{◌≡◌, ◌∷◌, [], codes};
 ghost use Rattle.sqlite.specs.Held.{state};
 ghost use Rattle.sqlite.specs.declared.types.Value.TheVariants.{Text};
 ghost use Rattle.sql_laws.specs.DiskErrors.{BlamesTruly};
+ghost use Rattle.sql_schema.specs.Errors.{RefusesNoRead};
 ghost use Rattle.sql_schema.specs.Layouts.{by_domain};
 ghost use Rattle.sql_schema.specs.Inside.{IsSteadyOver, IsInsideOf, PutsRow, HoldsValues, IsReadOf};
 ghost use Rattle.sql_schema.specs.Keys.{first_text};
@@ -29,6 +30,7 @@ pub fn find_domain<S: Alter>(tx: &mut Transaction<'_, S>, name: &str) -> Result<
     ensures found { IsReadOf by_domain (state S.Store tx.old.conn.now) (state S.Store tx.new.conn.now) result
         (ShowsDomain name.now) }
     ensures disk { BlamesTruly (state S.Store tx.old.conn.now) (state S.Store tx.new.conn.now) result }
+    ensures errors { RefusesNoRead (state S.Store tx.old.conn.now) (state S.Store tx.new.conn.now) result }
 {
     let mut rows = tx.query_all("SELECT name FROM domain WHERE name = ?1", params![name])?;
     Ok(rows.pop())
@@ -41,6 +43,7 @@ pub fn all_domains<S: Alter>(tx: &mut Transaction<'_, S>) -> Result<Vec<Row>, Er
     ensures found { IsReadOf by_domain (state S.Store tx.old.conn.now) (state S.Store tx.new.conn.now) result
         (λ db rows. ShowsDomains db rows.items) }
     ensures disk { BlamesTruly (state S.Store tx.old.conn.now) (state S.Store tx.new.conn.now) result }
+    ensures errors { RefusesNoRead (state S.Store tx.old.conn.now) (state S.Store tx.new.conn.now) result }
 {
     tx.query_all("SELECT name FROM domain ORDER BY name", &[])
 }

@@ -13,13 +13,14 @@
 //! - `unit_walks`: units, suggestions and votes one at a time, each with what a test of it asks of other tables
 //!
 //! Specs: `Answers`, `DomainAnswers`, `UnitRows`, `Queries`, `Tables`, `RecordTable`, `RecordsInOrder`, `WholeOffice`, `Owners`, `SummedVotes`, `WalkedRows`, `ApprovalCounts` are what reads show; `Added`,
-//! `Taken`, `Renewed`, `DomainCleared`, `DomainVotes` what becomes of rows. A lemma about one table's texts stands in `proofs/` under the
+//! `Taken`, `Renewed`, `DomainCleared`, `DomainVotes` what becomes of rows; `Unrefused` which errors walks tell. A lemma about one table's texts stands in `proofs/` under the
 //! table's name (`DomainUnitPuts`, `PolicySet`, `DomainUnitReads`); what INSERT, INSERT with ON CONFLICT, DELETE and UPDATE do to
 //! any table of the office in `Additions`, `Upserts`, `Removals`, `Renewals`.
 //!
 //! A function takes a transaction that is open and leaves it open, but those of `domain_queries`,
 //! `record_queries`, `owners`, `unit_walks`, `whole_office`, `look_up_domain`, `look_up_frame`, `walk_sums` and `walk_unsummed`. What is said of
-//! values is said while the disk returns what was written.
+//! values is said while the disk returns what was written. No read and no walk is refused over an office's tables (`ReadsUnread`): an error is
+//! want of memory, a failure of the disk, or a limit on the steps of a query that was met.
 #![tactic(auto)]
 
 pub mod approval_counts;

@@ -7,6 +7,7 @@ ghost use Rattle.sql_schema.specs.Layouts.{by_domain};
 ghost use Rattle.sql_schema.specs.Whole.{IsIdleOver, IsLookUp};
 ghost use Rattle.sql_statements.specs.Owners as spec;
 ghost use Rattle.sql_statements.specs.Owners.{owned_name, owned_place, ShowsOwners};
+ghost use Rattle.sql_statements.specs.Unrefused.{RefusesNoWalk};
 ghost use Rattle.sql_streams.specs.Walks.{HandsOut, FailsTruly};
 
 use sql_streams::{RowSink, WalkFault, walk};
@@ -46,6 +47,7 @@ pub fn walk_owners<S: Alter, K: RowSink>(
         → HandsOut K.Took K.Refuses (ShowsOwners (owned_name table) (owned_place table) (state S.Store connection.old).now) sink.old sink.new result }
     ensures looked { IsLookUp (state S.Store connection.old) (state S.Store connection.new) result (λ _ _. ⊤) }
     ensures disk { HasCleanDisk (state S.Store connection.new) → IfErr result (FailsTruly (state S.Store connection.old) (state S.Store connection.new)) }
+    ensures errors { RefusesNoWalk (state S.Store connection.old) (state S.Store connection.new) result }
 {
     walk(connection, owners_text(table), &[], sink)
 }

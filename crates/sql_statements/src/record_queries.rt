@@ -7,6 +7,7 @@ ghost use Rattle.sql_schema.specs.Layouts.{Form};
 ghost use Rattle.sql_schema.specs.Whole.{IsIdleOver, IsLookUp};
 ghost use Rattle.sql_statements.specs.RecordTable.{ShowsRecords};
 ghost use Rattle.sql_statements.specs.RecordsInOrder.{ShowsBehind};
+ghost use Rattle.sql_statements.specs.Unrefused.{RefusesNoWalk};
 ghost use Rattle.sql_streams.specs.Walks.{HandsOut, FailsTruly};
 
 use sql_streams::{RowSink, WalkFault, walk};
@@ -24,6 +25,7 @@ pub fn walk_records<S: Alter, K: RowSink>(
         → HandsOut K.Took K.Refuses (ShowsBehind None (state S.Store connection.old).now) sink.old sink.new result }
     ensures looked { IsLookUp (state S.Store connection.old) (state S.Store connection.new) result (λ _ _. ⊤) }
     ensures disk { HasCleanDisk (state S.Store connection.new) → IfErr result (FailsTruly (state S.Store connection.old) (state S.Store connection.new)) }
+    ensures errors { RefusesNoWalk (state S.Store connection.old) (state S.Store connection.new) result }
 {
     walk(
         connection,
@@ -47,6 +49,7 @@ pub fn walk_records_behind<S: Alter, K: RowSink>(
         → HandsOut K.Took K.Refuses (ShowsBehind (Some place) (state S.Store connection.old).now) sink.old sink.new result }
     ensures looked { IsLookUp (state S.Store connection.old) (state S.Store connection.new) result (λ _ _. ⊤) }
     ensures disk { HasCleanDisk (state S.Store connection.new) → IfErr result (FailsTruly (state S.Store connection.old) (state S.Store connection.new)) }
+    ensures errors { RefusesNoWalk (state S.Store connection.old) (state S.Store connection.new) result }
 {
     walk(
         connection,
@@ -69,6 +72,7 @@ pub fn walk_contents<S: Alter, K: RowSink>(
         → HandsOut K.Took K.Refuses (ShowsRecords (state S.Store connection.old).now) sink.old sink.new result }
     ensures looked { IsLookUp (state S.Store connection.old) (state S.Store connection.new) result (λ _ _. ⊤) }
     ensures disk { HasCleanDisk (state S.Store connection.new) → IfErr result (FailsTruly (state S.Store connection.old) (state S.Store connection.new)) }
+    ensures errors { RefusesNoWalk (state S.Store connection.old) (state S.Store connection.new) result }
 {
     walk(
         connection,

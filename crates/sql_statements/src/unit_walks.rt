@@ -6,6 +6,7 @@ ghost use Rattle.sqlite.specs.State.{HasCleanDisk};
 ghost use Rattle.sql_schema.specs.Layouts.{by_domain};
 ghost use Rattle.sql_schema.specs.Whole.{IsIdleOver, IsLookUp};
 ghost use Rattle.sql_statements.specs.WalkedRows.{ShowsAllVotes, ShowsUnplaced, ShowsUnitsOf, ShowsSuggestionsOf};
+ghost use Rattle.sql_statements.specs.Unrefused.{RefusesNoWalk};
 ghost use Rattle.sql_streams.specs.Walks.{HandsOut, FailsTruly};
 
 use sql_streams::{RowSink, WalkFault, walk};
@@ -23,6 +24,7 @@ pub fn walk_votes<S: Alter, K: RowSink>(
         → HandsOut K.Took K.Refuses (ShowsAllVotes (state S.Store connection.old).now) sink.old sink.new result }
     ensures looked { IsLookUp (state S.Store connection.old) (state S.Store connection.new) result (λ _ _. ⊤) }
     ensures disk { HasCleanDisk (state S.Store connection.new) → IfErr result (FailsTruly (state S.Store connection.old) (state S.Store connection.new)) }
+    ensures errors { RefusesNoWalk (state S.Store connection.old) (state S.Store connection.new) result }
 {
     walk(
         connection,
@@ -44,6 +46,7 @@ pub fn walk_unplaced<S: Alter, K: RowSink>(
         → HandsOut K.Took K.Refuses (ShowsUnplaced (state S.Store connection.old).now) sink.old sink.new result }
     ensures looked { IsLookUp (state S.Store connection.old) (state S.Store connection.new) result (λ _ _. ⊤) }
     ensures disk { HasCleanDisk (state S.Store connection.new) → IfErr result (FailsTruly (state S.Store connection.old) (state S.Store connection.new)) }
+    ensures errors { RefusesNoWalk (state S.Store connection.old) (state S.Store connection.new) result }
 {
     walk(
         connection,
@@ -68,6 +71,7 @@ pub fn walk_units<S: Alter, K: RowSink>(
         → HandsOut K.Took K.Refuses (ShowsUnitsOf domain.now lang.now (state S.Store connection.old).now) sink.old sink.new result }
     ensures looked { IsLookUp (state S.Store connection.old) (state S.Store connection.new) result (λ _ _. ⊤) }
     ensures disk { HasCleanDisk (state S.Store connection.new) → IfErr result (FailsTruly (state S.Store connection.old) (state S.Store connection.new)) }
+    ensures errors { RefusesNoWalk (state S.Store connection.old) (state S.Store connection.new) result }
 {
     walk(
         connection,
@@ -92,6 +96,7 @@ pub fn walk_suggestions<S: Alter, K: RowSink>(
         → HandsOut K.Took K.Refuses (ShowsSuggestionsOf domain.now lang.now (state S.Store connection.old).now) sink.old sink.new result }
     ensures looked { IsLookUp (state S.Store connection.old) (state S.Store connection.new) result (λ _ _. ⊤) }
     ensures disk { HasCleanDisk (state S.Store connection.new) → IfErr result (FailsTruly (state S.Store connection.old) (state S.Store connection.new)) }
+    ensures errors { RefusesNoWalk (state S.Store connection.old) (state S.Store connection.new) result }
 {
     walk(
         connection,

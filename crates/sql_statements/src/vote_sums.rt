@@ -5,6 +5,7 @@ ghost use Rattle.sqlite.specs.Held.{state};
 ghost use Rattle.sqlite.specs.State.{HasCleanDisk};
 ghost use Rattle.sqlite.specs.declared.types.Value.TheVariants.{Int, Text};
 ghost use Rattle.sql_laws.specs.DiskErrors.{BlamesTruly};
+ghost use Rattle.sql_schema.specs.Errors.{RefusesNoRead};
 ghost use Rattle.sql_schema.specs.Layouts.{by_domain};
 ghost use Rattle.sql_schema.specs.Inside.{IsSteadyOver, IsInsideOf, PutsRow, HoldsValues, IsReadOf};
 ghost use Rattle.sql_schema.specs.Keys.{first_text};
@@ -12,6 +13,7 @@ ghost use Rattle.sql_schema.specs.Whole.{IsIdleOver, IsLookUp};
 ghost use Rattle.sql_statements.specs.DomainAnswers.{ShowsSum};
 ghost use Rattle.sql_statements.specs.SummedVotes.{ShowsSummed};
 ghost use Rattle.sql_statements.specs.WalkedRows.{ShowsUnsummed};
+ghost use Rattle.sql_statements.specs.Unrefused.{RefusesNoWalk};
 ghost use Rattle.sql_streams.specs.Walks.{HandsOut, FailsTruly};
 
 use sql_streams::{RowSink, WalkFault, walk};
@@ -39,6 +41,7 @@ pub fn find_sum<S: Alter>(tx: &mut Transaction<'_, S>, number: &str) -> Result<O
     ensures found { IsReadOf by_domain (state S.Store tx.old.conn.now) (state S.Store tx.new.conn.now) result
         (ShowsSum number.now) }
     ensures disk { BlamesTruly (state S.Store tx.old.conn.now) (state S.Store tx.new.conn.now) result }
+    ensures errors { RefusesNoRead (state S.Store tx.old.conn.now) (state S.Store tx.new.conn.now) result }
 {
     let mut rows = tx.query_all(
         "SELECT sum FROM d_vote_sum WHERE number = ?1",
@@ -60,6 +63,7 @@ pub fn walk_sums<S: Alter, K: RowSink>(
         → HandsOut K.Took K.Refuses (ShowsSummed (state S.Store connection.old).now) sink.old sink.new result }
     ensures looked { IsLookUp (state S.Store connection.old) (state S.Store connection.new) result (λ _ _. ⊤) }
     ensures disk { HasCleanDisk (state S.Store connection.new) → IfErr result (FailsTruly (state S.Store connection.old) (state S.Store connection.new)) }
+    ensures errors { RefusesNoWalk (state S.Store connection.old) (state S.Store connection.new) result }
 {
     walk(
         connection,
@@ -81,6 +85,7 @@ pub fn walk_unsummed<S: Alter, K: RowSink>(
         → HandsOut K.Took K.Refuses (ShowsUnsummed (state S.Store connection.old).now) sink.old sink.new result }
     ensures looked { IsLookUp (state S.Store connection.old) (state S.Store connection.new) result (λ _ _. ⊤) }
     ensures disk { HasCleanDisk (state S.Store connection.new) → IfErr result (FailsTruly (state S.Store connection.old) (state S.Store connection.new)) }
+    ensures errors { RefusesNoWalk (state S.Store connection.old) (state S.Store connection.new) result }
 {
     walk(
         connection,

@@ -3,6 +3,7 @@
 ghost use Rattle.std.specs.Prelude.{◌≡◌, false, Bool};
 ghost use Rattle.sqlite.specs.Held.{state};
 ghost use Rattle.sql_laws.specs.DiskErrors.{BlamesTruly};
+ghost use Rattle.sql_schema.specs.Errors.{RefusesNoRead};
 ghost use Rattle.sql_schema.specs.Inside.{IsSteadyOver, IsReadOf};
 ghost use Rattle.sql_schema.specs.Layouts.{for_main};
 ghost use Rattle.sql_schema.specs.Whole.{IsIdleOver, IsLookUp};
@@ -43,6 +44,8 @@ fn all_entries<S: Alter>(tx: &mut Transaction<'_, S>) -> Result<Vec<Row>, Error>
     ensures found { (figures : Bool) → IsSteadyOver (for_main figures) (state S.Store tx.old.conn.now)
         → IsReadOf (for_main figures) (state S.Store tx.old.conn.now) (state S.Store tx.new.conn.now) result (λ db rows. ShowsTemplate db rows.items) }
     ensures disk { BlamesTruly (state S.Store tx.old.conn.now) (state S.Store tx.new.conn.now) result }
+    ensures errors { (figures : Bool) → IsSteadyOver (for_main figures) (state S.Store tx.old.conn.now)
+        → RefusesNoRead (state S.Store tx.old.conn.now) (state S.Store tx.new.conn.now) result }
 {
     tx.query_all(
         "SELECT plural, extracted, refs, flags, key, place FROM template ORDER BY place",
@@ -56,6 +59,8 @@ fn all_languages<S: Alter>(tx: &mut Transaction<'_, S>) -> Result<Vec<Row>, Erro
     ensures found { (figures : Bool) → IsSteadyOver (for_main figures) (state S.Store tx.old.conn.now)
         → IsReadOf (for_main figures) (state S.Store tx.old.conn.now) (state S.Store tx.new.conn.now) result (λ db rows. ShowsLanguages db rows.items) }
     ensures disk { BlamesTruly (state S.Store tx.old.conn.now) (state S.Store tx.new.conn.now) result }
+    ensures errors { (figures : Bool) → IsSteadyOver (for_main figures) (state S.Store tx.old.conn.now)
+        → RefusesNoRead (state S.Store tx.old.conn.now) (state S.Store tx.new.conn.now) result }
 {
     tx.query_all(
         "SELECT header, plural, lang FROM language ORDER BY lang",
@@ -70,6 +75,8 @@ fn all_units<S: Alter>(tx: &mut Transaction<'_, S>) -> Result<Vec<Row>, Error>
     ensures found { (figures : Bool) → IsSteadyOver (for_main figures) (state S.Store tx.old.conn.now)
         → IsReadOf (for_main figures) (state S.Store tx.old.conn.now) (state S.Store tx.new.conn.now) result (λ db rows. ShowsUnits db rows.items) }
     ensures disk { BlamesTruly (state S.Store tx.old.conn.now) (state S.Store tx.new.conn.now) result }
+    ensures errors { (figures : Bool) → IsSteadyOver (for_main figures) (state S.Store tx.old.conn.now)
+        → RefusesNoRead (state S.Store tx.old.conn.now) (state S.Store tx.new.conn.now) result }
 {
     tx.query_all(
         "SELECT plural, forms, state, obsolete, revision, comment, previous, lang, key FROM unit ORDER BY lang, key",
@@ -83,6 +90,8 @@ fn all_suggestions<S: Alter>(tx: &mut Transaction<'_, S>) -> Result<Vec<Row>, Er
     ensures found { (figures : Bool) → IsSteadyOver (for_main figures) (state S.Store tx.old.conn.now)
         → IsReadOf (for_main figures) (state S.Store tx.old.conn.now) (state S.Store tx.new.conn.now) result (λ db rows. ShowsSuggestions db rows.items) }
     ensures disk { BlamesTruly (state S.Store tx.old.conn.now) (state S.Store tx.new.conn.now) result }
+    ensures errors { (figures : Bool) → IsSteadyOver (for_main figures) (state S.Store tx.old.conn.now)
+        → RefusesNoRead (state S.Store tx.old.conn.now) (state S.Store tx.new.conn.now) result }
 {
     tx.query_all(
         "SELECT number, place, suggester, forms, lang, key FROM suggestion ORDER BY lang, key, place",
@@ -96,6 +105,8 @@ fn all_votes<S: Alter>(tx: &mut Transaction<'_, S>) -> Result<Vec<Row>, Error>
     ensures found { (figures : Bool) → IsSteadyOver (for_main figures) (state S.Store tx.old.conn.now)
         → IsReadOf (for_main figures) (state S.Store tx.old.conn.now) (state S.Store tx.new.conn.now) result (λ db rows. ShowsVotes db rows.items) }
     ensures disk { BlamesTruly (state S.Store tx.old.conn.now) (state S.Store tx.new.conn.now) result }
+    ensures errors { (figures : Bool) → IsSteadyOver (for_main figures) (state S.Store tx.old.conn.now)
+        → RefusesNoRead (state S.Store tx.old.conn.now) (state S.Store tx.new.conn.now) result }
 {
     tx.query_all(
         "SELECT voter, value, number FROM vote ORDER BY number, voter",
@@ -110,6 +121,8 @@ fn office_tables<S: Alter>(tx: &mut Transaction<'_, S>) -> Result<OfficeTables, 
         → IsReadOf (for_main figures) (state S.Store tx.old.conn.now) (state S.Store tx.new.conn.now) result ShowsOfficeTables }
     ensures disk { (figures : Bool) → IsSteadyOver (for_main figures) (state S.Store tx.old.conn.now)
         → BlamesTruly (state S.Store tx.old.conn.now) (state S.Store tx.new.conn.now) result }
+    ensures errors { (figures : Bool) → IsSteadyOver (for_main figures) (state S.Store tx.old.conn.now)
+        → RefusesNoRead (state S.Store tx.old.conn.now) (state S.Store tx.new.conn.now) result }
 {
     let policy = find_policy(tx)?;
     let team = all_members(tx)?;
@@ -130,6 +143,8 @@ fn unit_tables<S: Alter>(tx: &mut Transaction<'_, S>) -> Result<UnitTables, Erro
         → IsReadOf (for_main figures) (state S.Store tx.old.conn.now) (state S.Store tx.new.conn.now) result ShowsUnitTables }
     ensures disk { (figures : Bool) → IsSteadyOver (for_main figures) (state S.Store tx.old.conn.now)
         → BlamesTruly (state S.Store tx.old.conn.now) (state S.Store tx.new.conn.now) result }
+    ensures errors { (figures : Bool) → IsSteadyOver (for_main figures) (state S.Store tx.old.conn.now)
+        → RefusesNoRead (state S.Store tx.old.conn.now) (state S.Store tx.new.conn.now) result }
 {
     let units = all_units(tx)?;
     let suggestions = all_suggestions(tx)?;
@@ -148,6 +163,8 @@ fn all_tables<S: Alter>(tx: &mut Transaction<'_, S>) -> Result<WholeOffice, Erro
         → IsReadOf (for_main figures) (state S.Store tx.old.conn.now) (state S.Store tx.new.conn.now) result ShowsWholeOffice }
     ensures disk { (figures : Bool) → IsSteadyOver (for_main figures) (state S.Store tx.old.conn.now)
         → BlamesTruly (state S.Store tx.old.conn.now) (state S.Store tx.new.conn.now) result }
+    ensures errors { (figures : Bool) → IsSteadyOver (for_main figures) (state S.Store tx.old.conn.now)
+        → RefusesNoRead (state S.Store tx.old.conn.now) (state S.Store tx.new.conn.now) result }
 {
     let office = office_tables(tx)?;
     let units = unit_tables(tx)?;
@@ -161,6 +178,8 @@ pub fn look_up_office<S: Alter>(connection: &mut Connection<S>) -> Result<WholeO
         → IsLookUp (state S.Store connection.old) (state S.Store connection.new) result ShowsWholeOffice }
     ensures disk { (figures : Bool) → IsIdleOver (for_main figures) (state S.Store connection.old)
         → BlamesTruly (state S.Store connection.old) (state S.Store connection.new) result }
+    ensures errors { (figures : Bool) → IsIdleOver (for_main figures) (state S.Store connection.old)
+        → RefusesNoRead (state S.Store connection.old) (state S.Store connection.new) result }
 {
     let mut tx = connection.transaction();
     let rows = all_tables(&mut tx)?;

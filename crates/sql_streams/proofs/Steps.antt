@@ -4,7 +4,7 @@ use Rattle.sqlite.specs.Order.{Row}
 use Rattle.sqlite.specs.Held.{Held, state}
 use Rattle.sqlite.specs.Given.{HasGiven, HasBegun, Advances, FailsToAdvance}
 use Rattle.sqlite.specs.Listing.{understood}
-use Rattle.sqlite.specs.State.{HasCleanDisk, Survives, IsUnchanged, Fails, CommitsShowing}
+use Rattle.sqlite.specs.State.{HasCleanDisk, Survives, IsUnchanged, Fails, FailsToQuery, CommitsShowing}
 use Rattle.sqlite.specs.declared.error.Error.{Error}
 use Rattle.sqlite.proofs.Callers.{IsPlain, unchanged_then, begun_plain, given_begin, never_commits}
 use Rattle.sqlite.proofs.StateLemmas.{survives_then, survives_weaker}
@@ -12,7 +12,7 @@ use Rattle.sqlite_trees.specs.declared.store.Store as store
 use Rattle.sql_laws.specs.DiskErrors.{is_of_disk, HasFailed}
 use Rattle.sql_laws.proofs.DiskErrors.{failed_behind, query_of_disk}
 use Rattle.sql_streams.specs.Walks.{TookAll, TookSome, RefusedOne, StaysPut}
-use Rattle.sql_streams.proofs.Connections.{unchanged_stays, undone_stays, stays_then, begins_before, shown_before}
+use Rattle.sql_streams.proofs.Connections.{unchanged_stays, undone_stays, stays_then, begins_before, shown_before, failed_from_before}
 
 -- So far the query has given some rows, and the sink has taken them.
 pub record HasWalked {S K : Type 0} (g : store.Ghosts S) (Took : K → List Row → K → Type 0) (sql : List ℕ) (params : Row) (old new : Held S) (first last : K) : Type 0 where
@@ -94,6 +94,13 @@ module _ {S K : Type 0} (g : store.Ghosts S) (Took : K → List Row → K → Ty
     failed_truly e fails clean blamed =
         failed_behind (state g old) (state g mid) (state g new) (λ _. ⊥) (λ _. ⊥) walked.survives step clean
         (query_of_disk (state g mid) (state g new) e sql params (inl (fails clean sql params walked.given (walked.reads (early clean)).0)) blamed)
+
+    -- and it failed as the query may from before its first
+    pub failed_as_query : (e : Error) → (HasCleanDisk (state g new) → FailsToAdvance g mid new e) → HasCleanDisk (state g new) → FailsToQuery sql params (state g old) (state g new) e
+    failed_as_query e fails clean =
+        let was = walked.reads (early clean) in
+        failed_from_before (state g old) (state g mid) (state g new) was.1 walked.survives sql params e (plain (omega (arith, clean, survives_still.clean)))
+        (fails clean sql params walked.given was.0)
 
     pub open_still : (HasCleanDisk (state g new) → IsUnchanged (state g mid) (state g new)) → HasCleanDisk (state g new) → IsTrue (state g new).is_open
     open_still same clean = (same clean).0.is_open

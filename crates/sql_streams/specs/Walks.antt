@@ -1,7 +1,9 @@
 -- What a walk over the rows of a query hands on, and what it leaves of the connection.
 use Rattle.std.specs.Prelude.{◌≡◌, ◌⊎◌, ⊤, true, ℕ, List, [], ◌∷◌, ◌++◌, IsTrue, Result, Ok, Err}
 use Rattle.sqlite.specs.Order.{Row}
-use Rattle.sqlite.specs.State.{State, Begins, Shown}
+use Rattle.sqlite.specs.declared.error.Error.TheVariants.{SqliteFailure}
+use Rattle.sqlite.specs.declared.error.ErrorCode.TheVariants.{OutOfMemory}
+use Rattle.sqlite.specs.State.{State, Begins, Shown, FailsToQuery}
 use Rattle.sql_laws.specs.DiskErrors.{is_of_disk, HasFailed}
 use Rattle.sql_streams.specs.declared.walking.WalkFault.{WalkFault}
 use Rattle.sql_streams.specs.declared.walking.WalkFault.TheVariants.{NoRows, NoSink}
@@ -39,6 +41,11 @@ TookFront Took Refuses sql params old first last (NoSink refusal) = RefusedOne T
 abbrev pub FailsTruly : {R : Type 0} → State → State → WalkFault R → Type 0
 FailsTruly old new (NoRows error) = is_of_disk error ≡ true → HasFailed old new
 FailsTruly old new (NoSink refusal) = ⊤
+
+-- A query fails behind some of its rows as it may before the first, or memory was wanting.
+abbrev pub FailsAsQuery : {R : Type 0} → List ℕ → Row → State → State → WalkFault R → Type 0
+FailsAsQuery sql params old new (NoRows error) = (error ≡ SqliteFailure OutOfMemory) ⊎ FailsToQuery sql params old new error
+FailsAsQuery sql params old new (NoSink refusal) = ⊤
 
 -- What a connection that is open shows is what it showed before, or what was committed then: with no transaction open they are one.
 pub record StaysPut (old new : State) : Type 0 where

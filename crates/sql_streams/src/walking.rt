@@ -7,7 +7,7 @@ ghost use Rattle.sqlite.specs.Held.{state};
 ghost use Rattle.sqlite.specs.Listing.{understood};
 ghost use Rattle.sqlite.specs.State.{HasCleanDisk, Survives};
 ghost use Rattle.sqlite.specs.Values.{bound};
-ghost use Rattle.sql_streams.specs.Walks.{TookAll, TookFront, StaysPut, FailsTruly};
+ghost use Rattle.sql_streams.specs.Walks.{TookAll, TookFront, StaysPut, FailsTruly, FailsAsQuery};
 
 use crate::sink::RowSink;
 use sqlite::types::ValueRef;
@@ -22,7 +22,8 @@ pub enum WalkFault<R: Drop> {
     NoSink(R),
 }
 
-/// Hands the rows of a query to a sink, each before the next is fetched.
+/// Hands the rows of a query to a sink, each before the next is fetched. Where the query fails it fails as it may before its first row, or
+/// memory was wanting.
 pub fn walk<S: Alter, K: RowSink>(
     connection: &mut Connection<S>,
     sql: &str,
@@ -40,6 +41,8 @@ pub fn walk<S: Alter, K: RowSink>(
     ensures mode { connection.old.in_transaction ≡ false → connection.new.in_transaction ≡ false }
     ensures survives { Survives (state S.Store connection.old) (state S.Store connection.new) (λ _. ⊥) }
     ensures disk { HasCleanDisk (state S.Store connection.new) → IfErr result (FailsTruly (state S.Store connection.old) (state S.Store connection.new)) }
+    ensures errors { HasCleanDisk (state S.Store connection.new) → IfErr result
+        (FailsAsQuery sql.now (bound params.now) (state S.Store connection.old) (state S.Store connection.new)) }
 {
     let mut rows = match connection.query(sql, params) {
         Ok(rows) => rows,

@@ -3,12 +3,13 @@ use Rattle.sqlite.specs.Effect.{Database}
 use Rattle.sqlite.specs.Held.{state}
 use Rattle.sqlite.specs.declared.error.Error.{Error}
 use Rattle.sql_laws.specs.DiskErrors.{BlamesTruly}
+use Rattle.sql_schema.specs.Errors.{RefusesNoRead}
 use Rattle.sql_schema.specs.Layouts.{rows_named}
 use Rattle.sql_schema.specs.SeenRows.{seen_in}
 use Rattle.sql_schema.specs.Whole.{IsLookUp}
-use Rattle.sql_statements.specs.WholeOffice.{ShowsOfficeTablesIn, ShowsWholeOfficeIn, without_units}
+use Rattle.sql_schema.proofs.Unread.{undone_unread, stopped_unread}
+use Rattle.sql_statements.specs.WholeOffice.{ShowsOfficeTablesIn}
 use Rattle.sql_statements.specs.declared.whole_office.OfficeTables.{OfficeTables}
-use Rattle.sql_statements.specs.declared.whole_office.WholeOffice.{WholeOffice}
 use Rattle.sql_statements.proofs.Frames.{frame_shown}
 use Rattle.sql_statements.proofs.LookedUp.{answers}
 use Rattle.sql_statements.proofs.ReadsBlame.{undone_blames, stopped_blames}
@@ -45,3 +46,21 @@ returns-in_err-commit-clause-disk g c =
     subst (λ h. BlamesTruly (state g.S.Store old) (state g.S.Store h) c.from_residual-in_err-commit.result) same
     (stopped_blames g.S.Store old c.transaction-tx.result.conn.now mid c.commit.new.self.0 c.transaction-tx.ensures.begun (λ _. ⊥) (λ db. db ≡ (state g.S.Store mid).now.trees)
     c.in_ok-office.ensures.found.survives c.in_err-commit.ensures.survives c.in_err-commit.field-0.0 c.from_residual-in_err-commit.result c.from_residual-in_err-commit.ensures.1 c.in_err-commit.ensures.err)
+
+pub returns-in_err-office-clause-errors : goal.returns-in_err-office-clause-errors
+returns-in_err-office-clause-errors g c =
+    let old = c.args.connection.now in
+    let begun = c.transaction-tx.result.conn.now in
+    undone_unread g.S.Store old begun c.domain_office_tables.new.tx.conn.now c.connection-1.given.0 c.transaction-tx.ensures.begun c.in_err-office.field-0.0 c.from_residual.result c.from_residual.ensures.1
+    (λ _. ⊥) (λ _. ⊥) (search rules) c.in_err-office.ensures.errors
+
+pub returns-in_err-commit-clause-errors : goal.returns-in_err-commit-clause-errors
+returns-in_err-commit-clause-errors g c =
+    let old = c.args.connection.now in
+    let begun = c.transaction-tx.result.conn.now in
+    let mid = c.domain_office_tables.new.tx.conn.now in
+    let read = c.in_ok-office.ensures.found in
+    let same : c.commit.new.self.0 ≡ c.connection-2-1.given.0 = search rules in
+    subst (λ h. RefusesNoRead (state g.S.Store old) (state g.S.Store h) c.from_residual-in_err-commit.result) same
+    (stopped_unread g.S.Store old begun mid c.commit.new.self.0 c.transaction-tx.ensures.begun c.in_err-commit.field-0.0 c.from_residual-in_err-commit.result c.from_residual-in_err-commit.ensures.1
+    (λ _. ⊥) (λ db. db ≡ (state g.S.Store mid).now.trees) c.in_err-commit.ensures.survives read.survives (λ clean. (read.stays clean).inside) c.in_err-commit.ensures.err)

@@ -2,7 +2,8 @@ use Rattle.std.proofs.Common.{Vec, Global}
 use Rattle.sqlite.specs.Order.{Row}
 use Rattle.sqlite.specs.Held.{state}
 use Rattle.sql_laws.proofs.DiskErrors.{query_blames}
-use Rattle.sql_statements.proofs.DomainNames.{reads_domains}
+use Rattle.sql_statements.proofs.DomainNames.{reads_domains, names_unread}
+use Rattle.sql_statements.proofs.ReadsUnread.{read_unread}
 use Rattle.sql_statements.proofs.domains.all_domains.Goals as goal
 
 pub returns-clause-found : goal.returns-clause-found
@@ -12,3 +13,7 @@ returns-clause-found g c =
 
 pub returns-clause-disk : goal.returns-clause-disk
 returns-clause-disk g c = query_blames _ _ (state g.S.Store c.args.tx.now.conn.now) (state g.S.Store c.query_all.new.self.conn.now) c.query_all.result c.query_all.ensures.err
+
+pub returns-clause-errors : goal.returns-clause-errors
+returns-clause-errors g c =
+    read_unread _ _ names_unread (state g.S.Store c.args.tx.now.conn.now) (state g.S.Store c.query_all.new.self.conn.now) c.query_all.result c.requires.steady c.query_all.ensures.err c.query_all.ensures.survives

@@ -2,7 +2,8 @@ use Rattle.std.proofs.Common.{arith}
 use Rattle.sqlite.specs.Held.{state}
 use Rattle.sql_laws.proofs.DiskErrors.{failed_query_blames}
 use Rattle.sql_schema.proofs.Queries.{fails_to_read}
-use Rattle.sql_statements.proofs.OfficeReads.{finds_policy}
+use Rattle.sql_statements.proofs.OfficeReads.{finds_policy, policy_unread}
+use Rattle.sql_statements.proofs.ReadsUnread.{failed_unread}
 use Rattle.sql_statements.proofs.policy.find_policy.Goals as goal
 
 pub returns-in_err-rows-clause-found : goal.returns-in_err-rows-clause-found
@@ -17,3 +18,7 @@ returns-clause-found g c form steady =
 pub returns-in_err-rows-clause-disk : goal.returns-in_err-rows-clause-disk
 returns-in_err-rows-clause-disk g c =
     failed_query_blames _ _ (state g.S.Store c.args.tx.now.conn.now) (state g.S.Store c.query_all.new.self.conn.now) _ c.from_residual.result c.from_residual.ensures.1 c.in_err-rows.ensures.err
+
+pub returns-in_err-rows-clause-errors : goal.returns-in_err-rows-clause-errors
+returns-in_err-rows-clause-errors g c form steady =
+    failed_unread _ _ policy_unread (state g.S.Store c.args.tx.now.conn.now) (state g.S.Store c.query_all.new.self.conn.now) _ c.from_residual.result c.from_residual.ensures.1 steady c.in_err-rows.ensures.err c.query_all.ensures.survives

@@ -2,7 +2,8 @@ use Rattle.std.proofs.Common.{arith}
 use Rattle.sqlite.specs.Held.{state}
 use Rattle.sql_laws.proofs.DiskErrors.{failed_query_blames}
 use Rattle.sql_schema.proofs.Queries.{fails_to_read}
-use Rattle.sql_statements.proofs.RecordsInOrder.{finds_place}
+use Rattle.sql_statements.proofs.RecordsInOrder.{finds_place, place_unread}
+use Rattle.sql_statements.proofs.ReadsUnread.{failed_unread}
 use Rattle.sql_statements.proofs.records.find_place.Goals as goal
 
 pub returns-in_err-places-clause-found : goal.returns-in_err-places-clause-found
@@ -17,3 +18,7 @@ returns-clause-found g c form steady =
 pub returns-in_err-places-clause-disk : goal.returns-in_err-places-clause-disk
 returns-in_err-places-clause-disk g c =
     failed_query_blames _ _ (state g.S.Store c.args.tx.now.conn.now) (state g.S.Store c.query_all.new.self.conn.now) _ c.from_residual.result c.from_residual.ensures.1 c.in_err-places.ensures.err
+
+pub returns-in_err-places-clause-errors : goal.returns-in_err-places-clause-errors
+returns-in_err-places-clause-errors g c form steady =
+    failed_unread _ _ (place_unread c.args.number.now) (state g.S.Store c.args.tx.now.conn.now) (state g.S.Store c.query_all.new.self.conn.now) _ c.from_residual.result c.from_residual.ensures.1 steady (rw c.params-to_sql.ensures at c.in_err-places.ensures.err) c.query_all.ensures.survives

@@ -4,7 +4,8 @@ use Rattle.sqlite.specs.State.{HasCleanDisk}
 use Rattle.sql_streams.proofs.Answers.{hands_out}
 use Rattle.sql_statements.specs.WalkedRows.{ShowsSuggestionsOf}
 use Rattle.sql_statements.proofs.DomainUnitReads.{given}
-use Rattle.sql_statements.proofs.SuggestionsWalked.{suggestions_text, suggestions_plain, suggestions_shown, suggestions_begun}
+use Rattle.sql_statements.proofs.SuggestionsWalked.{suggestions_text, suggestions_plain, suggestions_shown, suggestions_begun, suggestions_unread}
+use Rattle.sql_statements.proofs.ReadsUnread.{walk_unread}
 use Rattle.sql_statements.proofs.unit_walks.walk_suggestions.Goals as goal
 
 pub walk-requires : goal.walk-requires
@@ -18,3 +19,6 @@ returns-clause-handed g c clean =
     hands_out g.K.RowSink.Took g.K.RowSink.Refuses suggestions_text (given c.args.domain.now c.args.lang.now) old (ShowsSuggestionsOf c.args.domain.now c.args.lang.now old.now)
     (suggestions_shown c.args.domain.now c.args.lang.now old ready) (suggestions_begun c.args.domain.now c.args.lang.now old ready) c.args.sink.now c.walk.new.sink c.walk.result
     (rw (c.params-to_sql.ensures, c.params-to_sql-2.ensures) at (c.walk.ensures.all clean)) (rw (c.params-to_sql.ensures, c.params-to_sql-2.ensures) at (c.walk.ensures.cut clean))
+
+pub returns-clause-errors : goal.returns-clause-errors
+returns-clause-errors g c = walk_unread _ _ (suggestions_unread c.args.domain.now c.args.lang.now) (state g.S.Store c.args.connection.now) _ c.walk.result c.requires.idle (rw (c.params-to_sql.ensures, c.params-to_sql-2.ensures) at c.walk.ensures.errors) c.walk.ensures.survives

@@ -4,7 +4,8 @@ use Rattle.sqlite.specs.State.{HasCleanDisk}
 use Rattle.sql_streams.proofs.Answers.{hands_out}
 use Rattle.sql_statements.specs.WalkedRows.{ShowsUnitsOf}
 use Rattle.sql_statements.proofs.DomainUnitReads.{given}
-use Rattle.sql_statements.proofs.UnitsWalked.{units_text, units_plain, units_shown, units_begun}
+use Rattle.sql_statements.proofs.UnitsWalked.{units_text, units_plain, units_shown, units_begun, units_unread}
+use Rattle.sql_statements.proofs.ReadsUnread.{walk_unread}
 use Rattle.sql_statements.proofs.unit_walks.walk_units.Goals as goal
 
 pub walk-requires : goal.walk-requires
@@ -18,3 +19,6 @@ returns-clause-handed g c clean =
     hands_out g.K.RowSink.Took g.K.RowSink.Refuses units_text (given c.args.domain.now c.args.lang.now) old (ShowsUnitsOf c.args.domain.now c.args.lang.now old.now)
     (units_shown c.args.domain.now c.args.lang.now old ready) (units_begun c.args.domain.now c.args.lang.now old ready) c.args.sink.now c.walk.new.sink c.walk.result
     (rw (c.params-to_sql.ensures, c.params-to_sql-2.ensures) at (c.walk.ensures.all clean)) (rw (c.params-to_sql.ensures, c.params-to_sql-2.ensures) at (c.walk.ensures.cut clean))
+
+pub returns-clause-errors : goal.returns-clause-errors
+returns-clause-errors g c = walk_unread _ _ (units_unread c.args.domain.now c.args.lang.now) (state g.S.Store c.args.connection.now) _ c.walk.result c.requires.idle (rw (c.params-to_sql.ensures, c.params-to_sql-2.ensures) at c.walk.ensures.errors) c.walk.ensures.survives

@@ -3,7 +3,8 @@ use Rattle.sqlite.specs.Held.{state}
 use Rattle.sqlite.specs.State.{HasCleanDisk}
 use Rattle.sql_streams.proofs.Answers.{hands_out}
 use Rattle.sql_statements.specs.WalkedRows.{ShowsAllVotes}
-use Rattle.sql_statements.proofs.UnitWalks.{votes_text, votes_plain, votes_shown, votes_begun}
+use Rattle.sql_statements.proofs.UnitWalks.{votes_text, votes_plain, votes_shown, votes_begun, votes_unread}
+use Rattle.sql_statements.proofs.ReadsUnread.{walk_unread}
 use Rattle.sql_statements.proofs.unit_walks.walk_votes.Goals as goal
 
 pub walk-requires : goal.walk-requires
@@ -16,3 +17,6 @@ returns-clause-handed g c clean =
     let ready = c.requires.idle.ready early (c.requires.is_open early) in
     hands_out g.K.RowSink.Took g.K.RowSink.Refuses votes_text [] old (ShowsAllVotes old.now) (votes_shown old ready) (votes_begun old ready) c.args.sink.now c.walk.new.sink c.walk.result
     (c.walk.ensures.all clean) (c.walk.ensures.cut clean)
+
+pub returns-clause-errors : goal.returns-clause-errors
+returns-clause-errors g c = walk_unread _ _ votes_unread (state g.S.Store c.args.connection.now) _ c.walk.result c.requires.idle c.walk.ensures.errors c.walk.ensures.survives

@@ -1,7 +1,9 @@
 use Rattle.sqlite.specs.Held.{state}
 use Rattle.sql_schema.proofs.Sequences.{reads_both, read_mapped, steady_read, fails_after, read_failed_as}
 use Rattle.sql_laws.proofs.DiskErrors.{told_on}
+use Rattle.sql_schema.proofs.Unread.{unread_told}
 use Rattle.sql_statements.proofs.ReadsBlame.{blames_after}
+use Rattle.sql_statements.proofs.ReadsUnread.{unread_after}
 use Rattle.sql_statements.proofs.whole_office.unit_tables.Goals as goal
 
 pub returns-in_err-units-clause-found : goal.returns-in_err-units-clause-found
@@ -62,3 +64,27 @@ returns-in_err-votes-clause-disk g c figures steady =
     let one = c.in_ok-units.ensures.found figures steady in
     let two = reads_both old first second _ _ _ _ one (c.in_ok-suggestions.ensures.found figures (steady_read old first _ _ one)) in
     blames_after old second third _ _ c.from_residual-in_err-votes.result _ _ c.from_residual-in_err-votes.ensures.1 two (c.in_err-votes.ensures.found figures (steady_read old second _ _ two)) c.in_err-votes.ensures.disk
+
+pub returns-in_err-units-clause-errors : goal.returns-in_err-units-clause-errors
+returns-in_err-units-clause-errors g c figures steady =
+    let old = state g.S.Store c.args.tx.now.conn.now in
+    let first = state g.S.Store c.all_units.new.tx.conn.now in
+    unread_told old first _ c.from_residual.result c.from_residual.ensures.1 (c.in_err-units.ensures.errors figures steady)
+
+pub returns-in_err-suggestions-clause-errors : goal.returns-in_err-suggestions-clause-errors
+returns-in_err-suggestions-clause-errors g c figures steady =
+    let old = state g.S.Store c.args.tx.now.conn.now in
+    let first = state g.S.Store c.all_units.new.tx.conn.now in
+    let second = state g.S.Store c.all_suggestions.new.tx.conn.now in
+    let one = c.in_ok-units.ensures.found figures steady in
+    unread_after old first second _ _ c.from_residual-in_err-suggestions.result _ _ c.from_residual-in_err-suggestions.ensures.1 one (c.in_err-suggestions.ensures.found figures (steady_read old first _ _ one)) (c.in_err-suggestions.ensures.errors figures (steady_read old first _ _ one))
+
+pub returns-in_err-votes-clause-errors : goal.returns-in_err-votes-clause-errors
+returns-in_err-votes-clause-errors g c figures steady =
+    let old = state g.S.Store c.args.tx.now.conn.now in
+    let first = state g.S.Store c.all_units.new.tx.conn.now in
+    let second = state g.S.Store c.all_suggestions.new.tx.conn.now in
+    let third = state g.S.Store c.all_votes.new.tx.conn.now in
+    let one = c.in_ok-units.ensures.found figures steady in
+    let two = reads_both old first second _ _ _ _ one (c.in_ok-suggestions.ensures.found figures (steady_read old first _ _ one)) in
+    unread_after old second third _ _ c.from_residual-in_err-votes.result _ _ c.from_residual-in_err-votes.ensures.1 two (c.in_err-votes.ensures.found figures (steady_read old second _ _ two)) (c.in_err-votes.ensures.errors figures (steady_read old second _ _ two))

@@ -1,13 +1,13 @@
-use Rattle.std.proofs.Common.{◌≡◌, inl, rules, refl, sym, ap, subst, ◌∙◌, arith, None, Some}
+use Rattle.std.proofs.Common.{◌≡◌, inl, inr, rules, refl, sym, ap, subst, ◌∙◌, arith, None, Some}
 use Rattle.std.specs.Option.{option_copied}
 use Rattle.sqlite.specs.Held.{state}
 use Rattle.sqlite.specs.Given.{Advances}
-use Rattle.sqlite.specs.State.{HasCleanDisk}
+use Rattle.sqlite.specs.State.{HasCleanDisk, FailsToQuery}
 use Rattle.sqlite.specs.Values.{bound}
 use Rattle.sql_laws.specs.DiskErrors.{HasFailed}
 use Rattle.sql_laws.proofs.DiskErrors.{query_of_disk}
 use Rattle.sql_streams.proofs.Connections.{failed_stays}
-use Rattle.sql_streams.proofs.Steps.{commits_nothing, walk_begun, walk_on, walk_refused, walk_ended, walk_failed, failed_truly}
+use Rattle.sql_streams.proofs.Steps.{commits_nothing, walk_begun, walk_on, walk_refused, walk_ended, walk_failed, failed_truly, failed_as_query}
 use Rattle.sql_streams.proofs.walking.walk.Goals as goal
 
 pub returns-in-Err-clause-stays : goal.returns-in-Err-clause-stays
@@ -73,3 +73,16 @@ returns-in-Err-advance-clause-disk g c clean blamed =
     subst (λ h. HasFailed (state g.S.Store c.args.connection.now) (state g.S.Store h)) same
     (failed_truly g.S.Store g.K.RowSink.Took c.args.sql.now (bound c.args.params.now) c.args.connection.now c.requires.plain c.args.sink.now c.rows.rows.conn.now c.advance.new.self.conn.now c.rows.sink c.rows.invariant.1
     c.advance.ensures.survives c.in-Err-advance.error c.in-Err-advance.ensures.err late blamed)
+
+pub returns-in-Err-clause-errors : goal.returns-in-Err-clause-errors
+returns-in-Err-clause-errors g c clean =
+    let refused = rw c.in-Err.is at c.query.follows.holds-at-none in
+    inr (refused.err clean)
+
+pub returns-in-Err-advance-clause-errors : goal.returns-in-Err-advance-clause-errors
+returns-in-Err-advance-clause-errors g c clean =
+    let late : HasCleanDisk (state g.S.Store c.advance.new.self.conn.now) = search rules in
+    let same : c.advance.new.self.conn.now ≡ c.connection-in-Err-advance-1.given.0 = search rules in
+    inr (subst (λ h. FailsToQuery c.args.sql.now (bound c.args.params.now) (state g.S.Store c.args.connection.now) (state g.S.Store h) c.in-Err-advance.error) same
+    (failed_as_query g.S.Store g.K.RowSink.Took c.args.sql.now (bound c.args.params.now) c.args.connection.now c.requires.plain c.args.sink.now c.rows.rows.conn.now c.advance.new.self.conn.now c.rows.sink c.rows.invariant.1
+    c.advance.ensures.survives c.in-Err-advance.error c.in-Err-advance.ensures.err late))
