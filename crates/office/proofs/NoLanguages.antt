@@ -1,5 +1,5 @@
 -- In a domain that isn't there is no language.
-use Rattle.std.proofs.Common.{◌≡◌, ℕ, List, [], ◌∷◌, false, map, length, refl, sym, ap, ◌∙◌}
+use Rattle.std.proofs.Common.{◌≡◌, List, [], ◌∷◌, false, map, length, refl, sym, ap, ◌∙◌}
 use Rattle.std.specs.FinMap as maps
 use native.Mathlib.Omega.{arith}
 use Rattle.po_text.specs.Texts.{Text, text_cmp}

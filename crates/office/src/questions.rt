@@ -125,8 +125,8 @@ impl<T: Tables> Desk<T> {
     /// The languages of a domain, in the order of their codes; none where the domain isn't there. They are read with the domain's
     /// template, and no unit is. The tables mean what they meant, unless a failure has shut them.
     ///
-    /// `Memory`, as where a growth was refused, and `Disk`, as where the disk failed, after which the desk answers `Disk` until the tables are
-    /// opened again.
+    /// `Memory`, as where a growth was refused, `Refused`, as where a row stands for no value, and `Disk`, as where the disk failed, after
+    /// which the desk answers `Disk` until the tables are opened again.
     pub fn languages(&mut self, domain: &Name) -> Result<Vec<Lang>, Lost>
         ensures answer { T.is_honest self.new → IfOk result (λ all. all.items ≡ languages (project_in (T.means self.old).office domain.now)) }
         ensures same { T.is_honest self.new → T.is_whole self.new → T.means self.new ≡ T.means self.old }
@@ -140,7 +140,8 @@ impl<T: Tables> Desk<T> {
     /// find in its forms. The tables mean what they meant, unless a failure has shut them.
     ///
     /// `NoLanguage` only where the domain or its language isn't there, and `NoUnit` only where the language is there without the unit; `Memory`, as
-    /// where a growth was refused, and `Disk`, as where the disk failed, after which the desk answers `Disk` until the tables are opened again.
+    /// where a growth was refused, `Refused`, as where a row stands for no value, and `Disk`, as where the disk failed, after which the desk
+    /// answers `Disk` until the tables are opened again.
     pub fn unit(&mut self, domain: &Name, lang: &Lang, key: &Key) -> Result<String, QueryFault>
         ensures ok { T.is_honest self.new → IfOk result
             (λ text. unit_text_at (project_in (T.means self.old).office domain.now) lang.now key.now ≡ Some (string_bytes text)) }
@@ -159,8 +160,8 @@ impl<T: Tables> Desk<T> {
     /// The counts of a domain's language as compact JSON (RFC 8259): how many of its units callers see in each state, how many are obsolete, and how
     /// many suggestions there are. The tables mean what they meant, unless a failure has shut them.
     ///
-    /// `NoLanguage` only where the domain or its language isn't there; `Memory`, as where a growth was refused, and `Disk`, as where the disk failed,
-    /// after which the desk answers `Disk` until the tables are opened again.
+    /// `NoLanguage` only where the domain or its language isn't there; `Memory`, as where a growth was refused, `Refused`, as where a row stands for no value,
+    /// and `Disk`, as where the disk failed, after which the desk answers `Disk` until the tables are opened again.
     pub fn stats(&mut self, domain: &Name, lang: &Lang) -> Result<String, QueryFault>
         ensures ok { T.is_honest self.new → IfOk result
             (λ text. counts_text_at (project_in (T.means self.old).office domain.now) lang.now ≡ Some (string_bytes text)) }
