@@ -73,8 +73,9 @@ pub record TookBehind (Exports Flushed : Writer → Writer → Type 0) (old new 
   pub export : Exports answered exported
   pub flush : Flushed exported new
 
-abbrev pub HandsOn : Writer → Writer → Type 0
-HandsOn old new = TakesAll old new []
+-- nothing more was written, and nothing is held back
+abbrev pub HandsOn : Type 0 → Writer → Writer → Type 0
+HandsOn HandedOn old new = TakesAll old new [] × HandedOn
 
 abbrev pub HoldsBack : Writer → Writer → Type 0
 HoldsBack old new = TakesPart old new []
@@ -89,7 +90,7 @@ pub data Delivered (at : AtLost) (HandedOn Honest WholeBetween Whole Gone : Type
     (reads_failed_old reads_failed_new : ℕ) (replies_old replies_new faults_old faults_new : Writer) (status : ℕ) : Type 0 where
   -- Each line was answered, and the language exported behind the answers;
   done : AllAnswered (GoingOn at (HasDelivered Honest WholeBetween Gone before between))
-      (TookBehind (λ old new. Exported Honest Whole Gone between.office domain lang old new faults_old faults_new status) HandsOn replies_old replies_new) text
+      (TookBehind (λ old new. Exported Honest Whole Gone between.office domain lang old new faults_old faults_new status) (HandsOn HandedOn) replies_old replies_new) text
       → Delivered at HandedOn Honest WholeBetween Whole Gone before between after domain lang text reads_failed_old reads_failed_new replies_old replies_new faults_old faults_new status
   -- or the writer held back some of that;
   held : (exit : ℕ) → AllAnswered (GoingOn at (HasDelivered Honest WholeBetween Gone before between))

@@ -78,7 +78,7 @@ pub record LinesAnswered {T : Type 0} (at : AtLost) (Did : List Exchange → Typ
   pub given : IfSome left_old (λ all. text ≡ all)
   pub outcome : MatchResult result (λ _. AllAnswered (GoingOn at Did) (TakesAll old new) text) (λ why. EndsBy why at Did reads_failed_old reads_failed_new old new text)
 
--- An export, with its exit status, and then the writer handed on what it held back, or failed to.
-pub data Finished (Exports : Writer → Writer → ℕ → Type 0) (old new : Writer) (status : ℕ) : Type 0 where
-  flushed : (mid : Writer) → Exports old mid status → HandsOn mid new → Finished Exports old new status
-  held : (mid : Writer) (exit : ℕ) → Exports old mid exit → HoldsBack mid new → status ≡ 1 → Finished Exports old new status
+-- An export, with its exit status, and then the writer handed on what it held back, whatever the status, or failed to.
+pub data Finished (HandedOn : Type 0) (Exports : Writer → Writer → ℕ → Type 0) (old new : Writer) (status : ℕ) : Type 0 where
+  flushed : (mid : Writer) → Exports old mid status → HandsOn HandedOn mid new → Finished HandedOn Exports old new status
+  held : (mid : Writer) (exit : ℕ) → Exports old mid exit → HoldsBack mid new → status ≡ 1 → Finished HandedOn Exports old new status

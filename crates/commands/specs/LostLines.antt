@@ -4,7 +4,7 @@ use Rattle.office.specs.Exchanges.{Exchange, asked, malformed, unread}
 use Rattle.commands.specs.declared.deliver.AtLost.{AtLost}
 use Rattle.commands.specs.declared.deliver.AtLost.TheVariants.{GoOn, End}
 
--- want of memory or a failed disk is told, and no reply; a line that is no request has its answer
+-- want of memory, a failed disk or a refusal is told, and no reply; a line that is no request has its answer
 abbrev pub is_lost : Exchange → Bool
 is_lost (asked request (Ok reply)) = false
 is_lost (asked request (Err lost)) = true

@@ -35,7 +35,7 @@ pub record IsOpened {S : Type 0} (g : store.Ghosts S) (old opened : Held S) : Ty
   pub holds : Holds (state g opened) (running_meaning (state g opened))
 
 -- They weren't, or it couldn't be found out; the rows are as they were, and a stop leaves them or, where the disk failed in the commit of a conversion,
--- what it makes, which means the same. An office's file is refused for want of memory or a failed disk alone.
+-- what it makes, which means the same. An office's file is refused for want of memory, a failed disk or a refused statement alone.
 pub record IsUnopened {S : Type 0} (g : store.Ghosts S) (old new : Held S) (fault : OpenFault) : Type 0 where
   pub why : HasCleanDisk (state g new) → Refuses (state g old).now fault
   pub again : HasCleanDisk (state g new) → IsDatabase (state g old).now → IsOfficeFile (state g old).now.trees → IsLost fault

@@ -31,7 +31,7 @@ pub struct Unopened<S: Alter> {
 /// beside them, with the same office, in one transaction.
 ///
 /// On a fault the connection is handed back with its rows as before: `Foreign` where they are no office's with its book, in a form
-/// that is known, and why; `Memory` where a growth was refused, `Disk` only where the disk failed.
+/// that is known, and why; `Memory` where a growth was refused, `Refused` where a statement was, `Disk` only where the disk failed.
 pub fn open_desk<S: Alter + Drop>(
     alloc: Global,
     connection: Connection<S>,

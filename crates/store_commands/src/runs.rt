@@ -79,7 +79,7 @@ fn export_whole<T: Tables, W: ByteSink, E: ByteSink>(
     w: &mut W,
     e: &mut E,
 ) -> u8
-    ensures printed { Finished (λ old new exit. Printed (T.is_honest desk.new) (T.is_stopped desk.new ≡ true) (T.means desk.old).office domain.now lang.now
+    ensures printed { Finished (W.holds_back w.new ≡ false) (λ old new exit. Printed (T.is_honest desk.new) (T.is_stopped desk.new ≡ true) (T.means desk.old).office domain.now lang.now
         old new (writer_at E.taken E.failed e.old) (writer_at E.taken E.failed e.new) exit)
         (writer_at W.taken W.failed w.old) (writer_at W.taken W.failed w.new) result }
     ensures status { result ≤ 1 }
@@ -111,7 +111,7 @@ pub fn export_store<S: Alter + Drop, W: ByteSink, E: ByteSink>(
     // The rows mean afterwards what they meant when the office was opened, and the text is that office's. It is told that the disk failed
     // where the tables were stopped, and they are only where it failed since they were opened. Where the office can't be opened, none ran.
     ensures exported { Ran S.Store
-        (λ opened. Finished (λ old new exit. Printed (HasCleanDisk (state S.Store result.connection)) (result.stopped ≡ true)
+        (λ opened. Finished (W.holds_back w.new ≡ false) (λ old new exit. Printed (HasCleanDisk (state S.Store result.connection)) (result.stopped ≡ true)
         (running_meaning (state S.Store opened)).office domain.now lang.now
         old new (writer_at E.taken E.failed e.old) (writer_at E.taken E.failed e.new) exit)
         (writer_at W.taken W.failed w.old) (writer_at W.taken W.failed w.new) result.status

@@ -3,7 +3,7 @@ use Rattle.commands.specs.Gathering.{flushed, held}
 use Rattle.commands.proofs.deliver.finish.Goals as goal
 
 pub returns-in-Ok-clause-finished : goal.returns-in-Ok-clause-finished
-returns-in-Ok-clause-finished g c = flushed _ c.export_named-status.ensures.exported (search rules)
+returns-in-Ok-clause-finished g c = flushed _ c.export_named-status.ensures.exported (search rules, c.in-Ok.ensures.handed_on)
 
 pub returns-in-Err-clause-finished : goal.returns-in-Err-clause-finished
 returns-in-Err-clause-finished g c = held _ c.export_named-status.result c.export_named-status.ensures.exported (search rules) refl

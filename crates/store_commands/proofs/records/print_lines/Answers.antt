@@ -1,4 +1,4 @@
-use Rattle.std.proofs.Common.{◌≡◌, ◌∙◌, true, rules, sym, subst}
+use Rattle.std.proofs.Common.{◌≡◌, ◌∙◌, true, rules, sym}
 use Rattle.sqlite.specs.Held.{state}
 use Rattle.store_sql.specs.TablesInFile.{is_stopped}
 use Rattle.store_sql.specs.Tables.{connection_of, held_by}
