@@ -4,8 +4,8 @@
     tools/build.py
 
 It runs in a copy of these crates, so that their sources may change meanwhile. rt proves crates side by side where they don't stand on
-each other, as many as there are processors and memory for (RT_JOBS says another number), and keeps what passed by the sums of all that it
-read: where its folder can be written, a later build, or the gate, proves only what is new.
+each other, as many as there are processors and memory for (RT_JOBS says another number). That of the kit's release 13f keeps what passed by
+the sums of all that it read: where its folder can be written, a later build, or the gate, proves only what is new.
 
 Where the second output is a terminal, it is told there how far the build is. What rt prints is shown only where it fails. The status is 0
 where the program was built.

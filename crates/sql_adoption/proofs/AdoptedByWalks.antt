@@ -1,5 +1,5 @@
 -- Tables by domains are those of an office with its book where their frames are read, and walks over their other rows tell so; and what is refused isn't so.
-use Rattle.std.proofs.Common.{◌≡◌, ◌≤◌, ◌&&◌, inl, inr, List, Bool, true, false, Option, Some, None, option_map, IsTrue, is_some, refl, sym, ap, subst, ◌∙◌, codes, []}
+use Rattle.std.proofs.Common.{◌≡◌, ◌≤◌, inl, inr, List, Bool, true, false, Option, Some, None, option_map, IsTrue, is_some, refl, sym, ap, subst, ◌∙◌, []}
 use Rattle.std.specs.Prelude.{⊤, IsSome}
 use Rattle.std.specs.Bool.{Decides}
 use Rattle.std.specs.FinMap as maps
@@ -11,13 +11,11 @@ use Rattle.sqlite_rules.proofs.ListLemmas.{has_contained}
 use Rattle.po_text.specs.declared.entry.Entry.{Entry}
 use Rattle.po_text.specs.Texts.{Text, text_cmp}
 use Rattle.units.specs.Limits.{domain_limit}
-use Rattle.units.specs.Office.{Office, empty_domain, as_project, has_domain, main, project_in}
+use Rattle.units.specs.Office.{Office, has_domain, main, project_in}
 use Rattle.units.specs.Offices.{IsOffice}
 use Rattle.units.specs.Project.{Project, units_of}
-use Rattle.units.specs.Projects.{IsProject}
 use Rattle.office_maps.specs.OfficeIn.{office_in}
 use Rattle.office_specification.proofs.domains.InDomains.{no_domain_yet}
-use Rattle.office_specification.specs.OfficeRules.{KeepsRules}
 use Rattle.office_specification.specs.Tally.{counts_in, counts_of}
 use Rattle.office_specification.specs.declared.tally.Tally.{Tally}
 use Rattle.rule_tests.specs.Given.{AreAll}
@@ -27,16 +25,13 @@ use Rattle.sql_schema.specs.Keys.{text_at}
 use Rattle.sql_schema.specs.Layouts.{by_domain, NamedRows, rows_named}
 use Rattle.sql_schema.specs.SeenRows.{seen_in}
 use Rattle.sql_schema.proofs.DomainsSeen.{is_text}
-use Rattle.sql_meaning.specs.Domains.{HoldsOwnDomains, is_domain, meaning_for, office_of_rows}
-use Rattle.sql_meaning.specs.Meaning.{book_in}
+use Rattle.sql_meaning.specs.Domains.{is_domain}
 use Rattle.sql_meaning.proofs.DomainChanges.{has_domain_of_rows}
 use Rattle.sql_figures.specs.Figures.{HasFigures}
 use Rattle.sql_figures.specs.KeptTallies.{Counts, office_counts}
-use Rattle.sql_statements.specs.WalkedRows.{is_unplaced}
-use Rattle.sql_statements.specs.WholeOffice.{without_units}
 use Rattle.sql_adoption.specs.Adoption.{IsAdoptedOf, StandForOffice, StandInDomains}
-use Rattle.sql_adoption.specs.FigureRows.{AreCounted, AreTalliesShown, ShowsAllTallies, are_rows_of, places_of}
-use Rattle.sql_adoption.specs.FramesKept.{KeepsDomain, KeepsFrame, RefusesEither, StandsDomain, StandsFrame, TestsDomains, walked_counts, walked_of}
+use Rattle.sql_adoption.specs.FigureRows.{AreCounted, AreTalliesShown, are_rows_of, places_of}
+use Rattle.sql_adoption.specs.FramesKept.{KeepsDomain, KeepsFrame, RefusesEither, StandsFrame, TestsDomains, walked_counts, walked_of}
 use Rattle.sql_adoption.specs.LanguagesKept.{walked_tally}
 use Rattle.sql_adoption.specs.OwnedRows.{RefusesUnless}
 use Rattle.sql_adoption.specs.Reading.{HoldAll, HoldsAll, KeepsRecords, RefusesOf, RefusesRecords}
@@ -50,7 +45,7 @@ use Rattle.sql_adoption.specs.declared.office_put.ReadOffice.{ReadOffice}
 use Rattle.sql_adoption.proofs.DomainByLanguages.{placed_where_kept}
 use Rattle.sql_adoption.proofs.FewVotes.{few_votes}
 use Rattle.sql_adoption.proofs.FiguresTold.{d_votes_stand, tallies_are, tallies_shown}
-use Rattle.sql_adoption.proofs.FramesMeant.{as_many_domains, by_walks, domain_keeps, domain_kept, frame, frame_is, own, own_frame, same_domains, stands_frame, stands_whole, whole, whole_is}
+use Rattle.sql_adoption.proofs.FramesMeant.{as_many_domains, by_walks, domain_keeps, domain_kept, frame, frame_is, own, same_domains, stands_frame, stands_whole, whole, whole_is}
 use Rattle.sql_adoption.proofs.KeptSums.{few_are, few_told, sums_are, sums_told}
 use Rattle.sql_adoption.proofs.SummedRows.{summed_so}
 use Rattle.sql_adoption.proofs.Recorded.{rules_kept}

@@ -1,5 +1,5 @@
 -- What is counted one after the other, in whichever order.
-use Rattle.std.proofs.Common.{◌≡◌, ℕ, ◌+◌, Bool, true, false, cond, List, [], ◌∷◌, map, filter, fold, refl, sym, ap, ◌∙◌, add-zero, zero-add}
+use Rattle.std.proofs.Common.{◌≡◌, Bool, true, false, cond, List, [], ◌∷◌, map, filter, fold, refl, sym, ap, ◌∙◌}
 use Rattle.std.specs.Prelude.{sum_by}
 use Rattle.std.specs.List.Sorted.{IsPermutation}
 use Rattle.std.proofs.lemmas.List.Sorted.{sum_by-IsPermutation}

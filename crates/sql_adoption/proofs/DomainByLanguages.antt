@@ -25,8 +25,7 @@ use Rattle.sql_schema.specs.SeenRows.{seen_in, language_seen}
 use Rattle.sql_schema.proofs.DomainsSeen.{is_text}
 use Rattle.sql_schema.proofs.SeenRows.{from_seen, to_seen}
 use Rattle.sql_meaning.specs.Meaning.{header_of_row, project_of_rows}
-use Rattle.sql_statements.specs.DomainCleared.{is_on_domain_unit}
-use Rattle.sql_statements.specs.WalkedRows.{is_empty, is_unplaced, is_unit_of, is_suggestion_of, suggestion_beside, ShowsUnplaced}
+use Rattle.sql_statements.specs.WalkedRows.{is_empty, is_unplaced, is_unit_of, suggestion_beside, ShowsUnplaced}
 use Rattle.sql_figures.specs.KeptSums.{votes_among}
 use Rattle.sql_adoption.specs.LanguagesKept.{IsLanguageKept}
 use Rattle.sql_adoption.specs.WalkedUnits.{IsKeptSuggestion}

@@ -1,5 +1,5 @@
 -- The office of all domains, read one after the other, is that of all rows.
-use Rattle.std.proofs.Common.{◌≡◌, inl, inr, ℕ, ◌+◌, ◌<◌, ◌≤◌, List, [], ◌∷◌, ◌++◌, length, take, map, fold, get_or, Bool, true, false, Result, Ok, Err, IfOk, IfErr, OnOk, is_some, refl, sym, ap, subst, ◌∙◌, arith, codes}
+use Rattle.std.proofs.Common.{◌≡◌, inl, inr, ℕ, ◌+◌, ◌<◌, ◌≤◌, List, [], ◌∷◌, ◌++◌, length, take, map, fold, get_or, true, false, is_some, refl, sym, ap, subst, ◌∙◌, arith, codes}
 use Rattle.std.specs.Prelude.{IsTrue}
 use Rattle.std.specs.List.{list_all}
 use Rattle.std.specs.FinMap as maps
@@ -14,9 +14,7 @@ use Rattle.sql_laws.specs.RowMaps.{map_of}
 use Rattle.sql_laws.proofs.RemovedRows.{from_mapped, to_mapped}
 use Rattle.sql_laws.proofs.RowMaps.{texts_are_one}
 use Rattle.po_text.specs.Texts.{Text, text_cmp}
-use Rattle.units.specs.Office.{Office, Domain, domain_of, main}
-use Rattle.units.specs.Project.{Project}
-use Rattle.request_book.specs.Book.{Book}
+use Rattle.units.specs.Office.{Office, Domain, main}
 use Rattle.office_specification.specs.OfficeRules.{KeepsRules}
 use Rattle.office_maps.specs.OfficeIn.{office_in}
 use Rattle.office_maps.specs.declared.office_maps.OfficeMaps.{OfficeMaps}
@@ -33,7 +31,7 @@ use Rattle.sql_decoding.specs.declared.faults.Failure.{Failure}
 use Rattle.sql_decoding.specs.RowTests.{is_domain_row, IsUnread}
 use Rattle.sql_decoding.proofs.RowsTold.{disk_is_other}
 use Rattle.sql_meaning.specs.Meaning.{team_in, policy_in}
-use Rattle.sql_meaning.specs.Domains.{domain_of_rows, domains_in, office_of_rows, meaning_by_domain, is_domain}
+use Rattle.sql_meaning.specs.Domains.{domain_of_rows, domains_in, meaning_by_domain, is_domain}
 use Rattle.sql_meaning.proofs.Books.{same_texts}
 use Rattle.sql_meaning.proofs.ShownMaps.{inserted, map_is, inserted_answers}
 use Rattle.sql_meaning.proofs.WholeRows.{fold_mapped}

@@ -1,7 +1,6 @@
 -- What the frame of tables by domains stands for beside all rows: the same domains, each with its project, but for the units; so a domain keeps its rules exactly where its frame does and
 -- the rows that walks show.
-use Rattle.std.proofs.Common.{◌≡◌, ◌≤◌, List, true, false, Bool, map, length, IsTrue, refl, sym, ap, subst, ◌∙◌, codes}
-use Rattle.std.specs.Prelude.{IsSome}
+use Rattle.std.proofs.Common.{◌≡◌, ◌≤◌, List, true, false, map, length, refl, sym, subst, ◌∙◌, codes}
 use Rattle.std.specs.FinMap as maps
 use Rattle.std.specs.FinMap.{len-entries}
 use Rattle.std.proofs.lemmas.List.{length-map}
@@ -24,7 +23,7 @@ use Rattle.sql_schema.specs.Layouts.{by_domain, NamedRows, rows_named}
 use Rattle.sql_schema.specs.SeenRows.{seen_in}
 use Rattle.sql_statements.specs.WalkedRows.{is_unplaced}
 use Rattle.sql_statements.specs.WholeOffice.{without_units}
-use Rattle.sql_meaning.specs.Domains.{domain_of_rows, domains_in, is_domain, office_of_rows}
+use Rattle.sql_meaning.specs.Domains.{domain_of_rows, is_domain, office_of_rows}
 use Rattle.sql_meaning.specs.Meaning.{project_of_rows, units_in}
 use Rattle.sql_meaning.proofs.DomainChanges.{has_domain_of_rows, project_of_domain}
 use Rattle.sql_meaning.proofs.DomainOfficeRows.{one_domain_each}

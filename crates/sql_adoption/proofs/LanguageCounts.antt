@@ -1,5 +1,5 @@
 -- The counts of a language's units are those of its rows.
-use Rattle.std.proofs.Common.{◌≡◌, Bool, cond, List, [], ◌∷◌, map, filter, sym, ap, ◌∙◌, codes}
+use Rattle.std.proofs.Common.{◌≡◌, Bool, cond, List, [], ◌∷◌, map, filter, sym, ◌∙◌, codes}
 use Rattle.std.specs.FinMap as maps
 use Rattle.sqlite.specs.Order.{Row}
 use Rattle.sql_laws.specs.ApartRows.{AreOnce}

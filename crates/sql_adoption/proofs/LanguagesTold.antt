@@ -1,5 +1,5 @@
 -- The languages of a domain are tested one after the other, and the domains of a frame.
-use Rattle.std.proofs.Common.{◌≡◌, ℕ, ◌+◌, ◌<◌, ◌≤◌, inl, inr, List, [], ◌∷◌, ◌++◌, length, take, map, get_or, Bool, true, false, Option, Some, None, is_some, option_map, Result, Ok, Err, IfErr, IsTrue, refl, sym, ap, subst, ◌∙◌}
+use Rattle.std.proofs.Common.{◌≡◌, ℕ, ◌+◌, ◌<◌, ◌≤◌, inl, inr, List, [], ◌∷◌, ◌++◌, length, take, map, get_or, true, false, Option, Some, None, option_map, Ok, IsTrue, refl, sym, ap, subst, ◌∙◌}
 use Rattle.std.specs.Prelude.{IsSome}
 use Rattle.std.specs.FinMap as maps
 use Rattle.std.proofs.lemmas.List.{take_more, take_all}
@@ -10,7 +10,7 @@ use Rattle.sqlite_rules.proofs.ListLemmas.{has_contained, has_either}
 use Rattle.sql_laws.proofs.RemovedRows.{from_mapped}
 use Rattle.po_text.specs.declared.entry.Entry.{Entry}
 use Rattle.po_text.specs.Texts.{Text, text_cmp}
-use Rattle.units.specs.Office.{Office, has_domain, project_in, as_project, empty_domain}
+use Rattle.units.specs.Office.{Office, has_domain, project_in}
 use Rattle.units.specs.Project.{Project}
 use Rattle.office_specification.proofs.domains.InDomains.{no_domain_yet}
 use Rattle.office_specification.specs.declared.tally.Tally.{Tally}
@@ -20,14 +20,14 @@ use Rattle.sql_schema.specs.Layouts.{by_domain}
 use Rattle.sql_schema.specs.Whole.{IsIdleOver, IsLookUp}
 use Rattle.sql_figures.specs.KeptTallies.{Counts}
 use Rattle.sql_adoption.specs.FigureRows.{Place, places_of, AreCounted, CountsOneMore}
-use Rattle.sql_adoption.specs.FramesKept.{CountsLangs, KeepsDomain, KeepsLang, RefusesEither, StandsDomain, TestsDomain, TestsDomains, TestsLang, TestsLangs, TestsProject, walked_counts, walked_of}
+use Rattle.sql_adoption.specs.FramesKept.{CountsLangs, RefusesEither, TestsDomain, TestsDomains, TestsLang, TestsLangs, TestsProject, walked_counts, walked_of}
 use Rattle.sql_adoption.specs.LanguagesKept.{walked_tally}
 use Rattle.sql_adoption.specs.OwnedRows.{RefusesUnless}
 use Rattle.sql_adoption.specs.declared.faults.OpenFault.{OpenFault}
 use Rattle.sql_adoption.specs.declared.faults.OpenFault.TheVariants.{Memory, Disk, Foreign, Exists, Refused}
 use Rattle.sql_adoption.specs.declared.faults.Mismatch.TheVariants.{OtherTables, OtherForm, UnreadRow, OtherFigures, BrokenRules}
 use Rattle.sql_adoption.specs.declared.language_tallies.Counted.{Counted}
-use Rattle.sql_layouts.proofs.Looked.{looked_on, looked_weaker, both_looked}
+use Rattle.sql_layouts.proofs.Looked.{looked_on, both_looked}
 use Rattle.sql_adoption.proofs.LooksBehind.{not_looked}
 use Rattle.sql_adoption.proofs.TalliesTold.{none_counted, no_lang, one_counted, one_domain_counted}
 

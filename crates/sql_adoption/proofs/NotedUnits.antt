@@ -1,5 +1,5 @@
 -- What noting one unit more comes to, and one suggestion more.
-use Rattle.std.proofs.Common.{◌≡◌, ◌⊎◌, ◌<◌, ◌≤◌, ◌+◌, ◌&&◌, ℕ, Bool, true, false, not, cond, List, [], ◌∷◌, filter, length, inl, inr, refl, sym, ap, subst, ◌∙◌, ◌==◌, zero-add, arith}
+use Rattle.std.proofs.Common.{◌≡◌, ◌⊎◌, ◌<◌, ◌≤◌, ◌+◌, ◌&&◌, ℕ, Bool, true, false, not, cond, List, [], ◌∷◌, length, inl, inr, refl, sym, ap, subst, ◌∙◌, ◌==◌, arith}
 use Rattle.std.specs.Prelude.{◌↔◌, nat_le, sum_by, unwrap_or, Option, Some, None, pos, negsuc}
 use Rattle.std.specs.Bool.{Decides}
 use Rattle.std.proofs.lemmas.Bool.Decides.{Decides-eqb, Decides-like}
@@ -24,7 +24,7 @@ use Rattle.sql_meaning.specs.OfficeShown.{place_shown}
 use Rattle.sql_meaning.specs.Values.{flag_at, integer_of, natural, natural_at}
 use Rattle.sql_decoding.specs.RowTests.{is_suggestion_row, is_unit_row}
 use Rattle.sql_adoption.specs.TookSuggestions.{TookSuggestions}
-use Rattle.sql_adoption.specs.TookUnits.{TookUnits, CountedUnits, BrokenUnits, is_in_use, with_counts}
+use Rattle.sql_adoption.specs.TookUnits.{TookUnits, BrokenUnits, is_in_use, with_counts}
 use Rattle.sql_adoption.specs.WalkedUnits.{unit_alone, IsKeptUnit, IsKeptSuggestion, MayHave}
 use Rattle.sql_adoption.specs.declared.unit_sinks.Told.{Told}
 

@@ -1,5 +1,5 @@
 -- A fault of rows that are read blames the disk as truly as the statements behind it do.
-use Rattle.std.proofs.Common.{◌≡◌, ◌≢◌, true, Result, Ok, Err, refl, sym, ◌∙◌, ◌⊎◌, inl, inr, subst}
+use Rattle.std.proofs.Common.{◌≡◌, ◌≢◌, true, Result, Ok, Err, sym, ◌∙◌, ◌⊎◌, inl, inr, subst}
 use Rattle.std.specs.Prelude.{IsErrAnd, IfErr, MatchResult}
 use Rattle.sqlite.specs.State.{State, HasCleanDisk, Survives}
 use Rattle.sqlite.specs.Tree.{Trees}
@@ -10,7 +10,7 @@ use Rattle.sql_laws.specs.DiskErrors.{is_of_disk, HasFailed}
 use Rattle.sql_laws.proofs.DiskErrors.{failed_behind}
 use Rattle.sql_decoding.specs.declared.faults.Failure.{Failure}
 use Rattle.sql_adoption.specs.declared.faults.OpenFault.{OpenFault}
-use Rattle.sql_adoption.specs.declared.faults.OpenFault.TheVariants.{Memory, Disk, Foreign, Exists, Refused}
+use Rattle.sql_adoption.specs.declared.faults.OpenFault.TheVariants.{Memory, Disk}
 use Rattle.sql_adoption.specs.Reading.{IsOfStatement, IsOfWalk, unread, OpensTruly}
 use Rattle.sql_streams.specs.Walks.{FailsTruly}
 use Rattle.sql_streams.specs.declared.walking.WalkFault.{WalkFault}

@@ -1,5 +1,5 @@
 -- What is read of a part of the office is alike to the office that all rows stand for.
-use Rattle.std.proofs.Common.{◌≡◌, List, [], ◌∷◌, map, fold, Bool, true, false, cond, Option, Some, None, is_some, refl, sym, ap, subst, ◌∙◌, codes}
+use Rattle.std.proofs.Common.{◌≡◌, List, [], ◌∷◌, fold, Bool, true, false, cond, Option, Some, None, is_some, refl, sym, ap, subst, ◌∙◌, codes}
 use Rattle.std.specs.Prelude.{unwrap_or}
 use Rattle.std.specs.Ordering.{eq_by_cmp}
 use Rattle.std.specs.FinMap as maps

@@ -1,5 +1,5 @@
 -- Look-ups of one domain after the other, behind that of their names.
-use Rattle.std.proofs.Common.{◌≡◌, ℕ, ◌+◌, ◌<◌, ◌≤◌, List, [], ◌∷◌, ◌++◌, length, take, get_or, Vec, Global, Result, Ok, Err, IfOk, IfErr, sym, ap, subst, ◌∙◌}
+use Rattle.std.proofs.Common.{◌≡◌, ℕ, ◌+◌, ◌<◌, ◌≤◌, List, [], ◌∷◌, ◌++◌, length, take, get_or, Ok, Err, sym, ap, subst, ◌∙◌}
 use Rattle.std.proofs.lemmas.List.{take_more, take_all}
 use Rattle.sqlite.specs.Effect.{Database}
 use Rattle.sqlite.specs.State.{State, HasCleanDisk}
@@ -14,7 +14,7 @@ use Rattle.sql_adoption.specs.ReadParts.{part_of}
 use Rattle.sql_adoption.specs.declared.domains_read.Part.{Part}
 use Rattle.sql_adoption.specs.declared.faults.OpenFault.{OpenFault}
 use Rattle.sql_adoption.specs.declared.office_put.ReadOffice.{ReadOffice}
-use Rattle.sql_layouts.proofs.Looked.{if_ok, looked_on, looked_in_vain, both_looked, looked_same}
+use Rattle.sql_layouts.proofs.Looked.{looked_on, looked_in_vain, both_looked, looked_same}
 use Rattle.sql_adoption.proofs.ReadParts.{names_in_part}
 use Rattle.sql_adoption.proofs.DomainsRead.{HaveRead, nothing_read, one_read, all_read, domains_are_read}
 

@@ -1,10 +1,7 @@
 -- What is so of all rows is so of those without units.
-use Rattle.std.proofs.Common.{◌≡◌, inl, inr, List, [], ◌∷◌, codes}
-use Rattle.std.specs.List.{AllByRecursion}
+use Rattle.std.proofs.Common.{List, codes}
 use Rattle.sqlite.specs.Effect.{Database}
 use Rattle.sqlite.specs.Order.{Row}
-use Rattle.sqlite.specs.declared.types.Value.TheVariants.{Int}
-use Rattle.sqlite_rules.specs.Lists.{Has}
 use Rattle.sql_laws.specs.RowMaps.{OneEach}
 use Rattle.std.specs.Prelude.{Option}
 use Rattle.po_text.specs.Texts.{Text}
@@ -15,7 +12,7 @@ use Rattle.sql_schema.specs.SeenRows.{seen_in}
 use Rattle.sql_statements.specs.Answers.{ShowsPolicy, ShowsPolicyIn}
 use Rattle.sql_statements.specs.WholeOffice.{without_units}
 use Rattle.sql_meaning.specs.Domains.{HoldsOwnDomains}
-use Rattle.sql_meaning.specs.RowKeys.{AreKeyed, AreKeyedRows, AreTypedRows, AreOfficeRows}
+use Rattle.sql_meaning.specs.RowKeys.{AreKeyedRows, AreTypedRows, AreOfficeRows}
 use Rattle.sql_meaning.proofs.DomainOfficeRows.{one_domain_each, domain_rows}
 use Rattle.sql_adoption.specs.Adoption.{TellsForm, StandForOffice}
 use Rattle.sql_adoption.specs.ReadParts.{part_of}

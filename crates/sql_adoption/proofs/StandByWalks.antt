@@ -1,5 +1,5 @@
 -- What a domain sees stands for values exactly where what its frame sees does, and the rows that walks show.
-use Rattle.std.proofs.Common.{◌≡◌, ◌&&◌, List, [], ◌∷◌, true, false, sym, ap, subst, ◌∙◌, codes, refl}
+use Rattle.std.proofs.Common.{◌≡◌, ◌&&◌, [], ◌∷◌, true, false, sym, ap, subst, ◌∙◌, codes, refl}
 use Rattle.std.specs.Prelude.{IsSome}
 use Rattle.std.specs.FinMap as maps
 use Rattle.std.proofs.lemmas.Bool.{and_parts, and_from}

@@ -1,5 +1,5 @@
 -- What a language's units count in a domain is what the rows of its walk count.
-use Rattle.std.proofs.Common.{◌≡◌, ◌≤◌, ◌&&◌, ℕ, List, [], ◌∷◌, filter, length, Bool, true, false, not, cond, refl, sym, ap, subst, ◌∙◌, codes, zero-add, arith, inl, inr, ◌+◌}
+use Rattle.std.proofs.Common.{◌≡◌, ◌≤◌, ◌&&◌, ℕ, List, [], ◌∷◌, filter, length, Bool, true, false, not, cond, refl, sym, ap, ◌∙◌, codes, zero-add, arith, inl, inr, ◌+◌}
 use Rattle.std.specs.Prelude.{min, sum_by}
 use Rattle.std.proofs.lemmas.Bool.{and_parts}
 use Rattle.sqlite.specs.Effect.{Database}
@@ -24,7 +24,7 @@ use Rattle.sql_statements.specs.DomainCleared.{is_on_domain_unit}
 use Rattle.sql_statements.specs.SummedVotes.{most_counted}
 use Rattle.sql_statements.specs.WalkedRows.{suggestions_on, unit_counted, is_unit_of}
 use Rattle.sql_meaning.specs.Meaning.{suggestions_in, unit_of_row, project_of_rows}
-use Rattle.sql_meaning.specs.Values.{flag_at, natural_at}
+use Rattle.sql_meaning.specs.Values.{natural_at}
 use Rattle.sql_meaning.proofs.DomainOfficeRows.{domain_rows}
 use Rattle.sql_adoption.specs.TookUnits.{row_counts}
 use Rattle.sql_adoption.proofs.CountsPermuted.{add_all, added_passing, added_mapped}

@@ -1,5 +1,5 @@
 -- What was told of a language's units is so of its rows.
-use Rattle.std.proofs.Common.{◌≡◌, ◌≤◌, ◌&&◌, List, map, filter, length, true, false, not, cond, inl, inr, sym, ap, subst, ◌∙◌, codes, arith}
+use Rattle.std.proofs.Common.{◌≡◌, ◌≤◌, List, map, filter, length, true, false, not, cond, inl, inr, sym, ap, subst, ◌∙◌, codes, arith}
 use Rattle.std.proofs.lemmas.List.{length-map}
 use Rattle.std.proofs.lemmas.List.Elements.{All-contains}
 use Rattle.std.proofs.lemmas.List.Sorted.{IsPermutation-sym, sum_by-IsPermutation, length_permutation}

@@ -1,5 +1,5 @@
 -- What a domain sees that isn't there: nothing of its own, where each row is of a domain that there is.
-use Rattle.std.proofs.Common.{◌≡◌, ◌&&◌, inl, List, [], ◌∷◌, map, Bool, true, false, sym, ap, subst, ◌∙◌, refl, codes}
+use Rattle.std.proofs.Common.{◌≡◌, ◌&&◌, inl, List, [], ◌∷◌, map, true, false, sym, ap, subst, ◌∙◌, refl, codes}
 use Rattle.std.specs.Prelude.{ℤ}
 use Rattle.std.specs.FinMap as maps
 use Rattle.std.specs.Ordering.{int_cmp}
@@ -14,7 +14,7 @@ use Rattle.po_text.specs.declared.entry.Entry.{Entry}
 use Rattle.po_text.specs.Texts.{Text}
 use Rattle.sql_schema.specs.Keys.{text_at, first_text, has_text}
 use Rattle.sql_schema.specs.Layouts.{NamedRows}
-use Rattle.sql_schema.specs.SeenRows.{rows_seen, entry_seen, language_seen, unit_seen, suggestion_seen, is_vote_in, vote_seen, seen_in}
+use Rattle.sql_schema.specs.SeenRows.{entry_seen, language_seen, unit_seen, suggestion_seen, is_vote_in, vote_seen, seen_in}
 use Rattle.sql_schema.proofs.SeenRows.{from_seen}
 use Rattle.sql_meaning.specs.Domains.{is_domain, HoldsOwnDomains}
 use Rattle.sql_meaning.specs.Meaning.{entry_of_row, template_in}

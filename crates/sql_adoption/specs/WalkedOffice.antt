@@ -1,5 +1,5 @@
 -- What is told of tables by domains whose frames are at hand and whose units, suggestions and votes are walked. This project's own words.
-use Rattle.std.specs.Prelude.{◌≡◌, ◌≤◌, ⊤, Bool, true, false, List, IsSome, codes}
+use Rattle.std.specs.Prelude.{◌≡◌, ◌≤◌, ⊤, Bool, false, List, IsSome, codes}
 use Rattle.std.specs.FinMap as maps
 use Rattle.sqlite.specs.Effect.{Database}
 use Rattle.sqlite.specs.Order.{Row}
@@ -7,7 +7,7 @@ use Rattle.sqlite_rules.specs.Lists.{Has}
 use Rattle.units.specs.Limits.{domain_limit}
 use Rattle.units.specs.Office.{Office, main}
 use Rattle.office_maps.specs.OfficeIn.{office_in}
-use Rattle.sql_schema.specs.Layouts.{by_domain, rows_named}
+use Rattle.sql_schema.specs.Layouts.{rows_named}
 use Rattle.sql_meaning.specs.Domains.{HoldsOwnDomains}
 use Rattle.sql_statements.specs.WalkedRows.{is_unplaced}
 use Rattle.sql_statements.specs.WholeOffice.{without_units}

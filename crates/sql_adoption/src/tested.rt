@@ -179,8 +179,8 @@ fn tested_tables<S: Alter>(
 /// `Foreign` tells why not: `OtherTables` only where the tables aren't an office's, `OtherForm` only where the policy's row doesn't tell their
 /// form, `UnreadRow` only where a row stands for no value or is of a domain that isn't there, a template for no valid catalogue, or a record's
 /// content is no request's, `BrokenRules` only where the rules don't hold, as where there is no `main`, `OtherFigures` only where a sum or a
-/// tally isn't what counting gives. `Memory` where a growth was refused, `Disk` only where the disk failed, or an earlier failure
-/// had shut the connection.
+/// tally isn't what counting gives. `Memory` where a growth was refused, `Refused` where a statement was, `Disk` only where the disk
+/// failed, or an earlier failure had shut the connection.
 pub fn adopted_office<S: Alter>(
     connection: &mut Connection<S>,
     alloc: Global,

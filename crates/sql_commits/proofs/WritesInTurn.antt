@@ -32,7 +32,6 @@ use Rattle.sql_meaning.specs.RowChanges.{AddsIn, ClearsIn}
 use Rattle.sqlite_rules.specs.Lists.{Has}
 use Rattle.sql_schema.specs.Inside.{AreOfficeTablesOf, IsReadOf, PutsRow}
 use Rattle.sql_schema.specs.Keys.{text_at}
-use Rattle.sql_schema.specs.Layouts.{rows_named}
 use Rattle.sql_schema.proofs.Layouts.{names_differ}
 use Rattle.sql_statements.specs.Added.{AddsRow}
 use Rattle.units.specs.Office.{same_domain}

@@ -1,7 +1,7 @@
 -- What each domain sees once the tables by domains are made beside the old ones, with the one domain and the policy: records, members and the policy, and nothing else yet.
 use Rattle.std.proofs.Common.{◌≡◌, ◌≢◌, inl, ℕ, Bool, List, [], ◌∷◌, true, refl, sym, ap, subst, ◌∙◌, codes}
 use Rattle.sqlite.specs.Effect.{Database}
-use Rattle.sqlite.specs.Order.{Row, column}
+use Rattle.sqlite.specs.Order.{column}
 use Rattle.sqlite.specs.Tree.{Trees}
 use Rattle.sqlite_rules.specs.Lists.{Has}
 use Rattle.sql_laws.specs.RowMaps.{OneEach}

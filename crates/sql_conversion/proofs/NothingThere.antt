@@ -1,5 +1,5 @@
 -- Of a domain that isn't there nothing is written, and how an office is written anew step by step.
-use Rattle.std.proofs.Common.{◌≡◌, List, [], ◌∷◌, false, Option, None, Result, Ok, refl, sym, subst, codes}
+use Rattle.std.proofs.Common.{◌≡◌, List, [], ◌∷◌, false, Option, None, Ok, refl, sym, subst, codes}
 use Rattle.std.specs.FinMap as maps
 use Rattle.sqlite.specs.Effect.{Database}
 use Rattle.sqlite.specs.Order.{Row}

@@ -7,7 +7,7 @@ use Rattle.sqlite.specs.Tree.{Trees}
 use Rattle.request_book.specs.Book.{OfficeWithBook}
 use Rattle.sql_schema.specs.Inside.{AreOfficeTablesOf}
 use Rattle.sql_schema.specs.Layouts.{Form, IsForMain, by_domain, NamedRows, rows_named}
-use Rattle.sql_schema.specs.Whole.{IsIdleOver, IsCommitOf}
+use Rattle.sql_schema.specs.Whole.{IsCommitOf}
 use Rattle.sql_meaning.specs.Meaning.{meaning_in}
 use Rattle.sql_meaning.specs.Domains.{meaning_by_domain, meaning_for, DatabaseMeans, TreesMean}
 use Rattle.sql_adoption.specs.Adoption.{IsAdopted, IsAdoptedOf, IsAdoptedIn, StaysAsItWas, Refuses}

@@ -20,7 +20,7 @@ use Rattle.units.specs.Project.{Project}
 use Rattle.units.specs.Projects.{IsProject, IsTemplateEntry}
 use Rattle.request_book.specs.Book.{OfficeWithBook}
 use Rattle.sql_schema.specs.Inside.{AreOfficeTablesOf}
-use Rattle.sql_schema.specs.Layouts.{Form, for_main, by_domain, IsForMain, NamedRows, rows_named}
+use Rattle.sql_schema.specs.Layouts.{for_main, by_domain, IsForMain, NamedRows, rows_named}
 use Rattle.sql_schema.specs.SeenRows.{seen_in, AreSameByName}
 use Rattle.sql_schema.proofs.DomainRows.{domain_names}
 use Rattle.sql_schema.proofs.Layouts.{of_main, names_differ}

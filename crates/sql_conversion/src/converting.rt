@@ -20,7 +20,8 @@ use std::alloc::Global;
 /// each suggestion and the tally of each language. What the file means stays, and sums and tallies are what counting its rows gives. The
 /// tables that were there keep their rows, but for the policy's, which tells the form.
 ///
-/// Where it fails, nothing is changed: `Memory` where a growth was refused, `Disk` only where the disk failed.
+/// Where it fails, nothing is changed: `Memory` where a growth was refused, `Refused` where a statement was, `Disk` only where the
+/// disk failed.
 pub fn convert<S: Alter>(
     connection: &mut Connection<S>,
     alloc: Global,

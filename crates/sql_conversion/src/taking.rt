@@ -56,8 +56,9 @@ fn converted<S: Alter>(
 /// are tables by domains, that mean what the file meant before, and whose sums and tallies are what counting their rows gives; tables without
 /// a column for a domain keep their rows, but for the policy's, which tells the form.
 ///
-/// `Foreign` tells why the tables aren't taken, as of `adopted_office`; then nothing was changed. `Memory` where a growth was refused, `Disk`
-/// only where the disk failed: the rows are as before, and a stop leaves what was there, or what the conversion makes, which means the same.
+/// `Foreign` tells why the tables aren't taken, as of `adopted_office`; then nothing was changed. `Memory` where a growth was refused, `Refused`
+/// where a statement was, `Disk` only where the disk failed: the rows are as before, and a stop leaves what was there, or what the
+/// conversion makes, which means the same.
 pub fn take_over<S: Alter>(connection: &mut Connection<S>, alloc: Global) -> Result<(), OpenFault>
     requires autocommit { connection.old.in_transaction ≡ false }
     ensures taken { OnOk result (IsTakenOver (state S.Store connection.old) (state S.Store connection.new)) }

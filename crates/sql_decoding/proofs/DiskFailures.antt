@@ -1,6 +1,6 @@
 -- Which errors tell of the disk, and what is told on of failures.
 use Rattle.std.proofs.Common.{◌≡◌, ◌≢◌, true, false, Result, Ok, Err, refl, sym, ap, subst, ◌∙◌, arith}
-use Rattle.std.specs.Prelude.{◌↔◌, IsErrAnd, IfOk, IfErr, MatchResult}
+use Rattle.std.specs.Prelude.{IsErrAnd, IfOk, IfErr, MatchResult}
 use Rattle.sqlite.specs.Tree.{Trees}
 use Rattle.sqlite.specs.State.{State, HasCleanDisk, Survives}
 use Rattle.sqlite.specs.declared.error.Error.{Error}

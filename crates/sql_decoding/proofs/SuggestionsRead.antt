@@ -1,5 +1,5 @@
 -- What reads of a unit's suggestions find of the office: of all of them without the votes on them, and of the one of a number.
-use Rattle.std.proofs.Common.{◌≡◌, inl, inr, List, [], ◌∷◌, length, map, filter, find, Bool, true, false, Option, Some, None, option_map, option_and_then, IfSome, codes, refl, sym, ap, subst, ◌∙◌, arith}
+use Rattle.std.proofs.Common.{◌≡◌, inl, List, [], ◌∷◌, length, map, filter, find, true, Option, Some, None, option_map, option_and_then, IfSome, codes, refl, sym, ap, subst, ◌∙◌, arith}
 use Rattle.std.proofs.lemmas.Bool.{and_parts, and_from}
 use Rattle.std.proofs.lemmas.List.Sorted.{IsPermutation-refl}
 use Rattle.std.specs.Option.{option_map_or}

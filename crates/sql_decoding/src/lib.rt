@@ -9,7 +9,7 @@
 //! - `tallies`: how many units of a language are in each state
 //! - `entries_read`: the entries of an export
 //! - `kept_rule`: the plural rule that was read last
-//! - `faults`: what a failure comes to: want of memory and a failed disk are told apart
+//! - `faults`: what a failure comes to: want of memory, a failed disk and a refusal are told apart
 //!
 //! Specs: `RowTests` (which rows stand for values; `proofs/ColumnsTested` has columns that pass and that don't,
 //! `RowsTold` rows), `ShownContexts`, `ShownEntries`, `RecordHeads`, `TablesRead`.

@@ -1,5 +1,5 @@
 -- Rows of tallies that are put, renewed or looked up: of which counts they are, and what these are.
-use Rattle.std.proofs.Common.{◌≡◌, ℕ, ◌+◌, ◌-◌, ℤ, pos, ◌+ℤ◌, inl, inr, List, [], ◌∷◌, Bool, true, false, cond, Option, Some, None, IsSome, option_map, codes, refl, sym, ap, subst, ◌∙◌, arith}
+use Rattle.std.proofs.Common.{◌≡◌, ℕ, ◌+◌, ◌-◌, ℤ, pos, ◌+ℤ◌, inl, inr, List, [], ◌∷◌, Bool, true, false, cond, Option, Some, None, IsSome, option_map, refl, sym, ap, subst, ◌∙◌, arith}
 use Rattle.std.proofs.lemmas.Bool.{and_parts, and_from, false_from_ne_true}
 use Rattle.std.specs.Prelude.{◌&&◌}
 use Rattle.std.specs.Cmp.Lexicographic.{bytes_decides}
@@ -20,7 +20,7 @@ use Rattle.sql_statements.specs.Renewed.{AreRenewed}
 use Rattle.sql_meaning.specs.Cells.{tally_cells}
 use Rattle.sql_meaning.specs.Shown.{shown_tally}
 use Rattle.sql_figures.specs.Figures.{with_tally, moved_at, turned}
-use Rattle.sql_figures.specs.KeptTallies.{Counts, IsTallyOf, tally_columns, HoldsTally, AreTalliesOf}
+use Rattle.sql_figures.specs.KeptTallies.{Counts, IsTallyOf, HoldsTally, AreTalliesOf}
 
 pub same_text : (a b : Text) → text_eq a b ≡ true → a ≡ b
 same_text a b e = (bytes_decides a b).0 e

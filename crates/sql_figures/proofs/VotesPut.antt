@@ -4,7 +4,6 @@ use Rattle.std.proofs.lemmas.Bool.{and_parts}
 use Rattle.std.specs.FinMap as maps
 use Rattle.std.specs.FinMap.{is_sorted, entries, entries_sorted}
 use Rattle.sqlite.specs.Order.{Row}
-use Rattle.sqlite_rules.specs.Lists.{Has}
 use Rattle.sql_laws.proofs.RemovedRows.{from_mapped}
 use Rattle.po_text.specs.Texts.{Text, text_cmp}
 use Rattle.units.specs.Orders.{text_total}

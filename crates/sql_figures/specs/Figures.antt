@@ -1,6 +1,6 @@
 -- The figures that tables keep beside an office's rows, sums of votes and tallies, and how those by domains follow what is written. This project's own
 -- rule.
-use Rattle.std.specs.Prelude.{⊤, ◌≡◌, ◌&&◌, ◌+◌, ◌<◌, ◌^◌, List, [], ◌∷◌, Bool, cond, Option, Some, option_map, map, codes}
+use Rattle.std.specs.Prelude.{⊤, ◌≡◌, ◌&&◌, ◌+◌, ◌<◌, ◌^◌, List, [], ◌∷◌, Bool, cond, Some, option_map, map, codes}
 use Rattle.std.specs.Ordering.{nat_cmp, is_eq}
 use Rattle.std.specs.Cmp.Lexicographic.{slice_cmp}
 use Rattle.sqlite.specs.declared.types.Value.TheVariants.{Text as Words}

@@ -11,7 +11,6 @@ use Rattle.units.specs.Orders.{place_total}
 use Rattle.units.specs.Project.{Project, entry_of, view_of, units_of}
 use Rattle.units.specs.declared.unit.Key.{Key}
 use Rattle.units.specs.declared.unit.UnitView.{UnitView}
-use Rattle.review.specs.UnitStep.{with_vote}
 use Rattle.office_specification.specs.Counting.{AreWithin}
 use Rattle.office_specification.specs.Tally.{counts_in}
 use Rattle.office_specification.specs.OfficeChanges.{changed_project, changed, changed_by, IsPossible, IsPossibleChange}

@@ -1,4 +1,4 @@
--- An office's file is adopted, but for want of memory and a failed disk; and what is adopted is one.
+-- An office's file is adopted, but for want of memory, a failed disk and a refused statement; and what is adopted is one.
 use Rattle.std.proofs.Common.{inl, inr, refl}
 use Rattle.sqlite.specs.Effect.{Database, IsDatabase}
 use Rattle.office_specification.specs.OfficeRules.{KeepsRules}

@@ -48,7 +48,8 @@ ghost use Rattle.sql_files.specs.Files.{office_of};
 
 use sqlite::Alter;
 
-/// Whatever schema an opening reads of an office's file, the file is refused for want of memory or a failed disk alone.
+/// Whatever schema an opening reads of an office's file, the file is refused for want of memory, a failed disk or a refused
+/// statement alone.
 pub fn adopted_unless_lost()
     ensures { (db : Database) → IsDatabase db → IsOfficeFile db.trees → (fault : OpenFault) → Refuses db fault → IsLost fault }
 {}

@@ -1,5 +1,5 @@
 -- What the writing of a unit makes of the units that the rows stand for: the unit at its place, and every other as it was.
-use Rattle.std.proofs.Common.{◌≡◌, ◌≢◌, ℕ, refl, sym, ap, subst, ◌∙◌, codes, List}
+use Rattle.std.proofs.Common.{◌≡◌, ◌≢◌, ℕ, refl, sym, subst, ◌∙◌, codes, List}
 use Rattle.std.specs.FinMap as maps
 use Rattle.sqlite.specs.Order.{Row}
 use Rattle.sqlite_rules.specs.Lists.{Has}

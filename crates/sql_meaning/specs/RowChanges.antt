@@ -1,5 +1,5 @@
 -- What statements make of rows by the names of their tables, wherever these rows are: what `sql_statements` says of a database's.
-use Rattle.std.specs.Prelude.{◌≡◌, ◌≢◌, pos, ◌+ℤ◌, ℕ, Bool, true, List, [], codes}
+use Rattle.std.specs.Prelude.{◌≡◌, ◌≢◌, pos, ◌+ℤ◌, ℕ, Bool, true, List, codes}
 use Rattle.sqlite.specs.Order.{Row, column}
 use Rattle.sqlite_sql.specs.Ops.{fits_i64}
 use Rattle.sqlite_rules.specs.Edit.{id_in}

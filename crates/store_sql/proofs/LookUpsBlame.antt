@@ -1,5 +1,5 @@
 -- A whole transaction that reads by one step blames the disk as truly as its step and its commit do.
-use Rattle.std.proofs.Common.{◌≡◌, true, false, Result, Ok, Err, sym, subst, arith}
+use Rattle.std.proofs.Common.{◌≡◌, true, Result, Ok, subst}
 use Rattle.std.specs.Prelude.{IfErr}
 use Rattle.std.specs.Result.{IsErrAnd, result_and}
 use Rattle.sqlite.specs.Held.{Held, state}

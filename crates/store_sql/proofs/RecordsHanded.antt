@@ -1,5 +1,5 @@
 -- What a sink was handed of the records, by what the walk over their rows handed it.
-use Rattle.std.proofs.Common.{◌≡◌, inl, inr, ◌++◌, List, [], ◌∷◌, Option, refl, sym, subst}
+use Rattle.std.proofs.Common.{inl, inr, ◌++◌, List, [], ◌∷◌, Option, refl, sym, subst}
 use Rattle.sqlite.specs.Order.{Row}
 use Rattle.sqlite.specs.Effect.{Database}
 use Rattle.po_text.specs.Texts.{Text}

@@ -110,7 +110,7 @@ impl<S: Alter> OfficeConnection<S> {
     /// which nothing is recorded.
     ///
     /// On a fault the connection is handed back with its rows as before: `Exists` where an office is there already, `Foreign` where
-    /// other tables are, `Memory` where a growth was refused, `Disk` only where the disk failed.
+    /// other tables are, `Memory` where a growth was refused, `Refused` where a statement was, `Disk` only where the disk failed.
     pub(crate) fn create(
         connection: Connection<S>,
         alloc: Global,

@@ -1,4 +1,4 @@
-use Rattle.std.proofs.Common.{List, Ok, true, false, sym, ◌∙◌}
+use Rattle.std.proofs.Common.{List, Ok, sym, ◌∙◌}
 use Rattle.sqlite.specs.Held.{state}
 use Rattle.sqlite.specs.Order.{Row}
 use Rattle.sql_streams.specs.declared.walking.WalkFault.{WalkFault}

@@ -1,4 +1,4 @@
-use Rattle.std.proofs.Common.{rules, ◌≡◌, [], subst}
+use Rattle.std.proofs.Common.{rules, ◌≡◌, subst}
 use Rattle.office_maps.specs.OfficeIn.{office_in}
 use Rattle.sql_figures.specs.KeptTallies.{office_counts}
 use Rattle.sql_adoption.specs.FigureRows.{places_of, AreCounted}

@@ -1,4 +1,4 @@
-use Rattle.std.proofs.Common.{◌≡◌, true, sym, ap, subst, ◌∙◌}
+use Rattle.std.proofs.Common.{◌≡◌, true, ap, subst, ◌∙◌}
 use Rattle.std.specs.List.{list_all}
 use Rattle.office_maps.specs.OfficeIn.{office_in}
 use Rattle.sql_decoding.specs.RowTests.{is_language_row, AreOfficeRows}

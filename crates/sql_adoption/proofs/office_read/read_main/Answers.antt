@@ -1,4 +1,4 @@
-use Rattle.std.proofs.Common.{Result, IfErr, OnOk}
+use Rattle.std.proofs.Common.{IfErr, OnOk}
 use Rattle.sqlite.specs.Held.{state}
 use Rattle.sqlite.specs.State.{HasCleanDisk}
 use Rattle.sqlite.specs.declared.error.Error.{Error}

@@ -1,4 +1,4 @@
-use Rattle.std.proofs.Common.{◌≡◌, Result, Ok, Err, OnOk, inl, inr, true, false, not, cond, refl, sym, ap, ◌∙◌, ◌+◌, arith}
+use Rattle.std.proofs.Common.{Result, Ok, Err, OnOk, inl, inr, true, false, not, cond, refl, sym, ap, ◌∙◌, ◌+◌}
 use Rattle.std.proofs.lemmas.Bool.{false≢true}
 use Rattle.units.specs.declared.unit.Unit.{Unit}
 use Rattle.office_maps.specs.OfficeIn.{lent_project}

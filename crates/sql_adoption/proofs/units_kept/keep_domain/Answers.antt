@@ -7,7 +7,7 @@ use Rattle.units.specs.Project.{Project}
 use Rattle.office_maps.specs.OfficeIn.{lent_project, office_in}
 use Rattle.rule_tests.specs.Given.{AreAll}
 use Rattle.sql_schema.specs.Layouts.{by_domain}
-use Rattle.sql_adoption.specs.FramesKept.{CountsLangs, KeepsDomain, KeepsThere, RefusesEither, StandsDomain, StandsThere, TestsDomain, TestsProject}
+use Rattle.sql_adoption.specs.FramesKept.{CountsLangs, KeepsDomain, KeepsThere, StandsDomain, StandsThere, TestsDomain, TestsProject}
 use Rattle.sql_layouts.proofs.Looked.{looked_weaker}
 use Rattle.sql_adoption.proofs.LanguagesTold.{either_less, missing_tested}
 use Rattle.sql_adoption.proofs.LooksBehind.{not_looked}

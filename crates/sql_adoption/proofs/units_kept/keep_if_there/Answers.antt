@@ -1,4 +1,4 @@
-use Rattle.std.proofs.Common.{◌≡◌, Some, refl, sym, subst, Option}
+use Rattle.std.proofs.Common.{Some, refl, sym, subst, Option}
 use Rattle.std.specs.Prelude.{IsSome}
 use Rattle.std.specs.FinMap as maps
 use Rattle.std.proofs.lemmas.Result.{IfErr-weaker}
@@ -8,8 +8,8 @@ use Rattle.office_maps.specs.OfficeIn.{lent_project}
 use Rattle.rule_tests.proofs.PlaceTests.{header_there, no_header, rule_of}
 use Rattle.sql_schema.specs.Layouts.{by_domain}
 use Rattle.sql_adoption.specs.FigureRows.{CountsOneMore}
-use Rattle.sql_adoption.specs.FramesKept.{AreLanguageRows, KeepsLang, RefusesEither, StandsDomain, TestsLang, walked_of}
-use Rattle.sql_adoption.specs.LanguagesKept.{IsLanguageKept, StandsLanguage, walked_tally}
+use Rattle.sql_adoption.specs.FramesKept.{AreLanguageRows, KeepsLang, StandsDomain, TestsLang, walked_of}
+use Rattle.sql_adoption.specs.LanguagesKept.{walked_tally}
 use Rattle.sql_layouts.proofs.Looked.{looked_weaker}
 use Rattle.sql_adoption.proofs.LanguagesTold.{either_less, lang_missing, lang_there}
 use Rattle.sql_adoption.proofs.LooksBehind.{not_looked}

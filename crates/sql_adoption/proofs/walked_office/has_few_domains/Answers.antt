@@ -1,5 +1,4 @@
 use Rattle.std.proofs.Common.{◌≤◌, arith, sym, subst}
-use Rattle.std.specs.FinMap as maps
 use Rattle.std.proofs.lemmas.Bool.{false≢true}
 use Rattle.units.specs.Limits.{domain_limit}
 use Rattle.office_maps.specs.OfficeIn.{office_in}

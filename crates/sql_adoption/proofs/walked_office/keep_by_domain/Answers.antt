@@ -1,4 +1,4 @@
-use Rattle.std.proofs.Common.{Ok, Err, true, false, sym, ◌∙◌}
+use Rattle.std.proofs.Common.{true, false, sym, ◌∙◌}
 use Rattle.std.proofs.lemmas.Bool.{false≢true}
 use Rattle.sqlite.specs.Held.{state}
 use Rattle.sql_schema.specs.Layouts.{by_domain}

@@ -1,16 +1,16 @@
-use Rattle.std.proofs.Common.{◌≡◌, List, Ok, Err, Vec, Global, true, subst, sym, rules}
+use Rattle.std.proofs.Common.{◌≡◌, List, Ok, Err, Vec, Global, true, subst, rules}
 use Rattle.std.proofs.lemmas.Result.{err_from_is_err_and}
 use Rattle.sqlite.specs.Effect.{Database}
 use Rattle.sqlite.specs.Held.{state}
-use Rattle.sql_schema.specs.Layouts.{by_domain, rows_named}
+use Rattle.sql_schema.specs.Layouts.{rows_named}
 use Rattle.sql_schema.specs.Whole.{IsLookUp}
 use Rattle.sql_adoption.specs.Reading.{KeepsRecords, RefusesRecords}
 use Rattle.sql_adoption.specs.SumsKept.{HaveToldFew, HaveToldSums, RefusesSums}
-use Rattle.sql_adoption.specs.WalkedOffice.{AreTold, AreUnitsIn, RefusesCounted, RefusesUnits}
+use Rattle.sql_adoption.specs.WalkedOffice.{AreTold, AreUnitsIn, RefusesCounted}
 use Rattle.sql_adoption.specs.declared.faults.OpenFault.{OpenFault}
 use Rattle.sql_adoption.specs.declared.language_tallies.Counted.{Counted}
 use Rattle.sql_layouts.proofs.Looked.{both_looked, idle_still, looked_failed}
-use Rattle.sql_adoption.proofs.AdoptedByWalks.{adopts, Adopts, refuses_counted, refuses_records, refuses_sums, refuses_units, RefusesBehind, WithRecords, WithSums, WithUnits}
+use Rattle.sql_adoption.proofs.AdoptedByWalks.{adopts, Adopts, refuses_counted, refuses_records, refuses_sums, refuses_units, RefusesBehind, WithRecords, WithSums}
 use Rattle.sql_adoption.proofs.LooksBehind.{early_of, looked_clean, refused_behind}
 use Rattle.sql_adoption.proofs.OpensBlame.{after_both, fault_opens, opens_behind}
 use Rattle.sql_adoption.proofs.walked_office.keep_walked.Goals as goal

@@ -6,7 +6,6 @@ use Rattle.sql_meaning.specs.Domains.{HoldsOwnDomains}
 use Rattle.sql_statements.specs.WholeOffice.{without_units}
 use Rattle.sql_adoption.specs.Reading.{AreDomainsRead, RefusesOf}
 use Rattle.sql_adoption.specs.WalkedOffice.{IsFrameOf}
-use Rattle.sql_adoption.specs.declared.faults.OpenFault.{OpenFault}
 use Rattle.sql_adoption.specs.declared.office_put.ReadOffice.{ReadOffice}
 use Rattle.sql_layouts.proofs.Looked.{both_looked, idle_still, looked_failed, looked_weaker}
 use Rattle.sql_adoption.proofs.LooksBehind.{refused_behind}

@@ -1,4 +1,4 @@
-use Rattle.std.proofs.Common.{◌≡◌, Ok, Some, rules, ap, sym, subst}
+use Rattle.std.proofs.Common.{◌≡◌, Ok, rules, ap, sym, subst}
 use Rattle.sqlite.specs.Effect.{Database}
 use Rattle.sqlite.specs.Held.{state}
 use Rattle.office_specification.specs.declared.tally.Tally.{Tally}

@@ -1,5 +1,5 @@
 use Rattle.sqlite.specs.Held.{state}
-use Rattle.sql_conversion.proofs.TakenOver.{tests_given_back, all_taken, all_given_back, all_refused, all_truly}
+use Rattle.sql_conversion.proofs.TakenOver.{all_taken, all_given_back, all_refused, all_truly}
 use Rattle.sql_adoption.proofs.OpensBlame.{fault_opens}
 use Rattle.sql_conversion.proofs.taking.take_over.Goals as goal
 

@@ -1,4 +1,4 @@
-use Rattle.std.proofs.Common.{Some, None, sym, subst}
+use Rattle.std.proofs.Common.{sym, subst}
 use Rattle.sqlite.specs.Held.{state}
 use Rattle.store_sql.specs.RecordsBehind.{WereHanded}
 use Rattle.store_sql.proofs.recorded.hand_records.Goals as goal

@@ -1,5 +1,5 @@
 use Rattle.std.specs.Prelude.{⊤}
-use Rattle.std.proofs.Common.{Ok, sym, subst, ◌≡◌, ◌∙◌, IsTrue, Err, Option, ap}
+use Rattle.std.proofs.Common.{Ok, sym, subst, ◌≡◌, ◌∙◌, IsTrue, Err, ap}
 use Rattle.sqlite.specs.Held.{Held, state}
 use Rattle.sqlite.specs.State.{HasCleanDisk}
 use Rattle.sqlite.specs.Effect.{Database}

@@ -1,4 +1,4 @@
-use Rattle.std.proofs.Common.{◌≡◌, Some, Ok, subst, sym, IsTrue, Err, ap, ◌∙◌}
+use Rattle.std.proofs.Common.{◌≡◌, Ok, subst, sym, IsTrue, Err, ap}
 use Rattle.sqlite.specs.Effect.{Database}
 use Rattle.sqlite.specs.Held.{state}
 use Rattle.sqlite.specs.State.{HasCleanDisk}
