@@ -12,7 +12,7 @@ use std::rt::HostRuntime;
 use store_commands::Closed;
 use store_sql::OpenFault;
 
-/// How many bytes a file has that is opened in more than two seconds.
+/// From how many bytes on a file is told at a terminal while it is opened: half a second or more.
 const LARGE: u64 = 16_777_216;
 
 /// What stands at a path.
