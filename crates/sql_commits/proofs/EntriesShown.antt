@@ -1,15 +1,15 @@
 -- Which entries of a template stay, by the rows that show it, and what is left when all others are taken out.
-use Rattle.std.proofs.Common.{◌≡◌, ◌≢◌, ◌⊎◌, inl, inr, ℕ, zero, suc, ◌+◌, ◌<◌, pos, negsuc, List, [], ◌∷◌, ◌++◌, length, take, get_or, replicate, Bool, true, false, not, ◌&&◌, ◌||◌, Some, refl, sym, ap, subst, ◌∙◌, arith, codes, map}
+use Rattle.std.proofs.Common.{◌≡◌, ◌≢◌, ◌↔◌, ◌⊎◌, inl, inr, ℕ, zero, suc, ◌+◌, ◌<◌, pos, negsuc, List, [], ◌∷◌, ◌++◌, length, take, get_or, replicate, Bool, true, false, not, ◌&&◌, ◌||◌, Some, None, refl, sym, ap, subst, ◌∙◌, arith, codes, map}
 use Rattle.std.specs.Prelude.{slice_get, set}
 use Rattle.std.proofs.lemmas.Bool.{and_parts, and_from}
-use Rattle.std.proofs.lemmas.List.{take_more, length-take, length-set, length-replicate, set_past, get_or_past}
-use Rattle.std.proofs.lemmas.Option.{slice_get_within}
+use Rattle.std.proofs.lemmas.List.{take_more, length-take, length-set, length-replicate, set_past, get_or_past, get_or-set_same}
+use Rattle.std.proofs.lemmas.Option.{slice_get_within, same_Some, none-some}
 use Rattle.std.proofs.lemmas.List.Folds.{list_any-append}
 use Rattle.sqlite.specs.declared.types.Value.{Value}
 use Rattle.sqlite.specs.declared.types.Value.TheVariants.{Null, Int, Real, Text as Words, Blob}
 use Rattle.sqlite.specs.Order.{Row, column}
 use Rattle.sqlite_rules.specs.Lists.{Has}
-use Rattle.sqlite_rules.proofs.ListLemmas.{some_has, some_from}
+use Rattle.sqlite_rules.proofs.ListLemmas.{some_has, some_from, has_left, has_right, has_either}
 use Rattle.sql_laws.specs.ApartRows.{IsRemoved}
 use Rattle.sql_laws.proofs.RemovedRows.{from_mapped, to_mapped, has_permuted}
 use Rattle.sql_laws.proofs.RowMaps.{texts_are_one, text_ties_itself}
@@ -51,7 +51,7 @@ in_turn place (stay ∷ stays) (entry ∷ more) rows count each = (
 )
 
 -- at a place stands one
-one_entry : (entries : List Entry) (n : ℕ) (first second : Entry) → slice_get entries n ≡ Some first → slice_get entries n ≡ Some second → first ≡ second
+pub one_entry : (entries : List Entry) (n : ℕ) (first second : Entry) → slice_get entries n ≡ Some first → slice_get entries n ≡ Some second → first ≡ second
 one_entry entries n first second is also = let both : Some first ≡ Some second = sym is ∙ also in cc
 
 -- ---- marks
@@ -64,28 +64,80 @@ marks_after (stay ∷ stays) zero (suc n) told = inr told
 marks_after (stay ∷ stays) (suc place) zero told = inr told
 marks_after (stay ∷ stays) (suc place) (suc n) told = elim (marks_after stays place n told) [ inl same ↦ inl (ap suc same) | inr was ↦ inr was ]
 
+-- what is marked stays so
+marks_before : (stays : List Bool) (place n : ℕ) → get_or stays n false ≡ true → get_or (set stays place true) n false ≡ true
+marks_before [] place n told = subst (λ (marks : List Bool). get_or marks n false ≡ true) (sym (set_past [] place true (omega arith))) told
+marks_before (stay ∷ stays) zero zero told = refl
+marks_before (stay ∷ stays) zero (suc n) told = told
+marks_before (stay ∷ stays) (suc place) zero told = told
+marks_before (stay ∷ stays) (suc place) (suc n) told = marks_before stays place n told
+
 unset : (count n : ℕ) → get_or (replicate count false) n false ≡ false
 unset zero n = get_or_past [] n false (omega arith)
 unset (suc count) zero = refl
 unset (suc count) (suc n) = unset count n
 
+-- at a place stands one
+place_is_one : (entries : List Entry) (row : Row) (first second : ℕ) → IsShownAt entries row first → IsShownAt entries row second → first ≡ second
+place_is_one entries row first second is also = let both : Int (pos first) ≡ Int (pos second) = sym is.at ∙ also.at in cc
+
+-- what a row is found to show, where it shows an entry and where it shows none
+pub found_at : (entries : List Entry) (row : Row) (place : ℕ) → IsShownAt entries row place → (n : ℕ) → (Some place ≡ Some n) ↔ IsShownAt entries row n
+found_at entries row place at n = (λ same. subst (IsShownAt entries row) (same_Some place n same) at, λ it. ap Some (place_is_one entries row place n at it))
+
+pub found_nowhere : (entries : List Entry) (row : Row) → ((n : ℕ) → IsShownAt entries row n → ⊥) → (n : ℕ) → (None ≡ Some n) ↔ IsShownAt entries row n
+found_nowhere entries row never n = (λ same. absurd (none-some n same), λ it. absurd (never n it))
+
 -- before any row is looked at
-pub none_shown : (rows : List Row) (entries : List Entry) (stays : List Bool) → stays ≡ replicate (length entries) false → AreShown rows stays entries
-none_shown rows entries stays are = record {
+pub none_shown : (entries : List Entry) (stays : List Bool) → stays ≡ replicate (length entries) false → AreShown [] stays entries
+none_shown entries stays are = record {
   count = ap length are ∙ length-replicate (length entries) false;
-  each = λ n told. absurd (let clash : true ≡ false = sym told ∙ ap (λ (marks : List Bool). get_or marks n false) are ∙ unset (length entries) n in cc);
+  each = λ n. (λ told. absurd (let clash : true ≡ false = sym told ∙ ap (λ (marks : List Bool). get_or marks n false) are ∙ unset (length entries) n in cc), λ it. absurd it.1);
 }
 
--- one that is shown at its place is marked
-pub one_shown : (rows : List Row) (entries : List Entry) (stays : List Bool) (row : Row) (place : ℕ) → Has rows row → IsShownAt entries row place → AreShown rows stays entries → AreShown rows (set stays place true) entries
-one_shown rows entries stays row place there at are = record {
-  count = length-set stays place true ∙ are.count;
-  each = λ n told. elim (marks_after stays place n told) [ inl same ↦ (row, there, subst (IsShownAt entries row) (sym same) at) | inr was ↦ are.each n was ];
-}
+-- one row more: of the places that an entry is shown at, those of the rows before are marked, and one that the row shows is
+module _ (rows : List Row) (entries : List Entry) (stays : List Bool) (row : Row) (are : AreShown rows stays entries) where
+  abbrev IsIn : List Row → ℕ → Type 0
+  IsIn seen n = (shown : Row) × Has seen shown × IsShownAt entries shown n
 
--- that place is one of the marks
-pub marked_within : (rows : List Row) (entries : List Entry) (stays : List Bool) (row : Row) (place : ℕ) → IsShownAt entries row place → AreShown rows stays entries → place < length stays
-marked_within rows entries stays row place at are = omega (arith, slice_get_within entries place at.entry at.is_there, are.count)
+  still : (n : ℕ) → IsIn rows n → IsIn (rows ++ row ∷ []) n
+  still n it = (it.0, has_left rows (row ∷ []) it.0 it.1, it.2)
+
+  either : (n : ℕ) → IsIn (rows ++ row ∷ []) n → IsIn rows n ⊎ IsShownAt entries row n
+  either n it = elim (has_either rows (row ∷ []) it.0 it.1) [
+    | inl before ↦ inl (it.0, before, it.2)
+    | inr last ↦ elim last [ inl same ↦ inr (subst (λ (shown : Row). IsShownAt entries shown n) same it.2) | inr none ↦ absurd none ]
+  ]
+
+  -- that place is one of the marks
+  pub marked_within : (place : ℕ) → IsShownAt entries row place → place < length stays
+  marked_within place at = omega (arith, slice_get_within entries place at.entry at.is_there, are.count)
+
+  -- an entry that the row shows at its place is marked
+  pub one_shown : (place : ℕ) → IsShownAt entries row place → AreShown (rows ++ row ∷ []) (set stays place true) entries
+  one_shown place at = record {
+    count = length-set stays place true ∙ are.count;
+    each = λ n. (
+      λ told. elim (marks_after stays place n told) [
+        | inl same ↦ (row, has_right rows (row ∷ []) row (inl refl), subst (IsShownAt entries row) (sym same) at)
+        | inr was ↦ still n ((are.each n).0 was)
+      ],
+      λ it. elim (either n it) [
+        | inl before ↦ marks_before stays place n ((are.each n).1 before)
+        | inr here ↦ subst (λ k. get_or (set stays place true) k false ≡ true) (place_is_one entries row place n at here) (get_or-set_same stays place true false (marked_within place at))
+      ],
+    );
+  }
+
+  -- a row that shows none marks none
+  pub nothing_shown : ((n : ℕ) → IsShownAt entries row n → ⊥) → AreShown (rows ++ row ∷ []) stays entries
+  nothing_shown never = record {
+    count = are.count;
+    each = λ n. (
+      λ told. still n ((are.each n).0 told),
+      λ it. elim (either n it) [ inl before ↦ (are.each n).1 before | inr here ↦ absurd (never n here) ],
+    );
+  }
 
 -- what is at no place doesn't stay
 pub none_stays : (stays : List Bool) (cell : Value) → ((place : ℕ) → cell ≢ Int (pos place)) → false ≡ stays_by stays cell
@@ -129,7 +181,7 @@ module _ (domain : Text) (tables : NamedRows) (shown : List Row) (shows : ShowsT
   pub there_of_shown : (stays : List Bool) (entries : List Entry) → AreShown shown stays entries → AreThere 0 stays entries rows
   there_of_shown stays entries are = in_turn 0 stays entries rows are.count
       (λ n entry is told.
-      let it = are.each n told in
+      let it = (are.each n).0 told in
       let one = one_entry entries n it.2.entry entry it.2.is_there is in (
         subst (λ k. Has rows (entry_row k entry)) (omega arith) (subst (λ e. Has rows (entry_row n e)) one (entry_there it.2.entry n it.0 it.1 it.2.texts it.2.at)),
         subst (λ e. HasStrings (key_of e)) one it.2.strings,

@@ -1,5 +1,5 @@
 -- Which entries of a template stay, by the rows that show it, and how the others are taken out. Only private clauses and proofs cite this file.
-use Rattle.std.specs.Prelude.{◌≡◌, ◌&&◌, ℕ, pos, Bool, true, false, not, List, length, get_or, slice_get, Some, codes}
+use Rattle.std.specs.Prelude.{◌≡◌, ◌↔◌, ◌&&◌, ℕ, pos, Bool, true, false, not, List, length, get_or, slice_get, Some, codes}
 use Rattle.std.specs.List.{list_any}
 use Rattle.sqlite.specs.declared.types.Value.{Value}
 use Rattle.sqlite.specs.declared.types.Value.TheVariants.{Null, Int, Real, Text as Words, Blob}
@@ -32,10 +32,10 @@ pub record IsShownAt (entries : List Entry) (shown : Row) (place : ℕ) : Type 0
   pub at : column shown 5 ≡ Int (pos place)
   pub strings : HasStrings (key_of entry)
 
--- Of each entry it is told whether it stays, and a row shows each that does at its place.
+-- Of each entry it is told whether it stays: exactly where a row shows it at its place.
 pub record AreShown (rows : List Row) (stays : List Bool) (entries : List Entry) : Type 0 where
   pub count : length stays ≡ length entries
-  pub each : (place : ℕ) → get_or stays place false ≡ true → (shown : Row) × Has rows shown × IsShownAt entries shown place
+  pub each : (place : ℕ) → (get_or stays place false ≡ true) ↔ ((shown : Row) × Has rows shown × IsShownAt entries shown place)
 
 -- whether the entry at the place in a column is told to stay
 abbrev pub stays_by : List Bool → Value → Bool

@@ -1,6 +1,6 @@
 //! The entries of a domain's template that change, inside a transaction. A place in a file tells an order and nothing else, so that the
 //! i-th entry needn't stand at place i: which entries stay is told by the rows that are there.
-ghost use Rattle.std.specs.Prelude.{◌≡◌, ◌<◌, ◌^◌, true, IfOk, IfSome, IsTrue};
+ghost use Rattle.std.specs.Prelude.{◌≡◌, ◌↔◌, ◌<◌, ◌^◌, ℕ, true, Some, IfOk, IsTrue};
 ghost use Rattle.sqlite.specs.Held.{state};
 ghost use Rattle.sqlite.specs.State.{HasCleanDisk};
 ghost use Rattle.sql_schema.specs.Layouts.{by_domain};
@@ -31,8 +31,8 @@ const KEY: usize = 4;
 
 const PLACE: usize = 5;
 
-/// Writes a domain's template: takes out each entry that isn't one of these at its place, and puts those that aren't there yet. Of an
-/// entry that is there at its place nothing is written.
+/// Writes a domain's template: takes out each entry that isn't one of these at its place, and puts those that no row shows at their
+/// places. An entry that a row shows at its place is neither taken out nor put again.
 pub fn change_entries<S: Alter>(
     tx: &mut Transaction<'_, S>,
     alloc: Global,
@@ -51,10 +51,10 @@ pub fn change_entries<S: Alter>(
     put_others(tx, alloc, domain, entries, &stays)
 }
 
-/// Whether a shown row has the texts of an entry that has these columns.
+/// Whether a shown row has the texts of the entry that these columns are of.
 fn has_columns(row: &Row, entry: &Entry, columns: &EntryColumns) -> bool
     requires columns { columns.now ≡ columns_of_entry entry.now }
-    ensures { result ≡ true → IsShown entry.now row.now }
+    ensures { (result ≡ true) ↔ IsShown entry.now row.now }
 {
     is_text(row, KEY, columns.key.as_str())
         && is_text_or_null(row, 0, plural_column(&entry.plural))
@@ -63,9 +63,9 @@ fn has_columns(row: &Row, entry: &Entry, columns: &EntryColumns) -> bool
         && is_text(row, 3, columns.flags.as_str())
 }
 
-/// Whether a row shows an entry.
+/// Whether a row shows an entry, at whatever place.
 fn shows(alloc: Global, row: &Row, entry: &Entry) -> Result<bool, AllocError>
-    ensures texts { IfOk result (λ same. same ≡ true → IsShown entry.now row.now) }
+    ensures texts { IfOk result (λ same. (same ≡ true) ↔ IsShown entry.now row.now) }
     ensures strings { HasStrings (key_of entry.now) }
 {
     entry_key_fits(entry);
@@ -73,9 +73,9 @@ fn shows(alloc: Global, row: &Row, entry: &Entry) -> Result<bool, AllocError>
     Ok(has_columns(row, entry, &columns))
 }
 
-/// The place of the entry that a row shows there, if it shows one.
+/// The place at which a row shows the entry that is there, exactly where it shows one.
 fn place_shown(alloc: Global, row: &Row, entries: &[Entry]) -> Result<Option<usize>, AllocError>
-    ensures { IfOk result (λ found. IfSome found (λ place. IsShownAt entries.now row.now place)) }
+    ensures { IfOk result (λ found. (place : ℕ) → (found ≡ Some place) ↔ IsShownAt entries.now row.now place) }
 {
     let Some(place) = natural_in(row, PLACE) else {
         return Ok(None);
