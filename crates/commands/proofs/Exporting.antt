@@ -1,8 +1,9 @@
--- What an export says of the text that was written.
-use Rattle.std.proofs.Common.{◌≡◌, ℕ, List, [], append-nil, Option, sym, subst, ◌∙◌}
+-- What an export says of the text that was written, and of what a stop may leave.
+use Rattle.std.proofs.Common.{◌≡◌, ◌⊎◌, inl, inr, ℕ, List, [], append-nil, Option, sym, subst, ◌∙◌}
 use Rattle.std.specs.Prelude.{IsSomeAnd}
 use Rattle.po_text.specs.Texts.{Text}
 use Rattle.units.specs.Office.{Office, project_in}
+use Rattle.tables.specs.Stops.{AddsOnly, Nothing}
 use Rattle.byte_streams.specs.Streams.{Took, TookBeginning, RoseOrStands}
 use Rattle.byte_streams.proofs.Taking.{append_known-nil, took_then_beginning}
 use Rattle.byte_streams.specs.Sending.{TookAll, TookPart}
@@ -53,3 +54,11 @@ receipt_told {office = office} {domain = domain} {lang = lang} {w0} {w1} {w2} re
       told = told;
     })
     is
+
+-- it adds nothing to what a stop may leave, whether the tables were shut or not
+pub adds_nothing : {M : Type 0} {before now : M → Type 0} {Whole : Type 0} → AddsOnly before now (λ m. Whole × Nothing m) → AddsOnly before now Nothing
+adds_nothing {before = before} {Whole = Whole} adds m is = by (adds m is)
+  where
+    by : before m ⊎ (Whole × Nothing m) → before m ⊎ Nothing m
+    by (inl h) = inl h
+    by (inr never) = absurd never.1

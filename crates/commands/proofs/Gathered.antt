@@ -153,16 +153,16 @@ failed (Err e) why All Part err part = subst Part (sym err) part
 -- ---- one read
 
 -- a stream failed before anything came
-pub off_at_once : {T : Type 0} (r : Result T Broken) (at : AtLost) (All : T → Type 0) (Did : List Exchange → Type 0) (left_old left_new : Option (List ℕ)) (f0 f1 : ℕ) (w0 w1 : Writer) (begun : List ℕ) → IsErrOf Stream r → left_old ≡ prepend_known [] left_new →
-    Did [] → (RoseOrStands f0 f1 × TakesAll w0 w1 []) ⊎ TakesPart w0 w1 [] → MatchResult r All (λ why. ReadsOff why at left_old left_new f0 f1 Did w0 w1 begun)
-off_at_once r at All Did left_old left_new f0 f1 w0 w1 begun err read did wrote =
-    failed r Stream All (λ why. ReadsOff why at left_old left_new f0 f1 Did w0 w1 begun) err
-    (record { piece = []; read = read; broke = broke_at_once (BrokenOff at Did) (λ a. (RoseOrStands f0 f1 × TakesAll w0 w1 a) ⊎ TakesPart w0 w1 a) begun (record { did = did; behind = where_it_ends at tt }) wrote })
+pub off_at_once : {T HandedOn : Type 0} (r : Result T Broken) (at : AtLost) (All : T → Type 0) (Did : List Exchange → Type 0) (left_old left_new : Option (List ℕ)) (f0 f1 : ℕ) (w0 w1 : Writer) (begun : List ℕ) → IsErrOf Stream r → left_old ≡ prepend_known [] left_new →
+    Did [] → (RoseOrStands f0 f1 × TakesAll w0 w1 [] × HandedOn) ⊎ TakesPart w0 w1 [] → MatchResult r All (λ why. ReadsOff why at HandedOn left_old left_new f0 f1 Did w0 w1 begun)
+off_at_once {HandedOn = HandedOn} r at All Did left_old left_new f0 f1 w0 w1 begun err read did wrote =
+    failed r Stream All (λ why. ReadsOff why at HandedOn left_old left_new f0 f1 Did w0 w1 begun) err
+    (record { piece = []; read = read; broke = broke_at_once (BrokenOff at Did) (λ a. (RoseOrStands f0 f1 × TakesAll w0 w1 a × HandedOn) ⊎ TakesPart w0 w1 a) begun (record { did = did; behind = where_it_ends at tt }) wrote })
 
 -- no further line is taken behind some of a piece
-pub off_behind : {T : Type 0} (r : Result T Broken) (why : Broken) (at : AtLost) (All : T → Type 0) (Did : List Exchange → Type 0) (left_old left_new : Option (List ℕ)) (f0 f1 : ℕ) (w0 w1 w2 : Writer) (begun piece : List ℕ) → IsErrOf why r → left_old ≡ prepend_known piece left_new →
-    TakesAll w0 w1 [] → BreaksOff why at Did (TakesAll w1 w2) (TakesPart w1 w2) (begun ++ piece) → MatchResult r All (λ e. ReadsOff e at left_old left_new f0 f1 Did w0 w2 begun)
-off_behind r Stream at All Did left_old left_new f0 f1 w0 w1 w2 begun piece err read first broke =
-    failed r Stream All (λ e. ReadsOff e at left_old left_new f0 f1 Did w0 w2 begun) err (record { piece = piece; read = read; broke = broke_so (λ a part. inr (took_part [] a first part)) broke })
-off_behind r Lost at All Did left_old left_new f0 f1 w0 w1 w2 begun piece err read first broke =
-    failed r Lost All (λ e. ReadsOff e at left_old left_new f0 f1 Did w0 w2 begun) err (broke.0, record { piece = piece; read = read; broke = broke_so (λ a all. took_all [] a first all) broke.1 })
+pub off_behind : {T : Type 0} (HandedOn : Type 0) (r : Result T Broken) (why : Broken) (at : AtLost) (All : T → Type 0) (Did : List Exchange → Type 0) (left_old left_new : Option (List ℕ)) (f0 f1 : ℕ) (w0 w1 w2 : Writer) (begun piece : List ℕ) → IsErrOf why r → left_old ≡ prepend_known piece left_new →
+    TakesAll w0 w1 [] → BreaksOff why at Did (TakesAll w1 w2) (TakesPart w1 w2) (begun ++ piece) → MatchResult r All (λ e. ReadsOff e at HandedOn left_old left_new f0 f1 Did w0 w2 begun)
+off_behind HandedOn r Stream at All Did left_old left_new f0 f1 w0 w1 w2 begun piece err read first broke =
+    failed r Stream All (λ e. ReadsOff e at HandedOn left_old left_new f0 f1 Did w0 w2 begun) err (record { piece = piece; read = read; broke = broke_so (λ a part. inr (took_part [] a first part)) broke })
+off_behind HandedOn r Lost at All Did left_old left_new f0 f1 w0 w1 w2 begun piece err read first broke =
+    failed r Lost All (λ e. ReadsOff e at HandedOn left_old left_new f0 f1 Did w0 w2 begun) err (broke.0, record { piece = piece; read = read; broke = broke_so (λ a all. took_all [] a first all) broke.1 })

@@ -93,7 +93,7 @@ ends {l0 = l0} {l1 = l1} {l2 = l2} so_far on is last did wrote did_last wrote_la
     ends_with (so_far.got ++ on.piece) (all_read l0 l2 (so_far.got ++ on.piece) (read_more l0 l1 l2 so_far.got on.piece so_far.read on.read) (on.end is))
     did_last wrote_last (passes on.piece did wrote so_far.passed on.passed) last
 
-pub all_answered : {T : Type 0} {at : AtLost} {Did : List Exchange → Type 0} {left : Option (List ℕ)} {f0 f1 : ℕ} {w0 w1 : Writer} (x : T) → Ends (GoingOn at Did) (TakesAll w0 w1) left → LinesAnswered at Did left f0 f1 w0 w1 (Ok x)
+pub all_answered : {T : Type 0} {at : AtLost} {HandedOn : Type 0} {Did : List Exchange → Type 0} {left : Option (List ℕ)} {f0 f1 : ℕ} {w0 w1 : Writer} (x : T) → Ends (GoingOn at Did) (TakesAll w0 w1) left → LinesAnswered at HandedOn Did left f0 f1 w0 w1 (Ok x)
 all_answered x e = record { text = e.text; given = e.given; outcome = record { lines = e.lines; are = e.are; answered = e.answered } }
 
 -- ---- no further line is taken
@@ -105,23 +105,23 @@ record FirstAnswered (Did : List Exchange → Type 0) (Wrote : List ℕ → List
   some : SomeAnswered Did (Wrote text) text
 
 -- a stream failed behind them
-first_stops : {T : Type 0} {at : AtLost} {Did : List Exchange → Type 0} {left : Option (List ℕ)} {f0 f1 : ℕ} {w0 w1 : Writer} (r : Result T Broken) → IsErrOf Stream r →
-    FirstAnswered (BrokenOff at Did) (λ text. Stopped text f0 f1 w0 w1) left → LinesAnswered at Did left f0 f1 w0 w1 r
+first_stops : {T : Type 0} {at : AtLost} {HandedOn : Type 0} {Did : List Exchange → Type 0} {left : Option (List ℕ)} {f0 f1 : ℕ} {w0 w1 : Writer} (r : Result T Broken) → IsErrOf Stream r →
+    FirstAnswered (BrokenOff at Did) (λ text. Stopped HandedOn text f0 f1 w0 w1) left → LinesAnswered at HandedOn Did left f0 f1 w0 w1 r
 first_stops (Ok x) err first = absurd err
-first_stops {at = at} {Did = Did} {f0 = f0} {f1 = f1} {w0 = w0} {w1 = w1} (Err why) err first = record {
+first_stops {at = at} {HandedOn = HandedOn} {Did = Did} {f0 = f0} {f1 = f1} {w0 = w0} {w1 = w1} (Err why) err first = record {
   text = first.text;
   given = first.given;
-  outcome = let P : Broken → Type 0 = λ b. EndsBy b at Did f0 f1 w0 w1 first.text in subst P (sym err) first.some;
+  outcome = let P : Broken → Type 0 = λ b. EndsBy b at HandedOn Did f0 f1 w0 w1 first.text in subst P (sym err) first.some;
 }
 
 -- or the last of them is lost
-first_lost : {T : Type 0} {at : AtLost} {Did : List Exchange → Type 0} {left : Option (List ℕ)} {f0 f1 : ℕ} {w0 w1 : Writer} (r : Result T Broken) → IsErrOf Lost r → at ≡ End →
-    FirstAnswered (EndedAt Did) (λ text. TakesAll w0 w1) left → LinesAnswered at Did left f0 f1 w0 w1 r
+first_lost : {T : Type 0} {at : AtLost} {HandedOn : Type 0} {Did : List Exchange → Type 0} {left : Option (List ℕ)} {f0 f1 : ℕ} {w0 w1 : Writer} (r : Result T Broken) → IsErrOf Lost r → at ≡ End →
+    FirstAnswered (EndedAt Did) (λ text. TakesAll w0 w1) left → LinesAnswered at HandedOn Did left f0 f1 w0 w1 r
 first_lost (Ok x) err is first = absurd err
-first_lost {at = at} {Did = Did} {f0 = f0} {f1 = f1} {w0 = w0} {w1 = w1} (Err why) err is first = record {
+first_lost {at = at} {HandedOn = HandedOn} {Did = Did} {f0 = f0} {f1 = f1} {w0 = w0} {w1 = w1} (Err why) err is first = record {
   text = first.text;
   given = first.given;
-  outcome = let P : Broken → Type 0 = λ b. EndsBy b at Did f0 f1 w0 w1 first.text in subst P (sym err) (is, first.some);
+  outcome = let P : Broken → Type 0 = λ b. EndsBy b at HandedOn Did f0 f1 w0 w1 first.text in subst P (sym err) (is, first.some);
 }
 
 -- these are all lines
@@ -134,13 +134,13 @@ all_first so e = record {
 }
 
 -- the writer failed at the last line
-pub last_broke : {T : Type 0} {at : AtLost} {Did : List Exchange → Type 0} {left : Option (List ℕ)} {f0 f1 : ℕ} {w0 w1 : Writer} (r : Result T Broken) → IsErrOf Stream r →
-    Ends (BrokenOff at Did) (TakesPart w0 w1) left → LinesAnswered at Did left f0 f1 w0 w1 r
+pub last_broke : {T : Type 0} {at : AtLost} {HandedOn : Type 0} {Did : List Exchange → Type 0} {left : Option (List ℕ)} {f0 f1 : ℕ} {w0 w1 : Writer} (r : Result T Broken) → IsErrOf Stream r →
+    Ends (BrokenOff at Did) (TakesPart w0 w1) left → LinesAnswered at HandedOn Did left f0 f1 w0 w1 r
 last_broke r err e = first_stops r err (all_first (λ text a part. no_sink part) e)
 
 -- the last line is lost
-pub last_lost : {T : Type 0} {at : AtLost} {Did : List Exchange → Type 0} {left : Option (List ℕ)} {f0 f1 : ℕ} {w0 w1 : Writer} → at ≡ End →
-    Ends (EndedAt Did) (TakesAll w0 w1) left → LinesAnswered {T = T} at Did left f0 f1 w0 w1 (Err Lost)
+pub last_lost : {T : Type 0} {at : AtLost} {HandedOn : Type 0} {Did : List Exchange → Type 0} {left : Option (List ℕ)} {f0 f1 : ℕ} {w0 w1 : Writer} → at ≡ End →
+    Ends (EndedAt Did) (TakesAll w0 w1) left → LinesAnswered {T = T} at HandedOn Did left f0 f1 w0 w1 (Err Lost)
 last_lost is e = first_lost (Err Lost) refl is (all_first (λ text a all. all) e)
 
 -- some lines stand in front of what is left
@@ -153,8 +153,8 @@ in_front {left_old = left_old} left_new got rest front read whole each answered 
     record { text = got ++ g.later; given = g.all; some = record { lines = f.lines; are = f.are; front = front; back = f.back; cut = f.cut; answered = answered g.later } }
 
 -- a stream failed at a read or at an answer
-broke_stops : (f0 f1 f2 : ℕ) (w0 w1 w2 : Writer) (text a b : List ℕ) → f1 ≡ f0 → TakesAll w0 w1 a → (RoseOrStands f1 f2 × TakesAll w1 w2 b) ⊎ TakesPart w1 w2 b → Stopped text f0 f2 w0 w2 (a ++ b)
-broke_stops f0 f1 f2 w0 w1 w2 text a b same first (inl (rose, then)) = no_source (let P : ℕ → Type 0 = λ f. RoseOrStands f f2 in subst P same rose) (took_all a b first then)
+broke_stops : {HandedOn : Type 0} (f0 f1 f2 : ℕ) (w0 w1 w2 : Writer) (text a b : List ℕ) → f1 ≡ f0 → TakesAll w0 w1 a → (RoseOrStands f1 f2 × TakesAll w1 w2 b × HandedOn) ⊎ TakesPart w1 w2 b → Stopped HandedOn text f0 f2 w0 w2 (a ++ b)
+broke_stops f0 f1 f2 w0 w1 w2 text a b same first (inl (rose, then, on)) = no_source (let P : ℕ → Type 0 = λ f. RoseOrStands f f2 in subst P same rose) (took_all a b first then) on
 broke_stops f0 f1 f2 w0 w1 w2 text a b same first (inr then) = no_sink (took_part a b first then)
 
 -- behind what was passed so far, some lines of what was read next
@@ -171,18 +171,18 @@ further {l0 = l0} {l1 = l1} {l2 = l2} so_far off did wrote =
     (λ later. answered_further did (wrote (got ++ later)) so_far.passed.answered off.broke.answered)
 
 -- what stands behind `?` of a read
-pub breaks_off : {T : Type 0} {at : AtLost} {Did : List Exchange → Type 0} (DidThen : List Exchange → Type 0) {DidAll : List Exchange → Type 0} {l0 l1 : Option (List ℕ)} (l2 : Option (List ℕ)) {f0 f1 f2 reads : ℕ} {w0 w1 w2 : Writer} {line : Line} (r : Result T Broken) (why : Broken) → IsErrOf why r →
+pub breaks_off : {T : Type 0} {at : AtLost} {HandedOn : Type 0} {Did : List Exchange → Type 0} (DidThen : List Exchange → Type 0) {DidAll : List Exchange → Type 0} {l0 l1 : Option (List ℕ)} (l2 : Option (List ℕ)) {f0 f1 f2 reads : ℕ} {w0 w1 w2 : Writer} {line : Line} (r : Result T Broken) (why : Broken) → IsErrOf why r →
     (so_far : Along (GoingOn at Did) (TakesAll w0 w1) l0 l1 f0 f1 reads line) →
-    ReadsOff why at l1 l2 f1 f2 DidThen w1 w2 so_far.passed.rest →
+    ReadsOff why at HandedOn l1 l2 f1 f2 DidThen w1 w2 so_far.passed.rest →
     ((xs ys : List Exchange) → Did xs → DidThen ys → DidAll (xs ++ ys)) →
-    LinesAnswered at DidAll l0 f0 f2 w0 w2 r
+    LinesAnswered at HandedOn DidAll l0 f0 f2 w0 w2 r
 breaks_off {at = at} DidThen l2 {f0 = f0} {f1 = f1} {f2 = f2} {w0 = w0} {w1 = w1} {w2 = w2} r Stream err so_far off did =
     first_stops r err (further so_far off (breaks_behind at did) (λ text a b first then. broke_stops f0 f1 f2 w0 w1 w2 text a b so_far.count first then))
 breaks_off {at = at} DidThen l2 r Lost err so_far off did = first_lost r err off.0 (further so_far off.1 (ends_lost_behind at off.0 did) (λ text a b. took_all a b))
 
 -- there were more reads than a number counts
-pub never_ends : {T : Type 0} {at : AtLost} {Did : List Exchange → Type 0} {l0 l1 : Option (List ℕ)} {f0 f1 reads : ℕ} {w0 w1 : Writer} {line : Line} → 2 ^ 64 - 1 ≤ reads →
-    Along (GoingOn at Did) (TakesAll w0 w1) l0 l1 f0 f1 reads line → LinesAnswered {T = T} at Did l0 f0 f1 w0 w1 (Err Stream)
+pub never_ends : {T : Type 0} {at : AtLost} {HandedOn : Type 0} {Did : List Exchange → Type 0} {l0 l1 : Option (List ℕ)} {f0 f1 reads : ℕ} {w0 w1 : Writer} {line : Line} → 2 ^ 64 - 1 ≤ reads →
+    Along (GoingOn at Did) (TakesAll w0 w1) l0 l1 f0 f1 reads line → LinesAnswered {T = T} at HandedOn Did l0 f0 f1 w0 w1 (Err Stream)
 never_ends {at = at} {l1 = l1} many so_far =
     first_stops (Err Stream) refl
     (in_front l1 so_far.got so_far.passed.rest so_far.passed.lines so_far.read so_far.passed.cut.whole so_far.passed.cut.each

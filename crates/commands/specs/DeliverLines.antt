@@ -9,7 +9,7 @@ use Rattle.office_specification.specs.ExportText.{export_text}
 use Rattle.office.specs.declared.faults.ExportFault.TheVariants.{NoLanguage}
 use Rattle.office.specs.Writers.{Writer, TakesAll, TakesPart}
 use Rattle.commands.specs.TextLines.{AreLinesOf}
-use Rattle.office.specs.Exchanges.{Exchange, HasDelivered, Answered}
+use Rattle.office.specs.Exchanges.{Exchange, IsDelivered, Answered}
 use Rattle.commands.specs.declared.deliver.AtLost.{AtLost}
 use Rattle.commands.specs.declared.deliver.AtLost.TheVariants.{End}
 use Rattle.commands.specs.ExportLines.{EndedWithFault}
@@ -33,14 +33,15 @@ pub record SomeAnswered (Did : List Exchange → Type 0) (Wrote : List ℕ → T
   pub answered : Answered Did Wrote front
 
 -- A stream failed: which, and what was written of the answers till then.
-pub data Stopped (text : List ℕ) (reads_failed_old reads_failed_new : ℕ) (old new : Writer) (answers : List ℕ) : Type 0 where
-  no_source : RoseOrStands reads_failed_old reads_failed_new → TakesAll old new answers
-      → Stopped text reads_failed_old reads_failed_new old new answers
+pub data Stopped (HandedOn : Type 0) (text : List ℕ) (reads_failed_old reads_failed_new : ℕ) (old new : Writer) (answers : List ℕ) : Type 0 where
+  -- before a read the answers so far were handed on
+  no_source : RoseOrStands reads_failed_old reads_failed_new → TakesAll old new answers → HandedOn
+      → Stopped HandedOn text reads_failed_old reads_failed_new old new answers
   no_sink : TakesPart old new answers
-      → Stopped text reads_failed_old reads_failed_new old new answers
+      → Stopped HandedOn text reads_failed_old reads_failed_new old new answers
   -- there are more reads than a number counts
   endless : 2 ^ 64 - 1 ≤ length text → TakesAll old new answers
-      → Stopped text reads_failed_old reads_failed_new old new answers
+      → Stopped HandedOn text reads_failed_old reads_failed_new old new answers
 
 -- ---- the text of a language
 
@@ -85,23 +86,24 @@ abbrev pub HandsOnOrFails : Type 0 → Writer → Writer → List ℕ → Type 0
 HandsOnOrFails HandedOn old new answers = (TakesAll old new answers × HandedOn) ⊎ TakesPart old new answers
 
 -- What came of a text, at the desk, on the outputs and in the exit status. The lines lead from the office before to that between them and the export, and the
--- export is of the latter.
-pub data Delivered (at : AtLost) (HandedOn Honest WholeBetween Whole Gone : Type 0) (before between after : OfficeWithBook) (domain : Text) (lang : Option Text) (text : List ℕ)
-    (reads_failed_old reads_failed_new : ℕ) (replies_old replies_new faults_old faults_new : Writer) (status : ℕ) : Type 0 where
+-- export is of the latter. A stop when all is done loses no line's request that got a reply, also where a failure shut the tables, at a later line or at the
+-- export.
+pub data Delivered (at : AtLost) (HandedOn Honest WholeBetween Whole Gone WasWhole : Type 0) (MayLeave StillMayLeave : OfficeWithBook → Type 0) (before between after : OfficeWithBook) (domain : Text)
+    (lang : Option Text) (text : List ℕ) (reads_failed_old reads_failed_new : ℕ) (replies_old replies_new faults_old faults_new : Writer) (status : ℕ) : Type 0 where
   -- Each line was answered, and the language exported behind the answers;
-  done : AllAnswered (GoingOn at (HasDelivered Honest WholeBetween Gone before between))
+  done : AllAnswered (GoingOn at (IsDelivered Honest WholeBetween Gone WasWhole MayLeave StillMayLeave before between))
       (TookBehind (λ old new. Exported Honest Whole Gone between.office domain lang old new faults_old faults_new status) (HandsOn HandedOn) replies_old replies_new) text
-      → Delivered at HandedOn Honest WholeBetween Whole Gone before between after domain lang text reads_failed_old reads_failed_new replies_old replies_new faults_old faults_new status
+      → Delivered at HandedOn Honest WholeBetween Whole Gone WasWhole MayLeave StillMayLeave before between after domain lang text reads_failed_old reads_failed_new replies_old replies_new faults_old faults_new status
   -- or the writer held back some of that;
-  held : (exit : ℕ) → AllAnswered (GoingOn at (HasDelivered Honest WholeBetween Gone before between))
+  held : (exit : ℕ) → AllAnswered (GoingOn at (IsDelivered Honest WholeBetween Gone WasWhole MayLeave StillMayLeave before between))
       (TookBehind (λ old new. Exported Honest Whole Gone between.office domain lang old new faults_old faults_new exit) HoldsBack replies_old replies_new) text
       → status ≡ 1
-      → Delivered at HandedOn Honest WholeBetween Whole Gone before between after domain lang text reads_failed_old reads_failed_new replies_old replies_new faults_old faults_new status
+      → Delivered at HandedOn Honest WholeBetween Whole Gone WasWhole MayLeave StillMayLeave before between after domain lang text reads_failed_old reads_failed_new replies_old replies_new faults_old faults_new status
   -- or a stream failed behind the first lines;
-  stopped : SomeAnswered (BrokenOff at (HasDelivered Honest Whole Gone before after)) (Stopped text reads_failed_old reads_failed_new replies_old replies_new) text
+  stopped : SomeAnswered (BrokenOff at (IsDelivered Honest Whole Gone WasWhole MayLeave StillMayLeave before after)) (Stopped HandedOn text reads_failed_old reads_failed_new replies_old replies_new) text
       → TakesAll faults_old faults_new [] → status ≡ 1
-      → Delivered at HandedOn Honest WholeBetween Whole Gone before between after domain lang text reads_failed_old reads_failed_new replies_old replies_new faults_old faults_new status
+      → Delivered at HandedOn Honest WholeBetween Whole Gone WasWhole MayLeave StillMayLeave before between after domain lang text reads_failed_old reads_failed_new replies_old replies_new faults_old faults_new status
   -- or the list was to end at a lost line, and did: nothing behind it was delivered.
-  lost : at ≡ End → SomeAnswered (EndedAt (HasDelivered Honest Whole Gone before after)) (HandsOnOrFails HandedOn replies_old replies_new) text
+  lost : at ≡ End → SomeAnswered (EndedAt (IsDelivered Honest Whole Gone WasWhole MayLeave StillMayLeave before after)) (HandsOnOrFails HandedOn replies_old replies_new) text
       → TakesAll faults_old faults_new [] → status ≡ 1
-      → Delivered at HandedOn Honest WholeBetween Whole Gone before between after domain lang text reads_failed_old reads_failed_new replies_old replies_new faults_old faults_new status
+      → Delivered at HandedOn Honest WholeBetween Whole Gone WasWhole MayLeave StillMayLeave before between after domain lang text reads_failed_old reads_failed_new replies_old replies_new faults_old faults_new status

@@ -61,22 +61,22 @@ pub record ReadOff (left_old left_new : Option (List ℕ)) (Did : List Exchange 
   pub read : left_old ≡ prepend_known piece left_new
   pub broke : BrokeOff Did Wrote (begun ++ piece)
 
--- A stream failed, or the list ends at a lost line.
-abbrev pub ReadsOff : Broken → AtLost → Option (List ℕ) → Option (List ℕ) → ℕ → ℕ → (List Exchange → Type 0) → Writer → Writer → List ℕ → Type 0
-ReadsOff Stream at left_old left_new failed_old failed_new Did old new begun =
-    ReadOff left_old left_new (BrokenOff at Did) (λ answers. (RoseOrStands failed_old failed_new × TakesAll old new answers) ⊎ TakesPart old new answers) begun
-ReadsOff Lost at left_old left_new failed_old failed_new Did old new begun = (at ≡ End) × ReadOff left_old left_new (EndedAt Did) (TakesAll old new) begun
+-- A stream failed, a reader behind answers that were handed on; or the list ends at a lost line.
+abbrev pub ReadsOff : Broken → AtLost → Type 0 → Option (List ℕ) → Option (List ℕ) → ℕ → ℕ → (List Exchange → Type 0) → Writer → Writer → List ℕ → Type 0
+ReadsOff Stream at HandedOn left_old left_new failed_old failed_new Did old new begun =
+    ReadOff left_old left_new (BrokenOff at Did) (λ answers. (RoseOrStands failed_old failed_new × TakesAll old new answers × HandedOn) ⊎ TakesPart old new answers) begun
+ReadsOff Lost at HandedOn left_old left_new failed_old failed_new Did old new begun = (at ≡ End) × ReadOff left_old left_new (EndedAt Did) (TakesAll old new) begun
 
 -- The first lines of a text were answered, and no further one, for this reason.
-abbrev pub EndsBy : Broken → AtLost → (List Exchange → Type 0) → ℕ → ℕ → Writer → Writer → List ℕ → Type 0
-EndsBy Stream at Did failed_old failed_new old new text = SomeAnswered (BrokenOff at Did) (Stopped text failed_old failed_new old new) text
-EndsBy Lost at Did failed_old failed_new old new text = (at ≡ End) × SomeAnswered (EndedAt Did) (TakesAll old new) text
+abbrev pub EndsBy : Broken → AtLost → Type 0 → (List Exchange → Type 0) → ℕ → ℕ → Writer → Writer → List ℕ → Type 0
+EndsBy Stream at HandedOn Did failed_old failed_new old new text = SomeAnswered (BrokenOff at Did) (Stopped HandedOn text failed_old failed_new old new) text
+EndsBy Lost at HandedOn Did failed_old failed_new old new text = (at ≡ End) × SomeAnswered (EndedAt Did) (TakesAll old new) text
 
 -- What came of the text that a source gives.
-pub record LinesAnswered {T : Type 0} (at : AtLost) (Did : List Exchange → Type 0) (left_old : Option (List ℕ)) (reads_failed_old reads_failed_new : ℕ) (old new : Writer) (result : Result T Broken) : Type 0 where
+pub record LinesAnswered {T : Type 0} (at : AtLost) (HandedOn : Type 0) (Did : List Exchange → Type 0) (left_old : Option (List ℕ)) (reads_failed_old reads_failed_new : ℕ) (old new : Writer) (result : Result T Broken) : Type 0 where
   pub text : List ℕ
   pub given : IfSome left_old (λ all. text ≡ all)
-  pub outcome : MatchResult result (λ _. AllAnswered (GoingOn at Did) (TakesAll old new) text) (λ why. EndsBy why at Did reads_failed_old reads_failed_new old new text)
+  pub outcome : MatchResult result (λ _. AllAnswered (GoingOn at Did) (TakesAll old new) text) (λ why. EndsBy why at HandedOn Did reads_failed_old reads_failed_new old new text)
 
 -- An export, with its exit status, and then the writer handed on what it held back, whatever the status, or failed to.
 pub data Finished (HandedOn : Type 0) (Exports : Writer → Writer → ℕ → Type 0) (old new : Writer) (status : ℕ) : Type 0 where

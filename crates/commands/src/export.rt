@@ -5,6 +5,7 @@ ghost use Rattle.office.specs.Writers.{writer_at, TakesAll, TakesPart};
 ghost use Rattle.commands.specs.ExportLines.{export_fault_line, receipt_line, Printed, IsToldBehind};
 ghost use Rattle.commands.specs.DeliverLines.{Exported};
 ghost use Rattle.tables.specs.RunsOn.{RunsOn};
+ghost use Rattle.tables.specs.Stops.{AddsOnly, Nothing};
 
 use crate::numbers::send_number;
 use byte_streams::{ByteSink, SinkFault, digest_digits, hand_on, send};
@@ -51,6 +52,8 @@ pub(crate) fn export_named<T: Tables, W: ByteSink, E: ByteSink>(
     ensures honest { T.is_honest desk.new → T.is_honest desk.old }
     ensures whole { T.is_honest desk.new → T.is_whole desk.new → T.is_whole desk.old }
     ensures same { T.is_honest desk.new → T.is_whole desk.new → T.means desk.new ≡ T.means desk.old }
+    // A stop leaves what it might have left before.
+    ensures stops { T.is_honest desk.new → AddsOnly (T.may_leave desk.old) (T.may_leave desk.new) Nothing }
     ensures stopped { T.is_stopped desk.old ≡ true → T.is_stopped desk.new ≡ true }
     ensures runs_on { RunsOn T.is_honest T.is_whole T.faults T.is_stopped desk.old desk.new }
 {
@@ -110,6 +113,8 @@ pub fn export_text<T: Tables, W: ByteSink, E: ByteSink>(
     ensures honest { T.is_honest desk.new → T.is_honest desk.old }
     ensures whole { T.is_honest desk.new → T.is_whole desk.new → T.is_whole desk.old }
     ensures same { T.is_honest desk.new → T.is_whole desk.new → T.means desk.new ≡ T.means desk.old }
+    // A stop leaves what it might have left before.
+    ensures stops { T.is_honest desk.new → AddsOnly (T.may_leave desk.old) (T.may_leave desk.new) Nothing }
     // They run on, and no failure shuts them, unless the disk fails.
     ensures runs_on { RunsOn T.is_honest T.is_whole T.faults T.is_stopped desk.old desk.new }
 {

@@ -1,11 +1,14 @@
 -- A list of messages with their outcomes, and one more.
-use Rattle.std.proofs.Common.{◌≡◌, ℕ, List, [], ◌∷◌, ◌++◌, refl, sym, subst, ap, ◌∙◌, append_assoc, append-nil}
+use Rattle.std.proofs.Common.{◌≡◌, inl, ℕ, List, [], ◌∷◌, ◌++◌, refl, sym, subst, ap, ◌∙◌, append_assoc, append-nil}
 use Rattle.units.specs.Office.{Office}
 use Rattle.request_book.specs.Book.{OfficeWithBook}
 use Rattle.http_messages.specs.Queries.{UnitName}
 use Rattle.http_messages.specs.Asked.{LanguageName, Asked}
 use Rattle.http_messages.specs.Asked as ask
-use Rattle.office.specs.Exchanges.{Exchange, HasDelivered}
+use Rattle.tables.specs.declared.faults.Lost.{Lost}
+use Rattle.office.specs.Exchanges.{Exchange, IsDelivered}
+use Rattle.office.proofs.Ran.{stops_nowhere}
+use Rattle.office.proofs.Going.{nothing_yet, delivers_on}
 use Rattle.http_api.specs.Outcomes.{Outcome, UnitShown, CountsShown, TextExported, IsOutcome, unit_shown, unit_without_language, unit_absent, unit_lost, counts_shown, counts_without_language, counts_lost, text_exported, text_without_language, text_too_long, text_lost}
 use Rattle.http_api.specs.Served.{exchange_in, office_behind, AreOutcomes, exchanges_of, HasServed}
 use Rattle.http_api.specs.Answering.{Came}
@@ -56,19 +59,25 @@ each_more Honest Whole Stopped StillHonest StillWhole StillStopped honest whole 
       each_more Honest Whole Stopped StillHonest StillWhole StillStopped honest whole still start (before ++ exchange_in x) questions os a o each.1 (subst P (sym (append_assoc before (exchange_in x) (exchanges_of os))) is),
     )
 
-pub serves : {Runs StillRuns : ℕ → Type 0} (Honest Whole Stopped StillHonest StillWhole StillStopped : Type 0) (start old new : OfficeWithBook) (done : List Asked) (outcomes : List Outcome) (a : Asked) (o : Outcome)
-    → HasServed Honest Whole Stopped start old done outcomes → Came Honest Whole Stopped StillHonest StillWhole StillStopped Runs StillRuns old new a o → HasServed StillHonest StillWhole StillStopped start new (done ++ a ∷ []) (outcomes ++ o ∷ [])
-serves Honest Whole Stopped StillHonest StillWhole StillStopped start old new done outcomes a o served came =
-    let P : List Exchange → Type 0 = λ xs. HasDelivered StillHonest StillWhole StillStopped start new xs in
+pub serves : {Runs StillRuns : ℕ → Type 0} {Before MayLeave StillMayLeave : OfficeWithBook → Type 0} {WasWhole : Type 0} (Honest Whole Stopped StillHonest StillWhole StillStopped : Type 0) (start old new : OfficeWithBook) (done : List Asked) (outcomes : List Outcome) (a : Asked) (o : Outcome)
+    → (Honest → Whole → WasWhole) → HasServed Honest Whole Stopped WasWhole Before MayLeave start old done outcomes → Came Honest Whole Stopped StillHonest StillWhole StillStopped Runs StillRuns MayLeave StillMayLeave old new a o
+    → HasServed StillHonest StillWhole StillStopped WasWhole Before StillMayLeave start new (done ++ a ∷ []) (outcomes ++ o ∷ [])
+serves {Before = Before} {StillMayLeave = StillMayLeave} {WasWhole = WasWhole} Honest Whole Stopped StillHonest StillWhole StillStopped start old new done outcomes a o whole served came =
+    let P : List Exchange → Type 0 = λ xs. IsDelivered StillHonest StillWhole StillStopped WasWhole Before StillMayLeave start new xs in
     record {
-      delivered = subst P (sym (exchanges-more outcomes o)) (came.did.behind start (exchanges_of outcomes) served.delivered);
+      delivered = subst P (sym (exchanges-more outcomes o)) (delivers_on (exchanges_of outcomes) (exchange_in o) whole served.delivered came.did);
       each = each_more Honest Whole Stopped StillHonest StillWhole StillStopped came.did.honest came.did.whole came.did.stopped start [] done outcomes a o served.each
-          (came.is (office_behind start (exchanges_of outcomes)) (λ h w. ap (λ meaning. meaning.office) (served.delivered.run.left h w)));
+          (came.is (office_behind start (exchanges_of outcomes)) (λ h w. ap (λ meaning. meaning.office) (served.delivered.delivered.run.left h w)));
     }
 
-pub none_served : (Honest Whole Stopped : Type 0) (start : OfficeWithBook) → HasServed Honest Whole Stopped start start [] []
-none_served Honest Whole Stopped start = record { delivered = record { run = record { left = λ h w. refl; answers = λ h. refl }; disk = tt }; each = tt }
+pub none_served : (Honest Whole Stopped : Type 0) (MayLeave : OfficeWithBook → Type 0) (start : OfficeWithBook) → HasServed Honest Whole Stopped Whole MayLeave MayLeave start start [] []
+none_served Honest Whole Stopped MayLeave start = record {
+  delivered = record { delivered = nothing_yet; stops = λ h. stops_nowhere {E = Lost} Whole MayLeave MayLeave start (λ m left. inl left) };
+  each = tt;
+}
 
 -- what came of a message, said of what it asks in other words
-pub asked_so : {Runs StillRuns : ℕ → Type 0} (Honest Whole Stopped StillHonest StillWhole StillStopped : Type 0) (old new : OfficeWithBook) (a b : Asked) (o : Outcome) → a ≡ b → Came Honest Whole Stopped StillHonest StillWhole StillStopped Runs StillRuns old new b o → Came Honest Whole Stopped StillHonest StillWhole StillStopped Runs StillRuns old new a o
-asked_so {Runs} {StillRuns} Honest Whole Stopped StillHonest StillWhole StillStopped old new a b o is came = let P : Asked → Type 0 = λ x. Came Honest Whole Stopped StillHonest StillWhole StillStopped Runs StillRuns old new x o in subst P (sym is) came
+pub asked_so : {Runs StillRuns : ℕ → Type 0} {MayLeave StillMayLeave : OfficeWithBook → Type 0} (Honest Whole Stopped StillHonest StillWhole StillStopped : Type 0) (old new : OfficeWithBook) (a b : Asked) (o : Outcome) → a ≡ b
+    → Came Honest Whole Stopped StillHonest StillWhole StillStopped Runs StillRuns MayLeave StillMayLeave old new b o → Came Honest Whole Stopped StillHonest StillWhole StillStopped Runs StillRuns MayLeave StillMayLeave old new a o
+asked_so {Runs} {StillRuns} {MayLeave} {StillMayLeave} Honest Whole Stopped StillHonest StillWhole StillStopped old new a b o is came =
+    let P : Asked → Type 0 = λ x. Came Honest Whole Stopped StillHonest StillWhole StillStopped Runs StillRuns MayLeave StillMayLeave old new x o in subst P (sym is) came

@@ -1,5 +1,5 @@
 -- One step of a connection, from what was read and what was answered.
-use Rattle.std.proofs.Common.{◌≡◌, ◌+◌, List, [], ℕ, Bool, true, false, Option, Result, Ok, Err, MatchResult, refl, sym, subst}
+use Rattle.std.proofs.Common.{◌≡◌, ◌+◌, List, [], ℕ, Bool, true, false, Option, Result, Ok, Err, MatchResult, inl, refl, sym, subst}
 use Rattle.std.specs.Prelude.{◌||◌, IfOk, OnOk, IsErrAnd, drop}
 use Rattle.request_book.specs.Book.{OfficeWithBook}
 use Rattle.office.specs.Writers.{Writer, TakesAll}
@@ -86,13 +86,13 @@ is_first : {left : Option (List ℕ)} {bytes : List ℕ} {refusal : Refusal} →
 is_first (arrivals.whatever_follows refused) = whatever_follows refused
 is_first (arrivals.at_the_end end refused) = at_the_end end refused refl
 
-pub refused_step : (Runs : ℕ → Type 0) (Same : Type 0) (Honest Whole : Type 0) (meaning : OfficeWithBook) (Stopped : Type 0) (l0 l1 : Option (List ℕ)) (f0 f1 : ℕ) (old at_hand now : List ℕ) (full : Bool) (w0 w1 : Writer) (what : Arrival) (refusal : Refusal) (r : Result Next ServeFault)
+pub refused_step : (Runs : ℕ → Type 0) (MayLeave : OfficeWithBook → Type 0) (Same : Type 0) (Honest Whole : Type 0) (meaning : OfficeWithBook) (Stopped : Type 0) (l0 l1 : Option (List ℕ)) (f0 f1 : ℕ) (old at_hand now : List ℕ) (full : Bool) (w0 w1 : Writer) (what : Arrival) (refusal : Refusal) (r : Result Next ServeFault)
     → what ≡ arrival.Refused refusal → ReadBehind l0 l1 f0 f1 old at_hand → WasWanted old at_hand → Arrives l1 at_hand what → Tells w0 w1 (refusal_text refusal true) r → IfOk r (λ next. next ≡ Last)
-    → MatchResult r (Stepped Same (Came Honest Whole Stopped Honest Whole Stopped Runs Runs meaning meaning) (λ o last. Honest → TakesAll w0 w1 (outcome_answer o last)) l0 l1 f0 f1 old now full)
-    (λ f. SteppedOff Same (Came Honest Whole Stopped Honest Whole Stopped Runs Runs meaning meaning) (λ o last. Honest → WroteBeginning Stopped w0 w1 o last f) l0 l1 f0 f1 old full f)
-refused_step Runs Same Honest Whole meaning Stopped l0 l1 f0 f1 old at_hand now full w0 w1 what refusal (Ok x) is read wanted came tells next =
+    → MatchResult r (Stepped Same (Came Honest Whole Stopped Honest Whole Stopped Runs Runs MayLeave MayLeave meaning meaning) (λ o last. Honest → TakesAll w0 w1 (outcome_answer o last)) l0 l1 f0 f1 old now full)
+    (λ f. SteppedOff Same (Came Honest Whole Stopped Honest Whole Stopped Runs Runs MayLeave MayLeave meaning meaning) (λ o last. Honest → WroteBeginning Stopped w0 w1 o last f) l0 l1 f0 f1 old full f)
+refused_step Runs MayLeave Same Honest Whole meaning Stopped l0 l1 f0 f1 old at_hand now full w0 w1 what refusal (Ok x) is read wanted came tells next =
     let arrives = subst (Arrives l1 at_hand) is came in
-    subst (Stepped Same (Came Honest Whole Stopped Honest Whole Stopped Runs Runs meaning meaning) (λ o last. Honest → TakesAll w0 w1 (outcome_answer o last)) l0 l1 f0 f1 old now full) (sym next) (
+    subst (Stepped Same (Came Honest Whole Stopped Honest Whole Stopped Runs Runs MayLeave MayLeave meaning meaning) (λ o last. Honest → TakesAll w0 w1 (outcome_answer o last)) l0 l1 f0 f1 old now full) (sym next) (
       record {
         at_hand = at_hand;
         read = read;
@@ -102,12 +102,12 @@ refused_step Runs Same Honest Whole meaning Stopped l0 l1 f0 f1 old at_hand now 
         behind = [];
         first = is_first arrives.1;
         outcome = failed refusal;
-        came = told Honest Whole Stopped Honest Whole Stopped meaning meaning (ask.refused refusal) (failed refusal) refl (λ h. h) (λ h w. w) (λ s. s) (λ since ran. ran) (λ h w. refl) (λ office place. refl);
+        came = told Honest Whole Stopped Honest Whole Stopped meaning meaning (ask.refused refusal) (failed refusal) refl (λ h. h) (λ h w. w) (λ s. s) (λ since ran. ran) (λ h w. refl) (λ h m left. inl left) (λ office place. refl);
         wrote = λ h. tells;
       },
       refl,
     )
-refused_step Runs Same Honest Whole meaning Stopped l0 l1 f0 f1 old at_hand now full w0 w1 what refusal (Err f) is read wanted came tells next = let arrives = subst (Arrives l1 at_hand) is came in broke_off (record {
+refused_step Runs MayLeave Same Honest Whole meaning Stopped l0 l1 f0 f1 old at_hand now full w0 w1 what refusal (Err f) is read wanted came tells next = let arrives = subst (Arrives l1 at_hand) is came in broke_off (record {
   at_hand = at_hand;
   read = read;
   wanted = wanted;
@@ -116,6 +116,6 @@ refused_step Runs Same Honest Whole meaning Stopped l0 l1 f0 f1 old at_hand now 
   behind = [];
   first = is_first arrives.1;
   outcome = failed refusal;
-  came = told Honest Whole Stopped Honest Whole Stopped meaning meaning (ask.refused refusal) (failed refusal) refl (λ h. h) (λ h w. w) (λ s. s) (λ since ran. ran) (λ h w. refl) (λ office place. refl);
+  came = told Honest Whole Stopped Honest Whole Stopped meaning meaning (ask.refused refusal) (failed refusal) refl (λ h. h) (λ h w. w) (λ s. s) (λ since ran. ran) (λ h w. refl) (λ h m left. inl left) (λ office place. refl);
   wrote = tells_writes {T = Next} Honest Stopped w0 w1 (failed refusal) true (Err f) tells;
 })

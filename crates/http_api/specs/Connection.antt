@@ -23,9 +23,9 @@ answers_to (item ∷ items) [] = []
 answers_to (item ∷ items) (outcome ∷ outcomes) = outcome_answer outcome item.last ++ answers_to items outcomes
 
 -- All that the bytes ask was answered; what was written is known while the tables are honest.
-pub record AllServed (Honest Whole Stopped : Type 0) (before after : OfficeWithBook) (bytes : List ℕ) (old new : Writer) (answered : ℕ) : Type 0 where
+pub record AllServed (Honest Whole Stopped WasWhole : Type 0) (MayLeave StillMayLeave : OfficeWithBook → Type 0) (before after : OfficeWithBook) (bytes : List ℕ) (old new : Writer) (answered : ℕ) : Type 0 where
   pub outcomes : List Outcome
-  pub served : HasServed Honest Whole Stopped before after (questions (items_of bytes)) outcomes
+  pub served : HasServed Honest Whole Stopped WasWhole MayLeave StillMayLeave before after (questions (items_of bytes)) outcomes
   pub wrote : Honest → TakesAll old new (answers_to (items_of bytes) outcomes)
   pub count : answered ≡ length (items_of bytes)
 
@@ -87,10 +87,10 @@ pub data GivenUp (Stopped : Type 0) (reads_failed_old reads_failed_new : ℕ) (o
 
 -- Only the first of what the bytes ask was taken: the tables are those of its requests, and a beginning of its answers was written, so it has
 -- every message whose answer was written whole.
-pub record SomeServed (Honest Whole Stopped : Type 0) (before after : OfficeWithBook) (bytes : List ℕ) (reads_failed_old reads_failed_new : ℕ) (old new : Writer) (fault : ServeFault) : Type 0 where
+pub record SomeServed (Honest Whole Stopped WasWhole : Type 0) (MayLeave StillMayLeave : OfficeWithBook → Type 0) (before after : OfficeWithBook) (bytes : List ℕ) (reads_failed_old reads_failed_new : ℕ) (old new : Writer) (fault : ServeFault) : Type 0 where
   pub front : List Item
   pub back : List Item
   pub cut : items_of bytes ≡ front ++ back
   pub outcomes : List Outcome
-  pub served : HasServed Honest Whole Stopped before after (questions front) outcomes
+  pub served : HasServed Honest Whole Stopped WasWhole MayLeave StillMayLeave before after (questions front) outcomes
   pub given_up : Honest → GivenUp Stopped reads_failed_old reads_failed_new old new outcomes (answers_to front outcomes) fault

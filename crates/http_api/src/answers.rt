@@ -92,7 +92,7 @@ fn answer_request<T: Tables, W: ByteSink>(
     w: &mut W,
 ) -> Result<(), ServeFault>
     ensures { (told : Result ReplyValue Lost)
-        × Delivers T.is_honest T.is_whole T.faults T.is_stopped T.means desk.old desk.new (asked request.now told ∷ [])
+        × Delivers T.is_honest T.is_whole T.faults T.is_stopped T.means T.may_leave desk.old desk.new (asked request.now told ∷ [])
         × Tells (writer_at W.taken W.failed w.old) (writer_at W.taken W.failed w.new) (result_answer told last) result }
 {
     match desk.deliver(request) {
@@ -110,7 +110,7 @@ pub(crate) fn answer_post<T: Tables, W: ByteSink>(
     w: &mut W,
 ) -> Result<(), ServeFault>
     ensures answered { (callers : List (List ℕ)) → AreValues parts.entry.callers callers → (x : Exchange)
-        × ComesTo T.is_honest T.is_whole T.faults T.is_stopped T.means desk.old desk.new (request parts.entry.number.now callers parts.entry.body.now) (posted x)
+        × ComesTo T.is_honest T.is_whole T.faults T.is_stopped T.means T.may_leave desk.old desk.new (request parts.entry.number.now callers parts.entry.body.now) (posted x)
         × Tells (writer_at W.taken W.failed w.old) (writer_at W.taken W.failed w.new) (exchange_answer x last) result }
     ensures failures { TellsFailures (T.is_stopped desk.new ≡ true) (W.failed w.old) (W.failed w.new) result }
 {
@@ -129,7 +129,7 @@ pub(crate) fn answer_unit<T: Tables, W: ByteSink>(
     w: &mut W,
 ) -> Result<(), ServeFault>
     ensures { (o : Outcome)
-        × ComesTo T.is_honest T.is_whole T.faults T.is_stopped T.means desk.old desk.new (unit (name_of name.now)) o
+        × ComesTo T.is_honest T.is_whole T.faults T.is_stopped T.means T.may_leave desk.old desk.new (unit (name_of name.now)) o
         × Tells (writer_at W.taken W.failed w.old) (writer_at W.taken W.failed w.new) (outcome_answer o last) result }
 {
     match desk.unit(&name.domain, &name.lang, &name.key) {
@@ -146,7 +146,7 @@ pub(crate) fn answer_stats<T: Tables, W: ByteSink>(
     w: &mut W,
 ) -> Result<(), ServeFault>
     ensures { (o : Outcome)
-        × ComesTo T.is_honest T.is_whole T.faults T.is_stopped T.means desk.old desk.new (stats (language_at name.now)) o
+        × ComesTo T.is_honest T.is_whole T.faults T.is_stopped T.means T.may_leave desk.old desk.new (stats (language_at name.now)) o
         × Tells (writer_at W.taken W.failed w.old) (writer_at W.taken W.failed w.new) (outcome_answer o last) result }
 {
     match desk.stats(&name.domain, &name.lang) {
@@ -168,7 +168,7 @@ pub(crate) fn answer<T: Tables, W: ByteSink>(
     w: &mut W,
 ) -> Result<(), ServeFault>
     ensures answered { (question : AskedValue) → IsAsked asked.entry question → (o : Outcome)
-        × ComesTo T.is_honest T.is_whole T.faults T.is_stopped T.means desk.old desk.new question o
+        × ComesTo T.is_honest T.is_whole T.faults T.is_stopped T.means T.may_leave desk.old desk.new question o
         × Writes (T.is_honest desk.new) (T.is_stopped desk.new ≡ true)
         (writer_at W.taken W.failed w.old) (writer_at W.taken W.failed w.new) o last result }
     ensures failures { TellsFailures (T.is_stopped desk.new ≡ true) (W.failed w.old) (W.failed w.new) result }

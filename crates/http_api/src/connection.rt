@@ -87,7 +87,7 @@ fn answer_front<T: Tables, W: ByteSink>(
 ) -> Result<bool, ServeFault>
     requires within { lengths.head + lengths.body ≤ length inbox.now }
     ensures answered { (o : Outcome)
-        × ComesTo T.is_honest T.is_whole T.faults T.is_stopped T.means desk.old desk.new (asking_in inbox.now lengths.head lengths.body).asked o
+        × ComesTo T.is_honest T.is_whole T.faults T.is_stopped T.means T.may_leave desk.old desk.new (asking_in inbox.now lengths.head lengths.body).asked o
         × Writes (T.is_honest desk.new) (T.is_stopped desk.new ≡ true)
         (writer_at W.taken W.failed w.old) (writer_at W.taken W.failed w.new) o ((asking_in inbox.now lengths.head lengths.body).ends || full) result }
     ensures last { IfOk result (λ last. last ≡ ((asking_in inbox.now lengths.head lengths.body).ends || full)) }
@@ -117,7 +117,7 @@ fn serve_message<T: Tables, W: ByteSink>(
 ) -> Result<Next, ServeFault>
     requires within { lengths.head + lengths.body ≤ length inbox.old }
     ensures answered { (o : Outcome)
-        × ComesTo T.is_honest T.is_whole T.faults T.is_stopped T.means desk.old desk.new (asking_in inbox.old lengths.head lengths.body).asked o
+        × ComesTo T.is_honest T.is_whole T.faults T.is_stopped T.means T.may_leave desk.old desk.new (asking_in inbox.old lengths.head lengths.body).asked o
         × Writes (T.is_honest desk.new) (T.is_stopped desk.new ≡ true)
         (writer_at W.taken W.failed w.old) (writer_at W.taken W.failed w.new) o ((asking_in inbox.old lengths.head lengths.body).ends || full) result }
     ensures next { IfOk result (λ next. next ≡ next_of ((asking_in inbox.old lengths.head lengths.body).ends || full)) }
@@ -144,11 +144,11 @@ fn serve_one<T: Tables, R: MessagesBehind<W>, W: ByteSink>(
     requires handed_on { W.holds_back w.old ≡ false }
     ensures stepped { MatchResult result
         (Stepped ((desk.new ≡ desk.old) × (w.new ≡ w.old))
-        (ComesTo T.is_honest T.is_whole T.faults T.is_stopped T.means desk.old desk.new)
+        (ComesTo T.is_honest T.is_whole T.faults T.is_stopped T.means T.may_leave desk.old desk.new)
         (λ o last. T.is_honest desk.new → TakesAll (writer_at W.taken W.failed w.old) (writer_at W.taken W.failed w.new) (outcome_answer o last))
         (R.left source.old) (R.left source.new) (R.failed source.old) (R.failed source.new) inbox.old inbox.new full)
         (λ fault. SteppedOff ((desk.new ≡ desk.old) × (w.new ≡ w.old))
-        (ComesTo T.is_honest T.is_whole T.faults T.is_stopped T.means desk.old desk.new)
+        (ComesTo T.is_honest T.is_whole T.faults T.is_stopped T.means T.may_leave desk.old desk.new)
         (λ o last. T.is_honest desk.new
         → WroteBeginning (T.is_stopped desk.new ≡ true) (writer_at W.taken W.failed w.old) (writer_at W.taken W.failed w.new) o last fault)
         (R.left source.old) (R.left source.new) (R.failed source.old) (R.failed source.new) inbox.old full fault) }
@@ -170,20 +170,23 @@ fn serve_one<T: Tables, R: MessagesBehind<W>, W: ByteSink>(
 ///
 /// Answers how many messages were answered. After a fault the writer has taken a beginning of the answers, and the tables are those of
 /// a beginning of the requests that has each one whose answer was written whole: a request that was recorded and not answered gets its
-/// reply when it is sent again. `Read` and `Write` where the source or the writer failed; `Memory` where a growth was refused, for the
-/// routes before anything is read, to read, or within an export whose head was written; `Disk` where the disk failed within such an export. Want of memory, a failed disk and a
-/// refusal are else answered, by 503, 507 and 500.
+/// reply when it is sent again. A stop loses no request that was answered with a reply. `Read` and `Write` where the source or the writer
+/// failed; `Memory` where a growth was refused, for the routes before anything is read, to read, or within an export whose head was
+/// written; `Disk` where the disk failed within such an export. Want of memory, a failed disk and a refusal are else answered, by 503,
+/// 507 and 500.
 pub fn serve<T: Tables, R: MessagesBehind<W>, W: ByteSink>(
     alloc: Global,
     desk: &mut Desk<T>,
     source: &mut R,
     w: &mut W,
 ) -> Result<Served, ServeFault>
-    // What comes of the bytes that the source gives.
+    // What comes of the bytes that the source gives. A stop loses no request that got a reply, also where the store was shut behind it.
     ensures served { (bytes : List ℕ) × IfSome (R.left source.old) (λ all. bytes ≡ all) × MatchResult result
-        (λ served. AllServed (T.is_honest desk.new) (T.is_whole desk.new) (T.is_stopped desk.new ≡ true) (T.means desk.old) (T.means desk.new) bytes
+        (λ served. AllServed (T.is_honest desk.new) (T.is_whole desk.new) (T.is_stopped desk.new ≡ true)
+        (T.is_whole desk.old) (T.may_leave desk.old) (T.may_leave desk.new) (T.means desk.old) (T.means desk.new) bytes
         (writer_at W.taken W.failed w.old) (writer_at W.taken W.failed w.new) served.answered)
-        (SomeServed (T.is_honest desk.new) (T.is_whole desk.new) (T.is_stopped desk.new ≡ true) (T.means desk.old) (T.means desk.new) bytes
+        (SomeServed (T.is_honest desk.new) (T.is_whole desk.new) (T.is_stopped desk.new ≡ true)
+        (T.is_whole desk.old) (T.may_leave desk.old) (T.may_leave desk.new) (T.means desk.old) (T.means desk.new) bytes
         (R.failed source.old) (R.failed source.new) (writer_at W.taken W.failed w.old) (writer_at W.taken W.failed w.new)) }
     // Behind the last answer nothing more is read.
     ensures reads { IfOk result (λ served. ReadsOn (R.left source.old) (R.left source.new) served.answered) }

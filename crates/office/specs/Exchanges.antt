@@ -8,7 +8,7 @@ use Rattle.request_book.specs.Book.{OfficeWithBook}
 use Rattle.tables.specs.RunsOn.{RunsSince}
 use Rattle.tables.specs.declared.faults.Lost.{Lost}
 use Rattle.tables.specs.declared.faults.Lost.TheVariants.{Memory, Disk, Refused}
-use Rattle.office.specs.Runs.{HasRun}
+use Rattle.office.specs.Runs.{HasRun, LeavesBeginning}
 
 -- ---- a line, and what came of it
 
@@ -98,8 +98,13 @@ pub record HasDelivered (Honest Whole Stopped : Type 0) (before after : OfficeWi
   pub run : HasRun Honest Whole before after (requests_of xs) (results_of xs)
   pub disk : DiskOnlyWhere Stopped (results_of xs)
 
+-- The same, and what a stop may leave afterwards: no line's request that got a reply is lost, whatever came of those behind it.
+pub record IsDelivered (Honest Whole Stopped WasWhole : Type 0) (MayLeave StillMayLeave : OfficeWithBook → Type 0) (before after : OfficeWithBook) (xs : List Exchange) : Type 0 where
+  pub delivered : HasDelivered Honest Whole Stopped before after xs
+  pub stops : Honest → LeavesBeginning WasWhole MayLeave StillMayLeave before (requests_of xs) (results_of xs)
+
 -- Whatever was delivered before, these came behind it.
-pub record GoesOn (Honest Whole Stopped StillHonest StillWhole StillStopped : Type 0) (Runs StillRuns : ℕ → Type 0) (old new : OfficeWithBook) (more : List Exchange) : Type 0 where
+pub record GoesOn (Honest Whole Stopped StillHonest StillWhole StillStopped : Type 0) (Runs StillRuns : ℕ → Type 0) (MayLeave StillMayLeave : OfficeWithBook → Type 0) (old new : OfficeWithBook) (more : List Exchange) : Type 0 where
   -- a disk that gave something else never becomes one that didn't
   pub honest : StillHonest → Honest
   -- tables that are shut stay so
@@ -109,12 +114,14 @@ pub record GoesOn (Honest Whole Stopped StillHonest StillWhole StillStopped : Ty
   -- those that ran on since so many failures of the disk, unless it failed, do so still
   pub runs : (since : ℕ) → Runs since → StillRuns since
   pub behind : (start : OfficeWithBook) (done : List Exchange) → HasDelivered Honest Whole Stopped start old done → HasDelivered StillHonest StillWhole StillStopped start new (done ++ more)
+  -- what a stop may leave
+  pub stops : StillHonest → LeavesBeginning Whole MayLeave StillMayLeave old (requests_of more) (results_of more)
 
 -- the same of tables, by the words that their type has for itself
-abbrev pub Delivers : {S : Type 0} → (S → Type 0) → (S → Type 0) → (S → ℕ) → (S → Bool) → (S → OfficeWithBook) → S → S → List Exchange → Type 0
-Delivers is_honest is_whole faults is_stopped means old new =
+abbrev pub Delivers : {S : Type 0} → (S → Type 0) → (S → Type 0) → (S → ℕ) → (S → Bool) → (S → OfficeWithBook) → (S → OfficeWithBook → Type 0) → S → S → List Exchange → Type 0
+Delivers is_honest is_whole faults is_stopped means may_leave old new =
     GoesOn (is_honest old) (is_whole old) (is_stopped old ≡ true) (is_honest new) (is_whole new) (is_stopped new ≡ true)
-    (λ since. RunsSince is_honest is_whole faults is_stopped since old) (λ since. RunsSince is_honest is_whole faults is_stopped since new) (means old) (means new)
+    (λ since. RunsSince is_honest is_whole faults is_stopped since old) (λ since. RunsSince is_honest is_whole faults is_stopped since new) (may_leave old) (may_leave new) (means old) (means new)
 
 -- ---- lines that were answered
 

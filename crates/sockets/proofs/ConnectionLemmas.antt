@@ -11,12 +11,12 @@ use Rattle.http_api.specs.Connection.{questions, AllServed, SomeServed}
 use Rattle.http_api.proofs.Serving.{none_served}
 use Rattle.sockets.specs.Connections.{ServedSome}
 
-module _ (Honest Whole Stopped : Type 0) (before after : OfficeWithBook) (left : Option (List ℕ)) (failed_old failed_new : ℕ) (old new : Writer) where
+module _ (Honest Whole Stopped WasWhole : Type 0) (MayLeave StillMayLeave : OfficeWithBook → Type 0) (before after : OfficeWithBook) (left : Option (List ℕ)) (failed_old failed_new : ℕ) (old new : Writer) where
   abbrev Comes : Result Served ServeFault → Type 0
   Comes r = (bytes : List ℕ) × IfSome left (λ all. bytes ≡ all)
-      × MatchResult r (λ served. AllServed Honest Whole Stopped before after bytes old new served.answered) (SomeServed Honest Whole Stopped before after bytes failed_old failed_new old new)
+      × MatchResult r (λ served. AllServed Honest Whole Stopped WasWhole MayLeave StillMayLeave before after bytes old new served.answered) (SomeServed Honest Whole Stopped WasWhole MayLeave StillMayLeave before after bytes failed_old failed_new old new)
 
-  pub serves_some : (r : Result Served ServeFault) → Comes r → ServedSome Honest Whole Stopped before after (λ count. IfOk r (λ served. served.answered ≡ count))
+  pub serves_some : (r : Result Served ServeFault) → Comes r → ServedSome Honest Whole Stopped WasWhole MayLeave StillMayLeave before after (λ count. IfOk r (λ served. served.answered ≡ count))
   serves_some (Ok served) comes = record {
     asked = questions (items_of comes.0);
     outcomes = comes.2.outcomes;
@@ -31,5 +31,5 @@ module _ (Honest Whole Stopped : Type 0) (before after : OfficeWithBook) (left :
   }
 
 -- nothing was served
-pub serves_none : (Honest Whole Stopped : Type 0) (start : OfficeWithBook) (IsCount : ℕ → Type 0) → IsCount 0 → ServedSome Honest Whole Stopped start start IsCount
-serves_none Honest Whole Stopped start IsCount none = record { asked = []; outcomes = []; served = none_served Honest Whole Stopped start; count = none }
+pub serves_none : (Honest Whole Stopped : Type 0) (MayLeave : OfficeWithBook → Type 0) (start : OfficeWithBook) (IsCount : ℕ → Type 0) → IsCount 0 → ServedSome Honest Whole Stopped Whole MayLeave MayLeave start start IsCount
+serves_none Honest Whole Stopped MayLeave start IsCount none = record { asked = []; outcomes = []; served = none_served Honest Whole Stopped MayLeave start; count = none }

@@ -7,8 +7,8 @@ use Rattle.http_api.specs.Outcomes.{Outcome}
 use Rattle.http_api.specs.Served.{HasServed}
 
 -- Some messages were served, so many as the count says.
-pub record ServedSome (Honest Whole Stopped : Type 0) (before after : OfficeWithBook) (IsCount : ℕ → Type 0) : Type 0 where
+pub record ServedSome (Honest Whole Stopped WasWhole : Type 0) (MayLeave StillMayLeave : OfficeWithBook → Type 0) (before after : OfficeWithBook) (IsCount : ℕ → Type 0) : Type 0 where
   pub asked : List Asked
   pub outcomes : List Outcome
-  pub served : HasServed Honest Whole Stopped before after asked outcomes
+  pub served : HasServed Honest Whole Stopped WasWhole MayLeave StillMayLeave before after asked outcomes
   pub count : IsCount (length asked)

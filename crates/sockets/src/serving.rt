@@ -36,16 +36,18 @@ const REST: u64 = 1;
 /// Takes the next connection of a listener, serves it as `http_api::serve` does, and closes it. A client on whose connection nothing moves
 /// for a minute is given up, with `Read` where it sends nothing and with `Write` where it takes nothing.
 ///
-/// Nothing is known of the bytes of a socket: some messages came, and each came to its outcome at the desk, in their order. `Read` also where
-/// no connection was taken, a second later, `Memory` also where there is no room for its answers; then nothing was served. `Disk` only
-/// where the tables are stopped; and those that ran and weren't shut are so only where the disk failed meanwhile.
+/// Nothing is known of the bytes of a socket: some messages came, and each came to its outcome at the desk, in their order. A stop loses no
+/// request that got a reply. `Read` also where no connection was taken, a second later, `Memory` also where there is no room for its
+/// answers; then nothing was served. `Disk` only where the tables are stopped; and those that ran and weren't shut are so only where the
+/// disk failed meanwhile.
 pub fn serve_next<T: Tables, C: Clock, L: OpenListener<Stream = TcpStream>>(
     alloc: Global,
     clock: &C,
     desk: &mut Desk<T>,
     listener: &L,
 ) -> Result<Served, ServeFault>
-    ensures served { ServedSome (T.is_honest desk.new) (T.is_whole desk.new) (T.is_stopped desk.new ≡ true) (T.means desk.old) (T.means desk.new)
+    ensures served { ServedSome (T.is_honest desk.new) (T.is_whole desk.new) (T.is_stopped desk.new ≡ true)
+        (T.is_whole desk.old) (T.may_leave desk.old) (T.may_leave desk.new) (T.means desk.old) (T.means desk.new)
         (λ count. IfOk result (λ served. served.answered ≡ count)) }
     ensures disk { IfErr result (λ fault. fault ≡ Disk → T.is_stopped desk.new ≡ true) }
     ensures honest { T.is_honest desk.new → T.is_honest desk.old }
@@ -69,7 +71,8 @@ fn serve_stream<T: Tables, C: Clock>(
     desk: &mut Desk<T>,
     stream: &TcpStream,
 ) -> Result<Served, ServeFault>
-    ensures served { ServedSome (T.is_honest desk.new) (T.is_whole desk.new) (T.is_stopped desk.new ≡ true) (T.means desk.old) (T.means desk.new)
+    ensures served { ServedSome (T.is_honest desk.new) (T.is_whole desk.new) (T.is_stopped desk.new ≡ true)
+        (T.is_whole desk.old) (T.may_leave desk.old) (T.may_leave desk.new) (T.means desk.old) (T.means desk.new)
         (λ count. IfOk result (λ served. served.answered ≡ count)) }
     ensures disk { IfErr result (λ fault. fault ≡ Disk → T.is_stopped desk.new ≡ true) }
     ensures honest { T.is_honest desk.new → T.is_honest desk.old }

@@ -26,6 +26,7 @@ module _ {S : Type 0} (g : store.Ghosts S) (tables : Held S × Flags) where
     is_open = are.whole;
     means = are.means;
     stops = λ clean db left. one_meaning db (are.leaves clean db left) (started start) (λ m it. are.only clean m (db, left, it));
+    only = are.only;
   }
 
   pub is_opened : (old : Held S) → AreAdopted g old tables → IsOpened g old tables.0
@@ -36,5 +37,6 @@ module _ {S : Type 0} (g : store.Ghosts S) (tables : Held S × Flags) where
       is_open = are.whole;
       means = λ clean. refl;
       stops = λ clean db left. one_meaning db (are.leaves clean db left) (running_meaning (state g tables.0)) (λ m it. are.only clean m (db, left, it));
+      only = are.only;
     };
   }

@@ -15,17 +15,23 @@ use Rattle.sql_adoption.specs.declared.faults.OpenFault.{OpenFault}
 use Rattle.sql_adoption.specs.declared.faults.OpenFault.TheVariants.{Disk}
 use Rattle.sql_schema.specs.Layouts.{rows_named}
 use Rattle.sql_laws.specs.DiskErrors.{HasFailed}
+use Rattle.tables.specs.Stops.{LeavesOnly}
 
 -- what the rows of running tables mean, which are by domains
 abbrev pub running_meaning : State → OfficeWithBook
 running_meaning s = meaning_by_domain (rows_named s.now)
 
+-- an opening may find this office with its book, after a stop
+abbrev pub MayMean : State → OfficeWithBook → Type 0
+MayMean s meaning = (trees : Trees) × s.may_leave trees × TreesMean trees meaning
+
 -- While the disk has returned what was written, no failure has shut the connection, its rows mean this office with its book, and a stop
--- leaves no other.
+-- leaves it and no other.
 pub record Holds (s : State) (meaning : OfficeWithBook) : Type 0 where
   pub is_open : HasCleanDisk s → IsTrue s.is_open
   pub means : HasCleanDisk s → running_meaning s ≡ meaning
   pub stops : HasCleanDisk s → (db : Trees) → s.may_leave db → TreesMean db meaning
+  pub only : HasCleanDisk s → LeavesOnly (MayMean s) meaning
 
 -- The rows were an office's with its book, in the form that the tables had, which is opened: tables without a column for a domain are converted, and
 -- mean what they meant.

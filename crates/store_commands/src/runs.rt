@@ -3,7 +3,7 @@ ghost use Rattle.std.specs.Prelude.{◌≡◌, ◌≤◌, false, true, List, ℕ
 ghost use Rattle.sqlite.specs.Held.{Held, state};
 ghost use Rattle.sqlite.specs.State.{HasCleanDisk};
 ghost use Rattle.tables.specs.RunsOn.{RunsOn};
-ghost use Rattle.store_commands.specs.Opening.{running_meaning, StoppedTruly};
+ghost use Rattle.store_commands.specs.Opening.{running_meaning, MayMean, StoppedTruly};
 ghost use Rattle.office.specs.Writers.{writer_at};
 ghost use Rattle.commands.specs.DeliverLines.{LeavesMeaning, Delivered};
 ghost use Rattle.commands.specs.ExportLines.{Printed};
@@ -36,7 +36,8 @@ pub fn deliver_store<S: Alter + Drop, R: SourceBehind<W>, W: ByteSink, E: ByteSi
     at_lost: AtLost,
 ) -> Closed<S>
     requires autocommit { connection.in_transaction ≡ false }
-    // What the connection's rows meant behind the lines is what these left, behind the office that was opened, and the export is of that. A line is
+    // What the connection's rows meant behind the lines is what these left, behind the office that was opened, and the export is of that. A stop
+    // loses no request that a line's answer gave a reply to, also where a failed disk shut the connection behind it. A line is
     // told that the disk failed where the tables were stopped, and they are only where it failed since they were opened. Where the office can't
     // be opened, none ran.
     ensures delivered { Ran S.Store
@@ -44,7 +45,7 @@ pub fn deliver_store<S: Alter + Drop, R: SourceBehind<W>, W: ByteSink, E: ByteSi
         × (between : Held S) × LeavesMeaning (HasCleanDisk (state S.Store result.connection)) (IsTrue (state S.Store between).is_open) (IsTrue (state S.Store result.connection).is_open)
         (running_meaning (state S.Store between)) (running_meaning (state S.Store result.connection))
         × Delivered at_lost (W.holds_back replies.new ≡ false) (HasCleanDisk (state S.Store result.connection)) (IsTrue (state S.Store between).is_open) (IsTrue (state S.Store result.connection).is_open)
-        (result.stopped ≡ true) (running_meaning (state S.Store opened)) (running_meaning (state S.Store between)) (running_meaning (state S.Store result.connection)) domain.now
+        (result.stopped ≡ true) (IsTrue (state S.Store opened).is_open) (MayMean (state S.Store opened)) (MayMean (state S.Store result.connection)) (running_meaning (state S.Store opened)) (running_meaning (state S.Store between)) (running_meaning (state S.Store result.connection)) domain.now
         (option_map (λ named. named.now) lang.entry) text (R.failed source.old) (R.failed source.new)
         (writer_at W.taken W.failed replies.old) (writer_at W.taken W.failed replies.new)
         (writer_at E.taken E.failed faults.old) (writer_at E.taken E.failed faults.new) result.status

@@ -13,3 +13,9 @@ returns-in-Ok-clause-runs_on g c = c.export_named-status.ensures.runs_on
 
 pub returns-in-Err-clause-runs_on : goal.returns-in-Err-clause-runs_on
 returns-in-Err-clause-runs_on g c = c.export_named-status.ensures.runs_on
+
+pub returns-in-Ok-clause-stops : goal.returns-in-Ok-clause-stops
+returns-in-Ok-clause-stops g c = c.export_named-status.ensures.stops
+
+pub returns-in-Err-clause-stops : goal.returns-in-Err-clause-stops
+returns-in-Err-clause-stops g c = c.export_named-status.ensures.stops

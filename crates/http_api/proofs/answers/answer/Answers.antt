@@ -18,7 +18,7 @@ returns-in-Refused-clause-answered g c = λ question is.
     let P : AskedValue → Type 0 = λ asked. IsAsked asked question in (
       failed c.in-Refused.refusal,
       asked_so _ _ _ _ _ _ _ _ question (ask.refused c.in-Refused.refusal) (failed c.in-Refused.refusal) (subst P c.in-Refused.is is)
-          (told _ _ _ _ _ _ _ _ (ask.refused c.in-Refused.refusal) (failed c.in-Refused.refusal) refl (λ h. h) (λ h w. w) (λ s. s) (λ since ran. ran) (λ h w. refl) (λ office place. refl)),
+          (told _ _ _ _ _ _ _ _ (ask.refused c.in-Refused.refusal) (failed c.in-Refused.refusal) refl (λ h. h) (λ h w. w) (λ s. s) (λ since ran. ran) (λ h w. refl) (λ h m left. inl left) (λ office place. refl)),
       tells_writes _ _ (writer_at g.W.ByteSink.taken g.W.ByteSink.failed c.args.w.now) (writer_at g.W.ByteSink.taken g.W.ByteSink.failed c.send_refusal.new.w) (failed c.in-Refused.refusal) c.args.last c.send_refusal.result c.send_refusal.ensures,
     )
 
@@ -52,7 +52,7 @@ returns-in-Unnamed-clause-answered g c = λ question is.
     let P : AskedValue → Type 0 = λ asked. IsAsked asked question in (
       failed Malformed,
       asked_so _ _ _ _ _ _ _ _ question ask.unnamed (failed Malformed) (subst P c.in-Unnamed.is is)
-          (told _ _ _ _ _ _ _ _ ask.unnamed (failed Malformed) refl (λ h. h) (λ h w. w) (λ s. s) (λ since ran. ran) (λ h w. refl) (λ office place. inl refl)),
+          (told _ _ _ _ _ _ _ _ ask.unnamed (failed Malformed) refl (λ h. h) (λ h w. w) (λ s. s) (λ since ran. ran) (λ h w. refl) (λ h m left. inl left) (λ office place. inl refl)),
       tells_writes _ _ (writer_at g.W.ByteSink.taken g.W.ByteSink.failed c.args.w.now) (writer_at g.W.ByteSink.taken g.W.ByteSink.failed c.send_refusal-in-Unnamed.new.w) (failed Malformed) c.args.last c.send_refusal-in-Unnamed.result c.send_refusal-in-Unnamed.ensures,
     )
 

@@ -20,7 +20,7 @@ returns-in-End-clause-stepped g c =
 
 pub returns-in-Refused-clause-stepped : goal.returns-in-Refused-clause-stepped
 returns-in-Refused-clause-stepped g c =
-    refused_step (λ since. RunsSince g.T.Tables.is_honest g.T.Tables.is_whole g.T.Tables.faults g.T.Tables.is_stopped since c.args.desk.now) _ (g.T.Tables.is_honest c.args.desk.now) (g.T.Tables.is_whole c.args.desk.now) (g.T.Tables.means c.args.desk.now) (g.T.Tables.is_stopped c.args.desk.now ≡ true)
+    refused_step (λ since. RunsSince g.T.Tables.is_honest g.T.Tables.is_whole g.T.Tables.faults g.T.Tables.is_stopped since c.args.desk.now) (g.T.Tables.may_leave c.args.desk.now) _ (g.T.Tables.is_honest c.args.desk.now) (g.T.Tables.is_whole c.args.desk.now) (g.T.Tables.means c.args.desk.now) (g.T.Tables.is_stopped c.args.desk.now ≡ true)
     (g.R.MessagesBehind.left c.args.source.now) (g.R.MessagesBehind.left c.message_behind.new.self) (g.R.MessagesBehind.failed c.args.source.now) (g.R.MessagesBehind.failed c.message_behind.new.self)
     c.args.inbox.now c.message_behind.new.inbox c.message_behind.new.inbox c.args.full (writer_at g.W.ByteSink.taken g.W.ByteSink.failed c.args.w.now) (writer_at g.W.ByteSink.taken g.W.ByteSink.failed c.refuse.new.w)
     c.in_ok-message_behind.field-0 c.in-Refused.refusal c.refuse.result c.in-Refused.is c.in_ok-message_behind.ensures.read c.in_ok-message_behind.ensures.wanted c.in_ok-message_behind.ensures.arrives c.refuse.ensures.told c.refuse.ensures.next

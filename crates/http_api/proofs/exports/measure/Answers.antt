@@ -1,3 +1,4 @@
+use Rattle.http_api.proofs.Coming.{adds_nothing}
 use Rattle.http_api.proofs.Exporting.{measured_if, unmeasured_if, open_if_absent}
 use Rattle.tables.proofs.RunsOn.{kept_runs_on}
 use Rattle.http_api.proofs.exports.measure.Goals as goal
@@ -10,6 +11,9 @@ returns-clause-err g c = λ h. unmeasured_if _ _ _ _ _ c.export.result (c.export
 
 pub returns-clause-no_language : goal.returns-clause-no_language
 returns-clause-no_language g c = λ h. open_if_absent c.export.result (c.export.ensures.open_still h)
+
+pub returns-clause-stops : goal.returns-clause-stops
+returns-clause-stops g c = λ h. adds_nothing (c.export.ensures.kept.stops h)
 
 pub returns-clause-runs_on : goal.returns-clause-runs_on
 returns-clause-runs_on g c = kept_runs_on c.export.ensures.kept

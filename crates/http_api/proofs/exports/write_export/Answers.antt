@@ -1,8 +1,9 @@
-use Rattle.std.proofs.Common.{◌≡◌, true, ap, Result, Err, ◌∙◌}
+use Rattle.std.proofs.Common.{◌≡◌, inl, true, ap, Result, Err, ◌∙◌}
 use Rattle.http_api.specs.declared.faults.ServeFault.{ServeFault}
 use Rattle.http_api.specs.declared.faults.ServeFault.TheVariants as fault
 use Rattle.office.specs.Writers.{writer_at}
 use Rattle.http_api.specs.Answering.{AnswerFailed}
+use Rattle.http_api.proofs.Coming.{adds_nothing}
 use Rattle.http_api.proofs.Handing.{passed_on}
 use Rattle.http_api.proofs.Exporting.{text_written, text_broke_off, head_broke_off, export_failed}
 use Rattle.tables.proofs.RunsOn.{kept_runs_on}
@@ -41,3 +42,12 @@ returns-in-Ok-clause-runs_on g c = kept_runs_on c.in-Ok.ensures.kept
 
 pub returns-in-Err-clause-runs_on : goal.returns-in-Err-clause-runs_on
 returns-in-Err-clause-runs_on g c = kept_runs_on c.in-Err.ensures.kept
+
+pub returns-in_err-write_head-clause-stops : goal.returns-in_err-write_head-clause-stops
+returns-in_err-write_head-clause-stops g c = λ h m left. inl left
+
+pub returns-in-Ok-clause-stops : goal.returns-in-Ok-clause-stops
+returns-in-Ok-clause-stops g c = λ h. adds_nothing (c.in-Ok.ensures.kept.stops h)
+
+pub returns-in-Err-clause-stops : goal.returns-in-Err-clause-stops
+returns-in-Err-clause-stops g c = λ h. adds_nothing (c.in-Err.ensures.kept.stops h)
